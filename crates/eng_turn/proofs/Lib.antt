@@ -1,0 +1,4 @@
+pub mod Keeps
+pub mod Sent
+pub mod Sums
+pub mod Words

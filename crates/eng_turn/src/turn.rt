@@ -1,0 +1,43 @@
+//! The turn and its passes.
+ghost use Rattle.std.specs.Prelude.{◌≡◌, ◌<◌};
+
+use crate::rule::TurnRule;
+use crate::table_rule::TurnTable;
+use crate::view::{Resting, View};
+use atomic_table::{Seat, Table};
+use std::alloc::Global;
+use std::snapshot::Snapshot;
+
+mod calls;
+
+/// The shares of a turn: the pass of its opening has them all, and a split hands one on. So a turn never has more passes.
+pub const SHARES: u64 = 65_536;
+
+/// There was no memory.
+#[derive(Clone, Copy, Debug, PartialEq, Eq)]
+pub struct Memory;
+
+/// A value that one pass at a time has.
+///
+/// It is one word and one slot. The word is twice the number of passes, plus 1 while a pass has the value; the slot
+/// holds the value while none has.
+#[derive(Drop)]
+pub struct Turn<R: TurnRule> {
+    table: Table<
+        Option<Resting<R::Value, R::Ticket>>,
+        View<R::Value, R::Ticket>,
+        Snapshot<R::Value>,
+        TurnTable<R>,
+        Global,
+    >,
+    ghost shape: { (table.shared.table_id.words ≡ 1) × (table.shared.table_id.slots ≡ 1) },
+}
+
+/// The right to enter one turn. It has no bytes, and may go to another thread.
+///
+/// A pass that is dropped is not joined: its turn can then never be closed with `Some`, and can never be entered again
+/// if the pass had the value.
+#[derive(Drop)]
+pub struct Pass<R: TurnRule> {
+    seat: Seat<Option<Resting<R::Value, R::Ticket>>, View<R::Value, R::Ticket>>,
+}

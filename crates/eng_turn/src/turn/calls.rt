@@ -1,0 +1,173 @@
+//! What passes do at a turn.
+ghost use Rattle.std.specs.Prelude.{◌≡◌, ◌<◌, ◌≤◌, ◌+◌, [], ◌∷◌, Some, IfOk, IfErr, IfSome, IfNone, OnSome};
+ghost use Rattle.std.specs.Option.{ForSome};
+ghost use Rattle.eng_turn.specs.Turn.{opening_of, IsOf, ticket_of, mark_of, share_of, IsOutside, IsInside, FitsAmong, KeepsFit};
+
+use super::{Memory, Pass, SHARES, Turn};
+use crate::rule::TurnRule;
+use crate::table_rule::{CountDown, CountUp, Give, Shares, Take};
+use crate::view::Resting;
+use atomic_table::Table;
+use std::alloc::{AllocFailed, Global};
+use std::snapshot::Snapshot;
+use std::sync::Wait;
+
+impl<R: TurnRule> Turn<R> {
+    /// A turn that holds this value, and a pass with every share, the empty ticket and the value as its mark.
+    /// The value must fit with itself as the opening and one empty ticket.
+    ///
+    /// `Memory` where there was none: then the value comes back. No other call takes memory.
+    pub fn open(
+        alloc: Global,
+        value: R::Value,
+    ) -> Result<(Turn<R>, Pass<R>), (R::Value, Memory)>
+        requires { R.fits value value (R.empty ∷ []) }
+        ensures opening { IfOk result (λ t. opening_of t.0 ≡ value) }
+        ensures mine { IfOk result (λ t. IsOf t.1 t.0 × IsOutside t.1) }
+        ensures ticket { IfOk result (λ t. ticket_of t.1 ≡ R.empty) }
+        ensures mark { IfOk result (λ t. mark_of t.1 ≡ Some value) }
+        ensures share { IfOk result (λ t. share_of t.1 ≡ SHARES) }
+        ensures err { IfErr result (λ e. e.0 ≡ value) }
+    {
+        let about = Snapshot::of(&value);
+        let mut slots = Vec::new(alloc);
+        if let Err(failed) = slots.push(Some(Resting {
+            value,
+            ticket: None,
+        })) {
+            let AllocFailed { value: refused } = failed;
+            slots.destroy_empty();
+            let Some(resting) = refused else {
+                unreachable!()
+            };
+            return Err((resting.value, Memory));
+        }
+        match Table::new(alloc, &[2], slots, &about) {
+            Ok((table, seat)) => Ok((Turn { table }, Pass { seat })),
+            Err(mut refused) => {
+                let Some(Some(resting)) = refused.slots.pop() else {
+                    unreachable!()
+                };
+                Err((resting.value, Memory))
+            }
+        }
+    }
+
+    /// Waits until no pass has the value, and takes it. The pass must be this turn's and outside.
+    ///
+    /// The value fits among the tickets of all passes, this pass's included, and comes after this pass's mark. No
+    /// other pass gets it before this one leaves.
+    pub fn enter<W: Wait>(&self, rt: &W, pass: &mut Pass<R>) -> R::Value
+        requires mine { IsOf pass.old self.now }
+        requires outside { IsOutside pass.old }
+        ensures mine { IsOf pass.new self.now }
+        ensures inside { IsInside pass.new result }
+        ensures ticket { ticket_of pass.new ≡ ticket_of pass.old }
+        ensures mark { mark_of pass.new ≡ mark_of pass.old }
+        ensures share { share_of pass.new ≡ share_of pass.old }
+        ensures fits { FitsAmong R.fits (opening_of self.now) result (ticket_of pass.old) }
+        ensures after { ForSome (mark_of pass.old) (λ mark. R.after mark result) }
+    {
+        for _ in rt.forever() {
+            let found = self.table.shared.fetch_or::<Take<R>>(&mut pass.seat, 0, 1);
+            if found % 2 == 0 {
+                let slot = self.table.shared.exchange(&mut pass.seat, 0, None);
+                let Some(resting) = slot else { unreachable!() };
+                return resting.value;
+            }
+            self.table.shared.park(rt, 0, found as u32);
+        }
+        unreachable!()
+    }
+
+    /// Gives a value back, with which the pass gets a new ticket. The pass must be this turn's and inside.
+    ///
+    /// What the caller owes: one step of the rule leads from the value that was entered and the pass's ticket to this
+    /// value and this ticket; and whatever the other tickets are among which the value that was entered fits, this
+    /// value fits among them. The value is the pass's mark from now on.
+    pub fn leave(&self, pass: &mut Pass<R>, value: R::Value, ticket: &R::Ticket)
+        requires mine { IsOf pass.old self.now }
+        requires step { (entered : R.Value) × IsInside pass.old entered
+            × R.step entered (ticket_of pass.old) value ticket.now
+            × KeepsFit R.fits (opening_of self.now) entered (ticket_of pass.old) value ticket.now }
+        ensures mine { IsOf pass.new self.now }
+        ensures outside { IsOutside pass.new }
+        ensures ticket { ticket_of pass.new ≡ ticket.now }
+        ensures mark { mark_of pass.new ≡ Some value }
+        ensures share { share_of pass.new ≡ share_of pass.old }
+    {
+        let copy = Snapshot::of(ticket);
+        let resting = Resting {
+            value,
+            ticket: Some(copy),
+        };
+        let _none = self.table.shared.exchange(&mut pass.seat, 0, Some(resting));
+        self.table.shared.fetch_sub::<Give>(&mut pass.seat, 0, 1);
+        self.table.shared.wake_one(0);
+    }
+
+    /// A new pass, outside, with the empty ticket and this pass's mark, to which this pass gives up one share. This
+    /// pass must be this turn's and outside, and have at least two shares.
+    pub fn split(&self, pass: &mut Pass<R>) -> Pass<R>
+        requires mine { IsOf pass.old self.now }
+        requires outside { IsOutside pass.old }
+        requires shares { 2 ≤ share_of pass.old }
+        ensures mine { IsOf pass.new self.now × IsOutside pass.new }
+        ensures ticket { ticket_of pass.new ≡ ticket_of pass.old }
+        ensures mark { mark_of pass.new ≡ mark_of pass.old }
+        ensures share { share_of pass.new + 1 ≡ share_of pass.old }
+        ensures new { IsOf result self.now × IsOutside result }
+        ensures new_ticket { ticket_of result ≡ R.empty }
+        ensures new_mark { mark_of result ≡ mark_of pass.old }
+        ensures new_share { share_of result ≡ 1 }
+    {
+        self.table.shared.fetch_add::<CountUp>(&mut pass.seat, 0, 2);
+        let seat = self.table.shared.split_seat::<Shares<R>>(&mut pass.seat);
+        Pass { seat }
+    }
+
+    /// Takes another pass in, whose shares go to this one. Both must be this turn's and outside, and the other must
+    /// have the empty ticket.
+    pub fn join(&self, pass: &mut Pass<R>, other: Pass<R>)
+        requires mine { IsOf pass.old self.now }
+        requires outside { IsOutside pass.old }
+        requires other { IsOf other self.now }
+        requires other_outside { IsOutside other }
+        requires other_empty { ticket_of other ≡ R.empty }
+        ensures mine { IsOf pass.new self.now × IsOutside pass.new }
+        ensures ticket { ticket_of pass.new ≡ ticket_of pass.old }
+        ensures mark { mark_of pass.new ≡ mark_of pass.old }
+        ensures share { share_of pass.new ≡ share_of pass.old + share_of other }
+    {
+        let Pass { seat } = other;
+        self.table.shared.join_seat::<Shares<R>>(&mut pass.seat, seat);
+        self.table
+            .shared
+            .fetch_sub::<CountDown>(&mut pass.seat, 0, 2);
+    }
+
+    /// The value, exactly where this pass has every share: it fits with this pass's ticket alone, and comes after this
+    /// pass's mark. The pass must be this turn's and outside.
+    ///
+    /// `None` where another pass is left, whether or not it has the value, and also where it was dropped. Then the
+    /// turn, the pass and the value are given up.
+    pub fn close(self, pass: Pass<R>) -> Option<R::Value>
+        requires mine { IsOf pass self }
+        requires outside { IsOutside pass }
+        ensures some { OnSome result (share_of pass ≡ SHARES) }
+        ensures none { IfNone result (share_of pass < SHARES) }
+        ensures fits { IfSome result (λ value. R.fits (opening_of self) value (ticket_of pass ∷ [])) }
+        ensures after { IfSome result (λ value. ForSome (mark_of pass) (λ mark. R.after mark value)) }
+    {
+        let Pass { seat } = pass;
+        let mut closed = self.table.close_with(seat);
+        let word = closed.word(0);
+        let slot = closed.take(0);
+        closed.free();
+        if word == 2 {
+            let Some(resting) = slot else { unreachable!() };
+            return Some(resting.value);
+        }
+        None
+    }
+}
