@@ -1,4 +1,5 @@
 pub mod Rule
 pub mod Steps
+pub mod Tally
 pub mod Turn
 pub mod View

@@ -11,6 +11,8 @@
 
 mod rule;
 mod table_rule;
+#[cfg(test)]
+mod tests;
 mod turn;
 mod view;
 

@@ -29,7 +29,7 @@ pub(crate) struct Take<R> {
 }
 
 impl<R: TurnRule> Play<Option<Resting<R::Value, R::Ticket>>, View<R::Value, R::Ticket>>
-for Take<R> {
+    for Take<R> {
     ghost use Rattle.eng_turn.specs.Steps.{Took};
 
     ghost then = { Took R.fits R.after };

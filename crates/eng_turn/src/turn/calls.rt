@@ -17,10 +17,7 @@ impl<R: TurnRule> Turn<R> {
     /// The value must fit with itself as the opening and one empty ticket.
     ///
     /// `Memory` where there was none: then the value comes back. No other call takes memory.
-    pub fn open(
-        alloc: Global,
-        value: R::Value,
-    ) -> Result<(Turn<R>, Pass<R>), (R::Value, Memory)>
+    pub fn open(alloc: Global, value: R::Value) -> Result<(Turn<R>, Pass<R>), (R::Value, Memory)>
         requires { R.fits value value (R.empty ∷ []) }
         ensures opening { IfOk result (λ t. opening_of t.0 ≡ value) }
         ensures mine { IfOk result (λ t. IsOf t.1 t.0 × IsOutside t.1) }
@@ -140,7 +137,9 @@ impl<R: TurnRule> Turn<R> {
         ensures share { share_of pass.new ≡ share_of pass.old + share_of other }
     {
         let Pass { seat } = other;
-        self.table.shared.join_seat::<Shares<R>>(&mut pass.seat, seat);
+        self.table
+            .shared
+            .join_seat::<Shares<R>>(&mut pass.seat, seat);
         self.table
             .shared
             .fetch_sub::<CountDown>(&mut pass.seat, 0, 2);
