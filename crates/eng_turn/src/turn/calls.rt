@@ -68,8 +68,8 @@ impl<R: TurnRule> Turn<R> {
         for _ in rt.forever() {
             let found = self.table.shared.fetch_or::<Take<R>>(&mut pass.seat, 0, 1);
             if found % 2 == 0 {
-                let slot = self.table.shared.exchange(&mut pass.seat, 0, None);
-                let Some(resting) = slot else { unreachable!() };
+                let taken = self.table.shared.exchange(&mut pass.seat, 0, None);
+                let Some(resting) = taken else { unreachable!() };
                 return resting.value;
             }
             self.table.shared.park(rt, 0, found as u32);

@@ -8,8 +8,8 @@ pub fetch_or-found-requires : goal.fetch_or-found-requires
 fetch_or-found-requires g c = let R = g.R.TurnRule in let M : Type 0 = Mine g.row.R-Value.Denot g.row.R-Ticket.Denot in let is = c.loop.invariant.1 in let o = c.requires.outside in let share = ap (λ (m : M). m.0.share) is in let some_share = o.2 in
     (search rules, search rules, takes_it R.empty R.fits R.after _ _ _ _ (omega arith) (ap (λ (m : M). m.0.stage) is ∙ o.0))
 
-pub exchange-slot-requires : goal.exchange-slot-requires
-exchange-slot-requires g c = let M : Type 0 = Mine g.row.R-Value.Denot g.row.R-Ticket.Denot in let t = c.fetch_or-found.ensures.2.2 c.if-found-eq0.true in let e = ap (λ (m : M). m.1) t.1 in
+pub exchange-taken-requires : goal.exchange-taken-requires
+exchange-taken-requires g c = let M : Type 0 = Mine g.row.R-Value.Denot g.row.R-Ticket.Denot in let t = c.fetch_or-found.ensures.2.2 c.if-found-eq0.true in let e = ap (λ (m : M). m.1) t.1 in
     (search rules, (Some t.0, e ∙ ap (λ (l : List (ℕ × Content g.row.R-Value.Denot g.row.R-Ticket.Denot)). (0, Some t.0) ∷ l) (sym (ap rest e))))
 
 pub loop-preserved : goal.loop-preserved
