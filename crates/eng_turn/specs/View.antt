@@ -1,5 +1,5 @@
 -- What a pass knows, what a turn's one word counts of it, and how each step changes it.
-use Rattle.std.specs.Prelude.{ℕ, zero, suc, ◌+◌, List, [], ◌∷◌, Option, Some, None}
+use Rattle.std.specs.Prelude.{ℕ, zero, suc, ◌+◌, Option, Some, None}
 use Rattle.atomic_table.specs.Table.{Me}
 use Rattle.std.specs.declared.snapshot.Snapshot.{Snapshot}
 use Rattle.eng_turn.specs.declared.view.Resting.{Resting}
