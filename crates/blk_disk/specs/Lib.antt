@@ -1,0 +1,6 @@
+pub mod Disk
+pub mod Mem
+pub mod Sectors
+pub mod Columns
+pub mod ColumnLaws
+pub mod Frames

@@ -1,0 +1,15 @@
+//! The plain machine: a list of blocks that each operation changes at once, and the replay of a history on it.
+//!
+//! It is what a redundant array is to look like from outside, the logical view of raid(4). No other code of the engine
+//! keeps such a list.
+#![tactic(auto)]
+
+mod blocks;
+mod memory;
+mod op;
+#[cfg(test)]
+mod tests;
+
+pub use blocks::{Blocks, fill, replay};
+pub use memory::Memory;
+pub use op::{Op, OpId, Outcome, Pattern, SECTOR, Span};
