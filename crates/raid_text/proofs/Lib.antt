@@ -1,0 +1,4 @@
+pub mod LineCuts
+pub mod WordCuts
+pub mod Digits
+pub mod Again

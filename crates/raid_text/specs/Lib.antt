@@ -1,0 +1,4 @@
+pub mod Text
+pub mod Pattern
+pub mod Printed
+pub mod Seen

@@ -1,0 +1,108 @@
+-- The first form of configurations.
+use Rattle.std.specs.Prelude.{◌≢◌, ℕ, ◌<◌, ◌≤◌, zero, suc, Bool, not, ◌&&◌, IsTrue, List, [], ◌∷◌, ◌++◌, Option, Some, None, if◌then◌else◌, nat_le, codes, length, map, All, slice_index_or}
+use Rattle.std.specs.List.{list_any}
+use Rattle.std.specs.Str.{bytes_eq}
+use Rattle.raid_text.specs.Text.{Text, Numbered, is_word}
+use Rattle.top_texts.specs.Steps.{◌>>=◌, next_line, next_word, after_word, next_number, after_number, at_end}
+use Rattle.top_texts.specs.Form.{Place, Literal, Number, canonical}
+
+-- ---- what is read
+
+-- the lines behind the one that begins this section
+unfoldable pub after_section : Text → List Numbered → Option (List Numbered)
+after_section name lines = do
+  line ← next_line lines
+  start ← after_word (codes "START") line.0
+  words ← after_word name start
+  end ← at_end words
+  Some line.1
+
+-- the number of columns on the array's line `1 N 0`, N from 2 to 32, and the lines behind it
+unfoldable pub next_columns : List Numbered → Option (ℕ × List Numbered)
+next_columns lines = do
+  line ← next_line lines
+  rows ← after_number 1 line.0
+  columns ← next_number rows
+  spares ← after_number 0 columns.1
+  end ← at_end spares
+  if nat_le 2 columns.0 && nat_le columns.0 32 then Some (columns.0, line.1) else None
+
+-- a word that may name a disk
+unfoldable pub is_name : Text → Bool
+is_name word = not (bytes_eq word (codes "absent")) && (not (bytes_eq word (codes "START")) && nat_le (length word) 255)
+
+-- whether the name is among these
+abbrev pub has_name : List Text → Text → Bool
+has_name names name = list_any (λ n. bytes_eq n name) names
+
+-- the name that is alone on the next line and isn't among these, and the lines behind it
+unfoldable pub next_name : List Text → List Numbered → Option (Text × List Numbered)
+next_name names lines = do
+  line ← next_line lines
+  word ← next_word line.0
+  end ← at_end word.1
+  if is_name word.0 && not (has_name names word.0) then Some (word.0, line.1) else None
+
+-- these names and so many more, all different, and the lines behind them
+unfoldable pub next_names : ℕ → List Text → List Numbered → Option (List Text × List Numbered)
+next_names zero names lines = Some (names, lines)
+next_names (suc n) names lines = next_name names lines >>= λ next. next_names n (names ++ next.0 ∷ []) next.1
+
+-- the lines behind the layout's line `1 1 1 5`
+unfoldable pub after_layout : List Numbered → Option (List Numbered)
+after_layout lines = do
+  line ← next_line lines
+  unit ← after_number 1 line.0
+  second ← after_number 1 unit
+  third ← after_number 1 second
+  level ← after_word (codes "5") third
+  end ← at_end level
+  Some line.1
+
+-- the value, where no line is left
+unfoldable pub at_last : List Text → List Numbered → Option (List Text)
+at_last names [] = Some names
+at_last names (line ∷ lines) = None
+
+-- the names of the disks in a configuration, or none where the lines aren't of the form
+unfoldable pub conf_of : List Numbered → Option (List Text)
+conf_of lines = do
+  array ← after_section (codes "array") lines
+  columns ← next_columns array
+  disks ← after_section (codes "disks") columns.1
+  names ← next_names columns.0 [] disks
+  layout ← after_section (codes "layout") names.1
+  rest ← after_layout layout
+  at_last names.0 rest
+
+-- ---- the form
+
+-- no name stands there twice
+abbrev pub Differ : List Text → Type 0
+Differ names = (i j : ℕ) (m n : Text) → i < j → j < length names → slice_index_or names i m ≢ slice_index_or names j n
+
+-- a disk's name: a word of at most 255 bytes other than `absent` and `START`
+abbrev pub IsName : Text → Type 0
+IsName name = IsTrue (is_word name) × IsTrue (is_name name)
+
+-- the disks of a configuration: 2 to 32 different names
+pub record AreDisks (names : List Text) : Type 0 where
+  pub some : 2 ≤ length names
+  pub few : length names ≤ 32
+  pub named : All IsName names
+  pub differ : Differ names
+
+-- the line that begins a section
+abbrev pub start_places : Text → List Place
+start_places name = Literal (codes "START") ∷ Literal name ∷ []
+
+-- the lines of a configuration of these disks
+abbrev pub conf_places : List Text → List (List Place)
+conf_places names =
+    (start_places (codes "array") ∷ (Number 1 ∷ Number (length names) ∷ Number 0 ∷ []) ∷ start_places (codes "disks") ∷ [])
+    ++ (map (λ name. Literal name ∷ []) names
+    ++ (start_places (codes "layout") ∷ (Number 1 ∷ Number 1 ∷ Number 1 ∷ Literal (codes "5") ∷ []) ∷ []))
+
+-- the canonical text of a configuration
+abbrev pub conf_text : List Text → Text
+conf_text names = canonical (conf_places names)
