@@ -1,0 +1,94 @@
+//! The service of one client's operations, from the first to the settling of the devices.
+ghost use Rattle.std.specs.Prelude.{◌≡◌, ◌≤◌, ◌<◌, ◌*◌, ◌-◌, ℕ, All, length, vec_len, true, false, None, Some, IfSome, slice_index_or};
+ghost use Rattle.blk_disk.specs.Columns.{of_column};
+ghost use Rattle.blk_disk.specs.Frames.{Kept, Caused};
+ghost use Rattle.top_array.specs.Array.{IsArray};
+ghost use Rattle.top_array.specs.Run.{IsItem, replied_counts};
+ghost use Rattle.top_array.specs.Settled.{EndsSettled};
+ghost use Rattle.top_array.specs.Legal.{IsLegal};
+ghost use Rattle.top_array.specs.Served.{HasRoom, IsServed, RepliesData, IsDead, IsLost};
+
+use crate::items::run_items;
+use crate::log::Log;
+use crate::place::COLUMNS;
+use crate::settle::{Dead, settle_all};
+use blk_disk::Disk;
+use blk_plain::Op;
+
+/// What the service of one client's operations left.
+#[derive(Drop)]
+pub struct Served {
+    /// The history, the replies and their sectors.
+    pub log: Log,
+    /// The first column that was lost, if one was.
+    pub lost: Option<usize>,
+    /// Which columns are dead, by number.
+    pub dead: [bool; COLUMNS],
+}
+
+// The marks where only this column is dead, or none.
+fn marks_of(failed: Option<usize>) -> Dead
+    requires { IfSome failed (λ column. column < 32) }
+    ensures dead { (c : ℕ) → IsDead result c → failed ≡ Some c }
+    ensures marked { IfSome failed (λ column. IsDead result column) }
+{
+    let mut dead = [false; COLUMNS];
+    match failed {
+        Some(column) => dead[column] = true,
+        None => {}
+    }
+    dead
+}
+
+// The least column that is marked.
+fn first_dead(dead: &Dead) -> Option<usize>
+    ensures { IsLost dead.now result }
+{
+    dead.iter().position(|is_dead| *is_dead)
+}
+
+// The column whose loss came first: the one that failed in the run, or the first that failed as the
+// devices were settled, in the order of the columns.
+fn lost_of(failed: Option<usize>, dead: &Dead) -> Option<usize>
+    requires { IfSome failed (λ column. IsDead dead.now column) }
+    ensures failed { IfSome failed (λ column. result ≡ Some column) }
+    ensures lost { IsLost dead.now result }
+{
+    match failed {
+        Some(column) => Some(column),
+        None => first_dead(dead),
+    }
+}
+
+/// Runs the operations on the devices, one after another, until a device fails, and then settles each
+/// device that has not failed, also after a loss. A device that fails makes its column dead, and a
+/// dead column loses the array. Takes no memory beside the log.
+///
+/// The history is legal, and the sectors are its replies over the blocks that the devices held before.
+/// Where no column is lost, each operation has its reply, and the devices hold the history's replay.
+/// Where one is lost, the operations that had no reply before are replied `Lost`. The first of them may
+/// be in the history: the devices then hold the replay but in the stripes that it writes. Otherwise
+/// they hold it whole. Sectors in front of the stripes and behind them stay as they were.
+pub fn serve<D: Disk>(ops: &[Op], devices: &mut [D], stripes: u64, log: Log) -> Served
+    requires few { length ops.now ≤ 65536 }
+    requires items { All IsItem ops.now }
+    requires array { IsArray D.size stripes devices.old }
+    requires room { HasRoom ops.now log }
+    ensures kept { Kept D.Disk stripes devices.old devices.new }
+    ensures served { IsServed D.Disk result.lost stripes ops.now result.log devices.old devices.new }
+    ensures legal { IsLegal ops.now result.log.history.items result.log.replies.items }
+    ensures data { RepliesData D.Disk stripes ops.now result.log devices.old }
+    ensures counted { vec_len result.log.sectors ≡ replied_counts ops.now result.log.replies.items }
+
+    ensures lost { IsLost result.dead result.lost }
+    ensures cause { (c : ℕ) → IsDead result.dead c → Caused D.faults devices.old devices.new c }
+    ensures settled { (c : ℕ) → c < length devices.old → slice_index_or result.dead c false ≡ false →
+        EndsSettled (of_column D.calls None devices.new c) }
+{
+    let mut log = log;
+    let failed = run_items(ops, devices, stripes, &mut log);
+    let mut dead = marks_of(failed);
+    settle_all(devices, &mut dead);
+    let lost = lost_of(failed, &dead);
+    Served { log, lost, dead }
+}
