@@ -1,0 +1,3 @@
+pub mod RunLaws
+pub mod Halves
+pub mod Text
