@@ -1,0 +1,5 @@
+mod Names
+mod Refused
+mod Homes
+mod Replays
+mod Endings

@@ -1,0 +1,4 @@
+pub mod Asked
+pub mod Ran
+pub mod Ends
+pub mod Opened
