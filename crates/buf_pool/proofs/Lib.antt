@@ -1,0 +1,4 @@
+pub mod Keeps
+pub mod Leasing
+pub mod Opening
+pub mod Sent

@@ -1,0 +1,62 @@
+//! A lease of some of a pool's buffers.
+ghost use Rattle.std.specs.Prelude.{◌≡◌, ◌<◌, ◌++◌, [], ◌∷◌, length, get_or};
+
+use std::marker::Model;
+
+/// The most buffers of a pool, and so of a lease.
+pub(crate) const MOST: usize = 2048;
+
+/// Fewer buffers are free than the lease would have.
+#[derive(Clone, Copy, Debug, PartialEq, Eq)]
+pub struct Full;
+
+/// Some buffers of a pool, numbered from 0. Contracts see the list of their seats.
+///
+/// It holds the numbers of its seats itself, so that it takes no memory.
+#[derive(Drop)]
+pub struct Lease {
+    seats: [u32; MOST],
+    count: u32,
+}
+
+impl Model for Lease {
+    ghost use Rattle.std.specs.Prelude.{List, ℕ, ◌≤◌, take};
+
+    ghost Value = { List ℕ };
+
+    ghost view = { λ l. take l.count l.seats };
+
+    ghost invariant = { λ l. l.count ≤ 2048 };
+}
+
+impl Lease {
+    pub(crate) fn empty() -> Lease
+        ensures { result ≡ [] }
+    {
+        Lease {
+            seats: [0; MOST],
+            count: 0,
+        }
+    }
+
+    pub(crate) fn push(&mut self, seat: u32)
+        requires { length self.old < 2048 }
+        ensures { self.new ≡ self.old ++ seat ∷ [] }
+    {
+        self.seats[self.count as usize] = seat;
+        self.count += 1;
+    }
+
+    pub(crate) fn count(&self) -> u32
+        ensures { result ≡ length self.now }
+    {
+        self.count
+    }
+
+    pub(crate) fn seat(&self, i: u32) -> u32
+        requires { i < length self.now }
+        ensures { result ≡ get_or self.now i 0 }
+    {
+        self.seats[i as usize]
+    }
+}

@@ -1,0 +1,25 @@
+//! The seats of a pool, one for each buffer.
+use crate::buffer::Buffer;
+use std::snapshot::Snapshot;
+
+/// Whose a seat is: free, at this place of the list of free seats, or a lease's, which is named by
+/// its first seat, at this place of it.
+#[derive(Clone, Copy, Debug, PartialEq, Eq)]
+pub(crate) enum Owner {
+    Free(u32),
+    Leased(u32, u32),
+}
+
+/// A buffer is at home, or it is out. Then a copy that holds no bytes tells contracts what it was
+/// as it left.
+#[derive(Drop)]
+pub(crate) enum Place {
+    Home(Buffer),
+    Out(Snapshot<Buffer>),
+}
+
+#[derive(Drop)]
+pub(crate) struct Seat {
+    pub(crate) owner: Owner,
+    pub(crate) place: Place,
+}

@@ -1,0 +1,48 @@
+//! Locks among a few owners.
+use crate::{Locks, Mode};
+use std::test::Fail;
+
+#[test]
+fn readers_share_and_a_writer_comes_after_both(rt: HostRuntime) -> Result<(), Fail> {
+    let mut locks = Locks::open(rt.alloc(), 3)?;
+    assert!(rt; locks.take_all(0, &[3, 4], Mode::Share));
+    assert!(rt; locks.take_all(1, &[4], Mode::Share));
+    assert!(rt; !locks.can_take(2, &[4], Mode::Exclude));
+    assert!(rt; !locks.take_all(2, &[4], Mode::Exclude));
+    locks.release(0);
+    locks.release(1);
+    assert!(rt; locks.can_take(2, &[4], Mode::Exclude));
+    assert!(rt; locks.take_all(2, &[4], Mode::Exclude));
+    Ok(())
+}
+
+#[test]
+fn two_modes_on_one_stripe_agree_only_to_share(rt: HostRuntime) -> Result<(), Fail> {
+    for (held, wanted, stripe, want) in [
+        (Mode::Share, Mode::Share, 4, true),
+        (Mode::Share, Mode::Exclude, 4, false),
+        (Mode::Exclude, Mode::Share, 4, false),
+        (Mode::Exclude, Mode::Exclude, 4, false),
+        (Mode::Exclude, Mode::Exclude, 5, true),
+    ] {
+        let mut locks = Locks::open(rt.alloc(), 2)?;
+        assert!(rt; locks.take_all(0, &[3, 4], held));
+        assert_eq!(rt;
+            locks.take_all(1, &[stripe], wanted),
+            want,
+            "{wanted:?} beside {held:?}"
+        );
+    }
+    Ok(())
+}
+
+#[test]
+fn a_refusal_takes_none_of_the_stripes(rt: HostRuntime) -> Result<(), Fail> {
+    let mut locks = Locks::open(rt.alloc(), 3)?;
+    assert!(rt; locks.take_all(0, &[4], Mode::Exclude));
+    assert!(rt; !locks.take_all(1, &[7, 4], Mode::Exclude));
+    assert!(rt; locks.take_all(2, &[7], Mode::Exclude));
+    locks.release(0);
+    assert!(rt; locks.take_all(1, &[4], Mode::Exclude));
+    Ok(())
+}
