@@ -1,0 +1,4 @@
+//! Runs of two graphs, in all orders and with what may fail.
+mod failures;
+mod graphs;
+mod orders;
