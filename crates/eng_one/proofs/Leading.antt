@@ -31,7 +31,7 @@ settled-same g marks RollingBack q = ap (λ (n : ℕ). if none_out (mark_in mark
 settled-same g marks Ended q = refl
 settled-same g marks Undone q = refl
 
-ready-in : (r : Control) (x : State) (n : ℕ) → IsPartOf r x → IsReadyIn r n → IsReady r.graph x.node x.phase n
+pub ready-in : (r : Control) (x : State) (n : ℕ) → IsPartOf r x → IsReadyIn r n → IsReady r.graph x.node x.phase n
 ready-in r x n p h = record {
   below = h.below;
   idle = p.node n ∙ h.idle;

@@ -9,7 +9,7 @@ use Rattle.graph_mean.specs.declared.step.Status.TheVariants as status
 use Rattle.graph_mean.specs.declared.step.Phase.{Phase}
 use Rattle.graph_mean.specs.declared.step.Phase.TheVariants.{Before, After, RollingBack, Ended, Undone}
 use Rattle.graph_mean.specs.Graph.{View, kind_at}
-use Rattle.graph_mean.specs.Steps.{State, Act, Units, Step, UnitOf, IsReady, none_out, is_good, phase_after, stripe_of}
+use Rattle.graph_mean.specs.Steps.{State, Act, Units, Step, Run, UnitOf, IsReady, none_out, is_good, phase_after, stripe_of}
 use Rattle.graph_mean.specs.Steps.{Do, Fail, Skip}
 
 -- the graph that was started, the mark of each of its nodes, and the phase
@@ -60,6 +60,16 @@ pub record Passes (old : Control) (n : ℕ) (new : Control) : Type 0 where
 -- no node of the graph has been fired
 abbrev pub begun : View → Control
 begun g = record { graph = g; marks = replicate (length g.nodes) status.Idle; phase = Before }
+
+-- some steps of the graph, failures included, have led the run here from its beginning
+pub record IsReached (g : View) (r : Control) : Type 0 where
+  pub graph : r.graph ≡ g
+  pub first : State
+  pub acts : List Act
+  pub now : State
+  pub begins : IsPartOf (begun g) first
+  pub steps : Run g first acts now
+  pub part : IsPartOf r now
 
 -- the phase, where a roll-back is over once no node is out
 abbrev pub settled_in : List Status → Phase → Phase

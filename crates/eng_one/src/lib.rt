@@ -4,6 +4,7 @@
 //! graphs, executed by a state machine that knows nothing of what the nodes do).
 #![tactic(auto)]
 
+mod laws;
 mod marks;
 mod memory;
 mod run;
@@ -12,5 +13,6 @@ mod tests;
 
 pub use blk_plain::Outcome;
 pub use graph_mean::Phase;
+pub use laws::{beginning_is_reached, no_write_before_the_commit, step_reaches};
 pub use memory::Memory;
 pub use run::Run;
