@@ -1,0 +1,11 @@
+pub mod Lists
+pub mod Shown
+pub mod Spots
+pub mod Killing
+pub mod Began
+pub mod Ended
+pub mod Missing
+pub mod Losing
+pub mod Sums
+pub mod Decoding
+pub mod Sent

@@ -1,0 +1,5 @@
+mod asked;
+mod layouts;
+mod level_five;
+mod losses;
+mod spare_places;
