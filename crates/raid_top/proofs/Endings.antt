@@ -57,7 +57,7 @@ ok_of g tells texts home after words ending text None is e told none = is.ended 
 ok_of g tells texts home after words ending text (Some column) is e told none =
     let dead : IsDead is.outcome.served.dead column = subst (λ o. IsLost is.outcome.served.dead o) e is.ran.lost in
     let caused = is.ran.causes column dead in
-    failed_at g.faults home after is.ran.names is.ran.old is.ran.new column (is.ran.taken told) (is.ran.put_back told) caused.0 caused.1 none
+    failed_at g.faults home after is.ran.array.names is.ran.old is.ran.new column (is.ran.taken told) (is.ran.put_back told) caused.0 caused.1 none
 
 some_pair : (a b : Text × Text) → Some a ≡ Some b → a ≡ b
 some_pair a b e = cc e

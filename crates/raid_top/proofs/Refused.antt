@@ -8,6 +8,7 @@ use Rattle.top_array.specs.Sizes.{IsSmall}
 use Rattle.top_array.specs.declared.sizes.Small.{Small}
 use Rattle.top_lines.specs.declared.status.Status.{Status}
 use Rattle.top_lines.specs.declared.status.Status.TheVariants as status
+use Rattle.top_texts.specs.Conf.{Array}
 use Rattle.top_texts.specs.Script.{Item}
 use Rattle.raid_top.specs.Asked.{Refusal, NoFile, ◌then◌, text_in, conf_in, script_in, components_in, sectors_of, sizes_in, asked_in}
 use Rattle.raid_top.specs.Asked.Refusal.{Small as TooSmall}
@@ -52,26 +53,26 @@ unfolding components_in
 components_in-same home mid [] same = refl
 components_in-same home mid (name ∷ names) same = ap (λ o. if is_some o then components_in mid names else Err (NoFile name)) (same name) ∙ ap (λ r. if is_some (home name) then r else Err (NoFile name)) (components_in-same home mid names same)
 
-pub refused_script : {D : Type 0} (size : D → ℕ) (texts : Text → Option Text) (home : Text → Option D) (conf script : Text) (names : List Text) (s : Status) → conf_in texts conf ≡ Ok names → RefusedAs s (script_in texts script) → RefusedAs s (asked_in size texts home conf script)
+pub refused_script : {D : Type 0} (size : D → ℕ) (texts : Text → Option Text) (home : Text → Option D) (conf script : Text) (array : Array) (s : Status) → conf_in texts conf ≡ Ok array → RefusedAs s (script_in texts script) → RefusedAs s (asked_in size texts home conf script)
 unfolding asked_in
-refused_script size texts home conf script names s read h = rw read (refused_then s (script_in texts script) _ h)
+refused_script size texts home conf script array s read h = rw read (refused_then s (script_in texts script) _ h)
 
 pub refused_conf : {D : Type 0} (size : D → ℕ) (texts : Text → Option Text) (home : Text → Option D) (conf script : Text) (s : Status) → RefusedAs s (conf_in texts conf) → RefusedAs s (asked_in size texts home conf script)
 unfolding asked_in
 refused_conf size texts home conf script s h = refused_then s (conf_in texts conf) _ h
 
-pub refused_components : {D : Type 0} (size : D → ℕ) (texts : Text → Option Text) (home : Text → Option D) (conf script : Text) (names : List Text) (items : List Item) (s : Status) → conf_in texts conf ≡ Ok names → script_in texts script ≡ Ok items → RefusedAs s (components_in home names) → RefusedAs s (asked_in size texts home conf script)
+pub refused_components : {D : Type 0} (size : D → ℕ) (texts : Text → Option Text) (home : Text → Option D) (conf script : Text) (array : Array) (items : List Item) (s : Status) → conf_in texts conf ≡ Ok array → script_in texts script ≡ Ok items → RefusedAs s (components_in home array.names) → RefusedAs s (asked_in size texts home conf script)
 unfolding asked_in
-refused_components size texts home conf script names items s read script_read h = rw (read, script_read) (refused_then s (components_in home names) _ h)
+refused_components size texts home conf script array items s read script_read h = rw (read, script_read) (refused_then s (components_in home array.names) _ h)
 
-pub refused_sizes : {D : Type 0} (size : D → ℕ) (texts : Text → Option Text) (home : Text → Option D) (conf script : Text) (names : List Text) (items : List Item) (s : Status) → conf_in texts conf ≡ Ok names → script_in texts script ≡ Ok items → components_in home names ≡ Ok tt → RefusedAs s (sizes_in size home 0 names) → RefusedAs s (asked_in size texts home conf script)
+pub refused_sizes : {D : Type 0} (size : D → ℕ) (texts : Text → Option Text) (home : Text → Option D) (conf script : Text) (array : Array) (items : List Item) (s : Status) → conf_in texts conf ≡ Ok array → script_in texts script ≡ Ok items → components_in home array.names ≡ Ok tt → RefusedAs s (sizes_in size home array.unit 0 array.names) → RefusedAs s (asked_in size texts home conf script)
 unfolding asked_in
-refused_sizes size texts home conf script names items s read script_read there h = rw (read, script_read, there) (refused_then s (sizes_in size home 0 names) _ h)
+refused_sizes size texts home conf script array items s read script_read there h = rw (read, script_read, there) (refused_then s (sizes_in size home array.unit 0 array.names) _ h)
 
 -- nothing is refused
-pub asked_in-all : {D : Type 0} (size : D → ℕ) (texts : Text → Option Text) (home : Text → Option D) (conf script : Text) (names : List Text) (items : List Item) → conf_in texts conf ≡ Ok names → script_in texts script ≡ Ok items → components_in home names ≡ Ok tt → sizes_in size home 0 names ≡ Ok tt → asked_in size texts home conf script ≡ Ok (record { names = names; items = items })
+pub asked_in-all : {D : Type 0} (size : D → ℕ) (texts : Text → Option Text) (home : Text → Option D) (conf script : Text) (array : Array) (items : List Item) → conf_in texts conf ≡ Ok array → script_in texts script ≡ Ok items → components_in home array.names ≡ Ok tt → sizes_in size home array.unit 0 array.names ≡ Ok tt → asked_in size texts home conf script ≡ Ok (record { array = array; items = items })
 unfolding asked_in
-asked_in-all size texts home conf script names items read script_read there roomy = rw (read, script_read, there, roomy) refl
+asked_in-all size texts home conf script array items read script_read there roomy = rw (read, script_read, there, roomy) refl
 
 -- the sizes of the components are those of the devices that were taken
 size_taken : {D : Type 0} (size : D → ℕ) (home : Text → Option D) (name : Text) (d : D) → home name ≡ Some d → sectors_of size home name ≡ size d
@@ -81,42 +82,42 @@ some_head : {D : Type 0} (o : Option D) (os : List (Option D)) (d : D) (ds : Lis
 some_head o os d ds e = (cc e, cc e)
 
 -- the first of the devices without room is refused; the first of the names is column k's
-small_from : {D : Type 0} (size : D → ℕ) (home : Text → Option D) (names : List Text) (ds : List D) (k j : ℕ) → map home names ≡ map (λ d. Some d) ds → j < length ds → of_column size 0 ds j < 65 → ((c : ℕ) → c < j → 65 ≤ of_column size 0 ds c)
-    → sizes_in size home k names ≡ Err (TooSmall (k + j) (of_column size 0 ds j) 65)
+small_from : {D : Type 0} (size : D → ℕ) (home : Text → Option D) (u : ℕ) (names : List Text) (ds : List D) (k j : ℕ) → map home names ≡ map (λ d. Some d) ds → j < length ds → of_column size 0 ds j < 64 + u → ((c : ℕ) → c < j → 64 + u ≤ of_column size 0 ds c)
+    → sizes_in size home u k names ≡ Err (TooSmall (k + j) (of_column size 0 ds j) (64 + u))
 unfolding sizes_in of_column
-small_from size home [] [] k j taken h short first = absurd (omega (arith, h))
-small_from size home [] (d ∷ ds) k j taken h short first = cc taken
-small_from size home (n ∷ names) [] k j taken h short first = cc taken
-small_from size home (n ∷ names) (d ∷ ds) k zero taken h short first =
+small_from size home u [] [] k j taken h short first = absurd (omega (arith, h))
+small_from size home u [] (d ∷ ds) k j taken h short first = cc taken
+small_from size home u (n ∷ names) [] k j taken h short first = cc taken
+small_from size home u (n ∷ names) (d ∷ ds) k zero taken h short first =
     let both = some_head (home n) (map home names) d ds taken in
     let has : sectors_of size home n ≡ size d = size_taken size home n d both.0 in
-    let lt = lt-ltb (size d) 65 short in
+    let lt = lt-ltb (size d) (64 + u) short in
     let same : k + 0 ≡ k = omega arith in
     rw (has, lt, same) refl
-small_from size home (n ∷ names) (d ∷ ds) k (suc j) taken h short first =
+small_from size home u (n ∷ names) (d ∷ ds) k (suc j) taken h short first =
     let both = some_head (home n) (map home names) d ds taken in
     let has : sectors_of size home n ≡ size d = size_taken size home n d both.0 in
-    let ge = le-ltb (size d) 65 (first 0 (omega arith)) in
+    let ge = le-ltb (size d) (64 + u) (first 0 (omega arith)) in
     let same : (k + 1) + j ≡ k + suc j = omega arith in
-    let rest = small_from size home names ds (k + 1) j both.1 (omega (arith, h)) short (λ c lt. first (suc c) (omega (arith, lt))) in
-    rw (has, ge) (rest ∙ ap (λ (c : ℕ). Err (TooSmall c (of_column size 0 ds j) 65)) same)
+    let rest = small_from size home u names ds (k + 1) j both.1 (omega (arith, h)) short (λ c lt. first (suc c) (omega (arith, lt))) in
+    rw (has, ge) (rest ∙ ap (λ (c : ℕ). Err (TooSmall c (of_column size 0 ds j) (64 + u))) same)
 
 -- each device has room
-roomy_from : {D : Type 0} (size : D → ℕ) (home : Text → Option D) (names : List Text) (ds : List D) (k : ℕ) → map home names ≡ map (λ d. Some d) ds → ((c : ℕ) → c < length ds → 65 ≤ of_column size 0 ds c) → sizes_in size home k names ≡ Ok tt
+roomy_from : {D : Type 0} (size : D → ℕ) (home : Text → Option D) (u : ℕ) (names : List Text) (ds : List D) (k : ℕ) → map home names ≡ map (λ d. Some d) ds → ((c : ℕ) → c < length ds → 64 + u ≤ of_column size 0 ds c) → sizes_in size home u k names ≡ Ok tt
 unfolding sizes_in of_column
-roomy_from size home [] ds k taken room = refl
-roomy_from size home (n ∷ names) [] k taken room = cc taken
-roomy_from size home (n ∷ names) (d ∷ ds) k taken room =
+roomy_from size home u [] ds k taken room = refl
+roomy_from size home u (n ∷ names) [] k taken room = cc taken
+roomy_from size home u (n ∷ names) (d ∷ ds) k taken room =
     let both = some_head (home n) (map home names) d ds taken in
     let has : sectors_of size home n ≡ size d = size_taken size home n d both.0 in
-    let ge = le-ltb (size d) 65 (room 0 (omega arith)) in
-    rw (has, ge) (roomy_from size home names ds (k + 1) both.1 (λ c lt. room (suc c) (omega (arith, lt))))
+    let ge = le-ltb (size d) (64 + u) (room 0 (omega arith)) in
+    rw (has, ge) (roomy_from size home u names ds (k + 1) both.1 (λ c lt. room (suc c) (omega (arith, lt))))
 
-pub sizes_in-small : {D : Type 0} (size : D → ℕ) (home : Text → Option D) (names : List Text) (ds : List D) (small : Small) → map home names ≡ map (λ d. Some d) ds → IsSmall (of_column size 0 ds) (length ds) small → sizes_in size home 0 names ≡ Err (TooSmall small.column small.has small.needs)
-sizes_in-small size home names ds small taken is =
-    let from = small_from size home names ds 0 small.column taken is.within (omega (arith, is.has, is.needs, is.short)) is.first in
+pub sizes_in-small : {D : Type 0} (size : D → ℕ) (home : Text → Option D) (u : ℕ) (names : List Text) (ds : List D) (small : Small) → map home names ≡ map (λ d. Some d) ds → IsSmall (of_column size 0 ds) (length ds) u small → sizes_in size home u 0 names ≡ Err (TooSmall small.column small.has small.needs)
+sizes_in-small size home u names ds small taken is =
+    let from = small_from size home u names ds 0 small.column taken is.within (omega (arith, is.has, is.needs, is.short)) is.first in
     let column : 0 + small.column ≡ small.column = omega arith in
     cc (from, column, is.has, is.needs)
 
-pub sizes_in-roomy : {D : Type 0} (size : D → ℕ) (home : Text → Option D) (names : List Text) (ds : List D) → map home names ≡ map (λ d. Some d) ds → ((c : ℕ) → c < length ds → 65 ≤ of_column size 0 ds c) → sizes_in size home 0 names ≡ Ok tt
-sizes_in-roomy size home names ds taken room = roomy_from size home names ds 0 taken room
+pub sizes_in-roomy : {D : Type 0} (size : D → ℕ) (home : Text → Option D) (u : ℕ) (names : List Text) (ds : List D) → map home names ≡ map (λ d. Some d) ds → ((c : ℕ) → c < length ds → 64 + u ≤ of_column size 0 ds c) → sizes_in size home u 0 names ≡ Ok tt
+sizes_in-roomy size home u names ds taken room = roomy_from size home u names ds 0 taken room

@@ -2,7 +2,7 @@
 use Rattle.std.specs.Prelude.{ℕ, ◌+◌, List, [], ◌∷◌, Option, Some, None, Result, Ok, Err, length, if◌then◌else◌, is_some, nat_lt}
 use Rattle.std.specs.Option.{option_map_or}
 use Rattle.raid_text.specs.Text.{Text, lines_in}
-use Rattle.top_texts.specs.Conf.{conf_of}
+use Rattle.top_texts.specs.Conf.{Array, conf_of}
 use Rattle.top_texts.specs.Script.{Item, script_of}
 
 -- a refusal that texts, names and sizes determine
@@ -13,9 +13,9 @@ pub data Refusal : Type 0 where
   Script : (line : ℕ) (code : ℕ) → Refusal
   Small : (column : ℕ) (has : ℕ) (needs : ℕ) → Refusal
 
--- the names of the components by column, and the items of the script
+-- the array of the configuration, and the items of the script
 pub record Asked : Type 0 where
-  pub names : List Text
+  pub array : Array
   pub items : List Item
 
 -- what a value leads to, or the refusal in its place
@@ -37,8 +37,8 @@ short_text name text = if nat_lt 16777216 (length text) then Err (LongText name)
 unfoldable pub text_in : (Text → Option Text) → Text → Result Text Refusal
 text_in texts name = or_refusal (texts name) (NoFile name) then short_text name
 
--- the names of the components, by the configuration of this name
-unfoldable pub conf_in : (Text → Option Text) → Text → Result (List Text) Refusal
+-- the array, by the configuration of this name
+unfoldable pub conf_in : (Text → Option Text) → Text → Result Array Refusal
 conf_in texts name = text_in texts name then λ text. or_refusal (conf_of (lines_in text)) (Conf 0 1)
 
 -- the items, by the script of this name
@@ -54,16 +54,16 @@ components_in home (name ∷ names) = if is_some (home name) then components_in 
 abbrev pub sectors_of : {D : Type 0} → (D → ℕ) → (Text → Option D) → Text → ℕ
 sectors_of size home name = option_map_or size (home name) 0
 
--- all components have room for one stripe, or the first that hasn't is refused; the first of the names is this column's
-unfoldable pub sizes_in : {D : Type 0} → (D → ℕ) → (Text → Option D) → ℕ → List Text → Result (Unit {0}) Refusal
-sizes_in size home column [] = Ok tt
-sizes_in size home column (name ∷ names) =
-    if nat_lt (sectors_of size home name) 65 then Err (Small column (sectors_of size home name) 65)
-    else sizes_in size home (column + 1) names
+-- all components have room for a row of units of u sectors, or the first that hasn't is refused; the first of the names is this column's
+unfoldable pub sizes_in : {D : Type 0} → (D → ℕ) → (Text → Option D) → (u : ℕ) → (column : ℕ) → List Text → Result (Unit {0}) Refusal
+sizes_in size home u column [] = Ok tt
+sizes_in size home u column (name ∷ names) =
+    if nat_lt (sectors_of size home name) (64 + u) then Err (Small column (sectors_of size home name) (64 + u))
+    else sizes_in size home u (column + 1) names
 
 -- what CONF and SCRIPT ask for, or the first refusal: the configuration, the script, the components, their sizes
 unfoldable pub asked_in : {D : Type 0} → (D → ℕ) → (Text → Option Text) → (Text → Option D) → Text → Text → Result Asked Refusal
 asked_in size texts home conf script =
-    conf_in texts conf then λ names. script_in texts script then λ items.
-    components_in home names then λ there. sizes_in size home 0 names then λ roomy.
-    Ok (record { names = names; items = items })
+    conf_in texts conf then λ array. script_in texts script then λ items.
+    components_in home array.names then λ there. sizes_in size home array.unit 0 array.names then λ roomy.
+    Ok (record { array = array; items = items })

@@ -1,16 +1,17 @@
 //! What a run does, apart from its output.
-ghost use Rattle.std.specs.Prelude.{◌≡◌, ◌≤◌, ◌<◌, ◌^◌, ℕ, List, IfOk, IfErr, OnErr, IsErrOf};
+ghost use Rattle.std.specs.Prelude.{◌≡◌, ◌≤◌, ◌<◌, ◌^◌, ℕ, List, length, IfOk, IfErr, OnErr, IsErrOf};
 ghost use Rattle.blk_disk.specs.Disk.{Rose};
+ghost use Rattle.top_array.specs.Served.{HasRoom};
 ghost use Rattle.raid_top.specs.Asked.{asked_in};
 ghost use Rattle.raid_top.specs.Ends.{IsRefusal, RefusedAs};
 ghost use Rattle.raid_top.specs.Ran.{Ran};
 
 use crate::components::{put_all, take_all};
 use crate::opening::{open_conf, open_script};
-use blk_plain::Op;
+use blk_plain::{Memory, Op};
 use raid_bay::Bay;
 use std::alloc::Global;
-use top_array::{Log, Served, Small, serve, stripes_of};
+use top_array::{Log, Room, Served, Small, layout_of, serve};
 use top_lines::Status;
 
 /// The operations of a script, and what their service left.
@@ -20,7 +21,7 @@ pub struct Outcome {
     pub served: Served,
 }
 
-// The status of a component that has no room for a stripe.
+// The status of a component that has no room for a row.
 fn status_of(small: Small) -> Status
     requires { small.column < 2 ^ 32 }
     ensures { result ≡ Status.Small small.column small.has small.needs }
@@ -30,6 +31,19 @@ fn status_of(small: Small) -> Status
         has: small.has,
         needs: small.needs,
     }
+}
+
+// All memory that the run of the operations takes.
+fn take_room(alloc: Global, ops: &[Op], unit_sectors: u32) -> Result<(Log, Room), Memory>
+    requires few { length ops.now ≤ 65536 }
+    requires least { 1 ≤ unit_sectors }
+    requires most { unit_sectors ≤ 128 }
+    ensures log { IfOk result (λ taken. HasRoom ops.now taken.0) }
+    ensures room { IfOk result (λ taken. taken.1.sectors ≡ unit_sectors) }
+{
+    let log = Log::with_room(alloc, ops)?;
+    let room = Room::open(alloc, unit_sectors)?;
+    Ok((log, room))
 }
 
 /// Runs the script on the array of the configuration, both by name, and puts the components back.
@@ -42,33 +56,33 @@ pub fn act<B: Bay>(alloc: Global, conf: &str, script: &str, bay: &mut B) -> Resu
     ensures later { B.faults bay.old ≤ B.faults bay.new }
     ensures cause { IsErrOf result Status.BayFault → Rose (B.faults bay.old) (B.faults bay.new) }
 {
-    let names = match open_conf(alloc, conf, bay) {
-        Ok(names) => names,
+    let array = match open_conf(alloc, conf, bay) {
+        Ok(array) => array,
         Err(status) => return Err(status),
     };
     let ops = match open_script(alloc, script, bay) {
         Ok(ops) => ops,
         Err(status) => return Err(status),
     };
-    let mut devices = match take_all(alloc, bay, &names) {
+    let mut devices = match take_all(alloc, bay, &array.disks) {
         Ok(devices) => devices,
         Err(status) => return Err(status),
     };
-    let stripes = match stripes_of(&devices) {
-        Ok(stripes) => stripes,
+    let layout = match layout_of(&devices, array.unit_sectors) {
+        Ok(layout) => layout,
         Err(small) => {
-            put_all(bay, &names, devices);
+            put_all(bay, &array.disks, devices);
             return Err(status_of(small));
         }
     };
-    let log = match Log::with_room(alloc, &ops) {
-        Ok(log) => log,
+    let (log, mut room) = match take_room(alloc, &ops, array.unit_sectors) {
+        Ok(taken) => taken,
         Err(_) => {
-            put_all(bay, &names, devices);
+            put_all(bay, &array.disks, devices);
             return Err(Status::Memory);
         }
     };
-    let served = serve(&ops, &mut devices, stripes, log);
-    put_all(bay, &names, devices);
+    let served = serve(&ops, &layout, &mut devices, log, &mut room);
+    put_all(bay, &array.disks, devices);
     Ok(Outcome { ops, served })
 }

@@ -13,7 +13,7 @@ use blk_plain::Op;
 use raid_bay::{Bay, Name, TextFault};
 use std::alloc::Global;
 use top_lines::Status;
-use top_texts::{ConfFault, ScriptFault, read_conf, read_script};
+use top_texts::{Array, ConfFault, ScriptFault, read_conf, read_script};
 
 /// The most bytes that a text may have.
 const LIMIT: usize = 16_777_216;
@@ -60,13 +60,15 @@ fn open_text<B: Bay>(alloc: Global, name: &str, bay: &mut B) -> Result<Vec<u8>, 
     }
 }
 
-/// The names of the components, by the configuration of that name.
+/// The array, by the configuration of that name.
 #[tactic(auto, unfolding(crate::specs::Asked::conf_in))]
-pub fn open_conf<B: Bay>(alloc: Global, name: &str, bay: &mut B) -> Result<Vec<Name>, Status>
-    ensures answer { B.tells → Opens (λ v. v.items) result (conf_in (B.text_of bay.old) name.now) }
-    ensures some { IfOk result (λ v. 2 ≤ vec_len v) }
-    ensures few { IfOk result (λ v. vec_len v ≤ 32) }
-    ensures differ { IfOk result (λ v. Differ v.items) }
+pub fn open_conf<B: Bay>(alloc: Global, name: &str, bay: &mut B) -> Result<Array, Status>
+    ensures answer { B.tells → Opens (λ a. record { names = a.disks.items; unit = a.unit_sectors }) result (conf_in (B.text_of bay.old) name.now) }
+    ensures some { IfOk result (λ a. 2 ≤ vec_len a.disks) }
+    ensures few { IfOk result (λ a. vec_len a.disks ≤ 32) }
+    ensures differ { IfOk result (λ a. Differ a.disks.items) }
+    ensures least { IfOk result (λ a. 1 ≤ a.unit_sectors) }
+    ensures most { IfOk result (λ a. a.unit_sectors ≤ 128) }
     ensures kind { IfErr result IsRefusal }
     ensures texts { B.tells → (n : List ℕ) → B.text_of bay.new n ≡ B.text_of bay.old n }
     ensures homes { B.tells → (n : List ℕ) → B.home bay.new n ≡ B.home bay.old n }
@@ -78,7 +80,7 @@ pub fn open_conf<B: Bay>(alloc: Global, name: &str, bay: &mut B) -> Result<Vec<N
         Err(status) => return Err(status),
     };
     match read_conf(alloc, &text) {
-        Ok(names) => Ok(names),
+        Ok(array) => Ok(array),
         Err(ConfFault::Form) => Err(Status::Conf(0, 1)),
         Err(ConfFault::Memory) => Err(Status::Memory),
     }

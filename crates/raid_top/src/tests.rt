@@ -8,6 +8,9 @@ use std::test::Fail;
 
 const CONF: &str = "START array\n1 3 0\nSTART disks\nd0\nd1\nd2\nSTART layout\n1 1 1 5\n";
 
+// The same with units of four sectors: 16 stripes of 8 blocks over components of 128 sectors.
+const WIDE: &str = "START array\n1 3 0\nSTART disks\nd0\nd1\nd2\nSTART layout\n4 1 1 5\n";
+
 const SCRIPT: &str = "0 write 0 1 a5\n0 read 0 1\n";
 
 // What the script prints where nothing fails, up to the columns that died as they were settled.
@@ -84,14 +87,19 @@ fn runs(
     Ok(())
 }
 
-// The component is at home, sector `at` is filled with this byte, and each other sector is zero.
-fn holds(rt: &impl Abort, bay: &MemBay<MemDisk>, name: &str, at: usize, byte: u8) {
+// The component is at home, its sectors from `first` on are filled with these bytes, and each other sector is zero.
+fn holds(rt: &impl Abort, bay: &MemBay<MemDisk>, name: &str, first: usize, bytes: &[u8]) {
     let Some(disk) = bay.disk(name) else {
         assert!(rt; false, "{name} isn't at home");
         return;
     };
     for (k, held) in disk.bytes().iter().enumerate() {
-        let wanted = if k / SECTOR == at { byte } else { 0 };
+        let sector = k / SECTOR;
+        let wanted = if sector < first {
+            0
+        } else {
+            bytes.get(sector - first).copied().unwrap_or(0)
+        };
         assert_eq!(rt; *held, wanted, "byte {k} of {name}");
     }
 }
@@ -99,7 +107,7 @@ fn holds(rt: &impl Abort, bay: &MemBay<MemDisk>, name: &str, at: usize, byte: u8
 // All components are at home and hold zeros alone.
 fn holds_nothing(rt: &impl Abort, bay: &MemBay<MemDisk>) {
     for name in ["d0", "d1", "d2"] {
-        holds(rt, bay, name, 0, 0);
+        holds(rt, bay, name, 0, &[]);
     }
 }
 
@@ -110,9 +118,9 @@ fn what_was_written_is_read(rt: HostRuntime) -> Result<(), Fail> {
     let mut lines = String::from_str(alloc, RAN)?;
     lines.push_str("status ok\n")?;
     runs(&rt, alloc, &mut bay, 0, lines.as_str())?;
-    holds(&rt, &bay, "d0", 64, 0xa5);
-    holds(&rt, &bay, "d1", 64, 0);
-    holds(&rt, &bay, "d2", 64, 0xa5);
+    holds(&rt, &bay, "d0", 64, &[0xa5]);
+    holds(&rt, &bay, "d1", 64, &[]);
+    holds(&rt, &bay, "d2", 64, &[0xa5]);
     let told: [(&str, &[u8]); 3] = [
         ("d0", &[Call::WRITE, Call::READ, Call::SETTLE]),
         ("d1", &[Call::READ, Call::SETTLE]),
@@ -148,6 +156,11 @@ fn scripts_are_run_by_their_items(rt: HostRuntime) -> Result<(), Fail> {
         ),
         ("0 read 0 33\n", 128, "reply 0.0 refused R2\nstatus ok\n"),
         (
+            "0 sync 0\n0 sync 64\n",
+            128,
+            "reply 0.0 done\nreply 0.1 refused R1\ncommit 0.0\nstatus ok\n",
+        ),
+        (
             "0 write 1 1 22\n0 write 2 1 22\n",
             65,
             "reply 0.0 done\nreply 0.1 refused R1\ncommit 0.0\nstatus ok\n",
@@ -164,9 +177,32 @@ fn scripts_are_run_by_their_items(rt: HostRuntime) -> Result<(), Fail> {
         0,
         "reply 0.0 done\ncommit 0.0\nstatus ok\n",
     )?;
-    holds(&rt, &bay, "d0", 127, 0);
-    holds(&rt, &bay, "d1", 127, 0x11);
-    holds(&rt, &bay, "d2", 127, 0x11);
+    holds(&rt, &bay, "d0", 127, &[]);
+    holds(&rt, &bay, "d1", 127, &[0x11]);
+    holds(&rt, &bay, "d2", 127, &[0x11]);
+    Ok(())
+}
+
+// Blocks 1 to 3 lie in unit 0 of stripe 0, blocks 4 to 6 in unit 1.
+#[test]
+fn units_of_four_sectors_are_written_and_read(rt: HostRuntime) -> Result<(), Fail> {
+    let alloc = rt.alloc();
+    let mut bay = bay_of(alloc, WIDE, SCRIPT, 128, &[])?;
+    let mut lines = String::from_str(alloc, RAN)?;
+    lines.push_str("status ok\n")?;
+    runs(&rt, alloc, &mut bay, 0, lines.as_str())?;
+    holds(&rt, &bay, "d0", 64, &[0xa5]);
+    holds(&rt, &bay, "d1", 64, &[]);
+    holds(&rt, &bay, "d2", 64, &[0xa5]);
+
+    let script = "0 write 1 6 77\n0 read 0 8\n0 write 128 1 77\n";
+    let lines =
+        "reply 0.0 done\nreply 0.1 data\nblock 0 1 00\nblock 1 6 77\nblock 7 1 00\nreply 0.2 refused R1\ncommit 0.0\ncommit 0.1\nstatus ok\n";
+    let mut bay = bay_of(alloc, WIDE, script, 128, &[])?;
+    runs(&rt, alloc, &mut bay, 0, lines)?;
+    holds(&rt, &bay, "d0", 65, &[0x77, 0x77, 0x77]);
+    holds(&rt, &bay, "d1", 64, &[0x77, 0x77, 0x77]);
+    holds(&rt, &bay, "d2", 64, &[0x77, 0, 0, 0x77]);
     Ok(())
 }
 
@@ -174,14 +210,16 @@ fn scripts_are_run_by_their_items(rt: HostRuntime) -> Result<(), Fail> {
 fn what_is_refused_changes_nothing(rt: HostRuntime) -> Result<(), Fail> {
     let alloc = rt.alloc();
     let missing = "START array\n1 3 0\nSTART disks\nd0\nd1\nd3\nSTART layout\n1 1 1 5\n";
-    let two_sectors = "START array\n1 3 0\nSTART disks\nd0\nd1\nd2\nSTART layout\n2 1 1 5\n";
-    let tables: [(&str, &str, u16, &[u32], u8, &str); 8] = [
+    let large = "START array\n1 3 0\nSTART disks\nd0\nd1\nd2\nSTART layout\n129 1 1 5\n";
+    let tables: [(&str, &str, u16, &[u32], u8, &str); 10] = [
         (missing, SCRIPT, 128, &[], 6, "status nofile d3\n"),
         (CONF, SCRIPT, 128, &[3], 5, "status bay\n"),
         (CONF, SCRIPT, 128, &[1], 5, "status bay\n"),
         (CONF, SCRIPT, 64, &[], 10, "status small 1 64 65\n"),
         (CONF, SCRIPT, 0, &[], 10, "status small 1 0 65\n"),
-        (two_sectors, SCRIPT, 128, &[], 2, "status conf 0 1\n"),
+        (WIDE, SCRIPT, 67, &[], 10, "status small 1 67 68\n"),
+        (large, SCRIPT, 128, &[], 2, "status conf 0 1\n"),
+        (CONF, "0 sync 0 0\n", 128, &[], 3, "status script 0 1\n"),
         (CONF, "0 write 0 0 a5\n", 128, &[], 3, "status script 0 1\n"),
         (CONF, "1 read 0 1\n", 64, &[], 3, "status script 0 1\n"),
     ];
@@ -260,9 +298,9 @@ fn a_sink_that_fails_hides_the_output_alone(rt: HostRuntime) -> Result<(), Fail>
     let status = run(alloc, &words, &mut bay, &mut out);
     assert_eq!(rt; status.number(), 7);
     assert_eq!(rt; out.bytes(), b"".as_slice());
-    holds(&rt, &bay, "d0", 64, 0xa5);
-    holds(&rt, &bay, "d1", 64, 0);
-    holds(&rt, &bay, "d2", 64, 0xa5);
+    holds(&rt, &bay, "d0", 64, &[0xa5]);
+    holds(&rt, &bay, "d1", 64, &[]);
+    holds(&rt, &bay, "d2", 64, &[0xa5]);
     Ok(())
 }
 
@@ -280,7 +318,7 @@ fn want_of_memory_changes_nothing(rt: HostRuntime) -> Result<(), Fail> {
         holds_nothing(&rt, &bay);
     } else {
         assert_eq!(rt; status.number(), 0);
-        holds(&rt, &bay, "d0", 64, 0xa5);
+        holds(&rt, &bay, "d0", 64, &[0xa5]);
     }
     Ok(())
 }

@@ -1,55 +1,56 @@
 -- A run of one client's operations: which are run, what they are replied, and their history.
-use Rattle.std.specs.Prelude.{◌≡◌, ℕ, ◌+◌, ◌*◌, ◌<◌, ◌^◌, List, [], ◌∷◌, ◌++◌, take, drop, slice_get, Bool, false, not, nat_lt, if◌then◌else◌, Option, Some, None}
+use Rattle.std.specs.Prelude.{◌≡◌, ◌≢◌, ℕ, ◌+◌, ◌<◌, ◌^◌, List, [], ◌∷◌, ◌++◌, take, drop, slice_get, Bool, false, not, nat_lt, if◌then◌else◌, Contains, Option, Some, None}
 use Rattle.blk_plain.specs.declared.op.Span.{Span}
 use Rattle.blk_plain.specs.declared.op.Op.{Op}
 use Rattle.blk_plain.specs.declared.op.Op.TheVariants.{Write, Read, Rebuild, Sync}
 use Rattle.blk_plain.specs.Plain.{after_option, replayed}
 use Rattle.top_array.specs.declared.reply.Reply.{Reply}
 use Rattle.top_array.specs.declared.reply.Reply.TheVariants as reply
-use Rattle.top_array.specs.Places.{stripe_count}
-use Rattle.top_array.specs.Array.{Units, Agrees, AgreesOutside}
+use Rattle.lay_core.specs.Layout.{Shape, blocks_in}
+use Rattle.lay_core.specs.Touched.{stripe_count}
+use Rattle.top_array.specs.Array.{Units, Agrees, AgreesAt, IsLeft, IsUntouched, IsZeroSum}
 
--- a write or a read of one block at least
+-- a write or a read of one block at least, or a sync
 abbrev pub IsItem : Op → Type 0
 IsItem (Write span pattern) = (0 < span.count) × (span.first < 2 ^ 32)
 IsItem (Read span) = (0 < span.count) × (span.first < 2 ^ 32)
 IsItem (Rebuild stripe) = ⊥
-IsItem (Sync stripe) = ⊥
+IsItem (Sync stripe) = Unit {0}
 
--- whether the span reaches past the last block of m stripes with d data units each
-unfoldable pub is_past : ℕ → ℕ → Span → Bool
-is_past d m span = nat_lt (d * m) (span.first + span.count)
+-- whether the span reaches past the last block
+unfoldable pub is_past : Shape → Span → Bool
+is_past y span = nat_lt (blocks_in y) (span.first + span.count)
 
 -- whether it touches more than 16 stripes
-unfoldable pub is_long : ℕ → Span → Bool
-is_long d span = nat_lt 16 (stripe_count d span)
+unfoldable pub is_long : Shape → Span → Bool
+is_long y span = nat_lt 16 (stripe_count y span)
 
 -- the reply to a span where no column is lost, if one that is run is replied so
-unfoldable pub span_reply : ℕ → ℕ → Span → Reply → Reply
-span_reply d m span run = if is_past d m span then reply.OutOfRange else (if is_long d span then reply.TooLong else run)
+unfoldable pub span_reply : Shape → Span → Reply → Reply
+span_reply y span run = if is_past y span then reply.OutOfRange else (if is_long y span then reply.TooLong else run)
 
 -- whether a span is run
-unfoldable pub is_run_span : ℕ → ℕ → Span → Bool
-is_run_span d m span = if is_past d m span then false else not (is_long d span)
+unfoldable pub is_run_span : Shape → Span → Bool
+is_run_span y span = if is_past y span then false else not (is_long y span)
 
--- the reply to an operation where no column is lost; no client has a rebuild or a sync among its items
-abbrev pub reply_of : ℕ → ℕ → Op → Reply
-reply_of d m (Write span pattern) = span_reply d m span reply.Done
-reply_of d m (Read span) = span_reply d m span reply.Data
-reply_of d m (Rebuild stripe) = reply.OutOfRange
-reply_of d m (Sync stripe) = reply.OutOfRange
+-- the reply to an operation where no column is lost; no client has a rebuild among its items
+abbrev pub reply_of : Shape → Op → Reply
+reply_of y (Write span pattern) = span_reply y span reply.Done
+reply_of y (Read span) = span_reply y span reply.Data
+reply_of y (Rebuild stripe) = reply.OutOfRange
+reply_of y (Sync stripe) = if nat_lt stripe y.stripes then reply.Done else reply.OutOfRange
 
 -- whether an operation is run
-abbrev pub is_run : ℕ → ℕ → Op → Bool
-is_run d m (Write span pattern) = is_run_span d m span
-is_run d m (Read span) = is_run_span d m span
-is_run d m (Rebuild stripe) = false
-is_run d m (Sync stripe) = false
+abbrev pub is_run : Shape → Op → Bool
+is_run y (Write span pattern) = is_run_span y span
+is_run y (Read span) = is_run_span y span
+is_run y (Rebuild stripe) = false
+is_run y (Sync stripe) = nat_lt stripe y.stripes
 
 -- the numbers of the operations that are run, where the first has the number n
-unfoldable pub places : ℕ → ℕ → ℕ → List Op → List ℕ
-places d m n [] = []
-places d m n (op ∷ ops) = if is_run d m op then n ∷ places d m (n + 1) ops else places d m (n + 1) ops
+unfoldable pub places : Shape → ℕ → List Op → List ℕ
+places y n [] = []
+places y n (op ∷ ops) = if is_run y op then n ∷ places y (n + 1) ops else places y (n + 1) ops
 
 -- the sectors that an operation replies of these blocks
 abbrev pub data_of : Op → List (List ℕ) → List (List ℕ)
@@ -68,12 +69,23 @@ unfoldable pub data_at : List Op → List ℕ → List (List ℕ) → List (List
 data_at ops [] blocks = []
 data_at ops (i ∷ history) blocks = data_option (slice_get ops i) blocks ++ data_at ops history (after_option (slice_get ops i) blocks)
 
--- The units hold these blocks but in the stripes that the operation writes.
-abbrev pub AgreesBut : ℕ → ℕ → Op → Units → List (List ℕ) → Type 0
-AgreesBut d m (Write span pattern) u blocks = AgreesOutside d m span u blocks
-AgreesBut d m (Read span) u blocks = Agrees d m u blocks
-AgreesBut d m (Rebuild stripe) u blocks = Agrees d m u blocks
-AgreesBut d m (Sync stripe) u blocks = Agrees d m u blocks
+-- The units hold these blocks but where the operation writes: a write in its blocks and the check units of these, a sync in its stripe's check unit.
+abbrev pub AgreesBut : Shape → Op → Units → List (List ℕ) → Type 0
+AgreesBut y (Write span pattern) u blocks = AgreesAt y (IsLeft y span) (IsUntouched y span) u blocks
+AgreesBut y (Read span) u blocks = Agrees y u blocks
+AgreesBut y (Rebuild stripe) u blocks = Agrees y u blocks
+AgreesBut y (Sync stripe) u blocks = AgreesAt y (λ s i o. Unit {0}) (λ s o. s ≢ stripe) u blocks
+
+-- the stripe of a sync sums to zero
+abbrev pub IsSyncedBy : Shape → Op → Units → Type 0
+IsSyncedBy y (Write span pattern) u = Unit {0}
+IsSyncedBy y (Read span) u = Unit {0}
+IsSyncedBy y (Rebuild stripe) u = Unit {0}
+IsSyncedBy y (Sync stripe) u = stripe < y.stripes → IsZeroSum y u stripe
+
+-- the stripe of each sync in the history does
+abbrev pub AreSynced : Shape → List Op → List ℕ → Units → Type 0
+AreSynced y ops history u = (i : ℕ) (op : Op) → Contains history i → slice_get ops i ≡ Some op → IsSyncedBy y op u
 
 -- how many sectors an operation may reply
 abbrev pub read_count : Op → ℕ
@@ -99,6 +111,6 @@ replied_counts (op ∷ ops) [] = 0
 replied_counts (op ∷ ops) (reply ∷ replies) = replied_count op reply + replied_counts ops replies
 
 -- The units hold the replay of the history over these blocks, and the sectors are its replies.
-pub record Follows (d m : ℕ) (ops : List Op) (history : List ℕ) (sectors : List (List ℕ)) (u : Units) (blocks : List (List ℕ)) : Type 0 where
-  pub agrees : Agrees d m u (replayed ops history blocks)
+pub record Follows (y : Shape) (ops : List Op) (history : List ℕ) (sectors : List (List ℕ)) (u : Units) (blocks : List (List ℕ)) : Type 0 where
+  pub agrees : Agrees y u (replayed ops history blocks)
   pub replied : sectors ≡ data_at ops history blocks

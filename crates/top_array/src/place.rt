@@ -1,72 +1,44 @@
-//! Where units stand, and which blocks and stripes a span touches.
-ghost use Rattle.std.specs.Prelude.{◌≡◌, ◌≤◌, ◌<◌, ◌*◌, ◌-◌, ◌+◌, ◌^◌, ◌/◌};
-ghost use Rattle.top_array.specs.Places.{column_of, sector_of_stripe, touches, first_stripe, stripe_count};
+//! Where the sectors of units stand, and which of them are in a span.
+ghost use Rattle.std.specs.Prelude.{◌≡◌, ◌≤◌, ◌<◌, ◌+◌, ◌^◌};
+ghost use Rattle.lay_core.specs.Layout.{IsLayout, data_units, block_of, blocks_in};
+ghost use Rattle.lay_core.specs.Touched.{is_in};
+ghost use Rattle.top_array.specs.Places.{sector_of};
 
 use blk_plain::Span;
+use lay_core::{Layout, Place};
 
 /// The most columns of an array.
 pub const COLUMNS: usize = 32;
 
-/// The most stripes of an array.
-pub const STRIPES: u64 = 1_048_576;
-
-/// The most stripes that one operation may touch.
-pub const SPAN_STRIPES: usize = 16;
+/// The most rows of an array.
+pub const ROWS: u64 = 1_048_576;
 
 /// The first sector of a device that belongs to the array.
 pub const FIRST_SECTOR: u64 = 64;
 
-/// Where a unit stands: the column of its device, and its sector there.
-#[derive(Clone, Copy, Debug, PartialEq, Eq)]
-pub struct Place {
-    pub column: usize,
-    pub sector: u64,
+/// The sector of its device where an offset of the unit at a place stands.
+pub fn sector_of<L: Layout>(layout: &L, place: Place, offset: u32) -> u64
+    requires { IsLayout (L.shape layout.now) }
+    ensures { result ≡ sector_of (L.shape layout.now) place offset }
+{
+    FIRST_SECTOR + u64::from(place.row) * u64::from(layout.unit_sectors()) + u64::from(offset)
 }
 
-/// The place of a unit of a stripe, on so many columns. The check unit is the last unit.
-#[tactic(auto, unfolding(crate::specs::Places::column_of))]
-pub fn place_of(columns: usize, stripe: u64, unit: usize) -> Place
-    requires some { 2 ≤ columns }
-    requires few { columns ≤ 32 }
-    requires stripe { stripe < 1048576 }
-    requires unit { unit < columns }
-    ensures column { result.column ≡ column_of columns stripe unit }
-    ensures sector { result.sector ≡ sector_of_stripe stripe }
-    ensures within { result.column < columns }
+/// The data units of a stripe.
+pub fn data_units<L: Layout>(layout: &L) -> u32
+    requires { IsLayout (L.shape layout.now) }
+    ensures { result ≡ data_units (L.shape layout.now) }
 {
-    let count = columns as u64;
-    Place {
-        column: (((count - 1) * stripe + unit as u64) % count) as usize,
-        sector: FIRST_SECTOR + stripe,
-    }
+    layout.width() - layout.checks()
 }
 
-/// Whether a block is in the span.
-#[tactic(auto, unfolding(crate::specs::Places::touches))]
-pub fn touches(span: Span, block: u64) -> bool
-    requires { span.first < 2 ^ 63 }
-    ensures { result ≡ touches span block }
+/// Whether the span has the block at an offset of a data unit.
+pub fn touches<L: Layout>(layout: &L, span: Span, stripe: u32, unit: u32, offset: u32) -> bool
+    requires layout { IsLayout (L.shape layout.now) }
+    requires end { span.first + span.count < 2 ^ 63 }
+    ensures { result ≡ is_in span (block_of (L.shape layout.now) stripe unit offset) }
 {
+    let units = u64::from(stripe) * u64::from(data_units(layout)) + u64::from(unit);
+    let block = units * u64::from(layout.unit_sectors()) + u64::from(offset);
     span.first <= block && block < span.first + u64::from(span.count)
-}
-
-/// The first stripe of a span, where a stripe has so many data units.
-#[tactic(auto, unfolding(crate::specs::Places::first_stripe))]
-pub fn first_stripe(data_units: u64, span: Span) -> u64
-    requires { 0 < data_units }
-    ensures { result ≡ first_stripe data_units span }
-{
-    span.first / data_units
-}
-
-/// How many stripes a span touches, where a stripe has so many data units.
-#[tactic(auto, unfolding(crate::specs::Places::stripe_count, crate::specs::Places::first_stripe))]
-pub fn stripe_count(data_units: u64, span: Span) -> u64
-    requires some { 0 < data_units }
-    requires first { span.first < 2 ^ 63 }
-    requires count { 0 < span.count }
-    ensures { result ≡ stripe_count data_units span }
-{
-    let last = span.first + u64::from(span.count) - 1;
-    last / data_units - span.first / data_units + 1
 }

@@ -1,175 +1,182 @@
-//! Reads and writes of a span.
-ghost use Rattle.std.specs.Prelude.{◌≡◌, ◌≢◌, ◌≤◌, ◌<◌, ◌+◌, ◌-◌, ◌*◌, ◌/◌, ◌%◌, ◌^◌, ◌++◌, ◌⊎◌, ℕ, List, [], ◌∷◌, length, take, drop, IfErr, OnOk, OnErr, vec_len, vec_capacity, slice_index_or};
-ghost use Rattle.blk_plain.specs.Plain.{written};
+//! The reads and the writes of all pieces of an operation.
+ghost use Rattle.std.specs.Prelude.{◌≡◌, ◌≤◌, ◌<◌, ◌+◌, ◌*◌, ◌^◌, ℕ, length, true, false, IfErr, OnOk};
+ghost use Rattle.blk_disk.specs.Disk.{sector_at};
 ghost use Rattle.blk_disk.specs.Frames.{Unchanged, Kept, Caused};
-ghost use Rattle.top_array.specs.Places.{first_stripe, stripe_count, IsOutside};
-ghost use Rattle.top_array.specs.Array.{held, data_count, byte, data_sum, wanted, Agrees, AreChecks, HasStripes, Holds, IsArray};
+ghost use Rattle.lay_core.specs.Layout.{data_units};
+ghost use Rattle.top_array.specs.Places.{array_sectors, IsSector};
+ghost use Rattle.top_array.specs.Array.{byte, data_sum, held, wanted, IsArray};
+ghost use Rattle.top_array.specs.Effects.{Fills, Spares, SparesLeft};
+ghost use Rattle.top_array.specs.Pieces.{check_at, covers, in_piece, piece_has, AreChecks, ArePieces, IsPiece, IsRepeated, IsUniform};
 
-use crate::place::{SPAN_STRIPES, first_stripe, stripe_count};
+use crate::piece::Piece;
 use crate::stripe::{gather, scatter};
-use crate::unit::{FailedAt, read_unit};
-use blk_disk::Disk;
+use crate::unit::FailedAt;
+use blk_disk::{Disk, SECTOR};
 use blk_plain::Span;
+use lay_core::Layout;
 
-/// The check units of the stripes that one operation touches, in order.
-pub type Checks = [[u8; 512]; SPAN_STRIPES];
+// The first byte of a piece's check unit, among those of the stripes from the first on.
+fn first_byte<L: Layout>(layout: &L, first: u32, piece: Piece) -> usize
+    requires array { (L.shape layout.now).unit_sectors ≤ 128 }
+    requires piece { IsPiece (L.shape layout.now) piece }
+    requires behind { first ≤ piece.stripe }
+    requires few { piece.stripe < first + 16 }
+    ensures at { result ≡ 512 * check_at (L.shape layout.now) first piece.stripe piece.from }
+    ensures fits { result + 512 * piece.count ≤ 512 * (16 * (L.shape layout.now).unit_sectors) }
+{
+    let sectors = (piece.stripe - first) * layout.unit_sectors() + piece.from;
+    SECTOR * sectors as usize
+}
 
-// The check units of so many stripes from the first on, as they are to be once the span holds the
-// sector.
-fn gather_all<D: Disk>(
+// Makes the check unit of one piece, and leaves the others.
+fn gather_piece<L: Layout, D: Disk>(
+    layout: &L,
     devices: &mut [D],
     span: Span,
-    sector: &[u8],
-    first: u64,
-    count: usize,
-    checks: &mut [[u8; 512]],
+    content: &[u8],
+    piece: Piece,
+    first: u32,
+    unit: &mut [u8],
+    checks: &mut [u8],
 ) -> Result<(), FailedAt>
-    requires array { IsArray D.size (first + count) devices.old }
-    requires first { span.first < 2 ^ 63 }
-    requires sector { length sector.now ≡ 512 }
-    requires room { count ≤ length checks.old }
+    requires array { IsArray D.size (L.shape layout.now) devices.old }
+    requires piece { IsPiece (L.shape layout.now) piece }
+    requires uniform { IsUniform (L.shape layout.now) span piece }
+    requires behind { first ≤ piece.stripe }
+    requires few { piece.stripe < first + 16 }
+    requires end { span.first + span.count < 2 ^ 63 }
+    requires repeated { IsRepeated content.now }
+    requires content { length content.now ≡ 512 * (L.shape layout.now).unit_sectors }
+    requires unit { length unit.old ≡ 512 * (L.shape layout.now).unit_sectors }
+    requires checks { length checks.old ≡ 512 * (16 * (L.shape layout.now).unit_sectors) }
     ensures unchanged { Unchanged D.Disk devices.old devices.new }
-    ensures sums { OnOk result (D.tells → (t k : ℕ) → t < count → k < 512 →
-        byte (slice_index_or checks.new t []) k ≡ data_sum (data_count devices.old) (wanted D.Disk span sector.now devices.old) (first + t) k) }
+    ensures sums { OnOk result (D.tells → (s o k : ℕ) → piece_has s o piece ≡ true → k < 512 →
+        byte (sector_at checks.new (check_at (L.shape layout.now) first s o)) k
+        ≡ data_sum (data_units (L.shape layout.now))
+        (wanted D.Disk (L.shape layout.now) span (sector_at content.now 0) devices.old) s o k) }
+    ensures others { OnOk result ((s o : ℕ) → first ≤ s → o < (L.shape layout.now).unit_sectors →
+        piece_has s o piece ≡ false →
+        sector_at checks.new (check_at (L.shape layout.now) first s o)
+        ≡ sector_at checks.old (check_at (L.shape layout.now) first s o)) }
     ensures cause { IfErr result (λ at. Caused D.faults devices.old devices.new at.column) }
 {
-    for t in 0..count {
-        gather(devices, span, sector, first + t as u64, &mut checks[t])?;
+    let len = SECTOR * piece.count as usize;
+    let at = first_byte(layout, first, piece);
+    let check = &mut checks[at..at + len];
+    gather(
+        layout,
+        devices,
+        span,
+        content,
+        piece,
+        &mut unit[..len],
+        check,
+    )
+}
+
+/// Reads what the data units of the pieces need, and makes the check units as they are to be once
+/// the span holds the content.
+pub fn prepare<L: Layout, D: Disk>(
+    layout: &L,
+    devices: &mut [D],
+    span: Span,
+    content: &[u8],
+    pieces: &[Piece],
+    first: u32,
+    unit: &mut [u8],
+    checks: &mut [u8],
+) -> Result<(), FailedAt>
+    requires array { IsArray D.size (L.shape layout.now) devices.old }
+    requires pieces { ArePieces (L.shape layout.now) span first pieces.now }
+    requires end { span.first + span.count < 2 ^ 63 }
+    requires repeated { IsRepeated content.now }
+    requires content { length content.now ≡ 512 * (L.shape layout.now).unit_sectors }
+    requires unit { length unit.old ≡ 512 * (L.shape layout.now).unit_sectors }
+    requires checks { length checks.old ≡ 512 * (16 * (L.shape layout.now).unit_sectors) }
+    ensures unchanged { Unchanged D.Disk devices.old devices.new }
+    ensures sums { OnOk result (D.tells →
+        AreChecks (L.shape layout.now) first pieces.now
+        (wanted D.Disk (L.shape layout.now) span
+        (sector_at content.now 0) devices.old) checks.new) }
+    ensures cause { IfErr result (λ at. Caused D.faults devices.old devices.new at.column) }
+{
+    for n in 0..pieces.len() {
+        gather_piece(
+            layout, devices, span, content, pieces[n], first, unit, checks,
+        )?;
     }
     Ok(())
 }
 
-// Writes the touched units of so many stripes from the first on, and their check units.
-fn scatter_all<D: Disk>(
+// Writes the content to the data units of a piece that the span has, and its check unit.
+fn scatter_piece<L: Layout, D: Disk>(
+    layout: &L,
     devices: &mut [D],
     span: Span,
-    sector: &[u8],
-    first: u64,
-    count: usize,
-    checks: &[[u8; 512]],
+    content: &[u8],
+    piece: Piece,
+    first: u32,
+    checks: &[u8],
 ) -> Result<(), FailedAt>
-    requires array { IsArray D.size (first + count) devices.old }
-    requires first { span.first < 2 ^ 63 }
-    requires sector { length sector.now ≡ 512 }
-    requires room { count ≤ length checks.now }
-    ensures kept { (m : ℕ) → first + count ≤ m → Kept D.Disk m devices.old devices.new }
-    ensures data_units { OnOk result (D.tells → (s i : ℕ) → first ≤ s → s < first + count →
-        i < data_count devices.old →
-        held D.Disk devices.new s i ≡ wanted D.Disk span sector.now devices.old s i) }
-    ensures check_units { OnOk result (D.tells → (t : ℕ) → t < count →
-        held D.Disk devices.new (first + t) (data_count devices.old) ≡ slice_index_or checks.now t []) }
-    ensures others { D.tells → (s i : ℕ) → (s < first) ⊎ (first + count ≤ s) →
-        held D.Disk devices.new s i ≡ held D.Disk devices.old s i }
+    requires array { IsArray D.size (L.shape layout.now) devices.old }
+    requires piece { IsPiece (L.shape layout.now) piece }
+    requires uniform { IsUniform (L.shape layout.now) span piece }
+    requires behind { first ≤ piece.stripe }
+    requires few { piece.stripe < first + 16 }
+    requires end { span.first + span.count < 2 ^ 63 }
+    requires repeated { IsRepeated content.now }
+    requires content { length content.now ≡ 512 * (L.shape layout.now).unit_sectors }
+    requires checks { length checks.now ≡ 512 * (16 * (L.shape layout.now).unit_sectors) }
+    ensures kept { Kept D.Disk (array_sectors (L.shape layout.now)) devices.old devices.new }
+    ensures data_units { OnOk result (D.tells →
+        Fills D.Disk (L.shape layout.now) (in_piece piece) span
+        (sector_at content.now 0) devices.old devices.new) }
+    ensures check_unit { OnOk result (D.tells → (s o : ℕ) → piece_has s o piece ≡ true →
+        held D.Disk (L.shape layout.now) devices.new s (data_units (L.shape layout.now)) o
+        ≡ sector_at checks.now (check_at (L.shape layout.now) first s o)) }
+    ensures others { D.tells →
+        Spares D.Disk (L.shape layout.now) (in_piece piece) devices.old devices.new }
+    ensures left { D.tells → SparesLeft D.Disk (L.shape layout.now) span devices.old devices.new }
     ensures cause { IfErr result (λ at. Caused D.faults devices.old devices.new at.column) }
 {
-    for t in 0..count {
-        scatter(devices, span, sector, first + t as u64, &checks[t])?;
-    }
-    Ok(())
+    let len = SECTOR * piece.count as usize;
+    let at = first_byte(layout, first, piece);
+    scatter(layout, devices, span, content, piece, &checks[at..at + len])
 }
 
-/// Reads what a write of the sector to the span needs, and makes the check units.
-pub fn prepare<D: Disk>(
+/// Writes the content to the data units of the pieces that the span has, and the check units that
+/// were made for them.
+pub fn commit<L: Layout, D: Disk>(
+    layout: &L,
     devices: &mut [D],
     span: Span,
-    sector: &[u8],
-    checks: &mut Checks,
+    content: &[u8],
+    pieces: &[Piece],
+    first: u32,
+    checks: &[u8],
 ) -> Result<(), FailedAt>
-    requires array { HasStripes D.size span devices.old }
-    requires first { span.first < 2 ^ 63 }
-    requires some { 0 < span.count }
-    requires few { stripe_count (data_count devices.old) span ≤ 16 }
-    requires sector { length sector.now ≡ 512 }
-    ensures unchanged { Unchanged D.Disk devices.old devices.new }
-    ensures sums { OnOk result (D.tells → AreChecks D.Disk span sector.now devices.old checks.new) }
+    requires array { IsArray D.size (L.shape layout.now) devices.old }
+    requires pieces { ArePieces (L.shape layout.now) span first pieces.now }
+    requires end { span.first + span.count < 2 ^ 63 }
+    requires repeated { IsRepeated content.now }
+    requires content { length content.now ≡ 512 * (L.shape layout.now).unit_sectors }
+    requires checks { length checks.now ≡ 512 * (16 * (L.shape layout.now).unit_sectors) }
+    ensures kept { Kept D.Disk (array_sectors (L.shape layout.now)) devices.old devices.new }
+    ensures data_units { OnOk result (D.tells →
+        Fills D.Disk (L.shape layout.now) (covers pieces.now) span
+        (sector_at content.now 0) devices.old devices.new) }
+    ensures check_units { OnOk result (D.tells → (s o : ℕ) →
+        IsSector (L.shape layout.now) s (data_units (L.shape layout.now)) o →
+        covers pieces.now s o ≡ true →
+        held D.Disk (L.shape layout.now) devices.new s (data_units (L.shape layout.now)) o
+        ≡ sector_at checks.now (check_at (L.shape layout.now) first s o)) }
+    ensures others { D.tells →
+        Spares D.Disk (L.shape layout.now) (covers pieces.now) devices.old devices.new }
+    ensures left { D.tells → SparesLeft D.Disk (L.shape layout.now) span devices.old devices.new }
     ensures cause { IfErr result (λ at. Caused D.faults devices.old devices.new at.column) }
 {
-    let data_units = devices.len() as u64 - 1;
-    let first = first_stripe(data_units, span);
-    let count = stripe_count(data_units, span) as usize;
-    gather_all(devices, span, sector, first, count, checks)
-}
-
-/// Writes the sector to the span's blocks, and the check units that were made for it.
-pub fn commit<D: Disk>(
-    devices: &mut [D],
-    span: Span,
-    sector: &[u8],
-    checks: &Checks,
-) -> Result<(), FailedAt>
-    requires array { HasStripes D.size span devices.old }
-    requires first { span.first < 2 ^ 63 }
-    requires some { 0 < span.count }
-    requires few { stripe_count (data_count devices.old) span ≤ 16 }
-    requires sector { length sector.now ≡ 512 }
-    ensures kept { (m : ℕ) → first_stripe (data_count devices.old) span + stripe_count (data_count devices.old) span ≤ m → Kept D.Disk m devices.old devices.new }
-    ensures agrees { OnOk result (D.tells → (m : ℕ) (blocks : List (List ℕ)) →
-        span.first + span.count ≤ length blocks → Holds D.Disk m devices.old blocks →
-        AreChecks D.Disk span sector.now devices.old checks.now →
-        Agrees (data_count devices.old) m (held D.Disk devices.new) (written span sector.now blocks)) }
-    ensures others { D.tells → (s i : ℕ) → IsOutside (data_count devices.old) span s →
-        held D.Disk devices.new s i ≡ held D.Disk devices.old s i }
-    ensures cause { IfErr result (λ at. Caused D.faults devices.old devices.new at.column) }
-{
-    let data_units = devices.len() as u64 - 1;
-    let first = first_stripe(data_units, span);
-    let count = stripe_count(data_units, span) as usize;
-    scatter_all(devices, span, sector, first, count, checks)
-}
-
-// Reads a block to the end of the sectors.
-fn read_block<D: Disk>(
-    devices: &mut [D],
-    block: u64,
-    sectors: &mut Vec<[u8; 512]>,
-) -> Result<(), FailedAt>
-    requires array { IsArray D.size (block / data_count devices.old + 1) devices.old }
-    requires room { vec_len sectors.old < vec_capacity sectors.old }
-    ensures unchanged { Unchanged D.Disk devices.old devices.new }
-    ensures capacity { vec_capacity sectors.old ≤ vec_capacity sectors.new }
-    ensures got { OnOk result (D.tells → sectors.new.items ≡ sectors.old.items
-        ++ held D.Disk devices.old (block / data_count devices.old) (block % data_count devices.old) ∷ []) }
-    ensures front { OnOk result (take (vec_len sectors.old) sectors.new.items ≡ sectors.old.items) }
-    ensures len { OnOk result (vec_len sectors.new ≡ vec_len sectors.old + 1) }
-    ensures left { OnErr result (sectors.new.items ≡ sectors.old.items) }
-    ensures cause { IfErr result (λ at. Caused D.faults devices.old devices.new at.column) }
-{
-    let data_units = devices.len() as u64 - 1;
-    let mut sector = [0u8; 512];
-    let unit = (block % data_units) as usize;
-    read_unit(devices, block / data_units, unit, &mut sector)?;
-    sectors.push_reserved(sector);
-    Ok(())
-}
-
-/// Reads a span to the end of the sectors, or leaves them as they were.
-pub fn read_span<D: Disk>(
-    devices: &mut [D],
-    span: Span,
-    sectors: &mut Vec<[u8; 512]>,
-) -> Result<(), FailedAt>
-    requires array { HasStripes D.size span devices.old }
-    requires first { span.first < 2 ^ 63 }
-    requires some { 0 < span.count }
-    requires room { vec_len sectors.old + span.count ≤ vec_capacity sectors.old }
-    ensures unchanged { Unchanged D.Disk devices.old devices.new }
-    ensures capacity { vec_capacity sectors.old ≤ vec_capacity sectors.new }
-    ensures got { OnOk result (D.tells → (m : ℕ) (blocks : List (List ℕ)) →
-        span.first + span.count ≤ length blocks → Holds D.Disk m devices.old blocks →
-        sectors.new.items ≡ sectors.old.items ++ take span.count (drop span.first blocks)) }
-    ensures len { OnOk result (vec_len sectors.new ≡ vec_len sectors.old + span.count) }
-    ensures left { OnErr result (sectors.new.items ≡ sectors.old.items) }
-    ensures cause { IfErr result (λ at. Caused D.faults devices.old devices.new at.column) }
-{
-    let before = sectors.len();
-    for i in 0..u64::from(span.count) {
-        match read_block(devices, span.first + i, sectors) {
-            Ok(()) => {}
-            Err(at) => {
-                sectors.truncate(before);
-                return Err(at);
-            }
-        }
+    for n in 0..pieces.len() {
+        scatter_piece(layout, devices, span, content, pieces[n], first, checks)?;
     }
     Ok(())
 }

@@ -1,10 +1,15 @@
-//! Reads and writes of one unit.
-ghost use Rattle.std.specs.Prelude.{◌≡◌, ◌≢◌, ◌≤◌, ◌<◌, ◌+◌, ◌-◌, ℕ, length, IfErr, OnOk};
+//! Reads and writes of a unit's sectors in one piece, each by one call of its device.
+ghost use Rattle.std.specs.Prelude.{◌≡◌, ◌≤◌, ◌<◌, ◌+◌, ◌*◌, ℕ, length, IfErr, OnOk};
 ghost use Rattle.blk_disk.specs.Frames.{Unchanged, Kept, Caused};
+ghost use Rattle.top_array.specs.Places.{array_sectors};
 ghost use Rattle.top_array.specs.Array.{held, IsArray};
+ghost use Rattle.top_array.specs.Effects.{SparesApart};
+ghost use Rattle.top_array.specs.Pieces.{AreSectors, IsPiece};
 
-use crate::place::place_of;
+use crate::piece::Piece;
+use crate::place::sector_of;
 use blk_disk::{Disk, Failed};
+use lay_core::Layout;
 
 /// The device of this column failed a call.
 #[derive(Clone, Copy, Debug, PartialEq, Eq)]
@@ -12,49 +17,55 @@ pub struct FailedAt {
     pub column: usize,
 }
 
-/// Reads a unit of a stripe.
-pub fn read_unit<D: Disk>(
+/// Reads a unit's sectors in a piece.
+pub fn read_unit<L: Layout, D: Disk>(
+    layout: &L,
     devices: &mut [D],
-    stripe: u64,
-    unit: usize,
+    piece: Piece,
+    unit: u32,
     into: &mut [u8],
 ) -> Result<(), FailedAt>
-    requires long { length into.old ≡ 512 }
-    requires array { IsArray D.size (stripe + 1) devices.old }
-    requires unit { unit < length devices.old }
+    requires array { IsArray D.size (L.shape layout.now) devices.old }
+    requires piece { IsPiece (L.shape layout.now) piece }
+    requires unit { unit < (L.shape layout.now).width }
+    requires long { length into.old ≡ 512 * piece.count }
     ensures unchanged { Unchanged D.Disk devices.old devices.new }
-    ensures got { OnOk result (D.tells → into.new ≡ held D.Disk devices.old stripe unit) }
+    ensures got { OnOk result (D.tells →
+        AreSectors (held D.Disk (L.shape layout.now) devices.old piece.stripe unit) piece into.new) }
     ensures cause { IfErr result (λ at. Caused D.faults devices.old devices.new at.column) }
 {
-    let place = place_of(devices.len(), stripe, unit);
-    let column = place.column;
-    match devices[column].read(place.sector, into) {
+    let place = layout.place(piece.stripe, unit);
+    let column = place.column as usize;
+    let first = sector_of(layout, place, piece.from);
+    match devices[column].read(first, into) {
         Ok(()) => Ok(()),
         Err(Failed) => Err(FailedAt { column }),
     }
 }
 
-/// Writes a unit of a stripe. After a failure that unit may hold anything.
-pub fn write_unit<D: Disk>(
+/// Writes a unit's sectors in a piece. After a failure these may hold anything.
+pub fn write_unit<L: Layout, D: Disk>(
+    layout: &L,
     devices: &mut [D],
-    stripe: u64,
-    unit: usize,
+    piece: Piece,
+    unit: u32,
     from: &[u8],
 ) -> Result<(), FailedAt>
-    requires long { length from.now ≡ 512 }
-    requires array { IsArray D.size (stripe + 1) devices.old }
-    requires unit { unit < length devices.old }
-    ensures kept { (m : ℕ) → stripe < m → Kept D.Disk m devices.old devices.new }
-    ensures here { OnOk result (D.tells → held D.Disk devices.new stripe unit ≡ from.now) }
-    ensures beside { D.tells → (i : ℕ) → i < length devices.old → i ≢ unit →
-        held D.Disk devices.new stripe i ≡ held D.Disk devices.old stripe i }
-    ensures others { D.tells → (s i : ℕ) → s ≢ stripe →
-        held D.Disk devices.new s i ≡ held D.Disk devices.old s i }
+    requires array { IsArray D.size (L.shape layout.now) devices.old }
+    requires piece { IsPiece (L.shape layout.now) piece }
+    requires unit { unit < (L.shape layout.now).width }
+    requires long { length from.now ≡ 512 * piece.count }
+    ensures kept { Kept D.Disk (array_sectors (L.shape layout.now)) devices.old devices.new }
+    ensures here { OnOk result (D.tells →
+        AreSectors (held D.Disk (L.shape layout.now) devices.new piece.stripe unit) piece from.now) }
+    ensures apart { D.tells →
+        SparesApart D.Disk (L.shape layout.now) piece unit devices.old devices.new }
     ensures cause { IfErr result (λ at. Caused D.faults devices.old devices.new at.column) }
 {
-    let place = place_of(devices.len(), stripe, unit);
-    let column = place.column;
-    match devices[column].write(place.sector, from) {
+    let place = layout.place(piece.stripe, unit);
+    let column = place.column as usize;
+    let first = sector_of(layout, place, piece.from);
+    match devices[column].write(first, from) {
         Ok(()) => Ok(()),
         Err(Failed) => Err(FailedAt { column }),
     }

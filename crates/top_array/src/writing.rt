@@ -1,48 +1,93 @@
 //! The write of a span by an operation.
-ghost use Rattle.std.specs.Prelude.{◌≡◌, ◌⊎◌, ◌≤◌, ◌<◌, ◌+◌, ◌-◌, ◌*◌, ◌^◌, ◌++◌, ℕ, List, [], ◌∷◌, length, true, IfErr, OnOk, OnErr, vec_len, vec_capacity};
+ghost use Rattle.std.specs.Prelude.{◌≡◌, ◌⊎◌, ◌≤◌, ◌<◌, ◌+◌, ◌^◌, ◌++◌, ℕ, List, [], ◌∷◌, length, IfErr, OnOk, OnErr, vec_len, vec_capacity};
 ghost use Rattle.blk_plain.specs.Plain.{sector_of, written};
+ghost use Rattle.blk_disk.specs.Disk.{sector_at};
 ghost use Rattle.blk_disk.specs.Frames.{Unchanged, Kept, Caused};
-ghost use Rattle.top_array.specs.Places.{stripe_count};
-ghost use Rattle.top_array.specs.Array.{held, data_count, AgreesOutside, Becomes, Holds, IsArray};
-ghost use Rattle.top_array.specs.Run.{is_run_span};
+ghost use Rattle.lay_core.specs.Layout.{blocks_in};
+ghost use Rattle.lay_core.specs.Touched.{stripe_count, IsSpanSplit};
+ghost use Rattle.top_array.specs.Places.{array_sectors};
+ghost use Rattle.top_array.specs.Array.{held, AgreesAt, Becomes, Holds, IsArray, IsLeft, IsUntouched, KeepsZero};
 
-use crate::place::SPAN_STRIPES;
+use crate::bytes::repeat;
+use crate::cut::list_pieces;
+use crate::room::Room;
 use crate::span::{commit, prepare};
 use crate::unit::FailedAt;
-use blk_disk::Disk;
+use blk_disk::{Disk, SECTOR};
 use blk_plain::{Pattern, Span, fill};
+use lay_core::Layout;
 
-/// Writes the pattern to a span. The operation enters the history once all that it needs is read, before
-/// the first device write. After a failure it has entered it, or nothing has changed; the stripes that
-/// the span doesn't touch hold what they held in either case.
-pub fn write_op<D: Disk>(
+// Fills the room's content with the pattern.
+fn fill_content(room: &mut Room, pattern: &Pattern)
+    ensures filled { sector_at room.new.content.items 0 ≡ sector_of pattern.now }
+    ensures sectors { room.new.sectors ≡ room.old.sectors }
+    ensures map { room.new.map ≡ room.old.map }
+{
+    let mut sector = [0u8; SECTOR];
+    fill(&mut sector, pattern);
+    repeat(&mut room.content, &sector, room.sectors as usize);
+}
+
+/// Writes the pattern to a span. The operation enters the history once all that it needs is read,
+/// before the first device write. After a failure it has entered it, or nothing has changed; other
+/// blocks, and the check units of others alone, hold what they held in either case.
+pub fn write_op<L: Layout, D: Disk>(
+    layout: &L,
     devices: &mut [D],
-    stripes: u64,
     span: Span,
     pattern: &Pattern,
     place: u32,
     history: &mut Vec<u32>,
+    room: &mut Room,
 ) -> Result<(), FailedAt>
-    requires array { IsArray D.size stripes devices.old }
+    requires array { IsArray D.size (L.shape layout.now) devices.old }
     requires some { 0 < span.count }
     requires first { span.first < 2 ^ 32 }
-    requires run { is_run_span (data_count devices.old) stripes span ≡ true }
-    requires few { stripe_count (data_count devices.old) span ≤ 16 }
+    requires fits { span.first + span.count ≤ blocks_in (L.shape layout.now) }
+    requires few { stripe_count (L.shape layout.now) span ≤ 16 }
+    requires split { IsSpanSplit (L.shape layout.now) span room.old.map }
+    requires sectors { room.old.sectors ≡ (L.shape layout.now).unit_sectors }
     requires room { vec_len history.old < vec_capacity history.old }
-    ensures kept { Kept D.Disk stripes devices.old devices.new }
+    ensures kept { Kept D.Disk (array_sectors (L.shape layout.now)) devices.old devices.new }
+    ensures sectors { room.new.sectors ≡ room.old.sectors }
     ensures capacity { vec_capacity history.old ≤ vec_capacity history.new }
     ensures entered { OnOk result (history.new.items ≡ history.old.items ++ place ∷ []) }
-    ensures lost { OnErr result (((history.new.items ≡ history.old.items) × Unchanged D.Disk devices.old devices.new)
+    ensures lost { OnErr result (((history.new.items ≡ history.old.items) ×
+        Unchanged D.Disk devices.old devices.new)
         ⊎ (history.new.items ≡ history.old.items ++ place ∷ [])) }
-    ensures outside { D.tells → (blocks : List (List ℕ)) → Holds D.Disk stripes devices.old blocks →
-        AgreesOutside (data_count devices.old) stripes span (held D.Disk devices.new) (written span (sector_of pattern.now) blocks) }
-    ensures agrees { OnOk result (Becomes D.Disk stripes devices.old devices.new (written span (sector_of pattern.now))) }
+    ensures but { D.tells → (blocks : List (List ℕ)) →
+        Holds D.Disk (L.shape layout.now) devices.old blocks →
+        AgreesAt (L.shape layout.now) (IsLeft (L.shape layout.now) span)
+        (IsUntouched (L.shape layout.now) span) (held D.Disk (L.shape layout.now) devices.new)
+        (written span (sector_of pattern.now) blocks) }
+    ensures agrees { OnOk result
+        (Becomes D.Disk (L.shape layout.now) devices.old devices.new
+        (written span (sector_of pattern.now))) }
+    ensures zero { OnOk result (D.tells →
+        KeepsZero (L.shape layout.now) (held D.Disk (L.shape layout.now) devices.old)
+        (held D.Disk (L.shape layout.now) devices.new)) }
     ensures cause { IfErr result (λ at. Caused D.faults devices.old devices.new at.column) }
 {
-    let mut sector = [0u8; 512];
-    fill(&mut sector, pattern);
-    let mut checks = [[0u8; 512]; SPAN_STRIPES];
-    prepare(devices, span, &sector, &mut checks)?;
+    fill_content(room, pattern);
+    let first = list_pieces(layout, span, &room.map, &mut room.pieces);
+    prepare(
+        layout,
+        devices,
+        span,
+        &room.content,
+        &room.pieces,
+        first,
+        &mut room.unit,
+        &mut room.checks,
+    )?;
     history.push_reserved(place);
-    commit(devices, span, &sector, &checks)
+    commit(
+        layout,
+        devices,
+        span,
+        &room.content,
+        &room.pieces,
+        first,
+        &room.checks,
+    )
 }

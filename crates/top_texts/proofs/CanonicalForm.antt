@@ -16,8 +16,8 @@ use Rattle.raid_text.specs.Text.{Text, Numbered, is_word, is_word_byte, lines_in
 use Rattle.raid_text.specs.Printed.{IsLine}
 use Rattle.raid_text.proofs.Again.{lines_again, numbers_again, patterns_again}
 use Rattle.top_texts.specs.Form.{Place, Literal, Number, Digits, Fills, FillsAll, HasForm, canonical, printed}
-use Rattle.top_texts.specs.Conf.{AreDisks, IsName, conf_places, start_places}
-use Rattle.top_texts.specs.Script.{IsAsked, Item, Writes, Reads, Other, item_places}
+use Rattle.top_texts.specs.Conf.{Array, IsConf, IsName, conf_places, start_places}
+use Rattle.top_texts.specs.Script.{IsAsked, Item, Writes, Reads, Syncs, Other, item_places}
 use Rattle.top_texts.specs.Laws.{ConfTextIsRead, ScriptTextIsRead}
 use Rattle.top_texts.proofs.ConfForm.{conf_read}
 use Rattle.top_texts.proofs.ScriptForm.{script_read}
@@ -127,23 +127,26 @@ names_placed (name ∷ names) named rest are =
     All-cons IsPlaced (Literal name ∷ []) (map (λ n. Literal n ∷ []) names ++ rest) (one_place (Literal name) (literal_place name (All-head IsName name names named).0))
     (names_placed names (All-tail IsName name names named) rest are)
 
-conf_placed : (names : List Text) → AreDisks names → All IsPlaced (conf_places names)
-conf_placed names are =
-    let few = are.few in
+conf_placed : (described : Array) → IsConf described → All IsPlaced (conf_places described)
+conf_placed described are =
+    let names = described.names in
+    let u = described.unit in
+    let few = are.disks.few in
+    let sectors = number_place u (omega (arith, are.most)) in
     let one = number_place 1 (omega arith) in
     let five = literal_place (codes "5") refl in
-    let layout_line = Number 1 ∷ Number 1 ∷ Number 1 ∷ Literal (codes "5") ∷ [] in
-    let layout = one_more (Number 1) (Number 1 ∷ Number 1 ∷ Literal (codes "5") ∷ []) one (one_more (Number 1) (Number 1 ∷ Literal (codes "5") ∷ []) one (one_more (Number 1) (Literal (codes "5") ∷ []) one (one_place (Literal (codes "5")) five))) in
+    let layout_line = Number u ∷ Number 1 ∷ Number 1 ∷ Literal (codes "5") ∷ [] in
+    let layout = one_more (Number u) (Number 1 ∷ Number 1 ∷ Literal (codes "5") ∷ []) sectors (one_more (Number 1) (Number 1 ∷ Literal (codes "5") ∷ []) one (one_more (Number 1) (Literal (codes "5") ∷ []) one (one_place (Literal (codes "5")) five))) in
     let array_line = Number 1 ∷ Number (length names) ∷ Number 0 ∷ [] in
     let array = one_more (Number 1) (Number (length names) ∷ Number 0 ∷ []) one (one_more (Number (length names)) (Number 0 ∷ []) (number_place (length names) (omega arith)) (one_place (Number 0) (number_place 0 (omega arith)))) in
     let last = start_places (codes "layout") ∷ layout_line ∷ [] in
     let disks = map (λ name. Literal name ∷ []) names ++ last in
     let last_placed = All-cons IsPlaced (start_places (codes "layout")) (layout_line ∷ []) (start_placed (codes "layout") refl) (All-cons IsPlaced layout_line [] layout (All-nil IsPlaced)) in
-    let disks_placed = All-cons IsPlaced (start_places (codes "disks")) disks (start_placed (codes "disks") refl) (names_placed names are.named last last_placed) in
+    let disks_placed = All-cons IsPlaced (start_places (codes "disks")) disks (start_placed (codes "disks") refl) (names_placed names are.disks.named last last_placed) in
     All-cons IsPlaced (start_places (codes "array")) (array_line ∷ start_places (codes "disks") ∷ disks) (start_placed (codes "array") refl) (All-cons IsPlaced array_line (start_places (codes "disks") ∷ disks) array disks_placed)
 
 pub conf_text_read : ConfTextIsRead
-conf_text_read names are = conf_read (lines_in (canonical (conf_places names))) names are (canonical_form (conf_places names) (conf_placed names are))
+conf_text_read described are = conf_read (lines_in (canonical (conf_places described))) described are (canonical_form (conf_places described) (conf_placed described are))
 
 -- ---- scripts
 
@@ -157,6 +160,9 @@ item_placed (Reads first count) (small, some, few) =
     one_more (Number 0) (Literal (codes "read") ∷ Number first ∷ Number count ∷ []) (number_place 0 (omega arith))
     (one_more (Literal (codes "read")) (Number first ∷ Number count ∷ []) (literal_place (codes "read") refl)
     (one_more (Number first) (Number count ∷ []) (number_place first small) (one_place (Number count) (number_place count few))))
+item_placed (Syncs stripe) small =
+    one_more (Number 0) (Literal (codes "sync") ∷ Number stripe ∷ []) (number_place 0 (omega arith))
+    (one_more (Literal (codes "sync")) (Number stripe ∷ []) (literal_place (codes "sync") refl) (one_place (Number stripe) (number_place stripe small)))
 item_placed Other asked = absurd asked
 
 items_placed : (items : List Item) → All IsAsked items → All IsPlaced (map item_places items)

@@ -9,7 +9,7 @@ use Rattle.raid_text.specs.Text.{Text, Numbered, is_sound, is_word, sound_words,
 use Rattle.raid_text.proofs.WordCuts.{sound_are_words}
 use Rattle.top_texts.specs.Steps.{after_number, after_word, at_end, next_line, next_number, next_word}
 use Rattle.top_texts.specs.Form.{Place, Literal, Number, HasForm}
-use Rattle.top_texts.specs.Conf.{Differ, IsName, after_layout, after_section, at_last, conf_of, has_name, is_name, next_columns, next_name, next_names, start_places}
+use Rattle.top_texts.specs.Conf.{Array, Differ, IsConf, IsName, after_section, at_last, conf_of, conf_places, has_name, is_name, next_columns, next_name, next_names, next_unit, start_places}
 use Rattle.top_texts.specs.Laws.{ConfIsOfTheForm, ConfIsRead}
 use Rattle.top_texts.proofs.FormSteps.{bind_some, test_some, line_fills, word_fills, literal_fills, number_fills, wanted_fills, end_fills, line_read, word_read, literal_read, number_read, wanted_read, end_read}
 use Rattle.top_texts.proofs.Names.{differ-push, has_name-differ}
@@ -24,12 +24,12 @@ name_line name = Literal name ∷ []
 abbrev array_line : ℕ → List Place
 array_line n = Number 1 ∷ Number n ∷ Number 0 ∷ []
 
-abbrev layout_line : List Place
-layout_line = Number 1 ∷ Number 1 ∷ Number 1 ∷ Literal (codes "5") ∷ []
+abbrev layout_line : ℕ → List Place
+layout_line u = Number u ∷ Number 1 ∷ Number 1 ∷ Literal (codes "5") ∷ []
 
--- the lines of a configuration with n columns of these names
-abbrev all_lines : ℕ → List Text → List (List Place)
-all_lines n names = start_places (codes "array") ∷ array_line n ∷ start_places (codes "disks") ∷ (map name_line names ++ (start_places (codes "layout") ∷ layout_line ∷ []))
+-- the lines of a configuration with n columns of these names, and units of u sectors
+abbrev all_lines : ℕ → List Text → ℕ → List (List Place)
+all_lines n names u = start_places (codes "array") ∷ array_line n ∷ start_places (codes "disks") ∷ (map name_line names ++ (start_places (codes "layout") ∷ layout_line u ∷ []))
 
 -- ---- what is read is of the form
 
@@ -69,25 +69,29 @@ columns_front lines n behind h =
           rest (rw same form),
     )
 
-layout_front : (lines behind : List Numbered) → after_layout lines ≡ Some behind → Front (layout_line ∷ []) lines behind
-unfolding after_layout
-layout_front lines behind h rest form =
-    let line = bind_some (next_line lines) _ behind h in
-    let unit = bind_some (after_number 1 line.0.0) _ behind line.2 in
-    let second = bind_some (after_number 1 unit.0) _ behind unit.2 in
-    let third = bind_some (after_number 1 second.0) _ behind second.2 in
-    let level = bind_some (after_word (codes "5") third.0) _ behind third.2 in
-    let end = bind_some (at_end level.0) _ behind level.2 in
-    let same : line.0.1 ≡ behind = some_lines line.0.1 behind end.2 in
-    line_fills lines line.0.0 line.0.1 line.1 layout_line
-    (wanted_fills 1 line.0.0 unit.0 unit.1 (Number 1 ∷ Number 1 ∷ Literal (codes "5") ∷ [])
-    (wanted_fills 1 unit.0 second.0 second.1 (Number 1 ∷ Literal (codes "5") ∷ [])
-    (wanted_fills 1 second.0 third.0 third.1 (Literal (codes "5") ∷ [])
-    (literal_fills (codes "5") third.0 level.0 level.1 [] (end_fills level.0 end.0 end.1)))))
-    rest (rw same form)
-  where
-    some_lines : (a b : List Numbered) → ◌≡◌ {A = Option (List Numbered)} (Some a) (Some b) → a ≡ b
-    some_lines a b e = cc
+layout_front : (lines : List Numbered) (u : ℕ) (behind : List Numbered) → next_unit lines ≡ Some (u, behind) → (1 ≤ u) × (u ≤ 128) × Front (layout_line u ∷ []) lines behind
+unfolding next_unit
+layout_front lines u behind h =
+    let line = bind_some (next_line lines) _ (u, behind) h in
+    let unit = bind_some (next_number line.0.0) _ (u, behind) line.2 in
+    let second = bind_some (after_number 1 unit.0.1) _ (u, behind) unit.2 in
+    let third = bind_some (after_number 1 second.0) _ (u, behind) second.2 in
+    let level = bind_some (after_word (codes "5") third.0) _ (u, behind) third.2 in
+    let end = bind_some (at_end level.0) _ (u, behind) level.2 in
+    let test = test_some (nat_le 1 unit.0.0 && nat_le unit.0.0 128) (unit.0.0, line.0.1) (u, behind) end.2 in
+    let is : unit.0.0 ≡ u = ap (λ (p : ℕ × List Numbered). p.0) test.1 in
+    let same : line.0.1 ≡ behind = ap (λ (p : ℕ × List Numbered). p.1) test.1 in
+    let range = and_parts (nat_le 1 unit.0.0) (nat_le unit.0.0 128) test.0 in (
+      rw is at (leb-true 1 unit.0.0 range.0),
+      rw is at (leb-true unit.0.0 128 range.1),
+      λ rest form.
+          line_fills lines line.0.0 line.0.1 line.1 (layout_line u)
+          (number_fills line.0.0 u unit.0.1 (unit.1 ∙ ap (λ (k : ℕ). Some (k, unit.0.1)) is) (Number 1 ∷ Number 1 ∷ Literal (codes "5") ∷ [])
+          (wanted_fills 1 unit.0.1 second.0 second.1 (Number 1 ∷ Literal (codes "5") ∷ [])
+          (wanted_fills 1 second.0 third.0 third.1 (Literal (codes "5") ∷ [])
+          (literal_fills (codes "5") third.0 level.0 level.1 [] (end_fills level.0 end.0 end.1)))))
+          rest (rw same form),
+    )
 
 -- the words of a line that is read are words
 line_words : (lines : List Numbered) (words : List Text) (behind : List Numbered) → next_line lines ≡ Some (words, behind) → IsTrue (list_all is_word words)
@@ -170,30 +174,37 @@ names_front (suc n) names lines all behind h named differ =
       front = λ rest form. one.2 (map name_line more.more ++ rest) (more.front rest form);
     }
 
-last_front : (names all : List Text) (lines : List Numbered) → at_last names lines ≡ Some all → (names ≡ all) × HasForm [] lines
+last_front : (array all : Array) (lines : List Numbered) → at_last array lines ≡ Some all → (array ≡ all) × HasForm [] lines
 unfolding at_last
-last_front names all [] h = (cc, tt)
-last_front names all (line ∷ lines) h = absurd (cc)
+last_front array all [] h = (cc, tt)
+last_front array all (line ∷ lines) h = absurd (cc)
 
 pub conf_of_form : ConfIsOfTheForm
 unfolding conf_of
-conf_of_form lines names h =
-    let array = bind_some (after_section (codes "array") lines) _ names h in
-    let columns = bind_some (next_columns array.0) _ names array.2 in
-    let disks = bind_some (after_section (codes "disks") columns.0.1) _ names columns.2 in
-    let read = bind_some (next_names columns.0.0 [] disks.0) _ names disks.2 in
-    let layout = bind_some (after_section (codes "layout") read.0.1) _ names read.2 in
-    let rest = bind_some (after_layout layout.0) _ names layout.2 in
-    let last = last_front read.0.0 names rest.0 rest.2 in
+conf_of_form lines described h =
+    let array = bind_some (after_section (codes "array") lines) _ described h in
+    let columns = bind_some (next_columns array.0) _ described array.2 in
+    let disks = bind_some (after_section (codes "disks") columns.0.1) _ described columns.2 in
+    let read = bind_some (next_names columns.0.0 [] disks.0) _ described disks.2 in
+    let layout = bind_some (after_section (codes "layout") read.0.1) _ described read.2 in
+    let unit = bind_some (next_unit layout.0) _ described layout.2 in
+    let last = last_front (record { names = read.0.0; unit = unit.0.0 }) described unit.0.1 unit.2 in
     let range = columns_front array.0 columns.0.0 columns.0.1 columns.1 in
+    let u : ℕ = unit.0.0 in
+    let sectors = layout_front layout.0 u unit.0.1 unit.1 in
     let more = names_front columns.0.0 [] disks.0 read.0.0 read.0.1 read.1 (All-nil IsName) (λ i j m n lt fits. absurd (omega arith)) in
-    let is : names ≡ more.more = sym last.0 ∙ more.are in
-    let many : length names ≡ columns.0.0 = ap length is ∙ more.many in
-    let tail = section_front (codes "layout") read.0.1 layout.0 layout.1 (layout_line ∷ []) (layout_front layout.0 rest.0 rest.1 [] last.1) in
-    let named = section_front (codes "disks") columns.0.1 disks.0 disks.1 (map name_line more.more ++ (start_places (codes "layout") ∷ layout_line ∷ [])) (more.front (start_places (codes "layout") ∷ layout_line ∷ []) tail) in
-    let whole = section_front (codes "array") lines array.0 array.1 (array_line columns.0.0 ∷ start_places (codes "disks") ∷ (map name_line more.more ++ (start_places (codes "layout") ∷ layout_line ∷ []))) (range.2 (start_places (codes "disks") ∷ (map name_line more.more ++ (start_places (codes "layout") ∷ layout_line ∷ []))) named) in (
-      record { some = rw many range.0; few = rw many range.1; named = rw last.0 at more.named; differ = rw last.0 at more.differ },
-      subst (λ (k : ℕ). HasForm (all_lines k names) lines) (sym many) (subst (λ (ns : List Text). HasForm (all_lines columns.0.0 ns) lines) (sym is) whole),
+    let is : read.0.0 ≡ more.more = more.are in
+    let many : length read.0.0 ≡ columns.0.0 = ap length is ∙ more.many in
+    let tail = section_front (codes "layout") read.0.1 layout.0 layout.1 (layout_line u ∷ []) (sectors.2 [] last.1) in
+    let named = section_front (codes "disks") columns.0.1 disks.0 disks.1 (map name_line more.more ++ (start_places (codes "layout") ∷ layout_line u ∷ [])) (more.front (start_places (codes "layout") ∷ layout_line u ∷ []) tail) in
+    let whole = section_front (codes "array") lines array.0 array.1 (array_line columns.0.0 ∷ start_places (codes "disks") ∷ (map name_line more.more ++ (start_places (codes "layout") ∷ layout_line u ∷ []))) (range.2 (start_places (codes "disks") ∷ (map name_line more.more ++ (start_places (codes "layout") ∷ layout_line u ∷ []))) named) in
+    subst (λ (a : Array). IsConf a × HasForm (conf_places a) lines) last.0 (
+      record {
+        disks = record { some = rw many range.0; few = rw many range.1; named = more.named; differ = more.differ };
+        least = sectors.0;
+        most = sectors.1;
+      },
+      subst (λ (k : ℕ). HasForm (all_lines k read.0.0 u) lines) (sym many) (subst (λ (ns : List Text). HasForm (all_lines columns.0.0 ns u) lines) (sym is) whole),
     )
 
 -- ---- what is of the form is read
@@ -219,15 +230,19 @@ columns_read n rest lines low high form =
     in_range : (n : ℕ) → 2 ≤ n → n ≤ 32 → (nat_le 2 n && nat_le n 32) ≡ true
     in_range n low high = grind (arith, nat_tests)
 
-layout_read : (rest : List (List Place)) (lines : List Numbered) → HasForm (layout_line ∷ rest) lines → (behind : List Numbered) × (after_layout lines ≡ Some behind) × HasForm rest behind
-unfolding after_layout
-layout_read rest lines form =
-    let line = line_read layout_line rest lines form in
-    let unit = wanted_read 1 (Number 1 ∷ Number 1 ∷ Literal (codes "5") ∷ []) line.0 line.3 in
+layout_read : (u : ℕ) (rest : List (List Place)) (lines : List Numbered) → 1 ≤ u → u ≤ 128 → HasForm (layout_line u ∷ rest) lines → (behind : List Numbered) × (next_unit lines ≡ Some (u, behind)) × HasForm rest behind
+unfolding next_unit
+layout_read u rest lines low high form =
+    let line = line_read (layout_line u) rest lines form in
+    let unit = number_read u (Number 1 ∷ Number 1 ∷ Literal (codes "5") ∷ []) line.0 line.3 in
     let second = wanted_read 1 (Number 1 ∷ Literal (codes "5") ∷ []) unit.0 unit.2 in
     let third = wanted_read 1 (Literal (codes "5") ∷ []) second.0 second.2 in
     let level = literal_read (codes "5") [] third.0 third.2 in
-    (line.1, rw (line.2, unit.1, second.1, third.1, level.1, end_read level.0 level.2) refl, line.4)
+    let range : (nat_le 1 u && nat_le u 128) ≡ true = in_range u low high in
+    (line.1, rw (line.2, unit.1, second.1, third.1, level.1, end_read level.0 level.2, range) refl, line.4)
+  where
+    in_range : (n : ℕ) → 1 ≤ n → n ≤ 128 → (nat_le 1 n && nat_le n 128) ≡ true
+    in_range n low high = grind (arith, nat_tests)
 
 name_read : (names : List Text) (name : Text) (rest : List (List Place)) (lines : List Numbered) → IsName name → has_name names name ≡ false → HasForm (name_line name ∷ rest) lines → (behind : List Numbered) × (next_name names lines ≡ Some (name, behind)) × HasForm rest behind
 unfolding next_name
@@ -247,18 +262,21 @@ names_read (name ∷ more) names rest lines named differ form =
     let others = names_read more (names ++ name ∷ []) rest one.0 (All-tail IsName name more named) (rw join differ) one.2 in
     (others.0, rw one.1 (others.1 ∙ ap (λ (all : List Text). Some (all, others.0)) join), others.2)
 
-last_read : (names : List Text) (lines : List Numbered) → HasForm [] lines → at_last names lines ≡ Some names
+last_read : (array : Array) (lines : List Numbered) → HasForm [] lines → at_last array lines ≡ Some array
 unfolding at_last
-last_read names [] form = refl
-last_read names (line ∷ lines) form = absurd form
+last_read array [] form = refl
+last_read array (line ∷ lines) form = absurd form
 
 pub conf_read : ConfIsRead
 unfolding conf_of
-conf_read lines names are form =
-    let array = section_read (codes "array") (array_line (length names) ∷ start_places (codes "disks") ∷ (map name_line names ++ (start_places (codes "layout") ∷ layout_line ∷ []))) lines form in
-    let columns = columns_read (length names) (start_places (codes "disks") ∷ (map name_line names ++ (start_places (codes "layout") ∷ layout_line ∷ []))) array.0 are.some are.few array.2 in
-    let disks = section_read (codes "disks") (map name_line names ++ (start_places (codes "layout") ∷ layout_line ∷ [])) columns.0 columns.2 in
-    let read = names_read names [] (start_places (codes "layout") ∷ layout_line ∷ []) disks.0 are.named are.differ disks.2 in
-    let layout = section_read (codes "layout") (layout_line ∷ []) read.0 read.2 in
-    let rest = layout_read [] layout.0 layout.2 in
-    rw (array.1, columns.1, disks.1, read.1, layout.1, rest.1) (last_read names rest.0 rest.2)
+conf_read lines described are form =
+    let names = described.names in
+    let u = described.unit in
+    let tail = start_places (codes "layout") ∷ layout_line u ∷ [] in
+    let array = section_read (codes "array") (array_line (length names) ∷ start_places (codes "disks") ∷ (map name_line names ++ tail)) lines form in
+    let columns = columns_read (length names) (start_places (codes "disks") ∷ (map name_line names ++ tail)) array.0 are.disks.some are.disks.few array.2 in
+    let disks = section_read (codes "disks") (map name_line names ++ tail) columns.0 columns.2 in
+    let read = names_read names [] tail disks.0 are.disks.named are.disks.differ disks.2 in
+    let layout = section_read (codes "layout") (layout_line u ∷ []) read.0 read.2 in
+    let rest = layout_read u [] layout.0 are.least are.most layout.2 in
+    rw (array.1, columns.1, disks.1, read.1, layout.1, rest.1) (last_read described rest.0 rest.2)

@@ -15,7 +15,7 @@ use Rattle.raid_text.specs.Text.{Text, Numbered, number_of, sound_words}
 use Rattle.raid_text.specs.Pattern.{is_digit_count, pattern_of}
 use Rattle.top_texts.specs.Steps.{after_number, at_end, next_number, next_word}
 use Rattle.top_texts.specs.Form.{Place, Literal, Number, Digits, FillsAll, HasForm, IsLineOf}
-use Rattle.top_texts.specs.Script.{IsAsked, Item, Writes, Reads, Other, byte_of, item_of, item_places, items_of, kind_of, next_of, next_span, read_of, read_sectors, write_of}
+use Rattle.top_texts.specs.Script.{IsAsked, Item, Writes, Reads, Syncs, Other, byte_of, item_of, item_places, items_of, kind_of, next_of, next_span, read_of, read_sectors, sync_of, write_of}
 use Rattle.top_texts.specs.Laws.{ScriptIsOfTheForm, ScriptIsRead}
 use Rattle.top_texts.proofs.FormSteps.{bind_some, bytes_same, test_some, test_none, word_fills, number_fills, wanted_fills, end_fills, word_read, number_read, wanted_read, end_read}
 
@@ -96,6 +96,7 @@ span_fills words first count behind h =
 abbrev KindFills : Item → Text → List Text → Type 0
 KindFills (Writes first count bytes) kind words = (kind ≡ codes "write") × FillsAll (Number first ∷ Number count ∷ Digits bytes ∷ []) words
 KindFills (Reads first count) kind words = (kind ≡ codes "read") × FillsAll (Number first ∷ Number count ∷ []) words
+KindFills (Syncs stripe) kind words = (kind ≡ codes "sync") × FillsAll (Number stripe ∷ []) words
 KindFills Other kind words = ⊥
 
 write_fills : (words : List Text) (item : Item) → write_of words ≡ Some item → IsAsked item × KindFills item (codes "write") words
@@ -128,15 +129,30 @@ read_fills words item h =
     some_same : (p q : Item) → ◌≡◌ {A = Option Item} (Some p) (Some q) → p ≡ q
     some_same p q e = cc
 
+sync_fills : (words : List Text) (item : Item) → sync_of words ≡ Some item → IsAsked item × KindFills item (codes "sync") words
+unfolding sync_of
+sync_fills words item h =
+    let stripe = bind_some (next_number words) _ item h in
+    let end = bind_some (at_end stripe.0.1) _ item stripe.2 in
+    let is : Syncs stripe.0.0 ≡ item = some_same (Syncs stripe.0.0) item end.2 in
+    subst (λ (i : Item). IsAsked i × KindFills i (codes "sync") words) is (next_small words stripe.0.0 stripe.0.1 stripe.1, (refl, number_fills words stripe.0.0 stripe.0.1 stripe.1 [] (end_fills stripe.0.1 end.0 end.1)))
+  where
+    some_same : (p q : Item) → ◌≡◌ {A = Option Item} (Some p) (Some q) → p ≡ q
+    some_same p q e = cc
+
 kind_fills : (kind : Text) (words : List Text) (item : Item) → kind_of kind words ≡ Some item → IsAsked item × KindFills item kind words
 unfolding kind_of
 kind_fills kind words item h = writes (bytes_eq kind (codes "write")) refl h
   where
-    reads : (b : Bool) → bytes_eq kind (codes "read") ≡ b → cond b (read_of words) None ≡ Some item → IsAsked item × KindFills item kind words
-    reads true e r = rw (bytes_same kind (codes "read") e) (read_fills words item r)
-    reads false e r = absurd (cc)
+    syncs : (b : Bool) → bytes_eq kind (codes "sync") ≡ b → cond b (sync_of words) None ≡ Some item → IsAsked item × KindFills item kind words
+    syncs true e r = rw (bytes_same kind (codes "sync") e) (sync_fills words item r)
+    syncs false e r = absurd (cc)
 
-    writes : (b : Bool) → bytes_eq kind (codes "write") ≡ b → cond b (write_of words) (cond (bytes_eq kind (codes "read")) (read_of words) None) ≡ Some item → IsAsked item × KindFills item kind words
+    reads : (b : Bool) → bytes_eq kind (codes "read") ≡ b → cond b (read_of words) (cond (bytes_eq kind (codes "sync")) (sync_of words) None) ≡ Some item → IsAsked item × KindFills item kind words
+    reads true e r = rw (bytes_same kind (codes "read") e) (read_fills words item r)
+    reads false e r = syncs (bytes_eq kind (codes "sync")) refl r
+
+    writes : (b : Bool) → bytes_eq kind (codes "write") ≡ b → cond b (write_of words) (cond (bytes_eq kind (codes "read")) (read_of words) (cond (bytes_eq kind (codes "sync")) (sync_of words) None)) ≡ Some item → IsAsked item × KindFills item kind words
     writes true e r = rw (bytes_same kind (codes "write") e) (write_fills words item r)
     writes false e r = reads (bytes_eq kind (codes "read")) refl r
 
@@ -151,6 +167,7 @@ item_fills words item h =
     go : (i : Item) (ws : List Text) (k : Text) (behind : List Text) → next_word ws ≡ Some (k, behind) → ((places : List Place) → FillsAll places ws → FillsAll (Number 0 ∷ places) words) → KindFills i k behind → FillsAll (item_places i) words
     go (Writes first count bytes) ws k behind e front (is, fills) = front (Literal (codes "write") ∷ Number first ∷ Number count ∷ Digits bytes ∷ []) (word_fills ws k behind e (Literal (codes "write")) is (Number first ∷ Number count ∷ Digits bytes ∷ []) fills)
     go (Reads first count) ws k behind e front (is, fills) = front (Literal (codes "read") ∷ Number first ∷ Number count ∷ []) (word_fills ws k behind e (Literal (codes "read")) is (Number first ∷ Number count ∷ []) fills)
+    go (Syncs stripe) ws k behind e front (is, fills) = front (Literal (codes "sync") ∷ Number stripe ∷ []) (word_fills ws k behind e (Literal (codes "sync")) is (Number stripe ∷ []) fills)
     go Other ws k behind e front fills = absurd fills
 
 -- the item of a line, within the limits
@@ -235,7 +252,7 @@ byte_read w bytes p one =
     rw test p
 
 item_read : (item : Item) (words : List Text) → IsAsked item → FillsAll (item_places item) words → item_of words ≡ Some item
-unfolding item_of kind_of write_of read_of
+unfolding item_of kind_of write_of read_of sync_of
 item_read (Writes first count bytes) words (small, some, few, one, are) fills =
     let client = wanted_read 0 (Literal (codes "write") ∷ Number first ∷ Number count ∷ Digits bytes ∷ []) words fills in
     let kind = word_read (Literal (codes "write")) (Number first ∷ Number count ∷ Digits bytes ∷ []) client.0 client.2 in
@@ -250,6 +267,12 @@ item_read (Reads first count) words (small, some, few) fills =
     let is : kind.0 ≡ codes "read" = kind.3 in
     let span = span_read first count [] kind.1 some kind.4 in
     rw (client.1, kind.2, is, span.1, end_read span.0 span.2) refl
+item_read (Syncs stripe) words small fills =
+    let client = wanted_read 0 (Literal (codes "sync") ∷ Number stripe ∷ []) words fills in
+    let kind = word_read (Literal (codes "sync")) (Number stripe ∷ []) client.0 client.2 in
+    let is : kind.0 ≡ codes "sync" = kind.3 in
+    let number = number_read stripe [] kind.1 kind.4 in
+    rw (client.1, kind.2, is, number.1, end_read number.0 number.2) refl
 item_read Other words asked fills = absurd asked
 
 within : (n r k : ℕ) → n < 65536 → r + k ≤ 262144 → (nat_lt n 65536 && nat_le (r + k) 262144) ≡ true

@@ -6,6 +6,11 @@ use Rattle.raid_text.specs.Text.{Text, Numbered, is_word}
 use Rattle.top_texts.specs.Steps.{◌>>=◌, next_line, next_word, after_word, next_number, after_number, at_end}
 use Rattle.top_texts.specs.Form.{Place, Literal, Number, canonical}
 
+-- an array, as a configuration describes it: the names of its disks by column, and the sectors of a unit
+pub record Array : Type 0 where
+  pub names : List Text
+  pub unit : ℕ
+
 -- ---- what is read
 
 -- the lines behind the one that begins this section
@@ -48,32 +53,32 @@ unfoldable pub next_names : ℕ → List Text → List Numbered → Option (List
 next_names zero names lines = Some (names, lines)
 next_names (suc n) names lines = next_name names lines >>= λ next. next_names n (names ++ next.0 ∷ []) next.1
 
--- the lines behind the layout's line `1 1 1 5`
-unfoldable pub after_layout : List Numbered → Option (List Numbered)
-after_layout lines = do
+-- the sectors of a unit on the layout's line `U 1 1 5`, U from 1 to 128, and the lines behind it
+unfoldable pub next_unit : List Numbered → Option (ℕ × List Numbered)
+next_unit lines = do
   line ← next_line lines
-  unit ← after_number 1 line.0
-  second ← after_number 1 unit
+  unit ← next_number line.0
+  second ← after_number 1 unit.1
   third ← after_number 1 second
   level ← after_word (codes "5") third
   end ← at_end level
-  Some line.1
+  if nat_le 1 unit.0 && nat_le unit.0 128 then Some (unit.0, line.1) else None
 
 -- the value, where no line is left
-unfoldable pub at_last : List Text → List Numbered → Option (List Text)
-at_last names [] = Some names
-at_last names (line ∷ lines) = None
+unfoldable pub at_last : Array → List Numbered → Option Array
+at_last array [] = Some array
+at_last array (line ∷ lines) = None
 
--- the names of the disks in a configuration, or none where the lines aren't of the form
-unfoldable pub conf_of : List Numbered → Option (List Text)
+-- the array of a configuration, or none where the lines aren't of the form
+unfoldable pub conf_of : List Numbered → Option Array
 conf_of lines = do
   array ← after_section (codes "array") lines
   columns ← next_columns array
   disks ← after_section (codes "disks") columns.1
   names ← next_names columns.0 [] disks
   layout ← after_section (codes "layout") names.1
-  rest ← after_layout layout
-  at_last names.0 rest
+  unit ← next_unit layout
+  at_last (record { names = names.0; unit = unit.0 }) unit.1
 
 -- ---- the form
 
@@ -96,13 +101,19 @@ pub record AreDisks (names : List Text) : Type 0 where
 abbrev pub start_places : Text → List Place
 start_places name = Literal (codes "START") ∷ Literal name ∷ []
 
--- the lines of a configuration of these disks
-abbrev pub conf_places : List Text → List (List Place)
-conf_places names =
-    (start_places (codes "array") ∷ (Number 1 ∷ Number (length names) ∷ Number 0 ∷ []) ∷ start_places (codes "disks") ∷ [])
-    ++ (map (λ name. Literal name ∷ []) names
-    ++ (start_places (codes "layout") ∷ (Number 1 ∷ Number 1 ∷ Number 1 ∷ Literal (codes "5") ∷ []) ∷ []))
+-- an array that a configuration may describe: such disks, and units of 1 to 128 sectors
+pub record IsConf (array : Array) : Type 0 where
+  pub disks : AreDisks array.names
+  pub least : 1 ≤ array.unit
+  pub most : array.unit ≤ 128
+
+-- the lines of the configuration of an array
+abbrev pub conf_places : Array → List (List Place)
+conf_places array =
+    (start_places (codes "array") ∷ (Number 1 ∷ Number (length array.names) ∷ Number 0 ∷ []) ∷ start_places (codes "disks") ∷ [])
+    ++ (map (λ name. Literal name ∷ []) array.names
+    ++ (start_places (codes "layout") ∷ (Number array.unit ∷ Number 1 ∷ Number 1 ∷ Literal (codes "5") ∷ []) ∷ []))
 
 -- the canonical text of a configuration
-abbrev pub conf_text : List Text → Text
-conf_text names = canonical (conf_places names)
+abbrev pub conf_text : Array → Text
+conf_text array = canonical (conf_places array)

@@ -1,21 +1,21 @@
 -- That the readers read exactly the texts of the form.
 use Rattle.std.specs.Prelude.{◌≡◌, List, Some, map}
-use Rattle.raid_text.specs.Text.{Text, Numbered, lines_in}
+use Rattle.raid_text.specs.Text.{Numbered, lines_in}
 use Rattle.top_texts.specs.Form.{HasForm}
-use Rattle.top_texts.specs.Conf.{AreDisks, conf_of, conf_places, conf_text}
+use Rattle.top_texts.specs.Conf.{Array, IsConf, conf_of, conf_places, conf_text}
 use Rattle.top_texts.specs.Script.{AreItems, Item, item_places, script_of, script_text}
 
 -- what is read as a configuration is one
 abbrev pub ConfIsOfTheForm : Type 0
-ConfIsOfTheForm = (lines : List Numbered) (names : List Text) → conf_of lines ≡ Some names → AreDisks names × HasForm (conf_places names) lines
+ConfIsOfTheForm = (lines : List Numbered) (array : Array) → conf_of lines ≡ Some array → IsConf array × HasForm (conf_places array) lines
 
--- each configuration is read as its disks
+-- each configuration is read as its array
 abbrev pub ConfIsRead : Type 0
-ConfIsRead = (lines : List Numbered) (names : List Text) → AreDisks names → HasForm (conf_places names) lines → conf_of lines ≡ Some names
+ConfIsRead = (lines : List Numbered) (array : Array) → IsConf array → HasForm (conf_places array) lines → conf_of lines ≡ Some array
 
 -- its canonical text too
 abbrev pub ConfTextIsRead : Type 0
-ConfTextIsRead = (names : List Text) → AreDisks names → conf_of (lines_in (conf_text names)) ≡ Some names
+ConfTextIsRead = (array : Array) → IsConf array → conf_of (lines_in (conf_text array)) ≡ Some array
 
 -- what is read as a script is one
 abbrev pub ScriptIsOfTheForm : Type 0

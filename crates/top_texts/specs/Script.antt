@@ -9,10 +9,11 @@ use Rattle.blk_plain.specs.declared.op.Op.TheVariants.{Write, Read, Rebuild, Syn
 use Rattle.top_texts.specs.Steps.{◌>>=◌, next_word, next_number, after_number, at_end}
 use Rattle.top_texts.specs.Form.{Place, Literal, Number, Digits, canonical}
 
--- what a line asks for: its first block, how many blocks, and the bytes that are written
+-- what a line asks for: the first block, how many blocks, and the bytes that are written; or the stripe of a sync
 pub data Item : Type 0 where
   Writes : ℕ → ℕ → List ℕ → Item
   Reads : ℕ → ℕ → Item
+  Syncs : ℕ → Item
   Other : Item
 
 -- an operation, as what a line asks for
@@ -20,7 +21,7 @@ abbrev pub seen : Op → Item
 seen (Write span pattern) = Writes span.first span.count (pattern_bytes pattern)
 seen (Read span) = Reads span.first span.count
 seen (Rebuild stripe) = Other
-seen (Sync stripe) = Other
+seen (Sync stripe) = Syncs stripe
 
 -- ---- what is read
 
@@ -51,12 +52,20 @@ read_of words = do
   end ← at_end span.2
   Some (Reads span.0 span.1)
 
--- what stands behind `write` or `read`
+-- STRIPE
+unfoldable pub sync_of : List Text → Option Item
+sync_of words = do
+  stripe ← next_number words
+  end ← at_end stripe.1
+  Some (Syncs stripe.0)
+
+-- what stands behind `write`, `read` or `sync`
 unfoldable pub kind_of : Text → List Text → Option Item
 kind_of kind words = if bytes_eq kind (codes "write") then write_of words
-    else (if bytes_eq kind (codes "read") then read_of words else None)
+    else (if bytes_eq kind (codes "read") then read_of words
+    else (if bytes_eq kind (codes "sync") then sync_of words else None))
 
--- `0 write FIRST COUNT XX` or `0 read FIRST COUNT`
+-- `0 write FIRST COUNT XX`, `0 read FIRST COUNT` or `0 sync STRIPE`
 unfoldable pub item_of : List Text → Option Item
 item_of words = do
   client ← after_number 0 words
@@ -67,6 +76,7 @@ item_of words = do
 abbrev pub read_sectors : Item → ℕ
 read_sectors (Writes first count bytes) = 0
 read_sectors (Reads first count) = count
+read_sectors (Syncs stripe) = 0
 read_sectors Other = 0
 
 -- the item of a line, behind n items whose reads have r sectors
@@ -88,12 +98,12 @@ items_of n r (line ∷ lines) = do
 abbrev pub script_of : List Numbered → Option (List Item)
 script_of lines = items_of 0 0 lines
 
--- a write or a read of a block at least, from a block that a word can name
+-- a write or a read of a block at least, from a block that a word can name, or a sync
 abbrev pub IsItem : Op → Type 0
 IsItem (Write span pattern) = (0 < span.count) × (span.first < 2 ^ 32)
 IsItem (Read span) = (0 < span.count) × (span.first < 2 ^ 32)
 IsItem (Rebuild stripe) = ⊥
-IsItem (Sync stripe) = ⊥
+IsItem (Sync stripe) = Unit {0}
 
 -- ---- the form
 
@@ -101,6 +111,7 @@ IsItem (Sync stripe) = ⊥
 abbrev pub IsAsked : Item → Type 0
 IsAsked (Writes first count bytes) = (first < 2 ^ 32) × (0 < count) × (count < 2 ^ 32) × (length bytes ≡ 1) × IsBytes bytes
 IsAsked (Reads first count) = (first < 2 ^ 32) × (0 < count) × (count < 2 ^ 32)
+IsAsked (Syncs stripe) = stripe < 2 ^ 32
 IsAsked Other = ⊥
 
 -- the items of a script: at most 65,536, whose reads have at most 262,144 sectors together
@@ -113,6 +124,7 @@ pub record AreItems (items : List Item) : Type 0 where
 abbrev pub item_places : Item → List Place
 item_places (Writes first count bytes) = Number 0 ∷ Literal (codes "write") ∷ Number first ∷ Number count ∷ Digits bytes ∷ []
 item_places (Reads first count) = Number 0 ∷ Literal (codes "read") ∷ Number first ∷ Number count ∷ []
+item_places (Syncs stripe) = Number 0 ∷ Literal (codes "sync") ∷ Number stripe ∷ []
 item_places Other = []
 
 -- the canonical text of a script

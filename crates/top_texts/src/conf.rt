@@ -3,8 +3,8 @@ ghost use Rattle.std.specs.Prelude.{◌≡◌, ◌≤◌, [], length, Some, None
 ghost use Rattle.std.specs.Bool.{IsFalse};
 ghost use Rattle.raid_text.specs.Seen.{left};
 ghost use Rattle.raid_text.specs.Text.{is_word, lines_in};
-ghost use Rattle.top_texts.specs.Answers.{GivesNames, GivesNamesAndRest};
-ghost use Rattle.top_texts.specs.Conf.{after_layout, after_section, conf_of, has_name, is_name, next_columns, next_name, next_names, Differ};
+ghost use Rattle.top_texts.specs.Answers.{GivesArray, GivesNamesAndRest};
+ghost use Rattle.top_texts.specs.Conf.{after_section, conf_of, has_name, is_name, next_columns, next_name, next_names, next_unit, Differ};
 
 use crate::steps::{next_line, next_number, next_word, pass_end, pass_number, pass_word};
 use raid_bay::Name;
@@ -18,6 +18,15 @@ pub enum ConfFault {
     Form,
     /// There was no memory for the names.
     Memory,
+}
+
+/// An array of level 5, as its configuration describes it.
+#[derive(Drop)]
+pub struct Array {
+    /// The names of its disks, in the order of the columns: 2 to 32 different ones.
+    pub disks: Vec<Name>,
+    /// The sectors of a unit, 1 to 128.
+    pub unit_sectors: u32,
 }
 
 // Passes the line `START` and the section's name.
@@ -52,18 +61,25 @@ fn next_columns(lines: &mut Lines) -> Option<u32>
     }
 }
 
-// Passes the line `1 1 1 5`: one sector a unit, and level 5.
-#[tactic(auto, unfolding(crate::specs::Conf::after_layout))]
-fn pass_layout(lines: &mut Lines) -> Option<()>
-    ensures some { IfSome result (λ _. after_layout (left lines.old) ≡ Some (left lines.new)) }
-    ensures none { IfNone result (after_layout (left lines.old) ≡ None) }
+// The sectors of a unit, U of the line `U 1 1 5`.
+#[tactic(auto, unfolding(crate::specs::Conf::next_unit))]
+fn next_unit(lines: &mut Lines) -> Option<u32>
+    ensures some { IfSome result (λ n. next_unit (left lines.old) ≡ Some (n, left lines.new)) }
+    ensures none { IfNone result (next_unit (left lines.old) ≡ None) }
+    ensures least { IfSome result (λ n. 1 ≤ n) }
+    ensures most { IfSome result (λ n. n ≤ 128) }
 {
     let mut words = next_line(lines)?;
-    pass_number(&mut words, 1)?;
+    let sectors = next_number(&mut words)?;
     pass_number(&mut words, 1)?;
     pass_number(&mut words, 1)?;
     pass_word(&mut words, b"5")?;
-    pass_end(&mut words)
+    pass_end(&mut words)?;
+    if 1 <= sectors && sectors <= 128 {
+        Some(sectors)
+    } else {
+        None
+    }
 }
 
 // Whether a word may name a disk.
@@ -134,13 +150,15 @@ fn read_names(alloc: Global, lines: &mut Lines, count: usize) -> Result<Vec<Name
     Ok(names)
 }
 
-// The names of the disks, line by line.
+// The array, line by line.
 #[tactic(auto, unfolding(crate::specs::Conf::conf_of, crate::specs::Conf::at_last))]
-fn read_lines(alloc: Global, lines: &mut Lines) -> Result<Vec<Name>, ConfFault>
-    ensures value { GivesNames (λ v. v.items) result (conf_of (left lines.old)) }
-    ensures some { IfOk result (λ v. 2 ≤ vec_len v) }
-    ensures few { IfOk result (λ v. vec_len v ≤ 32) }
-    ensures differ { IfOk result (λ v. Differ v.items) }
+fn read_lines(alloc: Global, lines: &mut Lines) -> Result<Array, ConfFault>
+    ensures value { GivesArray (λ a. record { names = a.disks.items; unit = a.unit_sectors }) result (conf_of (left lines.old)) }
+    ensures some { IfOk result (λ a. 2 ≤ vec_len a.disks) }
+    ensures few { IfOk result (λ a. vec_len a.disks ≤ 32) }
+    ensures differ { IfOk result (λ a. Differ a.disks.items) }
+    ensures least { IfOk result (λ a. 1 ≤ a.unit_sectors) }
+    ensures most { IfOk result (λ a. a.unit_sectors ≤ 128) }
 {
     let Some(()) = pass_section(lines, b"array") else {
         return Err(ConfFault::Form);
@@ -151,32 +169,37 @@ fn read_lines(alloc: Global, lines: &mut Lines) -> Result<Vec<Name>, ConfFault>
     let Some(()) = pass_section(lines, b"disks") else {
         return Err(ConfFault::Form);
     };
-    let names = match read_names(alloc, lines, columns as usize) {
+    let disks = match read_names(alloc, lines, columns as usize) {
         Ok(names) => names,
         Err(fault) => return Err(fault),
     };
     let Some(()) = pass_section(lines, b"layout") else {
         return Err(ConfFault::Form);
     };
-    let Some(()) = pass_layout(lines) else {
+    let Some(unit_sectors) = next_unit(lines) else {
         return Err(ConfFault::Form);
     };
     match lines.next() {
         Some(_) => Err(ConfFault::Form),
-        None => Ok(names),
+        None => Ok(Array {
+            disks,
+            unit_sectors,
+        }),
     }
 }
 
-/// The names of the disks of a configuration, in the order of the columns.
+/// The array that a configuration describes.
 ///
 /// The text has at most 16,777,216 bytes. `Form` comes exactly where it isn't of the form that this
 /// crate's page describes, and `Memory` where there is none for the names.
-pub fn read_conf(alloc: Global, text: &[u8]) -> Result<Vec<Name>, ConfFault>
+pub fn read_conf(alloc: Global, text: &[u8]) -> Result<Array, ConfFault>
     requires { length text.now ≤ 16777216 }
-    ensures value { GivesNames (λ v. v.items) result (conf_of (lines_in text.now)) }
-    ensures some { IfOk result (λ v. 2 ≤ vec_len v) }
-    ensures few { IfOk result (λ v. vec_len v ≤ 32) }
-    ensures differ { IfOk result (λ v. Differ v.items) }
+    ensures value { GivesArray (λ a. record { names = a.disks.items; unit = a.unit_sectors }) result (conf_of (lines_in text.now)) }
+    ensures some { IfOk result (λ a. 2 ≤ vec_len a.disks) }
+    ensures few { IfOk result (λ a. vec_len a.disks ≤ 32) }
+    ensures differ { IfOk result (λ a. Differ a.disks.items) }
+    ensures least { IfOk result (λ a. 1 ≤ a.unit_sectors) }
+    ensures most { IfOk result (λ a. a.unit_sectors ≤ 128) }
 {
     let mut lines = Lines::new(text);
     read_lines(alloc, &mut lines)

@@ -2,17 +2,17 @@
 //! is the law.
 ghost use Rattle.top_texts.specs.Laws.{ConfIsOfTheForm, ConfIsRead, ConfTextIsRead, ScriptIsOfTheForm, ScriptIsRead, ScriptTextIsRead};
 
-/// What is read as a configuration is of the form, with the disks that were read.
+/// What is read as a configuration is of the form, with the array that was read.
 pub fn conf_is_of_the_form()
     ensures { ConfIsOfTheForm }
 {}
 
-/// A text of a configuration's form is read as its disks.
+/// A text of a configuration's form is read as its array.
 pub fn conf_is_read()
     ensures { ConfIsRead }
 {}
 
-/// The canonical text of a configuration is read as its disks.
+/// The canonical text of a configuration is read as its array.
 pub fn conf_text_is_read()
     ensures { ConfTextIsRead }
 {}

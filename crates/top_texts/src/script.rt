@@ -4,7 +4,7 @@ ghost use Rattle.raid_text.specs.Pattern.{pattern_bytes};
 ghost use Rattle.raid_text.specs.Seen.{seen as seen_line, words_left};
 ghost use Rattle.raid_text.specs.Text.{lines_in};
 ghost use Rattle.top_texts.specs.Answers.{GivesItems};
-ghost use Rattle.top_texts.specs.Script.{byte_of, item_of, kind_of, next_of, next_span, read_of, read_sectors, script_of, seen, write_of, IsItem};
+ghost use Rattle.top_texts.specs.Script.{byte_of, item_of, kind_of, next_of, next_span, read_of, read_sectors, script_of, seen, sync_of, write_of, IsItem};
 
 use crate::steps::{next_number, next_word, pass_end, pass_number};
 use blk_plain::{Op, Pattern, Span};
@@ -99,7 +99,18 @@ fn read_in(words: &mut Words) -> Option<Op>
     Some(Op::Read { span })
 }
 
-// What stands behind `write` or `read`.
+// STRIPE.
+#[tactic(auto, unfolding(crate::specs::Script::sync_of))]
+fn sync_in(words: &mut Words) -> Option<Op>
+    ensures value { option_map seen result ≡ sync_of (words_left words.old) }
+    ensures item { IfSome result IsItem }
+{
+    let stripe = next_number(words)?;
+    pass_end(words)?;
+    Some(Op::Sync { stripe })
+}
+
+// What stands behind `write`, `read` or `sync`.
 #[tactic(auto, unfolding(crate::specs::Script::kind_of))]
 fn kind_in(kind: &[u8], words: &mut Words) -> Option<Op>
     ensures value { option_map seen result ≡ kind_of kind.now (words_left words.old) }
@@ -109,6 +120,8 @@ fn kind_in(kind: &[u8], words: &mut Words) -> Option<Op>
         write_in(words)
     } else if kind == b"read".as_slice() {
         read_in(words)
+    } else if kind == b"sync".as_slice() {
+        sync_in(words)
     } else {
         None
     }

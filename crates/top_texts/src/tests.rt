@@ -7,17 +7,18 @@ use raid_bay::Name;
 use std::alloc::{AllocError, Global};
 use std::test::Fail;
 
-// The names that a text is read as, or why it isn't.
-fn names_in(alloc: Global, text: &[u8]) -> Result<String, AllocError>
+// The names and the sectors of a unit that a text is read as, or why it isn't.
+fn array_in(alloc: Global, text: &[u8]) -> Result<String, AllocError>
     requires { length text.now ≤ 16777216 }
 {
     let mut out = String::new(alloc);
     match read_conf(alloc, text) {
-        Ok(names) => {
-            for name in &names {
+        Ok(array) => {
+            for name in &array.disks {
                 out.push_str(name.text())?;
                 out.push(' ')?;
             }
+            write!(out, "{}", array.unit_sectors)?;
         }
         Err(ConfFault::Form) => out.push_str("form")?,
         Err(ConfFault::Memory) => out.push_str("memory")?,
@@ -26,7 +27,7 @@ fn names_in(alloc: Global, text: &[u8]) -> Result<String, AllocError>
 }
 
 // What the configuration with these lines is read as. Commas stand between the names of the disks.
-fn names_of(alloc: Global, array: &str, disks: &str, layout: &str) -> Result<String, Fail> {
+fn array_of(alloc: Global, array: &str, disks: &str, layout: &str) -> Result<String, Fail> {
     let mut text = format!(in alloc; "START array\n{array}\nSTART disks\n")?;
     for name in disks.split(',') {
         text.push_str(name)?;
@@ -36,23 +37,25 @@ fn names_of(alloc: Global, array: &str, disks: &str, layout: &str) -> Result<Str
     if text.len() > 1000 {
         return Err(Fail::from("a long text"));
     }
-    Ok(names_in(alloc, text.as_bytes())?)
+    Ok(array_in(alloc, text.as_bytes())?)
 }
 
 #[test]
 fn configurations_are_read(rt: HostRuntime) -> Result<(), Fail> {
     for (array, disks, layout, want) in [
-        ("1 2 0", "a,b", "1 1 1 5", "a b "),
-        ("01 0000000003 00", "a,b,c", "001 1 1 5", "a b c "),
+        ("1 2 0", "a,b", "1 1 1 5", "a b 1"),
+        ("1 2 0", "a,b", "4 1 1 5", "a b 4"),
+        ("1 2 0", "a,b", "0128 1 1 5", "a b 128"),
+        ("01 0000000003 00", "a,b,c", "001 1 1 5", "a b c 1"),
         (
             "1\t2  0 # two",
             " a\t# \u{ff},\r,# b,,b\r",
             "1 1 1 5",
-            "a b ",
+            "a b 1",
         ),
-        ("1 3 0", "start,Absent,-~", "1 1 1 5", "start Absent -~ "),
+        ("1 3 0", "start,Absent,-~", "1 1 1 5", "start Absent -~ 1"),
     ] {
-        assert_eq!(rt; names_of(rt.alloc(), array, disks, layout)?.as_str(), want);
+        assert_eq!(rt; array_of(rt.alloc(), array, disks, layout)?.as_str(), want);
     }
     Ok(())
 }
@@ -62,7 +65,7 @@ fn array_lines_are_refused(rt: HostRuntime) -> Result<(), Fail> {
     let lines = "2 2 0\n1 1 0\n1 3 0\n1 33 0\n1 2 1\n1 2\n2 0\n1 2 0 0\n1 x 0\n1 00000000002 0";
     for line in lines.lines() {
         assert_eq!(rt;
-            names_of(rt.alloc(), line, "a,b", "1 1 1 5")?.as_str(),
+            array_of(rt.alloc(), line, "a,b", "1 1 1 5")?.as_str(),
             "form"
         );
     }
@@ -74,7 +77,7 @@ fn disk_lines_are_refused(rt: HostRuntime) -> Result<(), Fail> {
     let lines = "a\na,b,c\na b\na,b c\na,a\na,absent\na,START\na,b\u{e9}\na,b\u{7f}";
     for line in lines.lines() {
         assert_eq!(rt;
-            names_of(rt.alloc(), "1 2 0", line, "1 1 1 5")?.as_str(),
+            array_of(rt.alloc(), "1 2 0", line, "1 1 1 5")?.as_str(),
             "form"
         );
     }
@@ -83,15 +86,16 @@ fn disk_lines_are_refused(rt: HostRuntime) -> Result<(), Fail> {
 
 #[test]
 fn layout_lines_are_refused(rt: HostRuntime) -> Result<(), Fail> {
-    let lines = "2 1 1 5\n1 2 1 5\n1 1 0 5\n1 1 1 4\n1 1 1 05\n1 1 1\n1 1 1 5 5";
+    let lines =
+        "0 1 1 5\n129 1 1 5\n4294967296 1 1 5\nx 1 1 5\n1 2 1 5\n1 1 0 5\n1 1 1 4\n1 1 1 05\n1 1 1\n1 1 1 5 5";
     for line in lines.lines() {
         assert_eq!(rt;
-            names_of(rt.alloc(), "1 2 0", "a,b", line)?.as_str(),
+            array_of(rt.alloc(), "1 2 0", "a,b", line)?.as_str(),
             "form"
         );
     }
     assert_eq!(rt;
-        names_of(rt.alloc(), "1 2 0", "a,b", "1 1 1 5\nx")?.as_str(),
+        array_of(rt.alloc(), "1 2 0", "a,b", "1 1 1 5\nx")?.as_str(),
         "form"
     );
     Ok(())
@@ -118,10 +122,10 @@ fn a_cut_configuration_is_refused(rt: HostRuntime) -> Result<(), Fail> {
     let text = b"START array\n1 2 0\nSTART disks\na\nb\nSTART layout\n1 1 1 5\n".as_slice();
     assert!(rt; text.len() == 55);
     for end in 0..54 {
-        assert_eq!(rt; names_in(rt.alloc(), &text[..end])?.as_str(), "form");
+        assert_eq!(rt; array_in(rt.alloc(), &text[..end])?.as_str(), "form");
     }
-    assert_eq!(rt; names_in(rt.alloc(), &text[..54])?.as_str(), "a b ");
-    assert_eq!(rt; names_in(rt.alloc(), text)?.as_str(), "a b ");
+    assert_eq!(rt; array_in(rt.alloc(), &text[..54])?.as_str(), "a b 1");
+    assert_eq!(rt; array_in(rt.alloc(), text)?.as_str(), "a b 1");
     Ok(())
 }
 
@@ -182,7 +186,8 @@ fn add_item(out: &mut String, op: &Op) -> Result<(), AllocError> {
             )
         }
         Op::Read { span } => write!(out, "read {} {} ", span.first, span.count),
-        Op::Rebuild { .. } | Op::Sync { .. } => out.push_str("other "),
+        Op::Sync { stripe } => write!(out, "sync {stripe} "),
+        Op::Rebuild { .. } => out.push_str("other "),
     }
 }
 
@@ -200,6 +205,7 @@ fn scripts_are_read_or_refused(rt: HostRuntime) -> Result<(), Fail> {
             "write 4294967295 4294967295 1 0 ",
         ),
         (b"0 read 0 262143\n0 read 0 1", "read 0 262143 read 0 1 "),
+        (b"0 sync 0\n0 sync 4294967295", "sync 0 sync 4294967295 "),
         (b"0 read 0 262143\n0 read 0 2", "form"),
         (b"0 write 0 1 a5\r\r\n", "form"),
         (b"0 read 0 1\xb9", "form"),
@@ -213,7 +219,7 @@ fn scripts_are_read_or_refused(rt: HostRuntime) -> Result<(), Fail> {
 #[test]
 fn script_lines_are_refused(rt: HostRuntime) -> Result<(), Fail> {
     let reads =
-        "0 read 0 262145\n1 read 0 1\nread 0 1\n0\n0 sync 0\n0 Read 0 1\n0 read 0 0\n0 read 4294967296 1\n0 read 00000000000 1\n0 read -1 1\n0 read 0\n0 read 0 1 a5";
+        "0 read 0 262145\n1 read 0 1\nread 0 1\n0\n0 sync\n0 sync 0 1\n0 sync 4294967296\n0 sync x\n0 Read 0 1\n0 read 0 0\n0 read 4294967296 1\n0 read 00000000000 1\n0 read -1 1\n0 read 0\n0 read 0 1 a5";
     let writes =
         "0 write 0 0 a5\n0 write 0 1\n0 write 0 1 a5 a5\n0 write 0 1 a\n0 write 0 1 abc\n0 write 0 1 a5a5\n0 write 0 1 g5";
     for line in reads.lines().chain(writes.lines()) {

@@ -2,9 +2,9 @@ use Rattle.std.proofs.Common.{sym, subst, None, List, Option}
 use Rattle.blk_disk.specs.declared.disk.Call.{Call}
 use Rattle.blk_disk.specs.ColumnLaws.{of_column-set, of_column-set_other}
 use Rattle.blk_disk.specs.Frames.{unchanged-set}
-use Rattle.top_array.specs.UnitLaws.{caused-set}
+use Rattle.top_array.proofs.UnitLaws.{caused-set}
 use Rattle.top_array.specs.Settled.{EndsSettled}
-use Rattle.top_array.specs.SettledLaws.{ends_settled}
+use Rattle.top_array.proofs.SettledLaws.{ends_settled}
 use Rattle.top_array.proofs.settle.fails_settle.Goals as goal
 
 pub returns-in-Ok-clause-unchanged : goal.returns-in-Ok-clause-unchanged

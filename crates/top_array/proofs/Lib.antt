@@ -1,0 +1,15 @@
+pub mod PlaceLaws
+pub mod UnitLaws
+pub mod ByteLaws
+pub mod ArrayLaws
+pub mod PieceLaws
+pub mod FilledLaws
+pub mod CutLaws
+pub mod SpanLaws
+pub mod Decoding
+pub mod RunLaws
+pub mod CountLaws
+pub mod SyncLaws
+pub mod ServedLaws
+pub mod LegalLaws
+pub mod SettledLaws
