@@ -1,0 +1,13 @@
+pub mod FirstNumbers
+pub mod PushedNodes
+pub mod NamedGraphs
+pub mod NodeLines
+pub mod LinesInTurn
+pub mod PrintedLines
+pub mod CanonicalSteps
+pub mod CanonicalLines
+pub mod CanonicalEntries
+pub mod CanonicalForm
+pub mod CanonicalRead
+pub mod ShortTexts
+pub mod CanonicalText

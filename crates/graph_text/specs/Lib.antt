@@ -1,0 +1,10 @@
+pub mod FormatSteps
+pub mod FormatLines
+pub mod Format
+pub mod FormatForm
+pub mod Kept
+pub mod Pushed
+pub mod BookView
+pub mod Answers
+pub mod Printing
+pub mod Canonical
