@@ -254,6 +254,34 @@ fn lines_out_of_order_are_code_1(rt: HostRuntime) -> Result<(), Fail> {
     Ok(())
 }
 
+// How many lines a text has; an empty piece behind its last byte 10 is none.
+fn lines_in(text: &[u8]) -> u32 {
+    let mut ends: u32 = 0;
+    for byte in text {
+        if *byte == b'\n' {
+            ends = ends.saturating_add(1);
+        }
+    }
+    if text.ends_with(b"\n") {
+        ends
+    } else {
+        ends.saturating_add(1)
+    }
+}
+
+#[test]
+fn a_file_cut_at_each_byte_is_refused_at_its_end(rt: HostRuntime) {
+    for end in 1..LARGE.len() - 1 {
+        let text = &LARGE[..end];
+        let (line, code) = refusal(&rt, rt.alloc(), text);
+        let last = lines_in(text);
+        let within = code == 6 && line == last.saturating_add(1);
+        let broken = (1..=3).contains(&code) && line == last;
+        assert!(rt; within || broken, "cut behind byte {end}: {line} {code}");
+    }
+    assert_eq!(rt; refusal(&rt, rt.alloc(), b""), (0, 0));
+}
+
 // The place behind the first so many lines.
 fn behind(text: &[u8], lines: usize) -> usize
     ensures { result ≤ length text.now }
