@@ -121,8 +121,8 @@ fn try_all(
 }
 
 /// Whether a graph may be run for a task where these units are missing, one entry for each stripe
-/// of the task; a stripe without an entry misses none. If not, the answer is the first cause that holds, in the order of `Refusal`, at its
-/// least place. It takes no memory.
+/// of the task; a stripe without an entry misses none. If not, the answer is the first cause that
+/// holds, in the order of `Refusal`, at its least place. It takes no memory.
 ///
 /// A graph that may be run is atomic, whatever steps are made, failures included: until its commit
 /// has ended nothing has changed, and from then on the operation can only go on (Courtright,
