@@ -49,6 +49,7 @@ fn check_flow(
     requires marks { 2048 ≤ length marks.old }
     ensures { (missing : Missing) → Tries graph.now.drawn task.now missing 9 result }
 {
+    // A call of the task makes known that its numbers lie within the limits.
     let _width = task.width();
     check_assigned(graph, times)?;
     check_uses(graph, makers, marks)?;
@@ -68,6 +69,7 @@ fn check_places(
     requires free { IsFreeBelow graph.now.drawn task.now (missing_of missing.now) 9 }
     ensures { Tries graph.now.drawn task.now (missing_of missing.now) 12 result }
 {
+    // A call of the task makes known that its numbers lie within the limits.
     let _width = task.width();
     check_units(graph, task, missing)?;
     check_writes(graph)?;
@@ -90,6 +92,7 @@ fn check_contents(
     requires places { length covers.old ≡ 65536 }
     ensures { Tries graph.now.drawn task.now (missing_of missing.now) 14 result }
 {
+    // A call of the task makes known that its numbers lie within the limits.
     let _width = task.width();
     sum_up(graph, sums);
     cover_by_writes(graph, sums, covers);
@@ -144,6 +147,7 @@ pub fn check(
     ensures atomic { OnOk result (Atomic graph.now.drawn task.now (missing_of missing.now)) }
     ensures shown { IfErr result (Shows graph.now.drawn task.now (missing_of missing.now)) }
 {
+    // A call of the task makes known that its numbers lie within the limits.
     let _width = task.width();
     try_all(graph, task, missing, room)?;
     Ok(Checked {})
