@@ -1,0 +1,14 @@
+pub mod ByteLaws
+pub mod CallLaws
+pub mod Effect
+pub mod FillLaws
+pub mod Going
+pub mod LoopLaws
+pub mod NodeLaws
+pub mod PlanLaws
+pub mod ReadyLaws
+pub mod ReadLaws
+pub mod SampleLaws
+pub mod SeatLaws
+pub mod StepLaws
+pub mod SumLaws

@@ -1,0 +1,6 @@
+pub mod Places
+pub mod Parts
+pub mod Bytes
+pub mod Alone
+pub mod Outcome
+pub mod Samples
