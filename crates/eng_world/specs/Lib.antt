@@ -1,0 +1,14 @@
+pub mod Plain
+pub mod World
+pub mod Planning
+pub mod Failing
+pub mod Serving
+pub mod Nodes
+pub mod Step
+pub mod Legal
+pub mod Tracks
+pub mod Walks
+pub mod Invariant
+pub mod Laws
+pub mod Pool
+pub mod Small
