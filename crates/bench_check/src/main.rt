@@ -21,10 +21,12 @@ const CHECKS: u32 = 20;
 
 // The buffers of new data, all of the one block, and those that nodes fill.
 const NEW: u32 = 4;
+
 const BUFFERS: u32 = 2048;
 
 // The sums, which are the nodes from 1 on; those up to the last of the first few follow one node more.
 const SUMS: u32 = 2043;
+
 const CLOSER: u32 = 62;
 
 fn add_buffers(text: &mut String) -> Result<(), AllocError> {
@@ -118,7 +120,12 @@ fn run(rt: &HostRuntime) -> Option<()> {
     let graph = book.graph(0);
     let accepted = check_often(graph, &task, &mut room);
     let edges = count_edges(graph);
-    println!(rt; "{} nodes, {} buffers, {edges} edges", graph.nodes(), graph.bufs()).ok()?;
+    println!(rt;
+        "{} nodes, {} buffers, {edges} edges",
+        graph.nodes(),
+        graph.bufs()
+    )
+    .ok()?;
     println!(rt; "checked {CHECKS} times, accepted {accepted} times").ok()
 }
 
