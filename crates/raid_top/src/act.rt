@@ -1,6 +1,7 @@
 //! What a run does, apart from its output.
 ghost use Rattle.std.specs.Prelude.{◌≡◌, ◌≤◌, ◌<◌, ◌^◌, ℕ, List, length, IfOk, IfErr, OnErr, IsErrOf};
 ghost use Rattle.blk_disk.specs.Disk.{Rose};
+ghost use Rattle.lay_core.specs.Layout.{data_units};
 ghost use Rattle.top_array.specs.Served.{HasRoom};
 ghost use Rattle.raid_top.specs.Asked.{asked_in};
 ghost use Rattle.raid_top.specs.Ends.{IsRefusal, RefusedAs};
@@ -9,6 +10,7 @@ ghost use Rattle.raid_top.specs.Ran.{Ran};
 use crate::components::{put_all, take_all};
 use crate::opening::{open_conf, open_script};
 use blk_plain::{Memory, Op};
+use lay_core::Layout;
 use raid_bay::Bay;
 use std::alloc::Global;
 use top_array::{Log, Room, Served, Small, layout_of, serve};
@@ -34,15 +36,15 @@ fn status_of(small: Small) -> Status
 }
 
 // All memory that the run of the operations takes.
-fn take_room(alloc: Global, ops: &[Op], unit_sectors: u32) -> Result<(Log, Room), Memory>
+fn take_room<L: Layout>(alloc: Global, ops: &[Op], layout: &L) -> Result<(Log, Room), Memory>
     requires few { length ops.now ≤ 65536 }
-    requires least { 1 ≤ unit_sectors }
-    requires most { unit_sectors ≤ 128 }
     ensures log { IfOk result (λ taken. HasRoom ops.now taken.0) }
-    ensures room { IfOk result (λ taken. taken.1.sectors ≡ unit_sectors) }
+    ensures sectors { IfOk result
+        (λ taken. taken.1.sectors ≡ (L.shape layout.now).unit_sectors) }
+    ensures units { IfOk result (λ taken. taken.1.units ≡ data_units (L.shape layout.now)) }
 {
     let log = Log::with_room(alloc, ops)?;
-    let room = Room::open(alloc, unit_sectors)?;
+    let room = Room::open(alloc, layout)?;
     Ok((log, room))
 }
 
@@ -75,7 +77,7 @@ pub fn act<B: Bay>(alloc: Global, conf: &str, script: &str, bay: &mut B) -> Resu
             return Err(status_of(small));
         }
     };
-    let (log, mut room) = match take_room(alloc, &ops, array.unit_sectors) {
+    let (log, mut room) = match take_room(alloc, &ops, &layout) {
         Ok(taken) => taken,
         Err(_) => {
             put_all(bay, &array.disks, devices);

@@ -2,17 +2,18 @@
 ghost use Rattle.std.specs.Prelude.{◌≡◌, ◌⊎◌, ◌≤◌, ◌<◌, ◌+◌, ◌-◌, ◌*◌, ◌^◌, ◌++◌, ℕ, List, [], ◌∷◌, All, length, take, drop, map, replicate, IfErr, IfSome, OnOk, OnErr, vec_len, vec_capacity};
 ghost use Rattle.blk_plain.specs.Plain.{replayed};
 ghost use Rattle.blk_disk.specs.Frames.{Kept, Caused};
+ghost use Rattle.lay_core.specs.Layout.{data_units};
 ghost use Rattle.top_array.specs.Places.{array_sectors};
 ghost use Rattle.top_array.specs.Array.{held, Becomes, Holds, IsArray};
 ghost use Rattle.top_array.specs.Run.{IsItem, reply_of, places, data_at, read_counts, replied_counts, AreSynced};
 ghost use Rattle.top_array.specs.Served.{HasRoom, IsServed, IsStopped, RepliesData};
 ghost use Rattle.top_array.specs.declared.reply.Reply.TheVariants as reply;
 
+use crate::failed::FailedAt;
 use crate::log::Log;
 use crate::operation::run_op;
 use crate::reply::Reply;
 use crate::room::Room;
-use crate::unit::FailedAt;
 use blk_disk::{Disk, SECTOR};
 use blk_plain::Op;
 use lay_core::Layout;
@@ -45,6 +46,7 @@ fn run_all<L: Layout, D: Disk>(
     requires history { (history.old.items ≡ []) × (length ops.now ≤ vec_capacity history.old) }
     requires replies { (replies.old.items ≡ []) × (length ops.now ≤ vec_capacity replies.old) }
     requires unit_sectors { room.old.sectors ≡ (L.shape layout.now).unit_sectors }
+    requires units { room.old.units ≡ data_units (L.shape layout.now) }
     requires sectors { (sectors.old.items ≡ []) × (read_counts ops.now ≤ vec_capacity sectors.old) }
     ensures kept { Kept D.Disk (array_sectors (L.shape layout.now)) devices.old devices.new }
     ensures replies_room { length ops.now ≤ vec_capacity replies.new }
@@ -92,6 +94,7 @@ pub fn run_items<L: Layout, D: Disk>(
     requires array { IsArray D.size (L.shape layout.now) devices.old }
     requires room { HasRoom ops.now log.old }
     requires unit_sectors { room.old.sectors ≡ (L.shape layout.now).unit_sectors }
+    requires units { room.old.units ≡ data_units (L.shape layout.now) }
     ensures kept { Kept D.Disk (array_sectors (L.shape layout.now)) devices.old devices.new }
     ensures served { IsServed D.Disk result
         (L.shape layout.now) ops.now log.new devices.old devices.new }

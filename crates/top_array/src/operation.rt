@@ -3,7 +3,7 @@
 ghost use Rattle.std.specs.Prelude.{◌≡◌, ◌⊎◌, ◌≤◌, ◌<◌, ◌+◌, ◌^◌, ◌++◌, ℕ, List, [], ◌∷◌, length, true, false, IfErr, OnOk, OnErr, vec_len, vec_capacity, if◌then◌else◌, IfNone, IfSome};
 ghost use Rattle.blk_plain.specs.Plain.{after};
 ghost use Rattle.blk_disk.specs.Frames.{Unchanged, Kept, Caused};
-ghost use Rattle.lay_core.specs.Layout.{IsLayout, blocks_in};
+ghost use Rattle.lay_core.specs.Layout.{IsLayout, data_units, blocks_in};
 ghost use Rattle.lay_core.specs.Touched.{stripe_count, IsSpanSplit};
 ghost use Rattle.top_array.specs.Places.{array_sectors};
 ghost use Rattle.top_array.specs.Array.{held, Becomes, Holds, IsArray, KeepsZero};
@@ -11,11 +11,11 @@ ghost use Rattle.top_array.specs.declared.reply.Reply.{Reply};
 ghost use Rattle.top_array.specs.Run.{IsItem, is_run, is_run_span, reply_of, span_reply, data_of, read_count, replied_count, AgreesBut, IsSyncedBy};
 ghost use Rattle.blk_plain.specs.declared.op.Span.{Span};
 
+use crate::failed::FailedAt;
 use crate::reading::read_op;
 use crate::reply::Reply;
 use crate::room::Room;
 use crate::syncing::sync_op;
-use crate::unit::FailedAt;
 use crate::writing::write_op;
 use blk_disk::{Disk, SECTOR};
 use blk_plain::{Op, Span};
@@ -60,8 +60,10 @@ pub fn run_op<L: Layout, D: Disk>(
     requires replies { vec_len replies.old < vec_capacity replies.old }
     requires sectors { vec_len sectors.old + read_count op.now ≤ vec_capacity sectors.old }
     requires unit_sectors { room.old.sectors ≡ (L.shape layout.now).unit_sectors }
+    requires units { room.old.units ≡ data_units (L.shape layout.now) }
     ensures kept { Kept D.Disk (array_sectors (L.shape layout.now)) devices.old devices.new }
     ensures unit_sectors { room.new.sectors ≡ room.old.sectors }
+    ensures units { room.new.units ≡ room.old.units }
     ensures history_room { vec_capacity history.old ≤ vec_capacity history.new }
     ensures replies_room { vec_capacity replies.old ≤ vec_capacity replies.new }
     ensures sectors_room { vec_capacity sectors.old ≤ vec_capacity sectors.new }

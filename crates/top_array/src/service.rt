@@ -2,6 +2,7 @@
 ghost use Rattle.std.specs.Prelude.{◌≡◌, ◌≤◌, ◌<◌, ◌*◌, ◌-◌, ℕ, All, length, vec_len, true, false, None, Some, IfSome, slice_index_or};
 ghost use Rattle.blk_disk.specs.Columns.{of_column};
 ghost use Rattle.blk_disk.specs.Frames.{Kept, Caused};
+ghost use Rattle.lay_core.specs.Layout.{data_units};
 ghost use Rattle.top_array.specs.Places.{array_sectors};
 ghost use Rattle.top_array.specs.Array.{IsArray};
 ghost use Rattle.top_array.specs.Run.{IsItem, replied_counts};
@@ -85,6 +86,7 @@ pub fn serve<L: Layout, D: Disk>(
     requires array { IsArray D.size (L.shape layout.now) devices.old }
     requires room { HasRoom ops.now log }
     requires unit_sectors { room.old.sectors ≡ (L.shape layout.now).unit_sectors }
+    requires units { room.old.units ≡ data_units (L.shape layout.now) }
     ensures kept { Kept D.Disk (array_sectors (L.shape layout.now)) devices.old devices.new }
     ensures served { IsServed D.Disk result.lost
         (L.shape layout.now) ops.now result.log devices.old devices.new }

@@ -3,15 +3,35 @@ ghost use Rattle.std.specs.Prelude.{◌≡◌, ◌≢◌, ◌⊎◌, ◌≤◌, 
 ghost use Rattle.blk_disk.specs.Frames.{Unchanged, Kept, Caused};
 ghost use Rattle.lay_core.specs.Layout.{data_units};
 ghost use Rattle.top_array.specs.Places.{array_sectors, IsSector};
+ghost use Rattle.top_array.specs.Planned.{IsOperation};
 ghost use Rattle.top_array.specs.Array.{byte, data_sum, held, AgreesAt, Becomes, Holds, IsArray, IsZeroSum, KeepsZero};
 
-use crate::piece::Piece;
+use crate::failed::FailedAt;
+use crate::place::data_units;
+use crate::planned::{enter, run_planned};
 use crate::room::Room;
-use crate::span::{commit, prepare};
-use crate::unit::FailedAt;
-use blk_disk::Disk;
+use blk_disk::{Disk, SECTOR};
 use blk_plain::Span;
-use lay_core::Layout;
+use graph_mean::Kind;
+use lay_core::{Layout, SplitFault, StripeMap, split};
+
+// Puts the whole span of a stripe into the map.
+fn map_stripe<L: Layout>(layout: &L, stripe: u32, map: &mut StripeMap)
+    requires stripe { stripe < (L.shape layout.now).stripes }
+    ensures operation { IsOperation (L.shape layout.now) map.new }
+    ensures stripes { map.new.stripes ≡ stripe ∷ [] }
+{
+    let blocks = data_units(layout) * layout.unit_sectors();
+    let span = Span {
+        first: u64::from(stripe) * u64::from(blocks),
+        count: blocks,
+    };
+    match split(layout, span, map) {
+        Ok(()) => {}
+        Err(SplitFault::OutOfRange) => unreachable!(),
+        Err(SplitFault::TooLong) => unreachable!(),
+    }
+}
 
 /// Makes the check unit of a stripe from its data units, whatever it held. The operation enters the
 /// history once these are read. After a failure it has entered it, or nothing has changed; all but
@@ -27,9 +47,11 @@ pub fn sync_op<L: Layout, D: Disk>(
     requires array { IsArray D.size (L.shape layout.now) devices.old }
     requires stripe { stripe < (L.shape layout.now).stripes }
     requires sectors { room.old.sectors ≡ (L.shape layout.now).unit_sectors }
+    requires units { room.old.units ≡ data_units (L.shape layout.now) }
     requires room { vec_len history.old < vec_capacity history.old }
     ensures kept { Kept D.Disk (array_sectors (L.shape layout.now)) devices.old devices.new }
     ensures sectors { room.new.sectors ≡ room.old.sectors }
+    ensures units { room.new.units ≡ room.old.units }
     ensures capacity { vec_capacity history.old ≤ vec_capacity history.new }
     ensures entered { OnOk result (history.new.items ≡ history.old.items ++ place ∷ []) }
     ensures lost { OnErr result (((history.new.items ≡ history.old.items) ×
@@ -58,30 +80,15 @@ pub fn sync_op<L: Layout, D: Disk>(
         IsZeroSum (L.shape layout.now) (held D.Disk (L.shape layout.now) devices.new) stripe) }
     ensures cause { IfErr result (λ at. Caused D.faults devices.old devices.new at.column) }
 {
-    let nothing = Span { first: 0, count: 0 };
-    let whole = [Piece {
-        stripe,
-        from: 0,
-        count: layout.unit_sectors(),
-    }];
-    prepare(
+    map_stripe(layout, stripe, &mut room.map);
+    let ran = run_planned(
         layout,
         devices,
-        nothing,
-        &room.content,
-        &whole,
-        stripe,
-        &mut room.unit,
-        &mut room.checks,
-    )?;
-    history.push_reserved(place);
-    commit(
-        layout,
-        devices,
-        nothing,
-        &room.content,
-        &whole,
-        stripe,
-        &room.checks,
-    )
+        Kind::Sync,
+        &[0; SECTOR],
+        &room.map,
+        &mut room.work,
+        &mut room.pool,
+    );
+    enter(ran, place, history)
 }

@@ -72,7 +72,7 @@ fn served(alloc: Global, devices: &mut [MemDisk], unit: u32, ops: &[Op]) -> Resu
 {
     let layout = layout_of(devices, unit)?;
     let log = Log::with_room(alloc, ops)?;
-    let mut room = Room::open(alloc, unit)?;
+    let mut room = Room::open(alloc, &layout)?;
     Ok(serve(ops, &layout, devices, log, &mut room))
 }
 
@@ -139,7 +139,8 @@ fn what_was_written_is_read_and_each_device_is_settled(rt: HostRuntime) -> Resul
 }
 
 // Blocks 1 to 3 are offsets 1 to 3 of unit 0, and blocks 4 to 6 offsets 0 to 2 of unit 1: at offset
-// 0 unit 0 is left, at offsets 1 and 2 none, and at offset 3 unit 1.
+// 0 unit 0 is left, at offsets 1 and 2 none, and at offset 3 unit 1. The read is in these three
+// pieces too.
 #[test]
 fn a_span_over_two_units_is_written_in_three_pieces(rt: HostRuntime) -> Result<(), Fail> {
     let alloc = rt.alloc();
@@ -161,7 +162,8 @@ fn a_span_over_two_units_is_written_in_three_pieces(rt: HostRuntime) -> Result<(
             (0, 64, 1, true),
             (1, 65, 2, true),
             (1, 67, 1, true),
-            (0, 65, 3, true),
+            (0, 65, 2, true),
+            (0, 67, 1, true),
         ],
     );
     has_calls(
@@ -171,7 +173,8 @@ fn a_span_over_two_units_is_written_in_three_pieces(rt: HostRuntime) -> Result<(
             (0, 67, 1, true),
             (1, 64, 1, true),
             (1, 65, 2, true),
-            (0, 64, 3, true),
+            (0, 64, 1, true),
+            (0, 65, 2, true),
         ],
     );
     has_calls(
@@ -182,6 +185,47 @@ fn a_span_over_two_units_is_written_in_three_pieces(rt: HostRuntime) -> Result<(
     holds(&rt, &devices[0], 65, &[0x77, 0x77, 0x77]);
     holds(&rt, &devices[1], 64, &[0x77, 0x77, 0x77]);
     holds(&rt, &devices[2], 64, &[0x77, 0, 0, 0x77]);
+    Ok(())
+}
+
+// Of four columns one data unit of three and the check unit are as few as the two data units that
+// aren't written, so that the write is small; of five columns two data units of four and the check
+// unit are more than the other two.
+#[test]
+fn a_write_reads_the_fewest_units(rt: HostRuntime) -> Result<(), Fail> {
+    let alloc = rt.alloc();
+    let mut devices = [
+        device(alloc, 128, &[])?,
+        device(alloc, 128, &[])?,
+        device(alloc, 128, &[])?,
+        device(alloc, 128, &[])?,
+    ];
+    let small = served(alloc, &mut devices, 1, &[write(0, 1, 0x0f)])?;
+    assert_eq!(rt; small.log.replies.as_slice(), [Reply::Done].as_slice());
+    has_calls(&rt, &devices[0], &[(0, 64, 1, true), (1, 64, 1, true)]);
+    has_calls(&rt, &devices[1], &[]);
+    has_calls(&rt, &devices[2], &[]);
+    has_calls(&rt, &devices[3], &[(0, 64, 1, true), (1, 64, 1, true)]);
+    holds(&rt, &devices[0], 64, &[0x0f]);
+    holds(&rt, &devices[3], 64, &[0x0f]);
+
+    let mut devices = [
+        device(alloc, 128, &[])?,
+        device(alloc, 128, &[])?,
+        device(alloc, 128, &[])?,
+        device(alloc, 128, &[])?,
+        device(alloc, 128, &[])?,
+    ];
+    let large = served(alloc, &mut devices, 1, &[write(0, 2, 0x0f)])?;
+    assert_eq!(rt; large.log.replies.as_slice(), [Reply::Done].as_slice());
+    has_calls(&rt, &devices[0], &[(1, 64, 1, true)]);
+    has_calls(&rt, &devices[1], &[(1, 64, 1, true)]);
+    has_calls(&rt, &devices[2], &[(0, 64, 1, true)]);
+    has_calls(&rt, &devices[3], &[(0, 64, 1, true)]);
+    has_calls(&rt, &devices[4], &[(1, 64, 1, true)]);
+    holds(&rt, &devices[0], 64, &[0x0f]);
+    holds(&rt, &devices[1], 64, &[0x0f]);
+    holds(&rt, &devices[4], 64, &[]);
     Ok(())
 }
 

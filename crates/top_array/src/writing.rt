@@ -1,32 +1,19 @@
 //! The write of a span by an operation.
 ghost use Rattle.std.specs.Prelude.{◌≡◌, ◌⊎◌, ◌≤◌, ◌<◌, ◌+◌, ◌^◌, ◌++◌, ℕ, List, [], ◌∷◌, length, IfErr, OnOk, OnErr, vec_len, vec_capacity};
 ghost use Rattle.blk_plain.specs.Plain.{sector_of, written};
-ghost use Rattle.blk_disk.specs.Disk.{sector_at};
 ghost use Rattle.blk_disk.specs.Frames.{Unchanged, Kept, Caused};
-ghost use Rattle.lay_core.specs.Layout.{blocks_in};
+ghost use Rattle.lay_core.specs.Layout.{data_units, blocks_in};
 ghost use Rattle.lay_core.specs.Touched.{stripe_count, IsSpanSplit};
 ghost use Rattle.top_array.specs.Places.{array_sectors};
 ghost use Rattle.top_array.specs.Array.{held, AgreesAt, Becomes, Holds, IsArray, IsLeft, IsUntouched, KeepsZero};
 
-use crate::bytes::repeat;
-use crate::cut::list_pieces;
+use crate::failed::FailedAt;
+use crate::planned::{enter, run_planned};
 use crate::room::Room;
-use crate::span::{commit, prepare};
-use crate::unit::FailedAt;
 use blk_disk::{Disk, SECTOR};
 use blk_plain::{Pattern, Span, fill};
+use graph_mean::Kind;
 use lay_core::Layout;
-
-// Fills the room's content with the pattern.
-fn fill_content(room: &mut Room, pattern: &Pattern)
-    ensures filled { sector_at room.new.content.items 0 ≡ sector_of pattern.now }
-    ensures sectors { room.new.sectors ≡ room.old.sectors }
-    ensures map { room.new.map ≡ room.old.map }
-{
-    let mut sector = [0u8; SECTOR];
-    fill(&mut sector, pattern);
-    repeat(&mut room.content, &sector, room.sectors as usize);
-}
 
 /// Writes the pattern to a span. The operation enters the history once all that it needs is read,
 /// before the first device write. After a failure it has entered it, or nothing has changed; other
@@ -47,9 +34,11 @@ pub fn write_op<L: Layout, D: Disk>(
     requires few { stripe_count (L.shape layout.now) span ≤ 16 }
     requires split { IsSpanSplit (L.shape layout.now) span room.old.map }
     requires sectors { room.old.sectors ≡ (L.shape layout.now).unit_sectors }
+    requires units { room.old.units ≡ data_units (L.shape layout.now) }
     requires room { vec_len history.old < vec_capacity history.old }
     ensures kept { Kept D.Disk (array_sectors (L.shape layout.now)) devices.old devices.new }
     ensures sectors { room.new.sectors ≡ room.old.sectors }
+    ensures units { room.new.units ≡ room.old.units }
     ensures capacity { vec_capacity history.old ≤ vec_capacity history.new }
     ensures entered { OnOk result (history.new.items ≡ history.old.items ++ place ∷ []) }
     ensures lost { OnErr result (((history.new.items ≡ history.old.items) ×
@@ -68,26 +57,16 @@ pub fn write_op<L: Layout, D: Disk>(
         (held D.Disk (L.shape layout.now) devices.new)) }
     ensures cause { IfErr result (λ at. Caused D.faults devices.old devices.new at.column) }
 {
-    fill_content(room, pattern);
-    let first = list_pieces(layout, span, &room.map, &mut room.pieces);
-    prepare(
+    let mut sector = [0; SECTOR];
+    fill(&mut sector, pattern);
+    let ran = run_planned(
         layout,
         devices,
-        span,
-        &room.content,
-        &room.pieces,
-        first,
-        &mut room.unit,
-        &mut room.checks,
-    )?;
-    history.push_reserved(place);
-    commit(
-        layout,
-        devices,
-        span,
-        &room.content,
-        &room.pieces,
-        first,
-        &room.checks,
-    )
+        Kind::Write,
+        &sector,
+        &room.map,
+        &mut room.work,
+        &mut room.pool,
+    );
+    enter(ran, place, history)
 }

@@ -16,7 +16,7 @@ use Rattle.graph_mean.proofs.Marks.{marked-here, marked-other}
 use Rattle.top_graph.specs.Alone.{all_there, IsWhole, IsGoodAct, HasEffect}
 
 -- no unit comes to be missing
-missing-kept : (g : View) (x : State) (acts : List Act) (y : State) → Run g x acts y → All IsGoodAct acts → (s i : ℕ) → y.missing s i ≡ x.missing s i
+pub missing-kept : (g : View) (x : State) (acts : List Act) (y : State) → Run g x acts y → All IsGoodAct acts → (s i : ℕ) → y.missing s i ≡ x.missing s i
 missing-kept g x [] y r good s i = ap (λ (z : State). z.missing s i) r
 missing-kept g x (Fire n ∷ acts) y r good s i = r.2.missing s i ∙ missing-kept g x acts r.0 r.1 (All-tail IsGoodAct (Fire n) acts good) s i
 missing-kept g x (Do n ∷ acts) y r good s i = r.2.missing s i ∙ missing-kept g x acts r.0 r.1 (All-tail IsGoodAct (Do n) acts good) s i

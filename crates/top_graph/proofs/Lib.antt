@@ -3,6 +3,7 @@ pub mod CallLaws
 pub mod Effect
 pub mod FillLaws
 pub mod Going
+pub mod Local
 pub mod LoopLaws
 pub mod NodeLaws
 pub mod PlanLaws

@@ -98,7 +98,7 @@ module _ {D : Type 0} (d : Ghosts D) (y : Shape) (stripes : List ℕ) where
     cell = λ s i o away. refl;
   }
 
-  module _ (g : View) (l : List ℕ) (p : Held) (lease : IsLease p l) (many : length l ≡ length g.bufs) where
+  module _ (g : View) (l : List ℕ) (p : Held) (lease : IsLease p l) (many : length g.bufs ≤ length l) where
     -- a buffer that wasn't filled
     other-byte : (q : Held) (b c k o : ℕ) → b < length g.bufs → q ≡ stored p (get_or l b 0) (bytes_of q l b) → c ≢ b → Covers g c o → buffer_byte g q l k c o ≡ buffer_byte g p l k c o
     other-byte q b c k o hb is apart co =

@@ -60,7 +60,7 @@ module _ (g : View) (y : Shape) (on : List ℕ) (plan : IsPlanned g y on) where
         | inr m ↦ let own = planned-ordered.made_once n m.0 b l m.1 makes m.2 in let less = follows-lt g plan.aim plan.does.missing plan.does.accepted.0 plan.does.accepted.1 planned-ordered n m.0 m.3 in omega (arith, own, less)
       ]
 
-  pub sources-good : (n to m : ℕ) → n < length g.nodes → kind_at g n ≡ Xor to → m ≡ length g.bufs → All (λ b. (b < m) × (b ≢ to)) (vertex_at g n).sources
+  pub sources-good : (n to m : ℕ) → n < length g.nodes → kind_at g n ≡ Xor to → length g.bufs ≤ m → All (λ b. (b < m) × (b ≢ to)) (vertex_at g n).sources
   sources-good n to m l is many = All-from_get_or (λ b. (b < m) × (b ≢ to)) (vertex_at g n).sources 0 (λ i h.
       let in_ = Contains-get_or (vertex_at g n).sources i 0 h in
       (omega (arith, planned-ordered.sources_named n _ l in_, many), source-apart n to _ l is in_))
@@ -69,7 +69,7 @@ module _ (g : View) (y : Shape) (on : List ℕ) (plan : IsPlanned g y on) where
   range-same n to b l is h = planned-ordered.xor n to b l is h
 
   -- buffers of a whole unit are long enough
-  pub buffers-fit : (p : Held) (l : List ℕ) → IsLease p l → AllHome p l → length l ≡ length g.bufs → 512 * y.unit_sectors ≤ p.unit → HasBuffers g p l
+  pub buffers-fit : (p : Held) (l : List ℕ) → IsLease p l → AllHome p l → length g.bufs ≤ length l → 512 * y.unit_sectors ≤ p.unit → HasBuffers g p l
   buffers-fit p l lease home many long = record {
     lease = lease;
     home = home;

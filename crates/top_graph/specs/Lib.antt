@@ -3,4 +3,5 @@ pub mod Parts
 pub mod Bytes
 pub mod Alone
 pub mod Outcome
+pub mod Local
 pub mod Samples

@@ -53,7 +53,7 @@ stored p k bytes = record p { seats = slice_set p.seats k (record (seat_at p.sea
 pub record HasBuffers (g : View) (p : Held) (l : List ℕ) : Type 0 where
   pub lease : IsLease p l
   pub home : AllHome p l
-  pub count : length l ≡ length g.bufs
+  pub count : length g.bufs ≤ length l
   pub long : (b : ℕ) → b < length g.bufs → 512 * (buf_at g b).count ≤ p.unit
 
 -- Nothing of a pool changed but the bytes of this lease's buffers.

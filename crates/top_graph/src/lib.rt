@@ -6,7 +6,7 @@
 //! the run: before the commit nothing has changed, and from then on only sectors that the graph
 //! writes have.
 //!
-//! An operation is its graph, a lease of as many buffers, [`fill_new`] for the data that it writes,
+//! An operation is its graph, a lease of as many buffers or more, [`fill_new`] for the data that it writes,
 //! and [`run_graph`]; what it returns then stands in the buffers that the graph names. That an
 //! accepted graph has its task's effect at each byte of each sector follows from the meaning of
 //! graphs, of which each node performed here is one step.

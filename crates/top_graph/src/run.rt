@@ -7,6 +7,7 @@ ghost use Rattle.top_graph.specs.Places.{IsArray, AreStripes};
 ghost use Rattle.top_graph.specs.Parts.{WritesAlone, HasBuffers, FillsAlone};
 ghost use Rattle.top_graph.specs.Bytes.{state_at};
 ghost use Rattle.top_graph.specs.Alone.{IsAlone, Passes, idle_count};
+ghost use Rattle.top_graph.specs.Local.{HasDoneAt};
 ghost use Rattle.top_graph.specs.Outcome.{DoesTask, IsPlanned, IsStopped, HasDone, HasPartlyDone, KeepsBeside, phase_at};
 
 use crate::node::perform;
@@ -110,6 +111,10 @@ pub fn run_graph<L: Layout, D: Disk>(
     ensures done { OnOk result ((t : Aim) →
         DoesTask graph.now.drawn (L.shape layout.now) stripes.now t → D.tells →
         HasDone D.Disk (L.shape layout.now) stripes.now graph.now.drawn t lease.now
+        pool.old pool.new devices.old devices.new) }
+    ensures each { OnOk result ((t : Aim) →
+        DoesTask graph.now.drawn (L.shape layout.now) stripes.now t → D.tells →
+        HasDoneAt D.Disk (L.shape layout.now) stripes.now graph.now.drawn t lease.now
         pool.old pool.new devices.old devices.new) }
     ensures ended { OnOk result (run.new.phase ≡ Phase.Ended) }
     ensures stopped { IfErr result (IsStopped D.Disk (L.shape layout.now) stripes.now

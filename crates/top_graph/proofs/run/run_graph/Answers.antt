@@ -1,5 +1,6 @@
 use Rattle.std.proofs.Common.{sym, subst}
 use Rattle.eng_one.specs.Control.{Control}
+use Rattle.top_graph.proofs.Local.{done-at}
 use Rattle.top_graph.proofs.LoopLaws.{Stands, stands-begun, stands-passed, over, done, stopped, partly}
 use Rattle.top_graph.proofs.run.run_graph.Goals as goal
 
@@ -20,6 +21,9 @@ returns-clause-done g c = done g.D.Disk (g.L.Layout.shape c.args.layout.now) c.a
 
 pub returns-clause-ended : goal.returns-clause-ended
 returns-clause-ended g c = over g.D.Disk (g.L.Layout.shape c.args.layout.now) c.args.stripes.now c.args.graph.now.drawn c.args.lease.now c.args.pool.now c.args.devices.now c.loop-node.pool c.loop-node.devices c.loop-node.run c.loop-node.invariant c.requires.planned c.in_default.ensures
+
+pub returns-clause-each : goal.returns-clause-each
+returns-clause-each g c = done-at g.D.Disk (g.L.Layout.shape c.args.layout.now) c.args.stripes.now c.args.graph.now.drawn c.args.lease.now c.args.pool.now c.args.devices.now c.loop-node.pool c.loop-node.devices c.loop-node.run c.loop-node.invariant c.requires.planned c.in_default.ensures
 
 pub returns-in-Err-clause-partly : goal.returns-in-Err-clause-partly
 returns-in-Err-clause-partly g c = partly g.D.Disk (g.L.Layout.shape c.args.layout.now) c.args.stripes.now c.args.graph.now.drawn c.args.lease.now c.args.pool.now c.args.devices.now c.loop-node.pool c.loop-node.devices c.loop-node.run c.loop-node.invariant c.requires.planned c.step.new.devices c.in-Err.stopped.column c.in-Err.ensures.beside
