@@ -1,7 +1,7 @@
 #!/usr/bin/env bash
 # How many operations a second the program makes on real files, beside cat and cp of as many bytes in
-# the same run; and the ratio of its times for 60,000 and for 10,000 operations, which is near 6 where
-# the time grows with the operations.
+# the same run; and the ratio of its times for 60,000 and for 10,000 operations, beyond the time of a
+# script without operations. The ratio is near 6 where the time grows with the operations.
 #
 # An array of level 5 on five columns with units of 32 sectors. Each operation is a write or a read of
 # eight sectors, in turn, at blocks that a fixed generator spreads over the array.
@@ -49,6 +49,9 @@ least() {
 }
 
 declare -A seconds
+: > script
+seconds[0]=$(least "$program" conf --io script)
+tail -n 1 out | grep -qx 'status ok'
 printf '%10s %10s %12s %10s %10s %10s\n' operations seconds operations/s MiB/s 'cat MiB/s' 'cp MiB/s'
 for operations in 1000 10000 60000; do
     script "$operations" > script
@@ -65,5 +68,8 @@ for operations in 1000 10000 60000; do
             operations, run, operations / run, mib / run, mib / cat, mib / cp
     }'
 done
-awk -v most="${seconds[60000]}" -v some="${seconds[10000]}" \
-    'BEGIN { printf "time for 60000 operations / time for 10000: %.2f\n", most / some }'
+echo "seconds without operations: ${seconds[0]}"
+awk -v most="${seconds[60000]}" -v some="${seconds[10000]}" -v none="${seconds[0]}" 'BEGIN {
+    printf "time for 60000 operations / time for 10000: %.2f\n", most / some
+    printf "the same, each beyond the time without operations: %.2f\n", (most - none) / (some - none)
+}'
