@@ -1,3 +1,4 @@
+//! Patterns, sectors and a replay, worked by hand.
 use super::*;
 use std::test::Fail;
 

@@ -1,8 +1,8 @@
 //! The texts of the command, opened and read.
 ghost use Rattle.std.specs.Prelude.{◌≡◌, ◌≢◌, ◌≤◌, ◌<◌, ℕ, List, Option, Some, None, Err, Ok, Result, length, map, vec_len, All, IfOk, IfErr, OnOk, OnErr, IsErrOf};
+ghost use Rattle.blk_plain.specs.Plain.{IsItem};
 ghost use Rattle.blk_disk.specs.Disk.{Rose};
 ghost use Rattle.raid_text.specs.Text.{Text};
-ghost use Rattle.top_array.specs.Run.{IsItem};
 ghost use Rattle.top_texts.specs.Conf.{Differ};
 ghost use Rattle.top_texts.specs.Script.{seen};
 ghost use Rattle.raid_top.specs.Asked.{Refusal, NoFile, LongText, text_in, conf_in, script_in};

@@ -98,13 +98,6 @@ items_of n r (line ∷ lines) = do
 abbrev pub script_of : List Numbered → Option (List Item)
 script_of lines = items_of 0 0 lines
 
--- a write or a read of a block at least, from a block that a word can name, or a sync
-abbrev pub IsItem : Op → Type 0
-IsItem (Write span pattern) = (0 < span.count) × (span.first < 2 ^ 32)
-IsItem (Read span) = (0 < span.count) × (span.first < 2 ^ 32)
-IsItem (Rebuild stripe) = ⊥
-IsItem (Sync stripe) = Unit {0}
-
 -- ---- the form
 
 -- numbers that a word can be, a block at least, and one byte to write

@@ -1,10 +1,11 @@
 //! Scripts of the first form.
 ghost use Rattle.std.specs.Prelude.{◌≡◌, ◌+◌, ◌<◌, ◌≤◌, ◌^◌, length, Some, None, IfSome, IfNone, IfOk, option_map, map, sum_by, All, vec_len};
+ghost use Rattle.blk_plain.specs.Plain.{IsItem};
 ghost use Rattle.raid_text.specs.Pattern.{pattern_bytes};
 ghost use Rattle.raid_text.specs.Seen.{seen as seen_line, words_left};
 ghost use Rattle.raid_text.specs.Text.{lines_in};
 ghost use Rattle.top_texts.specs.Answers.{GivesItems};
-ghost use Rattle.top_texts.specs.Script.{byte_of, item_of, kind_of, next_of, next_span, read_of, read_sectors, script_of, seen, sync_of, write_of, IsItem};
+ghost use Rattle.top_texts.specs.Script.{byte_of, item_of, kind_of, next_of, next_span, read_of, read_sectors, script_of, seen, sync_of, write_of};
 
 use crate::steps::{next_number, next_word, pass_end, pass_number};
 use blk_plain::{Op, Pattern, Span};

@@ -1,10 +1,11 @@
 use Rattle.std.proofs.Common.{◌≡◌, ◌∙◌, arith, length, ap, ◌+◌, map, Some, ℕ}
+use Rattle.blk_plain.specs.Plain.{IsItem}
 use Rattle.std.proofs.lemmas.List.{length_push, map_push}
 use Rattle.std.proofs.lemmas.List.Elements.{All-push}
 use Rattle.std.proofs.lemmas.List.Sums.{sum_by_push}
 use Rattle.raid_text.specs.Seen.{left, seen as seen_line}
 use Rattle.raid_text.specs.Text.{lines_in}
-use Rattle.top_texts.specs.Script.{IsItem, next_of, read_sectors, script_of, seen}
+use Rattle.top_texts.specs.Script.{next_of, read_sectors, script_of, seen}
 use Rattle.top_texts.proofs.Items.{ends, goes_on, is_done}
 use Rattle.top_texts.proofs.script.read_script.Goals as goal
 

@@ -1,8 +1,9 @@
 use Rattle.std.proofs.Common.{◌≡◌, ◌≤◌, length, vec_len, map, All}
+use Rattle.blk_plain.specs.Plain.{IsItem}
 use Rattle.std.specs.Prelude.{sum_by}
 use Rattle.raid_text.specs.Seen.{left}
 use Rattle.raid_text.specs.Text.{lines_in}
-use Rattle.top_texts.specs.Script.{IsItem, items_of, read_sectors, script_of, seen}
+use Rattle.top_texts.specs.Script.{items_of, read_sectors, script_of, seen}
 use Rattle.top_texts.proofs.Items.{with_front}
 use Rattle.top_texts.proofs.script.read_script.Given as goal
 
