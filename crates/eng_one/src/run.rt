@@ -4,7 +4,7 @@ ghost use Rattle.graph_mean.specs.Graph.{blank, kind_at};
 ghost use Rattle.graph_mean.specs.Steps.{Units, Fire, Lose, is_out, is_still_read};
 ghost use Rattle.eng_one.specs.Control.{Control, mark_of, begun, ended, rolled_back, MayEnd, HasReadLeft, IsWrite, Leads, Ends, Passes, IsReadyIn, NoneReady, IsLeastReady};
 
-use crate::marks::{mark_for, phase_on, refill, scan, settled};
+use crate::marks::{count_out, mark_for, phase_on, refill, scan, settled};
 use crate::memory::Memory;
 use blk_plain::Outcome;
 use graph_mean::{Graph, Phase, Status};
@@ -148,13 +148,7 @@ impl Run {
     pub fn out(&self) -> u32
         ensures { result ≡ count_by is_out self.now.marks }
     {
-        let mut out = 0;
-        for i in 0..self.marks.len() {
-            if self.marks[i] == Status::Out {
-                out += 1;
-            }
-        }
-        out
+        count_out(&self.marks)
     }
 
     /// The first node that is ready from this number on, which may be any; None exactly where there is none.
