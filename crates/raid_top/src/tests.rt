@@ -104,6 +104,24 @@ fn holds(rt: &impl Abort, bay: &MemBay<MemDisk>, name: &str, first: usize, bytes
     }
 }
 
+// The component is at home, and had these good reads and writes, by kind, first sector and count, and then a settle.
+fn tells(rt: &impl Abort, bay: &MemBay<MemDisk>, name: &str, calls: &[(u8, u64, u32)]) {
+    let Some(disk) = bay.disk(name) else {
+        assert!(rt; false, "{name} isn't at home");
+        return;
+    };
+    let told = disk.calls();
+    assert_eq!(rt; told.len(), calls.len() + 1, "{name}");
+    for (k, call) in told.iter().enumerate() {
+        let (kind, first, count) = calls.get(k).copied().unwrap_or((Call::SETTLE, 0, 0));
+        assert_eq!(rt;
+            (call.kind, call.first, call.count, call.good),
+            (kind, first, count, true),
+            "call {k} of {name}"
+        );
+    }
+}
+
 // All components are at home and hold zeros alone.
 fn holds_nothing(rt: &impl Abort, bay: &MemBay<MemDisk>) {
     for name in ["d0", "d1", "d2"] {
@@ -121,26 +139,14 @@ fn what_was_written_is_read(rt: HostRuntime) -> Result<(), Fail> {
     holds(&rt, &bay, "d0", 64, &[0xa5]);
     holds(&rt, &bay, "d1", 64, &[]);
     holds(&rt, &bay, "d2", 64, &[0xa5]);
-    let told: [(&str, &[u8]); 3] = [
-        ("d0", &[Call::WRITE, Call::READ, Call::SETTLE]),
-        ("d1", &[Call::READ, Call::SETTLE]),
-        ("d2", &[Call::WRITE, Call::SETTLE]),
-    ];
-    for (name, kinds) in told {
-        let Some(disk) = bay.disk(name) else {
-            assert!(rt; false, "{name} isn't at home");
-            return Ok(());
-        };
-        assert_eq!(rt; disk.calls().len(), kinds.len(), "{name}");
-        for (call, kind) in disk.calls().iter().zip(kinds) {
-            let first = if *kind == Call::SETTLE { 0 } else { 64 };
-            assert_eq!(rt;
-                (call.kind, call.first, call.good),
-                (*kind, first, true),
-                "{name}"
-            );
-        }
-    }
+    tells(
+        &rt,
+        &bay,
+        "d0",
+        &[(Call::WRITE, 64, 1), (Call::READ, 64, 1)],
+    );
+    tells(&rt, &bay, "d1", &[(Call::READ, 64, 1)]);
+    tells(&rt, &bay, "d2", &[(Call::WRITE, 64, 1)]);
     Ok(())
 }
 
@@ -149,11 +155,6 @@ fn scripts_are_run_by_their_items(rt: HostRuntime) -> Result<(), Fail> {
     let alloc = rt.alloc();
     for (script, sectors, lines) in [
         ("", 128, "status ok\n"),
-        (
-            "0 write 127 1 11\n0 write 128 1 11\n",
-            128,
-            "reply 0.0 done\nreply 0.1 refused R1\ncommit 0.0\nstatus ok\n",
-        ),
         ("0 read 0 33\n", 128, "reply 0.0 refused R2\nstatus ok\n"),
         (
             "0 sync 0\n0 sync 64\n",
@@ -169,23 +170,61 @@ fn scripts_are_run_by_their_items(rt: HostRuntime) -> Result<(), Fail> {
         let mut bay = bay_of(alloc, CONF, script, sectors, &[])?;
         runs(&rt, alloc, &mut bay, 0, lines)?;
     }
-    let mut bay = bay_of(alloc, CONF, "0 write 127 1 11\n", 128, &[])?;
-    runs(
-        &rt,
-        alloc,
-        &mut bay,
-        0,
-        "reply 0.0 done\ncommit 0.0\nstatus ok\n",
-    )?;
-    holds(&rt, &bay, "d0", 127, &[]);
-    holds(&rt, &bay, "d1", 127, &[0x11]);
-    holds(&rt, &bay, "d2", 127, &[0x11]);
     Ok(())
 }
 
-// Blocks 1 to 3 lie in unit 0 of stripe 0, blocks 4 to 6 in unit 1.
+// The last block is unit 1 of the last stripe, whose unit 0 is read.
 #[test]
-fn units_of_four_sectors_are_written_and_read(rt: HostRuntime) -> Result<(), Fail> {
+fn the_last_block_is_written(rt: HostRuntime) -> Result<(), Fail> {
+    let alloc = rt.alloc();
+    let script = "0 write 127 1 11\n0 write 128 1 11\n";
+    let lines = "reply 0.0 done\nreply 0.1 refused R1\ncommit 0.0\nstatus ok\n";
+    let mut bay = bay_of(alloc, CONF, script, 128, &[])?;
+    runs(&rt, alloc, &mut bay, 0, lines)?;
+    holds(&rt, &bay, "d0", 127, &[]);
+    holds(&rt, &bay, "d1", 127, &[0x11]);
+    holds(&rt, &bay, "d2", 127, &[0x11]);
+    tells(&rt, &bay, "d0", &[(Call::READ, 127, 1)]);
+    tells(&rt, &bay, "d1", &[(Call::WRITE, 127, 1)]);
+    tells(&rt, &bay, "d2", &[(Call::WRITE, 127, 1)]);
+    Ok(())
+}
+
+// Blocks 1 to 3 lie in unit 0 of stripe 0, blocks 4 to 6 in unit 1: at offset 0 unit 0 is read, at
+// offset 3 unit 1, and between them neither.
+#[test]
+fn units_of_four_sectors_are_written_in_three_pieces(rt: HostRuntime) -> Result<(), Fail> {
+    let alloc = rt.alloc();
+    let mut bay = bay_of(alloc, WIDE, "0 write 1 6 77\n", 128, &[])?;
+    let lines = "reply 0.0 done\ncommit 0.0\nstatus ok\n";
+    runs(&rt, alloc, &mut bay, 0, lines)?;
+    holds(&rt, &bay, "d0", 65, &[0x77, 0x77, 0x77]);
+    holds(&rt, &bay, "d1", 64, &[0x77, 0x77, 0x77]);
+    holds(&rt, &bay, "d2", 64, &[0x77, 0, 0, 0x77]);
+    let (read, write) = (Call::READ, Call::WRITE);
+    tells(
+        &rt,
+        &bay,
+        "d0",
+        &[(read, 64, 1), (write, 65, 2), (write, 67, 1)],
+    );
+    tells(
+        &rt,
+        &bay,
+        "d1",
+        &[(read, 67, 1), (write, 64, 1), (write, 65, 2)],
+    );
+    tells(
+        &rt,
+        &bay,
+        "d2",
+        &[(write, 64, 1), (write, 65, 2), (write, 67, 1)],
+    );
+    Ok(())
+}
+
+#[test]
+fn units_of_four_sectors_are_read(rt: HostRuntime) -> Result<(), Fail> {
     let alloc = rt.alloc();
     let mut bay = bay_of(alloc, WIDE, SCRIPT, 128, &[])?;
     let mut lines = String::from_str(alloc, RAN)?;
@@ -199,11 +238,7 @@ fn units_of_four_sectors_are_written_and_read(rt: HostRuntime) -> Result<(), Fai
     let lines =
         "reply 0.0 done\nreply 0.1 data\nblock 0 1 00\nblock 1 6 77\nblock 7 1 00\nreply 0.2 refused R1\ncommit 0.0\ncommit 0.1\nstatus ok\n";
     let mut bay = bay_of(alloc, WIDE, script, 128, &[])?;
-    runs(&rt, alloc, &mut bay, 0, lines)?;
-    holds(&rt, &bay, "d0", 65, &[0x77, 0x77, 0x77]);
-    holds(&rt, &bay, "d1", 64, &[0x77, 0x77, 0x77]);
-    holds(&rt, &bay, "d2", 64, &[0x77, 0, 0, 0x77]);
-    Ok(())
+    runs(&rt, alloc, &mut bay, 0, lines)
 }
 
 #[test]
