@@ -1,5 +1,5 @@
-// The laws of the library's graphs, for those who speak of `library` and not of a call of `plan`.
-// These functions do nothing: what they ensure is so of every task.
+//! The laws of the library's graphs, for those who speak of `library` and not of a call of `plan`.
+//! These functions do nothing: what they ensure is so of every task.
 
 ghost use Rattle.graph_lib.specs.Laws.{LibraryAccepted, LibraryAtomic, LibraryFewest, LibrarySmall, LibraryFree, LibraryFewBufs, SpanFew, SpanPlannable, SpansFew, SpansPlannable};
 

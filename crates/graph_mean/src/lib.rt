@@ -1,4 +1,4 @@
-// Graphs of one operation, and what running one means.
+//! Graphs of one operation, and what running one means.
 #![tactic(auto)]
 
 mod graph;

@@ -1,4 +1,4 @@
-// Why a graph is refused.
+//! Why a graph is refused.
 
 /// The causes in the order in which they are tried, each with its place. A graph is refused with the
 /// first that holds, at its least place. Nodes, buffers and returns go by number, stripes by position

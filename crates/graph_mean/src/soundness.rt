@@ -1,5 +1,5 @@
-// What follows from a graph's being accepted, and what a wrong value means. These functions do
-// nothing: what they ensure is so of every graph.
+//! What follows from a graph's being accepted, and what a wrong value means. These functions do
+//! nothing: what they ensure is so of every graph.
 
 ghost use Rattle.std.specs.Prelude.{◌≡◌, ◌≤◌, ℕ, Bool, true, false};
 ghost use Rattle.graph_mean.specs.declared.graph.Ret.{Ret};

@@ -1,5 +1,5 @@
-// What no clause can show: that there is memory, and that a file which people write is what the
-// definition speaks of.
+//! What no clause can show: that there is memory, and that a file which people write is what the
+//! definition speaks of.
 
 mod printing;
 mod reading;

@@ -1,4 +1,4 @@
-// Graphs that `plan` gives, worked out by hand.
+//! Graphs that `plan` gives, worked out by hand.
 
 ghost use Rattle.std.specs.Prelude.{◌≡◌, ◌<◌, ◌≤◌};
 ghost use Rattle.std.specs.Option.{ForSome};
