@@ -51,8 +51,10 @@ fn take_room<L: Layout>(alloc: Global, ops: &[Op], layout: &L) -> Result<(Log, R
 /// Runs the script on the array of the configuration, both by name, and puts the components back.
 /// Where it is refused, or memory is wanting, no component has changed and all are back.
 pub fn act<B: Bay>(alloc: Global, conf: &str, script: &str, bay: &mut B) -> Result<Outcome, Status>
-    ensures ran { IfOk result (Ran B.D.Disk B.tells (B.text_of bay.old) (B.home bay.old) (B.home bay.new) conf.now script.now) }
-    ensures refused { IfErr result (λ s. B.tells → RefusedAs s (asked_in B.D.size (B.text_of bay.old) (B.home bay.old) conf.now script.now)) }
+    ensures ran { IfOk result (Ran B.D.Disk B.tells
+        (B.text_of bay.old) (B.home bay.old) (B.home bay.new) conf.now script.now) }
+    ensures refused { IfErr result (λ s. B.tells → RefusedAs s
+        (asked_in B.D.size (B.text_of bay.old) (B.home bay.old) conf.now script.now)) }
     ensures kind { IfErr result IsRefusal }
     ensures same { OnErr result (B.tells → (n : List ℕ) → B.home bay.new n ≡ B.home bay.old n) }
     ensures later { B.faults bay.old ≤ B.faults bay.new }

@@ -14,12 +14,15 @@ use top_lines::Status;
 /// Puts components back under the names from the first on.
 pub fn put_all<B: Bay>(bay: &mut B, names: &[Name], mut devices: Vec<B::D>)
     requires many { vec_len devices ≤ length names.now }
-    requires differ { (i j : ℕ) (m n : List ℕ) → i < j → j < length names.now → slice_index_or names.now i m ≢ slice_index_or names.now j n }
-    requires out { (k : ℕ) (n : List ℕ) → k < vec_len devices → B.is_out bay.old (slice_index_or names.now k n) }
+    requires differ { (i j : ℕ) (m n : List ℕ) → i < j → j < length names.now →
+        slice_index_or names.now i m ≢ slice_index_or names.now j n }
+    requires out { (k : ℕ) (n : List ℕ) → k < vec_len devices →
+        B.is_out bay.old (slice_index_or names.now k n) }
     ensures back { B.tells → (k : ℕ) (n : List ℕ) (d : B.D) → k < vec_len devices →
         B.home bay.new (slice_index_or names.now k n) ≡ Some (slice_index_or devices.items k d) }
     ensures others { B.tells → (n : List ℕ) →
-        ((k : ℕ) (m : List ℕ) → k < vec_len devices → n ≢ slice_index_or names.now k m) → B.home bay.new n ≡ B.home bay.old n }
+        ((k : ℕ) (m : List ℕ) → k < vec_len devices → n ≢ slice_index_or names.now k m) →
+        B.home bay.new n ≡ B.home bay.old n }
     ensures faults { B.faults bay.new ≡ B.faults bay.old }
 {
     while let Some(device) = devices.pop() {
@@ -53,11 +56,14 @@ pub fn take_all<B: Bay>(alloc: Global, bay: &mut B, names: &[Name]) -> Result<Ve
     requires few { length names.now ≤ 32 }
     requires differ { Differ names.now }
     ensures many { IfOk result (λ v. vec_len v ≡ length names.now) }
-    ensures taken { IfOk result (λ v. B.tells → (k : ℕ) (n : List ℕ) (d : B.D) → k < length names.now →
+    ensures taken { IfOk result (λ v. B.tells →
+        (k : ℕ) (n : List ℕ) (d : B.D) → k < length names.now →
         B.home bay.old (slice_index_or names.now k n) ≡ Some (slice_index_or v.items k d)) }
     ensures others { OnOk result (B.tells → (n : List ℕ) →
-        ((k : ℕ) (m : List ℕ) → k < length names.now → n ≢ slice_index_or names.now k m) → B.home bay.new n ≡ B.home bay.old n) }
-    ensures out { OnOk result ((k : ℕ) (n : List ℕ) → k < length names.now → B.is_out bay.new (slice_index_or names.now k n)) }
+        ((k : ℕ) (m : List ℕ) → k < length names.now → n ≢ slice_index_or names.now k m) →
+        B.home bay.new n ≡ B.home bay.old n) }
+    ensures out { OnOk result ((k : ℕ) (n : List ℕ) → k < length names.now →
+        B.is_out bay.new (slice_index_or names.now k n)) }
     ensures kind { IfErr result IsRefusal }
     ensures same { OnErr result (B.tells → (n : List ℕ) → B.home bay.new n ≡ B.home bay.old n) }
     ensures all { OnOk result (B.tells → components_in (B.home bay.old) names.now ≡ Ok tt) }

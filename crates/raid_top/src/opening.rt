@@ -63,7 +63,9 @@ fn open_text<B: Bay>(alloc: Global, name: &str, bay: &mut B) -> Result<Vec<u8>, 
 /// The array, by the configuration of that name.
 #[tactic(auto, unfolding(crate::specs::Asked::conf_in))]
 pub fn open_conf<B: Bay>(alloc: Global, name: &str, bay: &mut B) -> Result<Array, Status>
-    ensures answer { B.tells → Opens (λ a. record { names = a.disks.items; unit = a.unit_sectors }) result (conf_in (B.text_of bay.old) name.now) }
+    ensures answer { B.tells → Opens
+        (λ a. record { names = a.disks.items; unit = a.unit_sectors })
+        result (conf_in (B.text_of bay.old) name.now) }
     ensures some { IfOk result (λ a. 2 ≤ vec_len a.disks) }
     ensures few { IfOk result (λ a. vec_len a.disks ≤ 32) }
     ensures differ { IfOk result (λ a. Differ a.disks.items) }

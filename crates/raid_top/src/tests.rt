@@ -1,4 +1,5 @@
-//! The top call over a bay and a sink in memory. The expected lines and sectors are worked by hand from docs/FORMATS.md.
+//! The top call over a bay and a sink in memory. The expected lines and sectors are worked by hand
+//! from docs/FORMATS.md.
 use super::*;
 use blk_disk::{Call, MemDisk, SECTOR};
 use raid_bay::{MemBay, MemSink, Name};
@@ -28,7 +29,8 @@ fn component(
     Ok((Name::new(alloc, name)?, disk))
 }
 
-// A bay with a configuration `r5` and a script `s1`, and the components d0 to d2, of which d1 has so many sectors. Its calls of these numbers fail.
+// A bay with a configuration `r5` and a script `s1`, and the components d0 to d2, of which d1 has so
+// many sectors. Its calls of these numbers fail.
 fn bay_of(
     alloc: Global,
     conf: &str,
@@ -291,7 +293,8 @@ fn a_long_text_is_refused(rt: HostRuntime) -> Result<(), Fail> {
     runs(&rt, alloc, &mut bay, 13, "status long r5\n")
 }
 
-// The first call that fails loses the array; what was replied before stays, and an operation that was entered stays in the history.
+// The first call that fails loses the array; what was replied before stays, and an operation that was
+// entered stays in the history.
 #[test]
 fn each_call_that_fails_loses_the_array(rt: HostRuntime) -> Result<(), Fail> {
     let alloc = rt.alloc();

@@ -44,8 +44,10 @@ fn answer_of(status: Status, printed: Result<(), Failed>) -> Status
 // Prints an outcome and how it ended.
 fn report<K: Sink>(outcome: &Outcome, status: &Status, out: &mut K) -> Result<(), Failed>
     requires answered { length outcome.now.served.log.replies.items ≡ length outcome.now.ops.items }
-    requires counted { length outcome.now.served.log.sectors.items ≡ replied_counts outcome.now.ops.items outcome.now.served.log.replies.items }
-    ensures output { K.tells → Puts (is_ok result) (K.output out.old) (outcome_text outcome.now status.now) (K.output out.new) }
+    requires counted { length outcome.now.served.log.sectors.items
+        ≡ replied_counts outcome.now.ops.items outcome.now.served.log.replies.items }
+    ensures output { K.tells → Puts (is_ok result)
+        (K.output out.old) (outcome_text outcome.now status.now) (K.output out.new) }
     ensures later { K.faults out.old ≤ K.faults out.new }
     ensures cause { OnErr result (Rose (K.faults out.old) (K.faults out.new)) }
 {
@@ -63,9 +65,13 @@ fn report<K: Sink>(outcome: &Outcome, status: &Status, out: &mut K) -> Result<()
 
 // What comes of the words.
 fn outcome_of<B: Bay>(alloc: Global, words: &[Name], bay: &mut B) -> Result<Outcome, Status>
-    ensures ran { IfOk result (λ o. (conf : Text) × (script : Text) × (asked_by words.now ≡ Some (conf, script))
-        × Ran B.D.Disk B.tells (B.text_of bay.old) (B.home bay.old) (B.home bay.new) conf script o) }
-    ensures refused { IfErr result (Refuses B.D.Disk B.tells (Rose (B.faults bay.old) (B.faults bay.new)) (B.text_of bay.old) (B.home bay.old) (B.home bay.new) words.now) }
+    ensures ran { IfOk result (λ o. (conf : Text) × (script : Text)
+        × (asked_by words.now ≡ Some (conf, script))
+        × Ran B.D.Disk B.tells
+        (B.text_of bay.old) (B.home bay.old) (B.home bay.new) conf script o) }
+    ensures refused { IfErr result
+        (Refuses B.D.Disk B.tells (Rose (B.faults bay.old) (B.faults bay.new))
+        (B.text_of bay.old) (B.home bay.old) (B.home bay.new) words.now) }
     ensures later { B.faults bay.old ≤ B.faults bay.new }
 {
     match read_words(words) {
@@ -81,10 +87,14 @@ fn outcome_of<B: Bay>(alloc: Global, words: &[Name], bay: &mut B) -> Result<Outc
 /// Memory is taken before any component is written. On every path each component that was taken is
 /// put back.
 pub fn run<B: Bay, K: Sink>(alloc: Global, words: &[Name], bay: &mut B, out: &mut K) -> Status
-    ensures answer { Answers B.D.Disk B.tells (Rose (B.faults bay.old) (B.faults bay.new)) (B.text_of bay.old) (B.home bay.old) (B.home bay.new) words.now
-        K.tells (Rose (K.faults out.old) (K.faults out.new)) result (K.output out.old) (K.output out.new) }
+    ensures answer { Answers B.D.Disk B.tells (Rose (B.faults bay.old) (B.faults bay.new))
+        (B.text_of bay.old) (B.home bay.old) (B.home bay.new) words.now
+        K.tells (Rose (K.faults out.old) (K.faults out.new)) result
+        (K.output out.old) (K.output out.new) }
     ensures complete { B.tells → IsRight B.D.size (B.text_of bay.old) (B.home bay.old) words.now →
-        NoneFailed B.D.faults (B.home bay.old) (B.home bay.new) → ¬ Rose (B.faults bay.old) (B.faults bay.new) → ¬ Rose (K.faults out.old) (K.faults out.new) →
+        NoneFailed B.D.faults (B.home bay.old) (B.home bay.new) →
+        ¬ Rose (B.faults bay.old) (B.faults bay.new) →
+        ¬ Rose (K.faults out.old) (K.faults out.new) →
         (result ≡ Status.Ok) ⊎ (result ≡ Status.Memory) }
     ensures bay_later { B.faults bay.old ≤ B.faults bay.new }
     ensures sink_later { K.faults out.old ≤ K.faults out.new }
