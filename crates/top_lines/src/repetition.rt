@@ -20,7 +20,8 @@ pub fn shortest_string(sector: &[u8; 512]) -> &[u8]
     ensures short { length result.now ≤ 512 }
     ensures listed { Contains lengths (length result.now) }
     ensures repeats { filled_by result.now ≡ sector.now }
-    ensures least { (string : List ℕ) → Contains lengths (length string) → filled_by string ≡ sector.now → length result.now ≤ length string }
+    ensures least { (string : List ℕ) → Contains lengths (length string) →
+        filled_by string ≡ sector.now → length result.now ≤ length string }
 {
     let mut length = 512;
     while length > 1 && is_doubled(sector, length / 2) {

@@ -67,7 +67,8 @@ fn put_item<K: Sink>(
     sectors: &[[u8; 512]],
     out: &mut K,
 ) -> Result<(), Failed>
-    ensures output { K.tells → Puts (is_ok result) (K.output out.old) (item_text item op.now reply sectors.now) (K.output out.new) }
+    ensures output { K.tells → Puts (is_ok result)
+        (K.output out.old) (item_text item op.now reply sectors.now) (K.output out.new) }
     ensures later { K.faults out.old ≤ K.faults out.new }
     ensures cause { OnErr result (Rose (K.faults out.old) (K.faults out.new)) }
 {
@@ -90,7 +91,8 @@ pub fn put_replies<K: Sink>(
 ) -> Result<(), Failed>
     requires answered { length replies.now ≡ length ops.now }
     requires enough { replied_counts ops.now replies.now ≤ length sectors.now }
-    ensures output { K.tells → Puts (is_ok result) (K.output out.old) (replies_text 0 ops.now replies.now sectors.now) (K.output out.new) }
+    ensures output { K.tells → Puts (is_ok result)
+        (K.output out.old) (replies_text 0 ops.now replies.now sectors.now) (K.output out.new) }
     ensures later { K.faults out.old ≤ K.faults out.new }
     ensures cause { OnErr result (Rose (K.faults out.old) (K.faults out.new)) }
 {

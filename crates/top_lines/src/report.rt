@@ -30,7 +30,9 @@ pub fn put_run<K: Sink>(
 ) -> Result<(), Failed>
     requires answered { length replies.now ≡ length ops.now }
     requires enough { replied_counts ops.now replies.now ≤ length sectors.now }
-    ensures output { K.tells → Puts (is_ok result) (K.output out.old) (run_text ops.now replies.now sectors.now history.now dead.now status.now) (K.output out.new) }
+    ensures output { K.tells → Puts (is_ok result) (K.output out.old)
+        (run_text ops.now replies.now sectors.now history.now dead.now status.now)
+        (K.output out.new) }
     ensures later { K.faults out.old ≤ K.faults out.new }
     ensures cause { OnErr result (Rose (K.faults out.old) (K.faults out.new)) }
 {

@@ -14,8 +14,10 @@ use raid_bay::Sink;
 pub fn run_length(sectors: &[[u8; 512]]) -> usize
     ensures within { result ≤ length sectors.now }
     ensures some { 0 < length sectors.now → 0 < result }
-    ensures equal { (k : ℕ) (d : List ℕ) → k < result → slice_index_or sectors.now k d ≡ slice_index_or sectors.now 0 d }
-    ensures maximal { (d : List ℕ) → result < length sectors.now → slice_index_or sectors.now result d ≢ slice_index_or sectors.now 0 d }
+    ensures equal { (k : ℕ) (d : List ℕ) → k < result →
+        slice_index_or sectors.now k d ≡ slice_index_or sectors.now 0 d }
+    ensures maximal { (d : List ℕ) → result < length sectors.now →
+        slice_index_or sectors.now result d ≢ slice_index_or sectors.now 0 d }
 {
     for (i, sector) in sectors.iter().enumerate() {
         if *sector != sectors[0] {
@@ -46,7 +48,8 @@ fn set_block(line: &mut Line, first: u128, count: usize, sector: &[u8; 512])
 ///
 /// `first` is the number of the first sector's block. `Failed` comes only from the sink.
 pub fn put_blocks<K: Sink>(first: u64, sectors: &[[u8; 512]], out: &mut K) -> Result<(), Failed>
-    ensures output { K.tells → Puts (is_ok result) (K.output out.old) (blocks_text first sectors.now) (K.output out.new) }
+    ensures output { K.tells → Puts (is_ok result)
+        (K.output out.old) (blocks_text first sectors.now) (K.output out.new) }
     ensures later { K.faults out.old ≤ K.faults out.new }
     ensures cause { OnErr result (Rose (K.faults out.old) (K.faults out.new)) }
 

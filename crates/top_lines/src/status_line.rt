@@ -29,7 +29,8 @@ fn set_numbers(line: &mut Line, word: &[u8], numbers: &[u64])
 fn put_numbers<K: Sink>(word: &[u8], numbers: &[u64], out: &mut K) -> Result<(), Failed>
     requires short { length word.now ≤ 20 }
     requires few { length numbers.now ≤ 3 }
-    ensures output { K.tells → Puts (is_ok result) (K.output out.old) (numbers_line word.now numbers.now) (K.output out.new) }
+    ensures output { K.tells → Puts (is_ok result)
+        (K.output out.old) (numbers_line word.now numbers.now) (K.output out.new) }
     ensures later { K.faults out.old ≤ K.faults out.new }
     ensures cause { OnErr result (Rose (K.faults out.old) (K.faults out.new)) }
 {
@@ -40,7 +41,8 @@ fn put_numbers<K: Sink>(word: &[u8], numbers: &[u64], out: &mut K) -> Result<(),
 
 // Puts the line of a name, which may be long: the name itself is put, and no copy of it.
 fn put_name<K: Sink>(front: &[u8], name: &str, out: &mut K) -> Result<(), Failed>
-    ensures output { K.tells → Puts (is_ok result) (K.output out.old) (name_line front.now name.now) (K.output out.new) }
+    ensures output { K.tells → Puts (is_ok result)
+        (K.output out.old) (name_line front.now name.now) (K.output out.new) }
     ensures later { K.faults out.old ≤ K.faults out.new }
     ensures cause { OnErr result (Rose (K.faults out.old) (K.faults out.new)) }
 {

@@ -17,7 +17,9 @@ pub struct Usage;
 
 /// Reads the words `CONF --io SCRIPT`; any others are refused.
 pub fn read_words(words: &[Name]) -> Result<Command<'_>, Usage>
-    ensures { MatchResult result (λ asked. asked_by words.now ≡ Some (asked.conf.now, asked.script.now)) (λ _. asked_by words.now ≡ None) }
+    ensures { MatchResult result
+        (λ asked. asked_by words.now ≡ Some (asked.conf.now, asked.script.now))
+        (λ _. asked_by words.now ≡ None) }
 {
     match words {
         [conf, action, script] if action.text() == "--io" => Ok(Command {

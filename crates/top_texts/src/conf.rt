@@ -153,7 +153,9 @@ fn read_names(alloc: Global, lines: &mut Lines, count: usize) -> Result<Vec<Name
 // The array, line by line.
 #[tactic(auto, unfolding(crate::specs::Conf::conf_of, crate::specs::Conf::at_last))]
 fn read_lines(alloc: Global, lines: &mut Lines) -> Result<Array, ConfFault>
-    ensures value { GivesArray (λ a. record { names = a.disks.items; unit = a.unit_sectors }) result (conf_of (left lines.old)) }
+    ensures value { GivesArray
+        (λ a. record { names = a.disks.items; unit = a.unit_sectors })
+        result (conf_of (left lines.old)) }
     ensures some { IfOk result (λ a. 2 ≤ vec_len a.disks) }
     ensures few { IfOk result (λ a. vec_len a.disks ≤ 32) }
     ensures differ { IfOk result (λ a. Differ a.disks.items) }
@@ -194,7 +196,9 @@ fn read_lines(alloc: Global, lines: &mut Lines) -> Result<Array, ConfFault>
 /// crate's page describes, and `Memory` where there is none for the names.
 pub fn read_conf(alloc: Global, text: &[u8]) -> Result<Array, ConfFault>
     requires { length text.now ≤ 16777216 }
-    ensures value { GivesArray (λ a. record { names = a.disks.items; unit = a.unit_sectors }) result (conf_of (lines_in text.now)) }
+    ensures value { GivesArray
+        (λ a. record { names = a.disks.items; unit = a.unit_sectors })
+        result (conf_of (lines_in text.now)) }
     ensures some { IfOk result (λ a. 2 ≤ vec_len a.disks) }
     ensures few { IfOk result (λ a. vec_len a.disks ≤ 32) }
     ensures differ { IfOk result (λ a. Differ a.disks.items) }

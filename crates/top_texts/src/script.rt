@@ -52,7 +52,9 @@ impl<T: Drop> From<AllocFailed<T>> for ScriptFault {
 // FIRST and COUNT, which isn't 0.
 #[tactic(auto, unfolding(crate::specs::Script::next_span))]
 fn next_span(words: &mut Words) -> Option<Span>
-    ensures some { IfSome result (λ span. next_span (words_left words.old) ≡ Some (span.first, span.count, words_left words.new)) }
+    ensures some { IfSome result (λ span.
+        next_span (words_left words.old)
+        ≡ Some (span.first, span.count, words_left words.new)) }
     ensures none { IfNone result (next_span (words_left words.old) ≡ None) }
     ensures counts { IfSome result (λ span. 0 < span.count) }
     ensures named { IfSome result (λ span. span.first < 2 ^ 32) }
