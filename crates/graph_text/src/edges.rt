@@ -54,7 +54,8 @@ pub fn antes_in(more: bool, words: &mut Words, kept: &mut Kept) -> Result<(), u8
 #[tactic(auto, unfolding(crate::specs::FormatLines::sources_of))]
 pub fn sources_in(words: &mut Words, kept: &mut Kept) -> Result<bool, u8>
     requires { length kept.old ≤ 16385 }
-    ensures { Gives (λ more. (kept.new, behind more (words_left words.new))) result (with_kept_sources kept.old (sources_of (words_left words.old))) }
+    ensures { Gives (λ more. (kept.new, behind more (words_left words.new))) result
+        (with_kept_sources kept.old (sources_of (words_left words.old))) }
 {
     while let Some(word) = words.next() {
         if word == b"after".as_slice() {

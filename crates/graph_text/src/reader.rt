@@ -65,7 +65,8 @@ impl Reader {
     #[tactic(auto, unfolding(crate::specs::Format::inside_line))]
     fn end(&mut self, alloc: Global, words: &mut Words) -> Result<(), LineFault>
         requires { IsSome self.old.current }
-        ensures { GivesRead result self.new (placed_line self.old.ended self.old.current (codes "end") (words_left words.old)) }
+        ensures { GivesRead result self.new
+            (placed_line self.old.ended self.old.current (codes "end") (words_left words.old)) }
     {
         pass_end(words)?;
         let graph = self.draft.graph(alloc)?;
@@ -79,7 +80,8 @@ impl Reader {
     #[tactic(auto, unfolding(crate::specs::Format::inside_line))]
     fn go_on(&mut self, alloc: Global, first: &[u8], words: &mut Words) -> Result<(), LineFault>
         requires { IsSome self.old.current }
-        ensures { GivesRead result self.new (placed_line self.old.ended self.old.current first.now (words_left words.old)) }
+        ensures { GivesRead result self.new
+            (placed_line self.old.ended self.old.current first.now (words_left words.old)) }
     {
         if first == b"buffer".as_slice() {
             self.draft.add_buffer(words)?;
@@ -97,7 +99,8 @@ impl Reader {
 
     // Reads a line of this first word.
     fn place(&mut self, alloc: Global, first: &[u8], words: &mut Words) -> Result<(), LineFault>
-        ensures { GivesRead result self.new (placed_line self.old.ended self.old.current first.now (words_left words.old)) }
+        ensures { GivesRead result self.new
+            (placed_line self.old.ended self.old.current first.now (words_left words.old)) }
     {
         if self.name.is_some() {
             self.go_on(alloc, first, words)
