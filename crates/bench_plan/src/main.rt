@@ -6,9 +6,10 @@
 //! before; without one that is once.
 #![tactic(auto)]
 
-ghost use Rattle.std.specs.Prelude.{◌≡◌, length, IsOk};
+ghost use Rattle.std.specs.Prelude.{◌≡◌, length, true, IsOk};
 ghost use Rattle.std.specs.Option.{ForSome};
 ghost use Rattle.graph_mean.specs.Task.{missing_of};
+ghost use Rattle.graph_lib.specs.Library.{library};
 ghost use Rattle.graph_lib.specs.Laws.{AreMissing, HasRoom, IsPlannable};
 
 use blk_plain::Span;
@@ -95,7 +96,9 @@ fn plan_and_check(
     requires missing { length missing.now ≡ task.now.stripes }
     requires gone { AreMissing task.now (missing_of missing.now) }
     requires task { IsPlannable task.now }
-    ensures { IsOk result }
+    ensures graph { graph.new
+        ≡ record graph.old { drawn = library task.now (missing_of missing.now) true } }
+    ensures accepted { IsOk result }
 {
     plan(task, missing, true, graph);
     check(graph, task, missing, room)
