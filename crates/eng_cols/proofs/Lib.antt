@@ -9,3 +9,5 @@ pub mod Losing
 pub mod Sums
 pub mod Decoding
 pub mod Sent
+pub mod Wholes
+pub mod DeathLaws
