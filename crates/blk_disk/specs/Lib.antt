@@ -4,3 +4,5 @@ pub mod Sectors
 pub mod Columns
 pub mod ColumnLaws
 pub mod Frames
+pub mod Devices
+pub mod Gate
