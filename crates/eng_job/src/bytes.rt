@@ -1,0 +1,66 @@
+//! The fronts of buffers.
+ghost use Rattle.std.specs.Prelude.{◌≡◌, ◌≤◌, ◌<◌, ◌*◌, ◌↔◌, ℕ, IsTrue, All, drop, length, slice_index, bit_xor};
+ghost use Rattle.eng_job.specs.Performed.{byte_at, sum_at, AreLong};
+
+use crate::job::Source;
+use blk_disk::SECTOR;
+use xor_lanes::{clear, xor_into};
+
+// Makes the first bytes 0.
+fn clear_front(bytes: &mut [u8], count: u32)
+    requires { 512 * count ≤ length bytes.old }
+    ensures zero { (k : ℕ) → k < 512 * count → slice_index bytes.new k ≡ 0 }
+    ensures rest { drop (512 * count) bytes.new ≡ drop (512 * count) bytes.old }
+{
+    clear(&mut bytes[..SECTOR * count as usize]);
+}
+
+// Adds the source's first bytes to the target's.
+fn add_front(to: &mut [u8], from: &[u8], count: u32)
+    requires to { 512 * count ≤ length to.old }
+    requires from { 512 * count ≤ length from.now }
+    ensures sum { (k : ℕ) → k < 512 * count → slice_index to.new k ≡ bit_xor (slice_index to.old k) (slice_index from.now k) }
+    ensures rest { drop (512 * count) to.new ≡ drop (512 * count) to.old }
+{
+    let bytes = SECTOR * count as usize;
+    xor_into(&mut to[..bytes], &from[..bytes]);
+}
+
+// Adds a source's first bytes, if it counts.
+fn add_source(to: &mut [u8], from: &Source, count: u32)
+    requires to { 512 * count ≤ length to.old }
+    requires from { 512 * count ≤ length from.now.buffer }
+    ensures sum { (k : ℕ) → k < 512 * count → slice_index to.new k ≡ bit_xor (slice_index to.old k) (byte_at from.now k) }
+    ensures rest { drop (512 * count) to.new ≡ drop (512 * count) to.old }
+{
+    if from.counts {
+        add_front(to, from.buffer.bytes(), count);
+    }
+}
+
+// Whether the source has room for so many sectors.
+fn is_long(source: &Source, count: u32) -> bool
+    ensures { IsTrue result ↔ (512 * count ≤ length source.now.buffer) }
+{
+    SECTOR * count as usize <= source.buffer.bytes().len()
+}
+
+// Whether each source has room for so many sectors.
+pub(crate) fn are_long(from: &[Source], count: u32) -> bool
+    ensures { IsTrue result ↔ AreLong count from.now }
+{
+    from.iter().all(|source| is_long(source, count))
+}
+
+/// Makes the first bytes the sum of those of the sources that count.
+pub(crate) fn sum_front(to: &mut [u8], from: &[Source], count: u32)
+    requires to { 512 * count ≤ length to.old }
+    requires from { AreLong count from.now }
+    ensures sum { (k : ℕ) → k < 512 * count → slice_index to.new k ≡ sum_at from.now k }
+    ensures rest { drop (512 * count) to.new ≡ drop (512 * count) to.old }
+{
+    clear_front(to, count);
+    for i in 0..from.len() {
+        add_source(to, &from[i], count);
+    }
+}
