@@ -1,0 +1,61 @@
+-- Numbers and bytes of a label.
+use Rattle.std.proofs.Common.{◌≡◌, ◌∙◌, ap, ℕ, zero, suc, ◌+◌, ◌*◌, ◌<◌, ◌≤◌, ◌==◌, true, List, [], ◌∷◌, ◌++◌, take, length, get_or, replicate, refl, sym, arith, append_assoc, length-append}
+use Rattle.std.specs.List.{list_all}
+use Rattle.std.specs.Int.{w32, to_le_bytes}
+use Rattle.std.proofs.lemmas.List.{take_all, length-replicate}
+use Rattle.raid_label.specs.declared.label.Label.{Label}
+use Rattle.raid_label.specs.Bytes.{bytes_of, bytes_of_words, words_of, magic}
+
+-- labels whose fields are the same are the same
+pub same_label : {version_x version_y serial_x serial_y counter_x counter_y column_x column_y columns_x columns_y unit_x unit_y rows_x rows_y level_x level_y clean_x clean_y b_x b_y k_x k_y r_x r_y lambda_x lambda_y : ℕ} {seats_x seats_y : List ℕ}
+    → version_x ≡ version_y → serial_x ≡ serial_y → counter_x ≡ counter_y → column_x ≡ column_y → columns_x ≡ columns_y → unit_x ≡ unit_y → rows_x ≡ rows_y → level_x ≡ level_y → clean_x ≡ clean_y → b_x ≡ b_y → k_x ≡ k_y → r_x ≡ r_y → lambda_x ≡ lambda_y → seats_x ≡ seats_y
+    → (let x : Label = record { version = version_x; serial = serial_x; counter = counter_x; column = column_x; columns = columns_x; unit = unit_x; rows = rows_x; level = level_x; clean = clean_x; b = b_x; k = k_x; r = r_x; lambda = lambda_x; seats = seats_x } in let y : Label = record { version = version_y; serial = serial_y; counter = counter_y; column = column_y; columns = columns_y; unit = unit_y; rows = rows_y; level = level_y; clean = clean_y; b = b_y; k = k_y; r = r_y; lambda = lambda_y; seats = seats_y } in x ≡ y)
+same_label {version_x = version_x} {version_y = version_y} {serial_x = serial_x} {serial_y = serial_y} {counter_x = counter_x} {counter_y = counter_y} {column_x = column_x} {column_y = column_y} {columns_x = columns_x} {columns_y = columns_y} {unit_x = unit_x} {unit_y = unit_y} {rows_x = rows_x} {rows_y = rows_y} {level_x = level_x} {level_y = level_y} {clean_x = clean_x} {clean_y = clean_y} {b_x = b_x} {b_y = b_y} {k_x = k_x} {k_y = k_y} {r_x = r_x} {r_y = r_y} {lambda_x = lambda_x} {lambda_y = lambda_y} {seats_x = seats_x} {seats_y = seats_y} e0 e1 e2 e3 e4 e5 e6 e7 e8 e9 e10 e11 e12 e13 =
+    let step_0 : ℕ → Label = λ v. record { version = v; serial = serial_x; counter = counter_x; column = column_x; columns = columns_x; unit = unit_x; rows = rows_x; level = level_x; clean = clean_x; b = b_x; k = k_x; r = r_x; lambda = lambda_x; seats = seats_x } in
+    let step_1 : ℕ → Label = λ v. record { version = version_y; serial = v; counter = counter_x; column = column_x; columns = columns_x; unit = unit_x; rows = rows_x; level = level_x; clean = clean_x; b = b_x; k = k_x; r = r_x; lambda = lambda_x; seats = seats_x } in
+    let step_2 : ℕ → Label = λ v. record { version = version_y; serial = serial_y; counter = v; column = column_x; columns = columns_x; unit = unit_x; rows = rows_x; level = level_x; clean = clean_x; b = b_x; k = k_x; r = r_x; lambda = lambda_x; seats = seats_x } in
+    let step_3 : ℕ → Label = λ v. record { version = version_y; serial = serial_y; counter = counter_y; column = v; columns = columns_x; unit = unit_x; rows = rows_x; level = level_x; clean = clean_x; b = b_x; k = k_x; r = r_x; lambda = lambda_x; seats = seats_x } in
+    let step_4 : ℕ → Label = λ v. record { version = version_y; serial = serial_y; counter = counter_y; column = column_y; columns = v; unit = unit_x; rows = rows_x; level = level_x; clean = clean_x; b = b_x; k = k_x; r = r_x; lambda = lambda_x; seats = seats_x } in
+    let step_5 : ℕ → Label = λ v. record { version = version_y; serial = serial_y; counter = counter_y; column = column_y; columns = columns_y; unit = v; rows = rows_x; level = level_x; clean = clean_x; b = b_x; k = k_x; r = r_x; lambda = lambda_x; seats = seats_x } in
+    let step_6 : ℕ → Label = λ v. record { version = version_y; serial = serial_y; counter = counter_y; column = column_y; columns = columns_y; unit = unit_y; rows = v; level = level_x; clean = clean_x; b = b_x; k = k_x; r = r_x; lambda = lambda_x; seats = seats_x } in
+    let step_7 : ℕ → Label = λ v. record { version = version_y; serial = serial_y; counter = counter_y; column = column_y; columns = columns_y; unit = unit_y; rows = rows_y; level = v; clean = clean_x; b = b_x; k = k_x; r = r_x; lambda = lambda_x; seats = seats_x } in
+    let step_8 : ℕ → Label = λ v. record { version = version_y; serial = serial_y; counter = counter_y; column = column_y; columns = columns_y; unit = unit_y; rows = rows_y; level = level_y; clean = v; b = b_x; k = k_x; r = r_x; lambda = lambda_x; seats = seats_x } in
+    let step_9 : ℕ → Label = λ v. record { version = version_y; serial = serial_y; counter = counter_y; column = column_y; columns = columns_y; unit = unit_y; rows = rows_y; level = level_y; clean = clean_y; b = v; k = k_x; r = r_x; lambda = lambda_x; seats = seats_x } in
+    let step_10 : ℕ → Label = λ v. record { version = version_y; serial = serial_y; counter = counter_y; column = column_y; columns = columns_y; unit = unit_y; rows = rows_y; level = level_y; clean = clean_y; b = b_y; k = v; r = r_x; lambda = lambda_x; seats = seats_x } in
+    let step_11 : ℕ → Label = λ v. record { version = version_y; serial = serial_y; counter = counter_y; column = column_y; columns = columns_y; unit = unit_y; rows = rows_y; level = level_y; clean = clean_y; b = b_y; k = k_y; r = v; lambda = lambda_x; seats = seats_x } in
+    let step_12 : ℕ → Label = λ v. record { version = version_y; serial = serial_y; counter = counter_y; column = column_y; columns = columns_y; unit = unit_y; rows = rows_y; level = level_y; clean = clean_y; b = b_y; k = k_y; r = r_y; lambda = v; seats = seats_x } in
+    let step_13 : List ℕ → Label = λ v. record { version = version_y; serial = serial_y; counter = counter_y; column = column_y; columns = columns_y; unit = unit_y; rows = rows_y; level = level_y; clean = clean_y; b = b_y; k = k_y; r = r_y; lambda = lambda_y; seats = v } in
+    ap step_0 e0 ∙ (ap step_1 e1 ∙ (ap step_2 e2 ∙ (ap step_3 e3 ∙ (ap step_4 e4 ∙ (ap step_5 e5 ∙ (ap step_6 e6 ∙ (ap step_7 e7 ∙ (ap step_8 e8 ∙ (ap step_9 e9 ∙ (ap step_10 e10 ∙ (ap step_11 e11 ∙ (ap step_12 e12 ∙ (ap step_13 e13)))))))))))))
+
+-- each number has four bytes
+pub length-bytes_of_words : (ns : List ℕ) → length (bytes_of_words ns) ≡ 4 * length ns
+length-bytes_of_words [] = refl
+length-bytes_of_words (n ∷ ns) = omega (arith, length-bytes_of_words ns, length-append (to_le_bytes w32 n) (bytes_of_words ns))
+
+-- one number more
+pub bytes_of_words-take : (ns : List ℕ) (i : ℕ) → i < length ns → bytes_of_words (take (i + 1) ns) ≡ bytes_of_words (take i ns) ++ to_le_bytes w32 (get_or ns i 0)
+bytes_of_words-take [] i h = absurd (omega arith)
+bytes_of_words-take (n ∷ ns) zero h = refl
+bytes_of_words-take (n ∷ ns) (suc i) h =
+    let more : suc i + 1 ≡ suc (i + 1) = omega arith in
+    rw more (ap (λ (l : List ℕ). to_le_bytes w32 n ++ l) (bytes_of_words-take ns i (omega arith)))
+
+-- zeros
+pub all_zero : (n : ℕ) → list_all (λ b. b == 0) (replicate n 0) ≡ true
+all_zero zero = refl
+all_zero (suc n) = all_zero n
+
+-- the sector that the writing of a label leaves
+pub written : (l : Label) (words one two three zeros : List ℕ) → words ≡ words_of l → length l.seats ≡ 32 → zeros ≡ replicate 420 0 → length three ≡ 512
+    → take 60 one ≡ magic ++ bytes_of_words (take 13 words) → take (60 + length l.seats) two ≡ take 60 one ++ l.seats → take (92 + length zeros) three ≡ take 92 two ++ zeros
+    → three ≡ bytes_of l
+unfolding bytes_of
+written l words one two three zeros all seats none long a b c =
+    let ninety : 60 + length l.seats ≡ 92 = omega (arith, seats) in
+    let end : length three ≤ 92 + length zeros = omega (arith, long, ap length none, length-replicate {A = ℕ} 420 0) in
+    let front : take 60 one ≡ magic ++ bytes_of_words (words_of l) = a ∙ ap (λ (ws : List ℕ). magic ++ bytes_of_words (take 13 ws)) all in
+    let middle : take 92 two ≡ (magic ++ bytes_of_words (words_of l)) ++ l.seats = ap (λ (n : ℕ). take n two) (sym ninety) ∙ (b ∙ ap (λ (t : List ℕ). t ++ l.seats) front) in
+    sym (take_all (92 + length zeros) three end) ∙ (c ∙ (ap (λ (t : List ℕ). t ++ zeros) middle
+    ∙ (ap (λ (z : List ℕ). ((magic ++ bytes_of_words (words_of l)) ++ l.seats) ++ z) none
+    ∙ (append_assoc (magic ++ bytes_of_words (words_of l)) l.seats (replicate 420 0)
+    ∙ append_assoc magic (bytes_of_words (words_of l)) (l.seats ++ replicate 420 0)))))

@@ -1,0 +1,34 @@
+-- Whether the label of a device is the one that its column is to have.
+use Rattle.std.specs.Prelude.{ℕ, ◌==◌, Option, Some, None, if◌then◌else◌}
+use Rattle.raid_label.specs.declared.label.Label.{Label}
+use Rattle.raid_label.specs.declared.fault.LabelFault.{LabelFault}
+use Rattle.raid_label.specs.declared.fault.LabelFault.TheVariants.{NoLabel, Serial, Column, Shape, Version}
+
+-- the first fault, and where there is none the second
+abbrev pub or_fault : Option LabelFault → Option LabelFault → Option LabelFault
+or_fault None next = next
+or_fault (Some fault) next = Some fault
+
+-- a fault where the two numbers differ
+abbrev pub fault_unless_same : (ℕ → ℕ → LabelFault) → ℕ → ℕ → Option LabelFault
+fault_unless_same fault found wanted = if found == wanted then None else Some (fault found wanted)
+
+-- the first number of the array's shape that differs: columns, unit, level, the four of the design, rows
+unfoldable pub shape_fault : Label → Label → Option LabelFault
+shape_fault l w =
+    or_fault (fault_unless_same Shape l.columns w.columns)
+    (or_fault (fault_unless_same Shape l.unit w.unit)
+    (or_fault (fault_unless_same Shape l.level w.level)
+    (or_fault (fault_unless_same Shape l.b w.b)
+    (or_fault (fault_unless_same Shape l.k w.k)
+    (or_fault (fault_unless_same Shape l.r w.r)
+    (or_fault (fault_unless_same Shape l.lambda w.lambda)
+    (fault_unless_same Shape l.rows w.rows)))))))
+
+-- what is found in place of the wanted label, the first that is so: no label, one of another version, of another shape, of another array, of another column
+unfoldable pub fault_in : Option Label → ℕ → Label → Option LabelFault
+fault_in None version w = if version == 1 then Some (NoLabel 0 0) else Some (Version version 1)
+fault_in (Some l) version w =
+    or_fault (shape_fault l w)
+    (or_fault (fault_unless_same Serial l.serial w.serial)
+    (fault_unless_same Column l.column w.column))

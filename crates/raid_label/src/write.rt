@@ -1,0 +1,59 @@
+//! Writing a label.
+ghost use Rattle.std.specs.Prelude.{◌≡◌, ◌+◌, ◌≤◌, length, take, ◌++◌};
+ghost use Rattle.std.specs.Int.{w32, to_le_bytes};
+ghost use Rattle.raid_label.specs.Bytes.{bytes_of, words_of, IsHeld};
+
+use crate::label::{Label, MAGIC};
+
+/// Writes a label over a sector, all 512 bytes. It is one that a well-formed sector may hold: its
+/// version is 1, and its clean field 0 or 1.
+pub fn write_label(label: &Label, sector: &mut [u8])
+    requires long { length sector.old ≡ 512 }
+    requires held { IsHeld label.now }
+    ensures { sector.new ≡ bytes_of label.now }
+{
+    put(sector, 0, &MAGIC);
+    let words = words(label);
+    for i in 0..13 {
+        put_word(sector, 8 + 4 * i, words[i]);
+    }
+    put(sector, 60, &label.seats);
+    put(sector, 92, &[0; 420]);
+}
+
+// Its numbers, in their order.
+fn words(label: &Label) -> [u32; 13]
+    ensures { result ≡ words_of label.now }
+{
+    [
+        label.version,
+        label.serial,
+        label.counter,
+        label.column,
+        label.columns,
+        label.unit,
+        label.rows,
+        label.level,
+        label.clean,
+        label.b,
+        label.k,
+        label.r,
+        label.lambda,
+    ]
+}
+
+// Puts a number behind the bytes that are in place.
+fn put_word(sector: &mut [u8], at: usize, word: u32)
+    requires { at + 4 ≤ length sector.old }
+    ensures { take (at + 4) sector.new ≡ take at sector.old ++ to_le_bytes w32 word }
+{
+    put(sector, at, &word.to_le_bytes());
+}
+
+// Puts bytes behind those that are in place.
+fn put(sector: &mut [u8], at: usize, bytes: &[u8])
+    requires { at + length bytes.now ≤ length sector.old }
+    ensures { take (at + length bytes.now) sector.new ≡ take at sector.old ++ bytes.now }
+{
+    sector[at..at + bytes.len()].copy_from_slice(bytes);
+}
