@@ -9,7 +9,7 @@ fn make(rt: &impl Abort, columns: u32, unit_sectors: u32, rows: u32) -> Raid5 {
     Raid5::new(columns, unit_sectors, rows).expect(rt, "a layout")
 }
 
-fn place_of<L: Layout>(layout: &L, stripe: u32, unit: u32) -> Option<Place> {
+pub(crate) fn place_of<L: Layout>(layout: &L, stripe: u32, unit: u32) -> Option<Place> {
     if stripe < layout.stripes() && unit < layout.width() {
         Some(layout.place(stripe, unit))
     } else {
