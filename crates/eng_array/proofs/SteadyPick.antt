@@ -1,0 +1,35 @@
+-- A steady core stands while the array isn't lost, and a choice keeps it steady.
+use Rattle.std.proofs.Common.{◌≡◌, ℕ, None}
+use Rattle.blk_disk.specs.declared.disk.Disk.{Ghosts as DiskGhosts}
+use Rattle.lay_core.specs.declared.layout.Layout.{Ghosts as LayoutGhosts}
+use Rattle.eng_array.specs.declared.state.Core.{Core}
+use Rattle.eng_array.specs.Serves.{Stands}
+use Rattle.eng_array.specs.Steady.{IsSteady}
+use Rattle.eng_array.proofs.Picking.{sound-moved, shows-moved}
+use Rattle.eng_array.proofs.Reached.{run-stands}
+
+module _ {L D : Type 0} (lay : LayoutGhosts L) (disk : DiskGhosts D) (core : Core L D) where
+  pub steady-stands : IsSteady lay disk core → core.lost ≡ None → Stands lay core
+  steady-stands steady none = run-stands lay disk core steady.sound steady.reached steady.serving none
+
+  -- whichever client is tried first
+  pub steady-moved : (next : ℕ) → IsSteady lay disk core → IsSteady lay disk (record core { next = next })
+  steady-moved next steady = record {
+    sound = sound-moved lay disk core next steady.sound;
+    reached = record {
+      opening = steady.reached.opening;
+      events = steady.reached.events;
+      now = steady.reached.now;
+      is_opening = steady.reached.is_opening;
+      run = steady.reached.run;
+      shows = shows-moved lay disk core next steady.reached.now steady.reached.shows;
+      traced = steady.reached.traced;
+    };
+    serving = steady.serving;
+    places = record {
+      most = steady.places.most;
+      bound = steady.places.bound;
+      trace = steady.places.trace;
+      history = steady.places.history;
+    };
+  }

@@ -1,0 +1,155 @@
+-- A core is steady after an operation is taken, refused, planned anew or given up.
+use Rattle.std.proofs.Common.{◌≡◌, ℕ, ◌<◌, ◌≤◌, ◌+◌, ◌*◌, List, length, get_or, subst, sym, ap, ◌∙◌, arith, inl, inr, refl, true, Option, Some, None}
+use Rattle.std.specs.Prelude.{slice_set}
+use Rattle.blk_plain.specs.declared.op.Op.{Op}
+use Rattle.blk_disk.specs.declared.disk.Disk.{Ghosts as DiskGhosts}
+use Rattle.lay_core.specs.Layout.{Shape, IsLayout, data_units}
+use Rattle.lay_core.specs.declared.layout.Layout.{Ghosts as LayoutGhosts}
+use Rattle.graph_mean.specs.Graph.{Held, View}
+use Rattle.graph_mean.specs.Task.{Aim, task_of, missing_of}
+use Rattle.graph_lib.specs.Laws.{AreMissing}
+use Rattle.graph_lib.specs.Library.{library}
+use Rattle.graph_lib.proofs.Promises.{few-nodes}
+use Rattle.graph_lib.proofs.SpanRanges.{span-few}
+use Rattle.eng_cols.specs.Cols.{ColumnState}
+use Rattle.eng_cols.specs.Lost.{NotLost}
+use Rattle.eng_world.specs.Planning.{kind_of}
+use Rattle.eng_world.specs.declared.item.Item.TheVariants as item
+use Rattle.eng_world.specs.declared.item.Reply.{Reply}
+use Rattle.eng_world.specs.declared.item.Reply.TheVariants as reply
+use Rattle.eng_world.specs.declared.item.Traced.{Traced}
+use Rattle.eng_world.specs.declared.item.Traced.TheVariants as event
+use Rattle.eng_array.specs.declared.stage.Stage.TheVariants.{Nothing, Waits, Runs}
+use Rattle.eng_array.specs.declared.state.Core.{Core}
+use Rattle.eng_array.specs.Desk.{Desk, desk_at, item_at, graph_of, with_reply}
+use Rattle.eng_array.specs.Log.{noted}
+use Rattle.eng_array.specs.Moves.{id_of}
+use Rattle.eng_array.specs.Planned.{IsInside, IsPlanned, IsDrawn, CanRun, span_of, lease_for}
+use Rattle.eng_array.specs.Room.{HasRoom}
+use Rattle.eng_array.specs.Serves.{Serves, Stands, CanTake, CanBack}
+use Rattle.eng_array.specs.Serving.{WasPlanned, IsServing, most_for}
+use Rattle.eng_array.specs.Sound.{IsSound}
+use Rattle.eng_array.specs.Steady.{IsSteady}
+use Rattle.eng_array.specs.Steps.{Follows}
+use Rattle.eng_array.specs.Taken.{Replanned, Taken, IsTaken, Replaced, GivenUp, BackAs, IsBack, with_started, with_lease}
+use Rattle.eng_array.proofs.Lacking.{missing-each}
+use Rattle.eng_array.proofs.OneServing.{each-set, idle-serving, planned-serving, items-set}
+use Rattle.eng_array.proofs.Plans.{task-sound}
+use Rattle.eng_array.proofs.Reached.{run-stands}
+use Rattle.eng_array.proofs.Served as served
+use Rattle.eng_array.proofs.Settling.{lent-file}
+use Rattle.eng_array.proofs.Steady.{Keeps, notes-of, item-among, steady-on, waits-room, undone-room}
+
+-- a planned graph has no more nodes than one for its operation may have
+module _ (y : Shape) (law : IsLayout y) (graphs : List Held) (cols : List ColumnState) (kept : NotLost y cols) (op : Op) (file : Option ℕ) (d : Desk) (inside : IsInside y op) (p : IsPlanned y graphs cols op file d) where
+  abbrev aim : Aim
+  aim = task_of y (kind_of y cols op) d.map
+
+  gone : AreMissing aim (missing_of d.missing)
+  gone s m is = missing-each y cols op d.map.stripes kept p.split.split.stripes_within s m (subst (λ (l : List (Option ℕ)). get_or l s None ≡ Some m) p.missing is)
+
+  most-by : (o : Option ℕ) → d.file ≡ o → IsDrawn graphs o d → length (graph_of graphs d).nodes ≤ most_for y graphs op o
+  most-by None is drawn =
+      let few : length (library aim (missing_of d.missing) true).nodes ≤ (2 * data_units y + 1) * (length d.map.stripes + 2) + 2 = few-nodes aim (missing_of d.missing) true (task-sound y law d.map cols op inside p.split) gone 2 (span-few y (kind_of y cols op) (span_of y op) d.map law p.split) in
+      let same : graph_of graphs d ≡ library aim (missing_of d.missing) true = drawn ∙ ap (λ (t : Aim). library t (missing_of d.missing) true) p.task in
+      subst (λ (n : ℕ). length (graph_of graphs d).nodes ≤ (2 * data_units y + 1) * (n + 2) + 2) p.split.stripes_many
+      (subst (λ (g : View). length g.nodes ≤ (2 * data_units y + 1) * (length d.map.stripes + 2) + 2) (sym same) few)
+  most-by (Some n) is drawn = let e = ap (λ (v : View). length v.nodes) (lent-file graphs d n is drawn) in omega (arith, e)
+
+  planned-most : length (graph_of graphs d).nodes ≤ most_for y graphs op file
+  planned-most = most-by file p.file_is p.drawn
+
+module _ {L D : Type 0} (lay : LayoutGhosts L) (disk : DiskGhosts D) (old new : Core L D) (c : ℕ) (steady : IsSteady lay disk old) (none : old.lost ≡ None) where
+  abbrev y : Shape
+  y = lay.shape old.layout
+
+  abbrev gs : List Held
+  gs = old.graphs.items
+
+  abbrev d : Desk
+  d = desk_at old.clients c
+
+  pub stands : Stands lay old
+  stands = run-stands lay disk old steady.sound steady.reached steady.serving none
+
+  kept : NotLost y old.cols.states
+  kept = stands.kept none
+
+  module _ (op : Op) (file : Option ℕ) (serves : Serves gs y d op file) where
+    below : c < length old.clients
+    below = let h = item-among lay disk old steady.sound c (item.Run op file) serves.item in let all = steady.sound.well.all in omega (arith, h, all)
+
+    -- client c is served so, and the others as they were
+    one-keeps : (e : Traced) (b : Desk) → b.items ≡ d.items → IsServing y gs b → new.clients ≡ slice_set old.clients c b → new.layout ≡ old.layout → new.graphs ≡ old.graphs → new.log ≡ noted old.log e → Keeps lay disk old e new
+    one-keeps e b items serving clients layout graphs log = record {
+      layout = layout;
+      graphs = graphs;
+      log = notes-of old.log e new.log log;
+      items = λ k. subst (λ (l : List Desk). (desk_at l k).items ≡ (desk_at old.clients k).items) (sym clients) (items-set old.clients c b below items k);
+      serving = λ k. subst (λ (l : List Desk). IsServing y gs (desk_at l k)) (sym clients) (each-set (IsServing y gs) old.clients c b below serving steady.serving k);
+    }
+
+    nothing-not : Nothing ≡ Runs → ⊥
+    nothing-not e = let u : ⊥ = cc in u
+
+    module _ (plan : Desk) (r : Replanned y gs old.cols.states op file d plan) where
+      items-same : plan.items ≡ d.items
+      items-same = ap (λ (a : Desk). a.items) r.rest
+
+      -- it runs as it was planned, on these buffers
+      started : CanRun gs plan → (l : List ℕ) → length l ≡ lease_for y gs op file → IsServing y gs (with_started gs (with_lease plan l))
+      started runs l long = planned-serving y gs d (with_started gs (with_lease plan l)) items-same was (steady.serving c)
+        where
+          was : (o : Op) (f : Option ℕ) → item_at (with_started gs (with_lease plan l)) ≡ Some (item.Run o f) → WasPlanned y gs (with_started gs (with_lease plan l)) o f
+          was o f at =
+              let same = served.item-same y steady.sound.layout gs old.cols.states op file d plan serves r runs l long in
+              subst (λ (v : Option ℕ). WasPlanned y gs (with_started gs (with_lease plan l)) o v) (served.same-file op o file f (item_at (with_started gs (with_lease plan l))) same at)
+              (subst (λ (v : Op). WasPlanned y gs (with_started gs (with_lease plan l)) v file) (served.same-op op o file f (item_at (with_started gs (with_lease plan l))) same at)
+              (record {
+                split = r.planned.split;
+                lease = long;
+                nodes = planned-most y steady.sound.layout gs old.cols.states kept op file plan serves.inside r.planned;
+              }))
+
+      refused : (q : Reply) → IsServing y gs (with_reply plan q)
+      refused q = idle-serving y gs d (with_reply plan q) items-same nothing-not (steady.serving c)
+
+    taken-keeps : (e : Traced) → Taken lay old c op file e new → Keeps lay disk old e new
+    taken-keeps e t = one-keeps e (with_started gs (with_lease t.plan t.lease)) (items-same t.plan t.replanned) (started t.plan t.replanned t.runs t.lease t.leases.count) t.clients t.rest.layout t.rest.graphs t.log
+
+    refused-keeps : (e : Traced) (q : Reply) (plan : Desk) → Replanned y gs old.cols.states op file d plan → new.clients ≡ slice_set old.clients c (with_reply plan q) → new.layout ≡ old.layout → new.graphs ≡ old.graphs → new.log ≡ noted old.log e → Keeps lay disk old e new
+    refused-keeps e q plan r clients layout graphs log = one-keeps e (with_reply plan q) (items-same plan r) (refused plan r q) clients layout graphs log
+
+    given-keeps : (e : Traced) (q : Reply) → GivenUp lay old c q e new → Keeps lay disk old e new
+    given-keeps e q g = one-keeps e (with_reply d q) refl (idle-serving y gs d (with_reply d q) refl nothing-not (steady.serving c)) g.clients g.rest.layout g.rest.graphs g.log
+
+  -- ## An operation is taken, or its graph refused
+
+  module _ (can : CanTake lay old c) where
+    pub take-room : HasRoom old.log
+    take-room = let s = (stands.serves c).busy (λ z. let e : Waits ≡ Nothing = sym can.waits ∙ z in let u : ⊥ = cc in u) in waits-room lay disk old steady none c (item.Run s.0 s.1) s.2.item can.waits
+
+    pub take-steady : IsTaken lay old c (event.Take (id_of old.clients c)) new → IsSound lay disk new → Follows lay disk old (event.Take (id_of old.clients c)) new → IsSteady lay disk new
+    take-steady t sound follows = steady-on lay disk old new (event.Take (id_of old.clients c)) (inl tt) steady sound follows (elim t.became [
+      | inl f ↦ taken-keeps t.op t.file t.serves (event.Take (id_of old.clients c)) f
+      | inr f ↦ refused-keeps t.op t.file t.serves (event.Take (id_of old.clients c)) (reply.Refused f.0) f.1.plan f.1.replanned f.1.clients f.1.rest.layout f.1.rest.graphs f.1.log
+    ])
+
+  -- ## One that was undone goes back
+
+  module _ (can : CanBack lay old c) where
+    pub back-room : HasRoom old.log
+    back-room = undone-room lay disk old steady none c can.runs can.undone
+
+    replaced-keeps : (e : Traced) (op : Op) → Serves gs y d op None → Replaced lay old c op e new → Keeps lay disk old e new
+    replaced-keeps e op serves f =
+        let leased : f.plan.lease ≡ d.lease = ap (λ (a : Desk). a.lease) f.replanned.rest in
+        let long : length f.plan.lease ≡ lease_for y gs op None = ap (λ (l : List ℕ). length l) leased ∙ ((stands.serves c).runs can.runs op None serves).lease in
+        one-keeps op None serves e (with_started gs f.plan) (items-same op None serves f.plan f.replanned) (started op None serves f.plan f.replanned f.runs f.plan.lease long) f.clients f.rest.layout f.rest.graphs f.log
+
+    back-keeps : (e : Traced) (op : Op) (file : Option ℕ) → Serves gs y d op file → BackAs lay old c op file e new → Keeps lay disk old e new
+    back-keeps e op None serves f = replaced-keeps e op serves f
+    back-keeps e op (Some n) serves f = given-keeps op (Some n) serves e (reply.Undone f.0) f.2
+
+    pub back-steady : IsBack lay old c (event.Back (id_of old.clients c)) new → IsSound lay disk new → Follows lay disk old (event.Back (id_of old.clients c)) new → IsSteady lay disk new
+    back-steady b sound follows = steady-on lay disk old new (event.Back (id_of old.clients c)) (inl tt) steady sound follows (back-keeps (event.Back (id_of old.clients c)) b.op b.file b.serves b.became)

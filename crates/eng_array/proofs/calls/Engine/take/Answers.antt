@@ -1,0 +1,11 @@
+use Rattle.eng_array.proofs.SteadyTake.{stands, take-room, take-steady}
+use Rattle.eng_array.proofs.calls.Engine.take.Goals as goal
+
+pub take-requires-clause-stands : goal.take-requires-clause-stands
+take-requires-clause-stands g c = stands g.L.Layout g.D.Disk c.args.self.now.core c.args.self.now.core c.args.client c.requires.steady c.requires.can.not_lost
+
+pub take-requires-clause-place : goal.take-requires-clause-place
+take-requires-clause-place g c = take-room g.L.Layout g.D.Disk c.args.self.now.core c.args.self.now.core c.args.client c.requires.steady c.requires.can.not_lost c.requires.can
+
+pub returns-clause-steady : goal.returns-clause-steady
+returns-clause-steady g c = take-steady g.L.Layout g.D.Disk c.args.self.now.core c.take.new.self c.args.client c.requires.steady c.requires.can.not_lost c.requires.can c.take.ensures.became c.take.ensures.sound c.take.ensures.step

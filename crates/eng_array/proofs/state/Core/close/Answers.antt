@@ -1,0 +1,18 @@
+use Rattle.std.proofs.Common.{ℕ, refl, subst}
+use Rattle.eng_array.specs.Closed.{AreClosed}
+use Rattle.eng_array.proofs.HandingBack.{back-count, back-absent, back-devices}
+use Rattle.eng_array.proofs.state.Core.close.Goals as goal
+
+pub returns : goal.returns
+returns g c = record {
+  layout = refl;
+  count = back-count g.L.Layout g.D.Disk c.args.self c.requires.sound c.requires.none_out c.close-home.result.items c.close-home.ensures;
+  absent = back-absent g.L.Layout g.D.Disk c.args.self c.requires.sound c.requires.none_out c.close-home.result.items c.close-home.ensures;
+  devices = back-devices g.L.Layout g.D.Disk c.args.self c.requires.sound c.requires.none_out c.close-home.result.items c.close-home.ensures;
+  columns = c.list_columns.ensures;
+  clients = subst (λ (n : ℕ). AreClosed c.args.self.lost c.args.self.clients n c.close-told.result.0.items c.close-told.result.1.items) c.spare.view_is c.close-told.ensures;
+  history = c.close-left.ensures.history;
+  trace = c.close-left.ensures.trace;
+  lost = refl;
+  rebuilt = c.close-left.ensures.rebuilt;
+}

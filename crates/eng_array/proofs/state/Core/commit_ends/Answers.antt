@@ -1,0 +1,43 @@
+use Rattle.std.proofs.Common.{◌∙◌, sym, subst, ap}
+use Rattle.blk_plain.specs.declared.op.OpId.{OpId}
+use Rattle.eng_world.specs.declared.item.Traced.TheVariants as event
+use Rattle.eng_array.specs.declared.state.Core.{Core}
+use Rattle.eng_array.specs.Log.{Logged, noted, entered}
+use Rattle.eng_array.specs.Moves.{id_of}
+use Rattle.eng_array.specs.Sound.{IsSound}
+use Rattle.eng_array.specs.Steps.{Follows}
+use Rattle.eng_array.proofs.Committing.{commit-follows, commit-sound}
+use Rattle.blk_plain.specs.declared.op.Outcome.TheVariants.{Good}
+use Rattle.eng_array.proofs.GoingOn.{goes-logged, goes-ended}
+use Rattle.eng_array.proofs.state.Core.commit_ends.Goals as goal
+
+pub returns-clause-step : goal.returns-clause-step
+returns-clause-step g c =
+    let old : Core g.row.L.Denot g.row.D.Denot = c.args.self.now in
+    let mid : Core g.row.L.Denot g.row.D.Denot = c.plain_home.new.self in
+    let e = event.Good (id_of old.clients c.args.client) c.args.node in
+    subst (λ (s : Core g.row.L.Denot g.row.D.Denot). Follows g.L.Layout g.D.Disk old e s) (sym c.note.ensures)
+    (subst (λ (s : Core g.row.L.Denot g.row.D.Denot). Follows g.L.Layout g.D.Disk old e (record s { log = noted s.log (event.Good c.id-id.result c.args.node) })) (sym c.enter.ensures)
+    (subst (λ (id : OpId). Follows g.L.Layout g.D.Disk old e (record mid { log = noted (entered mid.log id) (event.Good id c.args.node) })) (sym c.id-id.ensures)
+    (commit-follows g.L.Layout g.D.Disk old mid c.args.client c.args.node c.requires.sound c.requires.not_lost c.requires.out c.requires.commit c.plain_home.ensures)))
+
+pub returns-clause-sound : goal.returns-clause-sound
+returns-clause-sound g c =
+    let old : Core g.row.L.Denot g.row.D.Denot = c.args.self.now in
+    let mid : Core g.row.L.Denot g.row.D.Denot = c.plain_home.new.self in
+    subst (λ (s : Core g.row.L.Denot g.row.D.Denot). IsSound g.L.Layout g.D.Disk s) (sym c.note.ensures)
+    (subst (λ (s : Core g.row.L.Denot g.row.D.Denot). IsSound g.L.Layout g.D.Disk (record s { log = noted s.log (event.Good c.id-id.result c.args.node) })) (sym c.enter.ensures)
+    (subst (λ (id : OpId). IsSound g.L.Layout g.D.Disk (record mid { log = noted (entered mid.log id) (event.Good id c.args.node) })) (sym c.id-id.ensures)
+    (commit-sound g.L.Layout g.D.Disk old mid c.args.client c.args.node c.requires.sound c.requires.not_lost c.requires.out c.requires.commit c.plain_home.ensures)))
+
+pub returns-clause-trace : goal.returns-clause-trace
+returns-clause-trace g c =
+    let e : OpId → Logged → Logged = λ id l. noted (entered l id) (event.Good id c.args.node) in
+    ap (λ (s : Core g.row.L.Denot g.row.D.Denot). s.log) c.note.ensures
+    ∙ (ap (λ (s : Core g.row.L.Denot g.row.D.Denot). noted s.log (event.Good c.id-id.result c.args.node)) c.enter.ensures
+    ∙ (ap (λ (id : OpId). e id c.plain_home.new.self.log) c.id-id.ensures ∙ ap (e (id_of c.args.self.now.clients c.args.client)) c.plain_home.ensures.log))
+
+pub returns-clause-goes : goal.returns-clause-goes
+returns-clause-goes g c = goes-logged c.args.self.now c.enter.new.self c.note.new.self _ c.note.ensures
+    (goes-logged c.args.self.now c.plain_home.new.self c.enter.new.self _ c.enter.ensures
+    (goes-ended g.L.Layout g.D.Disk c.args.self.now c.plain_home.new.self c.args.client c.args.node c.requires.sound c.requires.out Good (c.plain_home.ensures).clients (c.plain_home.ensures).layout (c.plain_home.ensures).graphs))

@@ -1,0 +1,72 @@
+use Rattle.std.proofs.Common.{◌≡◌, ℕ, List, sym, subst, ap, ◌∙◌}
+use Rattle.blk_plain.specs.declared.op.OpId.{OpId}
+use Rattle.eng_world.specs.declared.item.Reply.TheVariants as reply
+use Rattle.eng_world.specs.declared.item.Traced.TheVariants as event
+use Rattle.eng_array.specs.declared.state.Core.{Core}
+use Rattle.eng_array.specs.Log.{Logged, noted, with_bytes}
+use Rattle.eng_array.specs.Moves.{id_of, Terminated}
+use Rattle.eng_array.specs.Steps.{Follows}
+use Rattle.eng_array.specs.Sound.{IsSound, IsOutOf}
+use Rattle.eng_array.specs.Desk.{desk_at}
+use Rattle.graph_mean.specs.Graph.{kind_at}
+use Rattle.graph_mean.specs.declared.graph.Node.TheVariants.{Trm}
+use Rattle.eng_array.proofs.Rebuilding.{stripe-sound}
+use Rattle.eng_array.proofs.EndingData.{data-follows, data-sound}
+use Rattle.eng_array.proofs.EndingPlain.{all-home}
+use Rattle.blk_plain.specs.declared.op.Outcome.TheVariants.{Good}
+use Rattle.eng_array.proofs.GoingOn.{goes-logged, goes-terminated}
+use Rattle.eng_array.proofs.state.Core.end_read.Goals as goal
+
+pub copy_returns-requires-clause-home : goal.copy_returns-requires-clause-home
+copy_returns-requires-clause-home g c = all-home g.L.Layout g.D.Disk c.args.self.now c.args.client c.args.node c.requires.sound c.requires.out c.requires.end
+
+pub terminate-requires-clause-sound : goal.terminate-requires-clause-sound
+terminate-requires-clause-sound g c = subst (λ (s : Core g.row.L.Denot g.row.D.Denot). IsSound g.L.Layout g.D.Disk s) (sym c.copy_returns.ensures.rest) (stripe-sound g.L.Layout g.D.Disk c.args.self.now c.requires.sound c.args.self.now.cols _ c.requires.sound.seated)
+
+pub terminate-requires-clause-out : goal.terminate-requires-clause-out
+terminate-requires-clause-out g c = subst (λ (s : Core g.row.L.Denot g.row.D.Denot). IsOutOf (desk_at s.clients c.args.client) c.args.node) (sym c.copy_returns.ensures.rest) c.requires.out
+
+pub terminate-requires-clause-end : goal.terminate-requires-clause-end
+terminate-requires-clause-end g c = subst (λ (s : Core g.row.L.Denot g.row.D.Denot). kind_at (desk_at s.clients c.args.client).run.graph c.args.node ≡ Trm) (sym c.copy_returns.ensures.rest) c.requires.end
+
+pub returns-clause-step : goal.returns-clause-step
+returns-clause-step g c =
+    let old : Core g.row.L.Denot g.row.D.Denot = c.args.self.now in
+    let mid : Core g.row.L.Denot g.row.D.Denot = c.copy_returns.new.self in
+    let end : Core g.row.L.Denot g.row.D.Denot = c.terminate.new.self in
+    let e = event.Good (id_of old.clients c.args.client) c.args.node in
+    let span = c.read_span-span.result in
+    let reads = c.read_span-span.ensures in
+    subst (λ (s : Core g.row.L.Denot g.row.D.Denot). Follows g.L.Layout g.D.Disk old e s) (sym c.note.ensures)
+    (subst (λ (id : OpId). Follows g.L.Layout g.D.Disk old e (record end { log = noted end.log (event.Good id c.args.node) })) (sym c.id-id.ensures)
+    (data-follows g.L.Layout g.D.Disk old end mid.log.handed.bytes c.args.client c.args.node c.requires.sound c.requires.not_lost c.requires.out c.requires.end span reads.0 reads.1 c.requires.laid c.stands.ensures c.copy_returns.ensures.copied
+    (subst (λ (s : Core g.row.L.Denot g.row.D.Denot). Terminated s c.args.client c.args.node reply.Data end) c.copy_returns.ensures.rest c.terminate.ensures)))
+
+pub returns-clause-sound : goal.returns-clause-sound
+returns-clause-sound g c =
+    let old : Core g.row.L.Denot g.row.D.Denot = c.args.self.now in
+    let mid : Core g.row.L.Denot g.row.D.Denot = c.copy_returns.new.self in
+    let end : Core g.row.L.Denot g.row.D.Denot = c.terminate.new.self in
+    let span = c.read_span-span.result in
+    let reads = c.read_span-span.ensures in
+    subst (λ (s : Core g.row.L.Denot g.row.D.Denot). IsSound g.L.Layout g.D.Disk s) (sym c.note.ensures)
+    (subst (λ (id : OpId). IsSound g.L.Layout g.D.Disk (record end { log = noted end.log (event.Good id c.args.node) })) (sym c.id-id.ensures)
+    (data-sound g.L.Layout g.D.Disk old end mid.log.handed.bytes c.args.client c.args.node c.requires.sound c.requires.not_lost c.requires.out c.requires.end span reads.0 reads.1 c.requires.laid c.stands.ensures c.copy_returns.ensures.copied
+    (subst (λ (s : Core g.row.L.Denot g.row.D.Denot). Terminated s c.args.client c.args.node reply.Data end) c.copy_returns.ensures.rest c.terminate.ensures)))
+
+pub returns-clause-trace : goal.returns-clause-trace
+returns-clause-trace g c =
+    let old : Core g.row.L.Denot g.row.D.Denot = c.args.self.now in
+    let mid : Core g.row.L.Denot g.row.D.Denot = c.copy_returns.new.self in
+    let ev = event.Good (id_of old.clients c.args.client) c.args.node in
+    let now : c.note.new.self.log ≡ noted (with_bytes old.log mid.log.handed.bytes) ev =
+    ap (λ (s : Core g.row.L.Denot g.row.D.Denot). s.log) c.note.ensures
+    ∙ (ap (λ (id : OpId). noted c.terminate.new.self.log (event.Good id c.args.node)) c.id-id.ensures
+    ∙ ap (λ (l : Logged). noted l ev) (c.terminate.ensures.log ∙ ap (λ (s : Core g.row.L.Denot g.row.D.Denot). s.log) c.copy_returns.ensures.rest)) in
+    now ∙ ap (λ (b : List ℕ). noted (with_bytes old.log b) ev) (sym (ap (λ (l : Logged). l.handed.bytes) now))
+
+pub returns-clause-goes : goal.returns-clause-goes
+returns-clause-goes g c =
+    let t = subst (λ (s : Core g.row.L.Denot g.row.D.Denot). Terminated s c.args.client c.args.node reply.Data c.terminate.new.self) c.copy_returns.ensures.rest c.terminate.ensures in
+    goes-logged c.args.self.now c.terminate.new.self c.note.new.self _ c.note.ensures
+    (goes-terminated g.L.Layout g.D.Disk c.args.self.now c.terminate.new.self c.args.client c.args.node c.requires.sound c.requires.out Good reply.Data (t).clients (t).layout (t).graphs)

@@ -1,0 +1,41 @@
+-- What a closed core hands back.
+use Rattle.std.specs.Prelude.{◌≡◌, ◌<◌, ℕ, List, [], length, Option, Some, None, Vec, slice_get, map}
+use Rattle.std.specs.declared.alloc.Global.{Global}
+use Rattle.eng_cols.specs.declared.spot.Loss.{Loss}
+use Rattle.eng_cols.specs.Cols.{column_of}
+use Rattle.eng_world.specs.declared.item.Item.{Item}
+use Rattle.eng_world.specs.declared.item.Reply.{Reply}
+use Rattle.eng_array.specs.declared.setup.Closed.{Closed}
+use Rattle.eng_array.specs.declared.state.Core.{Core}
+use Rattle.eng_array.specs.Shelf.{Seen, seen_at}
+use Rattle.eng_array.specs.Desk.{Desk, desk_at}
+use Rattle.eng_array.specs.Given.{items_at}
+use Rattle.eng_array.specs.Shows.{replies_of}
+
+abbrev pub replies_in : Option (Vec Reply Global) → List Reply
+replies_in None = []
+replies_in (Some replies) = replies.items
+
+-- the replies of the client of this number, none past the last
+abbrev pub replies_at : List (Vec Reply Global) → ℕ → List Reply
+replies_at clients c = replies_in (slice_get clients c)
+
+-- the first so many clients, with their items, and their replies once the array is lost by this, if it is
+pub record AreClosed (lost : Option Loss) (desks : List Desk) (count : ℕ) (items : List (Vec Item Global)) (replies : List (Vec Reply Global)) : Type 0 where
+  pub items_count : length items ≡ count
+  pub replies_count : length replies ≡ count
+  pub items_each : (c : ℕ) → c < count → items_at items c ≡ (desk_at desks c).items
+  pub replies_each : (c : ℕ) → c < count → replies_at replies c ≡ replies_of lost (desk_at desks c)
+
+-- All that the core has: layout, columns, history, trace, loss and count; each device in its place; and of each client that was handed in its items and its replies.
+pub record IsClosed {L D : Type 0} (core : Core L D) (closed : Closed L D) : Type 0 where
+  pub layout : closed.layout ≡ core.layout
+  pub count : length closed.devices.items ≡ length core.devices.slots
+  pub absent : (d : ℕ) → seen_at core.devices d ≡ None → d < length closed.devices.items → slice_get closed.devices.items d ≡ Some None
+  pub devices : (d : ℕ) (s : Seen D) → seen_at core.devices d ≡ Some s → slice_get closed.devices.items d ≡ Some (Some s.device)
+  pub columns : closed.columns.items ≡ map column_of core.cols.states
+  pub clients : AreClosed core.lost core.clients core.spare closed.clients.items closed.replies.items
+  pub history : closed.history.items ≡ core.log.history
+  pub trace : closed.trace.items ≡ core.log.trace
+  pub lost : closed.lost ≡ core.lost
+  pub rebuilt : closed.rebuilt ≡ core.log.rebuilt

@@ -1,0 +1,75 @@
+-- What a rebuild has made again, and what its end does to the columns.
+use Rattle.std.specs.Prelude.{◌≡◌, ◌<◌, ◌⊎◌, ℕ, suc, List, length, true, Option, Some, None, slice_index}
+use Rattle.blk_plain.specs.declared.op.Op.{Op}
+use Rattle.blk_plain.specs.declared.op.Op.TheVariants as op
+use Rattle.lay_core.specs.Layout.{Shape}
+use Rattle.graph_mean.specs.declared.step.Status.TheVariants as status
+use Rattle.graph_mean.specs.Task.{is_rebuild_of}
+use Rattle.graph_mean.specs.Steps.{Writes}
+use Rattle.eng_one.specs.Control.{mark_of}
+use Rattle.eng_cols.specs.declared.spot.Spot.{Spot}
+use Rattle.eng_cols.specs.Cols.{ColumnState, IsKept}
+use Rattle.eng_cols.specs.Seats.{target}
+use Rattle.eng_cols.specs.Changes.{IsEnded}
+use Rattle.eng_world.specs.declared.item.Item.{Item}
+use Rattle.eng_world.specs.declared.item.Item.TheVariants as item
+use Rattle.eng_array.specs.declared.state.Core.{Core}
+use Rattle.eng_array.specs.Desk.{Desk, desk_at}
+use Rattle.eng_array.specs.Log.{Logged}
+
+-- the operation is a rebuild
+abbrev pub IsRebuildOp : Op → Type 0
+IsRebuildOp (op.Rebuild stripe) = Unit {0}
+IsRebuildOp (op.Write span pattern) = ⊥
+IsRebuildOp (op.Read span) = ⊥
+IsRebuildOp (op.Sync stripe) = ⊥
+
+abbrev pub IsRebuild : Option Item → Type 0
+IsRebuild (Some (item.Run op graph)) = IsRebuildOp op
+IsRebuild (Some (item.Fail column)) = ⊥
+IsRebuild None = ⊥
+
+-- node n has written this sector of the first stripe, good
+abbrev pub WroteGood : Desk → ℕ → ℕ → ℕ → Type 0
+WroteGood d n unit o = Writes d.run.graph n 0 unit o × (mark_of d.run n ≡ status.Good)
+
+-- nodes have written each sector of the unit so
+abbrev pub WroteAll : Desk → ℕ → Type 0
+WroteAll d unit = (o : ℕ) → o < d.task.unit_sectors → (n : ℕ) × WroteGood d n unit o
+
+-- the operation is the rebuild of this unit, has written all of it, and its target is still alive
+pub record HasRebuilt (y : Shape) (cols : List ColumnState) (d : Desk) (unit : ℕ) : Type 0 where
+  pub own : is_rebuild_of d.task.kind unit ≡ true
+  pub wrote : WroteAll d unit
+  pub alive : (at : Spot) × (target y cols (slice_index d.map.stripes 0) unit ≡ Some at)
+
+-- ## What its end does
+
+-- one stripe more was rebuilt
+abbrev pub counted : Logged → Logged
+counted l = record l { rebuilt = suc l.rebuilt }
+
+-- Fewer stripes were rebuilt than operations have entered the history: each rebuild enters it before its end.
+abbrev pub MayCount : Logged → Type 0
+MayCount l = l.rebuilt < length l.history
+
+-- a stripe is counted exactly where a unit was rebuilt
+pub record CountsRebuilt (y : Shape) (cols : List ColumnState) (d : Desk) (old new : Logged) : Type 0 where
+  pub one : (unit : ℕ) → HasRebuilt y cols d unit → new ≡ counted old
+  pub none : ((unit : ℕ) → HasRebuilt y cols d unit → ⊥) → new ≡ old
+
+module _ {L D : Type 0} where
+  -- the unit of client c was rebuilt: its stripe is done and counted, and nothing else changes
+  pub record StripeDone (y : Shape) (old : Core L D) (c unit : ℕ) (new : Core L D) : Type 0 where
+    pub rebuilt : HasRebuilt y old.cols.states (desk_at old.clients c) unit
+    pub ended : IsEnded y (slice_index (desk_at old.clients c).map.stripes 0) unit old.cols.states new.cols.states
+    pub columns : length new.cols.states ≡ length old.cols.states
+    pub stripes : new.cols.stripes ≡ old.cols.stripes
+    pub kept : IsKept new.cols
+    pub rest : new ≡ record old { cols = new.cols; log = counted old.log }
+
+  -- where a unit was rebuilt its stripe is done, and else nothing changes
+  abbrev pub StripeEnds : Shape → Core L D → ℕ → Core L D → Type 0
+  StripeEnds y old c new =
+      ((unit : ℕ) × StripeDone y old c unit new)
+      ⊎ (((unit : ℕ) → HasRebuilt y old.cols.states (desk_at old.clients c) unit → ⊥) × (new ≡ old))

@@ -1,0 +1,67 @@
+//! A core is closed.
+ghost use Rattle.std.specs.Prelude.{◌≡◌, ◌≤◌, [], length, map, vec_capacity};
+ghost use Rattle.eng_cols.specs.Cols.{column_of};
+ghost use Rattle.eng_array.specs.Opened.{NoneOut};
+ghost use Rattle.eng_array.specs.Closed.{IsClosed};
+ghost use Rattle.eng_array.specs.Sound.{IsSound};
+
+use crate::setup::Closed;
+use crate::spare::Spare;
+use crate::state::Core;
+use blk_disk::Disk;
+use eng_cols::{Cols, Column};
+use lay_core::Layout;
+
+// What each of so many columns is.
+fn list_columns(cols: &Cols, count: u32, columns: &mut Vec<Column>)
+    requires count { length cols.now.states ≡ count }
+    requires empty { columns.old.items ≡ [] }
+    requires room { count ≤ vec_capacity columns.old }
+    ensures { columns.new.items ≡ map column_of cols.now.states }
+{
+    for column in 0..count {
+        columns.push_reserved(cols.column(column));
+    }
+}
+
+impl<L: Layout, D: Disk + Drop> Core<L, D> {
+    /// Closes a core of which no node is out, and hands back what it has. Once the array is lost, each item without a
+    /// reply is replied so.
+    pub fn close(self) -> Closed<L, D>
+        requires sound { IsSound L.Layout D.Disk self }
+        requires none_out { NoneOut self.clients }
+        ensures { IsClosed self result }
+    {
+        let Core {
+            layout,
+            cols,
+            devices,
+            clients,
+            log,
+            spare,
+            lost,
+            ..
+        } = self;
+        let Spare {
+            clients: given,
+            items,
+            replies,
+            mut columns,
+        } = spare;
+        list_columns(&cols, layout.columns(), &mut columns);
+        let told = clients.close(given, lost, items, replies);
+        let left = log.close();
+        let home = devices.close();
+        Closed {
+            layout,
+            devices: home,
+            columns,
+            clients: told.0,
+            replies: told.1,
+            history: left.0,
+            trace: left.1,
+            lost,
+            rebuilt: left.2,
+        }
+    }
+}
