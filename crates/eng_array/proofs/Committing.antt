@@ -37,6 +37,8 @@ use Rattle.eng_one.proofs.Waiting.{step-reached}
 use Rattle.eng_one.proofs.Leading as leading
 use Rattle.graph_mean.specs.Steps.{Do, IsCall}
 use Rattle.eng_array.proofs.EndKeeps.{end-sound, plain-ended}
+use Rattle.eng_array.proofs.EndStays.{end-stays}
+use Rattle.eng_array.specs.Out.{OthersStay}
 use Rattle.eng_array.proofs.Put.{put, put-same, put-other, set-marked}
 use Rattle.eng_array.proofs.Running.{runs_below}
 use Rattle.eng_array.proofs.Shown.{unlost, shown-running, shown-put}
@@ -177,3 +179,7 @@ module _ {L D : Type 0} (lay : LayoutGhosts L) (disk : DiskGhosts D) (old mid : 
   commit-sound = end-sound lay disk old new c n Good sound o
       (plain-ended lay disk old mid c n Good h spot (λ b t. takes-none g n b kind t) (noted (entered mid.log (id_of old.clients c)) (event.Good (id_of old.clients c) n)))
       (step-reached g (Do n) d.run now.run well.reached (leading.end_leads d.run well.marks n Good node o.mark tt))
+
+  pub commit-stays : OthersStay disk lay c n old new
+  commit-stays = end-stays lay disk old new c n Good sound o
+      (plain-ended lay disk old mid c n Good h spot (λ b t. takes-none g n b kind t) (noted (entered mid.log (id_of old.clients c)) (event.Good (id_of old.clients c) n)))

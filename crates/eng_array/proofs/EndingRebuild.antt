@@ -26,6 +26,7 @@ use Rattle.eng_array.specs.Moves.{Terminated, id_of}
 use Rattle.eng_array.specs.Steps.{graphs_of, Follows}
 use Rattle.eng_array.specs.Rebuilt.{IsRebuild, IsRebuildOp, HasRebuilt, StripeEnds, CountsRebuilt, counted}
 use Rattle.eng_array.proofs.Over as over
+use Rattle.eng_array.specs.Out.{OthersStay}
 use Rattle.eng_array.proofs.Put.{put-same, put-other}
 use Rattle.eng_array.proofs.Rebuilding.{has-stripe, stripe-named, unit-within, rebuilt-seen, seen-rebuilt}
 use Rattle.eng_array.proofs.Shown.{unlost}
@@ -175,13 +176,13 @@ module _ {L D : Type 0} (lay : LayoutGhosts L) (disk : DiskGhosts D) (old mid en
   ]
 
   pub rebuild-trace : CountsRebuilt (lay.shape old.layout) old.cols.states (desk_at old.clients c) (noted old.log (event.Good (id_of old.clients c) n)) (noted end.log (event.Good (id_of old.clients c) n))
-  rebuild-trace = record {
-    one = λ unit r. elim ends [
-      | inl e ↦ ap (λ (l : Logged). noted l (event.Good (id_of old.clients c) n)) (h.log ∙ ap (λ (m : Core L D). m.log) e.1.rest)
-      | inr e ↦ absurd (e.0 unit r)
-    ];
-    none = λ none. elim ends [
-      | inl e ↦ absurd (none e.0 e.1.rebuilt)
-      | inr e ↦ ap (λ (l : Logged). noted l (event.Good (id_of old.clients c) n)) (h.log ∙ ap (λ (m : Core L D). m.log) e.1)
-    ];
-  }
+  rebuild-trace = elim ends [
+    | inl e ↦ inl (e.0, e.1.rebuilt, ap (λ (l : Logged). noted l (event.Good (id_of old.clients c) n)) (h.log ∙ ap (λ (m : Core L D). m.log) e.1.rest))
+    | inr e ↦ inr (e.0, ap (λ (l : Logged). noted l (event.Good (id_of old.clients c) n)) (h.log ∙ ap (λ (m : Core L D). m.log) e.1))
+  ]
+
+  pub rebuild-stays : OthersStay disk lay c n old (record end { log = noted end.log (event.Good (id_of old.clients c) n) })
+  rebuild-stays = elim ends [
+    | inl e ↦ over.over-stays lay disk (record old { cols = mid.cols; log = counted old.log }) end c n reply.Done (subst (λ (m : Core L D). IsSound lay disk m) e.1.rest sound) o kind (subst (λ (m : Core L D). Terminated m c n reply.Done end) e.1.rest h) end.log
+    | inr e ↦ over.over-stays lay disk old end c n reply.Done (subst (λ (m : Core L D). IsSound lay disk m) e.1 sound) o kind (subst (λ (m : Core L D). Terminated m c n reply.Done end) e.1 h) end.log
+  ]

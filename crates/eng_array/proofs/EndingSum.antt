@@ -44,6 +44,8 @@ use Rattle.eng_array.specs.Steps.{graphs_of, Follows}
 use Rattle.eng_array.specs.Summed.{SourcesOut, SourcesHome, SumBack, SumHome}
 use Rattle.eng_array.proofs.Handing.{hands-on}
 use Rattle.eng_array.proofs.EndKeeps.{end-sound}
+use Rattle.eng_array.proofs.EndStays.{end-stays}
+use Rattle.eng_array.specs.Out.{OthersStay}
 use Rattle.eng_array.proofs.GoodSteps.{good-step}
 use Rattle.eng_array.proofs.Put.{put, put-same, put-other, set-marked}
 use Rattle.eng_array.proofs.Repeating.{byte-sector_at}
@@ -379,3 +381,6 @@ module _ {L D : Type 0} (lay : LayoutGhosts L) (disk : DiskGhosts D) (old mid : 
       let w = well lay disk old c n bytes from count sound r in
       end-sound lay disk old new c n Good sound r.out ended
       (step-reached q (Do n) (desk_at old.clients c).run now.run w.reached (leading.end_leads (desk_at old.clients c).run w.marks n Good (node lay disk old c n bytes from count sound r) r.out.mark tt))
+
+  pub sum-stays : OthersStay disk lay c n old new
+  sum-stays = end-stays lay disk old new c n Good sound r.out ended

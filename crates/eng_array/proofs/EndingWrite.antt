@@ -40,6 +40,8 @@ use Rattle.eng_one.proofs.Leading as leading
 use Rattle.graph_mean.specs.Steps.{Do}
 use Rattle.eng_array.proofs.GoodSteps.{good-step}
 use Rattle.eng_array.proofs.EndKeeps.{end-sound, call-ended}
+use Rattle.eng_array.proofs.EndStays.{end-stays}
+use Rattle.eng_array.specs.Out.{OthersStay}
 use Rattle.eng_array.proofs.Leaving.{write-takes, takes-write}
 use Rattle.eng_array.proofs.Put.{put, put-same, put-other, set-marked}
 use Rattle.eng_array.proofs.Running.{runs_below}
@@ -260,3 +262,7 @@ module _ {L D : Type 0} (lay : LayoutGhosts L) (disk : DiskGhosts D) (old mid : 
   write-sound = end-sound lay disk old new c n Good sound r.out
       (call-ended lay disk old mid c n r.buf r.at after r.left bytes Good h r.spot r.are_out.device there.calls.size (write-takes g n r.unit r.buf r.kind) (λ a t. takes-write g n r.unit r.buf a r.kind t) inside (noted mid.log (event.Good (id_of old.clients c) n)) mid.next)
       (step-reached g (Do n) d.run now.run well.reached (leading.end_leads d.run well.marks n Good node r.out.mark tt))
+
+  pub write-stays : OthersStay disk lay c n old new
+  write-stays = end-stays lay disk old new c n Good sound r.out
+      (call-ended lay disk old mid c n r.buf r.at after r.left bytes Good h r.spot r.are_out.device there.calls.size (write-takes g n r.unit r.buf r.kind) (λ a t. takes-write g n r.unit r.buf a r.kind t) inside (noted mid.log (event.Good (id_of old.clients c) n)) mid.next)

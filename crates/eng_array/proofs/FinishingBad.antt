@@ -33,7 +33,7 @@ use Rattle.eng_array.specs.declared.state.Core.{Core}
 use Rattle.eng_array.specs.Shelf.{Shelved, come_home}
 use Rattle.eng_array.specs.Desk.{Desk, desk_at, with_ended}
 use Rattle.eng_array.specs.Log.{Logged, noted}
-use Rattle.eng_array.specs.Out.{AreOut}
+use Rattle.eng_array.specs.Out.{AreOut, OthersStay}
 use Rattle.eng_array.specs.Shows.{Shows}
 use Rattle.eng_array.specs.Sound.{IsSound, RunsWell}
 use Rattle.eng_array.specs.Moves.{id_of, CameHome}
@@ -48,6 +48,7 @@ use Rattle.eng_array.proofs.Failing as failing
 use Rattle.eng_array.proofs.Failed.{either-first, alone, loses-own, spot-parts}
 use Rattle.eng_array.proofs.EndingBad as ending
 use Rattle.eng_array.proofs.EndKeeps.{end-sound, call-ended}
+use Rattle.eng_array.proofs.EndStays.{end-stays}
 use Rattle.eng_array.proofs.Leaving.{read-takes, write-takes, takes-read, takes-write}
 
 -- ## A core that shows what another shows
@@ -139,6 +140,10 @@ module _ {L D : Type 0} (lay : LayoutGhosts L) (disk : DiskGhosts D) (old : Core
       end-sound lay disk old (record fin { log = log }) c n Bad sound r.out
       (call-ended lay disk old fin c n r.buf r.at after r.left bytes Bad h r.spot r.are_out.device r.calls.size takes takes-only (ending.inside lay disk old c n after first count bytes outcome sound r) log fin.next)
       (step-reached d.run.graph (Fail n all-units) d.run (with_ended d n Bad).run w.reached (leading.end_leads d.run w.marks n Bad node r.out.mark may all-units (λ s i u. refl)))
+
+  pub bad-stays : (fin : Core L D) (log : Logged) → CameHome old c n r.buf r.at after bytes Bad fin → OthersStay disk lay c n old (record fin { log = log })
+  bad-stays fin log h = end-stays lay disk old (record fin { log = log }) c n Bad sound r.out
+      (call-ended lay disk old fin c n r.buf r.at after r.left bytes Bad h r.spot r.are_out.device r.calls.size takes takes-only (ending.inside lay disk old c n after first count bytes outcome sound r) log fin.next)
 
 -- ## The event
 

@@ -21,15 +21,16 @@ use Rattle.eng_array.specs.Steps.{Follows}
 use Rattle.eng_array.proofs.OneServing.{each-set, same-serving, idle-serving, items-set}
 use Rattle.eng_array.proofs.Steady.{IsEvent, Keeps, steady-on}
 
--- nothing was traced, and there is as much room
+-- nothing was traced, and there is as much room, and the same regions
 pub record Untraced (old new : Logged) : Type 0 where
   pub keeps : new.keeps ≡ old.keeps
   pub trace : new.trace ≡ old.trace
   pub history_room : new.history_room ≡ old.history_room
   pub trace_room : new.trace_room ≡ old.trace_room
+  pub regions : new.handed.regions ≡ old.handed.regions
 
 pub same-log : (old new : Logged) → new ≡ old → Untraced old new
-same-log old new is = record { keeps = ap (λ (l : Logged). l.keeps) is; trace = ap (λ (l : Logged). l.trace) is; history_room = ap (λ (l : Logged). l.history_room) is; trace_room = ap (λ (l : Logged). l.trace_room) is }
+same-log old new is = record { keeps = ap (λ (l : Logged). l.keeps) is; trace = ap (λ (l : Logged). l.trace) is; history_room = ap (λ (l : Logged). l.history_room) is; trace_room = ap (λ (l : Logged). l.trace_room) is; regions = ap (λ (l : Logged). l.handed.regions) is }
 
 -- what a column's failure leaves of a desk
 suffered-items : (y : Shape) (cols : List ColumnState) (k : ℕ) (d : Desk) (t : Stage) → (suffered_in t y cols k d).items ≡ d.items
@@ -82,7 +83,7 @@ module _ {L D : Type 0} (lay : LayoutGhosts L) (disk : DiskGhosts D) (old : Core
         count = ap (λ (l : List Desk). length l) clients ∙ (length-set mid.clients c b ∙ k.count);
         layout = layout ∙ k.layout;
         graphs = graphs ∙ k.graphs;
-        log = record { keeps = log.keeps ∙ k.log.keeps; trace = log.trace ∙ k.log.trace; history_room = log.history_room ∙ k.log.history_room; trace_room = log.trace_room ∙ k.log.trace_room };
+        log = record { keeps = log.keeps ∙ k.log.keeps; trace = log.trace ∙ k.log.trace; history_room = log.history_room ∙ k.log.history_room; trace_room = log.trace_room ∙ k.log.trace_room; regions = log.regions ∙ k.log.regions };
         items = λ j. subst (λ (l : List Desk). (desk_at l j).items ≡ (desk_at mid.clients j).items) (sym clients) (items-set mid.clients c b among (goes-items (desk_at mid.clients c) b g) j) ∙ k.items j;
         serving = λ j. subst (λ (l : List Desk). IsServing y gs (desk_at l j)) (sym clients) (each-set (IsServing y gs) mid.clients c b among (goes-serving y gs (desk_at mid.clients c) b g (k.serving c)) k.serving j);
       }
@@ -103,7 +104,7 @@ module _ {L D : Type 0} (lay : LayoutGhosts L) (disk : DiskGhosts D) (old : Core
   noted-keeps e mid new is k = subst (Keeps lay disk old e) (sym is) (record {
     layout = k.layout;
     graphs = k.graphs;
-    log = record { keeps = k.log.keeps; trace = again; history_room = k.log.history_room; trace_room = k.log.trace_room };
+    log = record { keeps = k.log.keeps; trace = again; history_room = k.log.history_room; trace_room = k.log.trace_room; regions = k.log.regions };
     items = k.items;
     serving = k.serving;
   })

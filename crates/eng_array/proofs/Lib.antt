@@ -70,7 +70,9 @@ pub mod SteadyBegin
 pub mod SteadyTake
 pub mod Kept
 pub mod HistoryRoom
+pub mod RebuiltRoom
 pub mod SteadyEnds
+pub mod SteadyHome
 pub mod OnSeats
 pub mod Scattered
 pub mod ReturningSum
@@ -93,6 +95,7 @@ pub mod Ascending
 pub mod PossibleTake
 pub mod PossibleDoing
 pub mod EndStays
+pub mod HomeStays
 mod Over
 mod Rebuilding
 mod EndingRebuild

@@ -31,6 +31,8 @@ use Rattle.eng_array.specs.Moves.{CamePlain, id_of}
 use Rattle.eng_array.specs.Steps.{graphs_of, Follows}
 use Rattle.eng_array.proofs.Handing.{hands-on}
 use Rattle.eng_array.proofs.EndKeeps.{end-sound, plain-ended}
+use Rattle.eng_array.proofs.EndStays.{end-stays}
+use Rattle.eng_array.specs.Out.{OthersStay}
 use Rattle.eng_array.proofs.Put.{put, put-same, put-other, set-marked}
 use Rattle.eng_array.proofs.Running.{runs_below}
 use Rattle.eng_array.proofs.Shown.{shown-running, shown-put}
@@ -167,3 +169,7 @@ module _ {L D : Type 0} (lay : LayoutGhosts L) (disk : DiskGhosts D) (old mid : 
   nothing-sound = end-sound lay disk old new c n Good sound o
       (plain-ended lay disk old mid c n Good h spot takes-none (noted mid.log (event.Good (id_of old.clients c) n)))
       (step-reached g (Do n) d.run now.run well.reached (leading.end_leads d.run well.marks n Good node o.mark tt))
+
+  pub nothing-stays : OthersStay disk lay c n old new
+  nothing-stays = end-stays lay disk old new c n Good sound o
+      (plain-ended lay disk old mid c n Good h spot takes-none (noted mid.log (event.Good (id_of old.clients c) n)))

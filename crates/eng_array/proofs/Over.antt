@@ -3,7 +3,7 @@ use Rattle.std.proofs.Common.{◌≡◌, ◌≢◌, ℕ, suc, ◌<◌, ◌+◌, 
 use Rattle.std.specs.Prelude.{Contains, slice_get, slice_set, slice_index_or}
 use Rattle.std.proofs.lemmas.Bool.{cases_eq}
 use Rattle.std.proofs.lemmas.Grind.{get_or_default_zero}
-use Rattle.std.proofs.lemmas.List.{get_or-set_same, get_or-set_other, set-set}
+use Rattle.std.proofs.lemmas.List.{get_or-set_same, get_or-set_other, set-set, length-set}
 use Rattle.blk_plain.specs.declared.op.Outcome.TheVariants.{Good}
 use Rattle.blk_disk.specs.declared.disk.Disk.{Ghosts as DiskGhosts}
 use Rattle.buf_pool.specs.Pool as pool
@@ -29,6 +29,9 @@ use Rattle.eng_array.specs.Shows.{Shows, ShowsClient, HoldBytes, running_as, dev
 use Rattle.eng_array.specs.Sound.{IsSound, IsOutOf, RunsWell}
 use Rattle.eng_array.specs.Moves.{Terminated, Released, NodeEnded, DeviceCame}
 use Rattle.eng_array.proofs.EndKeeps.{end-sound}
+use Rattle.eng_array.proofs.EndStays.{end-stays}
+use Rattle.eng_array.proofs.EventsStay.{released-stays}
+use Rattle.eng_array.specs.Out.{OthersStay}
 use Rattle.eng_array.proofs.EndingPlain.{end-takes-none, below, well, node, alone}
 use Rattle.eng_array.proofs.Releasing.{release-sound}
 use Rattle.eng_array.proofs.Put.{put, put-same, put-other, set-marked}
@@ -172,3 +175,12 @@ module _ {L D : Type 0} (lay : LayoutGhosts L) (disk : DiskGhosts D) (old end : 
 
   pub over-sound : IsSound lay disk new
   over-sound = release-sound lay disk between new c reply between-sound (ap (λ (e : Desk). e.stage) desk-between ∙ o.runs) (λ m out. none-out m (sym (ap (λ (e : Desk). mark_of e.run m) desk-between) ∙ out)) between-released
+
+  -- ## What else is out stays
+
+  pub over-stays : OthersStay disk lay c n old new
+  over-stays job other out =
+      released-stays lay disk between c between-sound reply new between-released
+      (let e = length-set old.clients c now in let b = below lay disk old c n sound o kind in omega (arith, e, b))
+      (λ m theirs. none-out m (sym (ap (λ (e : Desk). mark_of e.run m) desk-between) ∙ theirs.mark))
+      job (end-stays lay disk old between c n Good sound o between-ended job other out)

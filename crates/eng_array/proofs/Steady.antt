@@ -1,5 +1,6 @@
 -- Each event keeps all that a core keeps, and there is room for it.
 use Rattle.std.proofs.Common.{◌≡◌, ◌⊎◌, ℕ, ◌<◌, ◌≤◌, ◌+◌, ◌++◌, List, [], ◌∷◌, length, Bool, if◌then◌else◌, subst, sym, ap, ◌∙◌, arith, inl, inr, refl, true, Option, Some, None, slice_get}
+use Rattle.std.specs.Prelude.{slice_index_or}
 use Rattle.std.proofs.lemmas.Bool.{cases_lt}
 use Rattle.std.proofs.lemmas.List.{get_or_past, length_push}
 use Rattle.blk_plain.specs.declared.op.Op.{Op}
@@ -24,7 +25,10 @@ use Rattle.eng_rest.proofs.Summing.{below-le}
 use Rattle.eng_array.specs.declared.stage.Stage.{Stage}
 use Rattle.eng_array.specs.declared.stage.Stage.TheVariants.{Nothing, Waits, Runs}
 use Rattle.eng_array.specs.declared.state.Core.{Core}
+use Rattle.eng_array.specs.declared.region.Region.{Region}
+use Rattle.eng_array.specs.Copied.{AreLaid}
 use Rattle.eng_array.specs.Desk.{Desk, desk_at, no_desk, item_at}
+use Rattle.eng_array.specs.Handed.{no_region}
 use Rattle.eng_array.specs.Log.{Logged, noted}
 use Rattle.eng_array.specs.Room.{HasRoom}
 use Rattle.eng_array.specs.Run.{HasRun, Notes}
@@ -45,7 +49,7 @@ IsEvent e = IsOwn e ⊎ ((c : ℕ) × (e ≡ event.Fail c))
 
 -- an event that was noted alone is traced
 pub notes-of : (l : Logged) (e : Traced) (m : Logged) → m ≡ noted l e → Notes l e m
-notes-of l e m is = subst (Notes l e) (sym is) (record { keeps = refl; trace = refl; history_room = refl; trace_room = refl })
+notes-of l e m is = subst (Notes l e) (sym is) (record { keeps = refl; trace = refl; history_room = refl; trace_room = refl; regions = refl })
 
 module _ {L D : Type 0} (lay : LayoutGhosts L) (disk : DiskGhosts D) where
   -- a client with an item is one of them
@@ -207,10 +211,24 @@ module _ {L D : Type 0} (lay : LayoutGhosts L) (disk : DiskGhosts D) where
         let d = keeps.log.history_room in
         omega (arith, a, b, d)
 
+    laid : AreLaid new.log.handed new.clients
+    laid = record {
+      clients = let a = steady.laid.clients in let b = steady.sound.well.all in let d = sound.well.all in let r = ap (λ (l : List (List Region)). length l) keeps.log.regions in omega (arith, a, b, d, r);
+      items = λ c l.
+          let a = steady.laid.items c (let b = steady.sound.well.all in let d = sound.well.all in omega (arith, l, b, d)) in
+          let i = ap (λ (v : List Item). length v) (keeps.items c) in
+          let r = ap (λ (v : List (List Region)). length (slice_index_or v c [])) keeps.log.regions in
+          omega (arith, a, i, r);
+      reads = λ c i span file at.
+          ap (λ (v : List (List Region)). (slice_index_or (slice_index_or v c []) i no_region).count) keeps.log.regions
+          ∙ steady.laid.reads c i span file (ap (λ (v : List Item). slice_get v i) (sym (keeps.items c)) ∙ at);
+    }
+
     pub steady-on : IsSteady lay disk new
     steady-on = record {
       sound = sound;
       reached = reached;
       serving = serving;
       places = record { most = steady.places.most; bound = bound; trace = traced; history = history };
+      laid = laid;
     }

@@ -1,4 +1,4 @@
--- What the end of a node rests on in a steady core: the trace has room for it, and the history for a commit.
+-- What the end of a node rests on in a steady core: the trace has room for it, the history for a commit, and a stripe may be counted.
 use Rattle.std.proofs.Common.{◌≡◌, ℕ, zero, suc, ◌<◌, ◌≤◌, List, length, subst, sym, ap, ◌∙◌, arith, inl, inr, refl, Option, Some, None}
 use Rattle.std.proofs.lemmas.Bool.{cases_eq}
 use Rattle.blk_plain.specs.declared.op.OpId.{OpId}
@@ -25,19 +25,22 @@ use Rattle.eng_world.specs.Invariant.{IsTold}
 use Rattle.eng_world.proofs.Promised.{reached-told}
 use Rattle.eng_rest.specs.Left.{below, left, cost, run_left, current_left, outs_of, item_left, IsIndexed}
 use Rattle.eng_rest.proofs.Items.{left-done, left-now, outs-of-it}
-use Rattle.eng_rest.proofs.Summing.{below-le}
+use Rattle.eng_rest.proofs.Summing.{below-le, below-less}
 use Rattle.eng_array.specs.declared.stage.Stage.TheVariants.{Nothing, Runs}
 use Rattle.eng_array.specs.declared.state.Core.{Core}
 use Rattle.eng_array.specs.Bad.{with_bad}
 use Rattle.eng_array.specs.Desk.{Desk, desk_at, with_ended, with_reply}
+use Rattle.eng_array.specs.Rebuilt.{MayCount}
 use Rattle.eng_array.specs.Room.{HasRoom, MayEnter}
 use Rattle.eng_array.specs.Shows.{running_as}
 use Rattle.eng_array.specs.Sound.{IsOutOf, RunsWell}
 use Rattle.eng_array.specs.Steady.{IsSteady}
+use Rattle.eng_array.specs.Steps.{graphs_of}
 use Rattle.eng_array.proofs.EventsLeft.{below-part, node-left}
 use Rattle.eng_array.proofs.HistoryRoom.{history-room}
 use Rattle.eng_array.proofs.Kept.{Goes, rests, same}
 use Rattle.eng_array.proofs.Reached.{reached, run-uncommitted}
+use Rattle.eng_array.proofs.RebuiltRoom.{replied_of, run-rebuilt}
 use Rattle.eng_array.proofs.Running.{runs_below}
 use Rattle.eng_array.proofs.Served.{item-below}
 use Rattle.eng_array.proofs.Shown.{shown-running}
@@ -134,3 +137,16 @@ module _ {L D : Type 0} (lay : LayoutGhosts L) (disk : DiskGhosts D) (core : Cor
           let ended = late-commit d.run.graph d.task (missing_of d.missing) well.accepted.0 well.accepted.1 well.accepted.2 d.run well.reached late in
           let here : n ≡ well.accepted.0 = well.accepted.2.commit.only n inside commit in
           subst HasEnded (ap (mark_of d.run) (sym here) ∙ out.mark) ended
+
+  -- ## Room for a stripe that is counted
+
+  pub may-count : core.lost ≡ None → MayCount core.log
+  may-count none =
+      let few : (j : ℕ) → 17 ≤ j → replied_of w j ≡ 0 = λ j l. let a = indexed.few j in let z = ap (λ (l : List Item). length l) ((shown-items lay disk core w k.sound k.reached.shows).1 j l) in omega (arith, a, z) in
+      let run = run-rebuilt (lay.shape core.layout) (graphs_of core.graphs.items) k.reached.opening k.reached.events w k.reached.is_opening.rebuilt k.reached.run few in
+      let less : replied_of w c < length (w.clients c).items = let a = indexed.asked c was runs-with.1 in let b = indexed.now (k.reached.shows.lost ∙ none) c was runs-with.1 in omega (arith, a, b) in
+      let a = below-less (λ j. length (w.clients j).items) (replied_of w) 17 c below17 (λ j l. indexed.few j) less in
+      let b = below-le (λ j. length (desk_at core.clients j).items) (λ j. length (w.clients j).items) 17 (λ j l. let z = ap (λ (l : List Item). length l) (k.reached.shows.clients j).items in omega (arith, z)) in
+      let h = k.places.history in
+      let e = k.reached.shows.rebuilt in
+      omega (arith, run, a, b, h, e)

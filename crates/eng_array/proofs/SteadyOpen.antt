@@ -11,6 +11,7 @@ use Rattle.eng_rest.specs.Left.{below, alive, left, item_left, current_left}
 use Rattle.eng_rest.proofs.Items.{left-now, left-later}
 use Rattle.eng_rest.proofs.Summing.{below-le}
 use Rattle.eng_array.specs.declared.state.Core.{Core}
+use Rattle.eng_array.specs.Copied.{AreLaid}
 use Rattle.eng_array.specs.Run.{Notes}
 use Rattle.eng_array.specs.Serving.{AreServing}
 use Rattle.eng_array.specs.Shows.{Shows}
@@ -42,19 +43,21 @@ unbegun-left most w u =
 
 module _ {L D : Type 0} (lay : LayoutGhosts L) (disk : DiskGhosts D) where
   -- an opened core
-  pub open-steady : (core : Core L D) (w : World) → IsSound lay disk core → IsOpening (lay.shape core.layout) w → Shows disk core w → core.log.trace ≡ [] → AreServing lay core → HasPlaces lay disk core w → IsSteady lay disk core
-  open-steady core w sound opening shows none serving places = record {
+  pub open-steady : (core : Core L D) (w : World) → IsSound lay disk core → IsOpening (lay.shape core.layout) w → Shows disk core w → core.log.trace ≡ [] → AreServing lay core → HasPlaces lay disk core w → AreLaid core.log.handed core.clients → IsSteady lay disk core
+  open-steady core w sound opening shows none serving places laid = record {
     sound = sound;
     reached = record { opening = w; events = []; now = w; is_opening = opening; run = refl; shows = shows; traced = λ keeps. none };
     serving = serving;
     places = places;
+    laid = laid;
   }
 
   -- a core after any event that has room for what may come then
-  pub room-steady : (old new : Core L D) (e : Traced) → IsSteady lay disk old → IsSound lay disk new → Follows lay disk old e new → new.layout ≡ old.layout → new.graphs ≡ old.graphs → Notes old.log e new.log → AreServing lay new → ((w : World) → Shows disk new w → HasPlaces lay disk new w) → IsSteady lay disk new
-  room-steady old new e steady sound follows layout graphs log serving places = record {
+  pub room-steady : (old new : Core L D) (e : Traced) → IsSteady lay disk old → IsSound lay disk new → Follows lay disk old e new → new.layout ≡ old.layout → new.graphs ≡ old.graphs → Notes old.log e new.log → AreServing lay new → ((w : World) → Shows disk new w → HasPlaces lay disk new w) → AreLaid new.log.handed new.clients → IsSteady lay disk new
+  room-steady old new e steady sound follows layout graphs log serving places laid = record {
     sound = sound;
     reached = run-on lay disk old new e (ap lay.shape layout) (ap (λ v. v.items) graphs) log follows steady.reached;
     serving = serving;
     places = places _ (follows steady.reached.now steady.reached.shows).1;
+    laid = laid;
   }

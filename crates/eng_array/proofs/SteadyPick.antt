@@ -32,4 +32,5 @@ module _ {L D : Type 0} (lay : LayoutGhosts L) (disk : DiskGhosts D) (core : Cor
       trace = steady.places.trace;
       history = steady.places.history;
     };
+    laid = steady.laid;
   }

@@ -49,14 +49,15 @@ pub record HasRebuilt (y : Shape) (cols : List ColumnState) (d : Desk) (unit : �
 abbrev pub counted : Logged → Logged
 counted l = record l { rebuilt = suc l.rebuilt }
 
--- Fewer stripes were rebuilt than operations have entered the history: each rebuild enters it before its end.
+-- fewer stripes were rebuilt than the history has room for items: each is that of another item
 abbrev pub MayCount : Logged → Type 0
-MayCount l = l.rebuilt < length l.history
+MayCount l = l.rebuilt < l.history_room
 
 -- a stripe is counted exactly where a unit was rebuilt
-pub record CountsRebuilt (y : Shape) (cols : List ColumnState) (d : Desk) (old new : Logged) : Type 0 where
-  pub one : (unit : ℕ) → HasRebuilt y cols d unit → new ≡ counted old
-  pub none : ((unit : ℕ) → HasRebuilt y cols d unit → ⊥) → new ≡ old
+abbrev pub CountsRebuilt : Shape → List ColumnState → Desk → Logged → Logged → Type 0
+CountsRebuilt y cols d old new =
+    ((unit : ℕ) × HasRebuilt y cols d unit × (new ≡ counted old))
+    ⊎ (((unit : ℕ) → HasRebuilt y cols d unit → ⊥) × (new ≡ old))
 
 module _ {L D : Type 0} where
   -- the unit of client c was rebuilt: its stripe is done and counted, and nothing else changes

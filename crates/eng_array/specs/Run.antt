@@ -10,12 +10,13 @@ use Rattle.eng_array.specs.Log.{Logged, noted}
 use Rattle.eng_array.specs.Shows.{Shows}
 use Rattle.eng_array.specs.Steps.{graphs_of}
 
--- the event was traced, where events are; the history may have grown, and there is as much room in all
+-- the event was traced, where events are; the history may have grown, and there is as much room in all, and the same regions for what reads hand out
 pub record Notes (old : Logged) (event : Traced) (new : Logged) : Type 0 where
   pub keeps : new.keeps ≡ old.keeps
   pub trace : new.trace ≡ (noted old event).trace
   pub history_room : new.history_room ≡ old.history_room
   pub trace_room : new.trace_room ≡ old.trace_room
+  pub regions : new.handed.regions ≡ old.handed.regions
 
 module _ {L D : Type 0} (lay : LayoutGhosts L) (disk : DiskGhosts D) where
   -- These events, the newest first, led from an opening to a world that the core shows. Where events are traced, they are the trace.

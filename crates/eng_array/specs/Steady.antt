@@ -7,6 +7,7 @@ use Rattle.eng_world.specs.declared.item.Item.TheVariants as item
 use Rattle.eng_world.specs.World.{World}
 use Rattle.eng_rest.specs.Left.{below, alive, all_left}
 use Rattle.eng_array.specs.declared.state.Core.{Core}
+use Rattle.eng_array.specs.Copied.{AreLaid}
 use Rattle.eng_array.specs.Desk.{desk_at}
 use Rattle.eng_array.specs.Run.{HasRun}
 use Rattle.eng_array.specs.Serving.{AreServing, most_for}
@@ -24,9 +25,10 @@ module _ {L D : Type 0} (lay : LayoutGhosts L) (disk : DiskGhosts D) where
     pub trace : core.log.keeps ≡ true → length core.log.trace + events_left most now ≤ core.log.trace_room
     pub history : below (λ c. length (desk_at core.clients c).items) 17 ≤ core.log.history_room
 
-  -- the core is sound, a run has led to what it shows, its clients are served as planned, and there is room for what may still come
+  -- the core is sound, a run has led to what it shows, its clients are served as planned, there is room for what may still come, and a region for what each item hands out
   pub record IsSteady (core : Core L D) : Type 0 where
     pub sound : IsSound lay disk core
     pub reached : HasRun lay disk core
     pub serving : AreServing lay core
     pub places : HasPlaces core reached.now
+    pub laid : AreLaid core.log.handed core.clients

@@ -13,6 +13,7 @@ ghost use Rattle.eng_array.specs.Sound.{IsSound, IsOutOf};
 ghost use Rattle.eng_array.specs.Moves.{id_of, CameHome};
 ghost use Rattle.eng_array.specs.Steps.{Follows};
 ghost use Rattle.eng_array.specs.GoesOn.{GoesOn};
+ghost use Rattle.eng_array.specs.Out.{OthersStay};
 ghost use Rattle.eng_array.specs.Failing.{FailedBy};
 ghost use Rattle.eng_cols.specs.declared.spot.Loss.{Loss};
 ghost use Rattle.eng_array.specs.Bad.{Standing, CallBack, EndsBad, FailedIfAlive, IsOnColumn, struck_lost};
@@ -104,6 +105,7 @@ impl<L: Layout, D: Disk> Core<L, D> {
         ensures step { Follows L.Layout D.Disk self.old (event.Bad (id_of self.old.clients client) node) self.new }
         ensures sound { IsSound L.Layout D.Disk self.new }
         ensures goes { GoesOn self.old self.new }
+        ensures stays { OthersStay D.Disk L.Layout client node self.old self.new }
         ensures trace { self.new.log ≡ noted self.old.log (event.Bad (id_of self.old.clients client) node) }
     {
         let id = self.id(client);
@@ -147,6 +149,7 @@ impl<L: Layout, D: Disk> Core<L, D> {
         ensures step { Follows L.Layout D.Disk self.old (event.Bad (id_of self.old.clients client) node) self.new }
         ensures sound { IsSound L.Layout D.Disk self.new }
         ensures goes { GoesOn self.old self.new }
+        ensures stays { OthersStay D.Disk L.Layout client node self.old self.new }
         ensures trace { self.new.log ≡ noted self.old.log (event.Bad (id_of self.old.clients client) node) }
     {
         let id = self.id(client);

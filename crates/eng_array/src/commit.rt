@@ -9,6 +9,7 @@ ghost use Rattle.eng_array.specs.Sound.{IsSound, IsOutOf};
 ghost use Rattle.eng_array.specs.Moves.{id_of};
 ghost use Rattle.eng_array.specs.Steps.{Follows};
 ghost use Rattle.eng_array.specs.GoesOn.{GoesOn};
+ghost use Rattle.eng_array.specs.Out.{OthersStay};
 
 use crate::state::Core;
 use blk_disk::Disk;
@@ -40,6 +41,7 @@ impl<L: Layout, D: Disk> Core<L, D> {
         ensures step { Follows L.Layout D.Disk self.old (event.Good (id_of self.old.clients client) node) self.new }
         ensures sound { IsSound L.Layout D.Disk self.new }
         ensures goes { GoesOn self.old self.new }
+        ensures stays { OthersStay D.Disk L.Layout client node self.old self.new }
         ensures trace { self.new.log ≡ noted (entered self.old.log (id_of self.old.clients client)) (event.Good (id_of self.old.clients client) node) }
     {
         let id = self.id(client);

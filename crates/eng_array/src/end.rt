@@ -12,6 +12,7 @@ ghost use Rattle.eng_array.specs.Sound.{IsSound, IsOutOf};
 ghost use Rattle.eng_array.specs.Moves.{id_of, Released, Terminated};
 ghost use Rattle.eng_array.specs.Steps.{Follows};
 ghost use Rattle.eng_array.specs.GoesOn.{GoesOn};
+ghost use Rattle.eng_array.specs.Out.{OthersStay};
 ghost use Rattle.eng_array.specs.Ends.{IsPlain};
 
 use crate::state::Core;
@@ -98,6 +99,7 @@ impl<L: Layout, D: Disk> Core<L, D> {
         ensures step { Follows L.Layout D.Disk self.old (event.Good (id_of self.old.clients client) node) self.new }
         ensures sound { IsSound L.Layout D.Disk self.new }
         ensures goes { GoesOn self.old self.new }
+        ensures stays { OthersStay D.Disk L.Layout client node self.old self.new }
         ensures trace { self.new.log ≡ noted self.old.log (event.Good (id_of self.old.clients client) node) }
     {
         let id = self.id(client);

@@ -13,7 +13,7 @@ ghost use Rattle.eng_array.specs.Moves.{id_of, CameHome};
 ghost use Rattle.eng_array.specs.Steps.{Follows};
 ghost use Rattle.eng_array.specs.GoesOn.{GoesOn};
 ghost use Rattle.eng_array.specs.Back.{ReadBack, WriteBack};
-ghost use Rattle.eng_array.specs.Out.{CameBack};
+ghost use Rattle.eng_array.specs.Out.{CameBack, OthersStay};
 
 use crate::coming::Coming;
 use crate::state::Core;
@@ -60,6 +60,7 @@ impl<L: Layout, D: Disk> Core<L, D> {
         ensures step { Follows L.Layout D.Disk self.old (event.Good (id_of self.old.clients client) node) self.new }
         ensures sound { IsSound L.Layout D.Disk self.new }
         ensures goes { GoesOn self.old self.new }
+        ensures stays { OthersStay D.Disk L.Layout client node self.old self.new }
         ensures trace { self.new.log ≡ noted self.old.log (event.Good (id_of self.old.clients client) node) }
     {
         let _ = first;
@@ -111,6 +112,7 @@ impl<L: Layout, D: Disk> Core<L, D> {
         ensures step { Follows L.Layout D.Disk self.old (event.Good (id_of self.old.clients client) node) self.new }
         ensures sound { IsSound L.Layout D.Disk self.new }
         ensures goes { GoesOn self.old self.new }
+        ensures stays { OthersStay D.Disk L.Layout client node self.old self.new }
         ensures trace { self.new.log ≡ noted self.old.log (event.Good (id_of self.old.clients client) node) }
     {
         let _ = first;
@@ -138,6 +140,7 @@ impl<L: Layout, D: Disk> Core<L, D> {
         ensures step { Follows L.Layout D.Disk self.old (event.Good (id_of self.old.clients job.client) job.node) self.new }
         ensures sound { IsSound L.Layout D.Disk self.new }
         ensures goes { GoesOn self.old self.new }
+        ensures stays { OthersStay D.Disk L.Layout job.client job.node self.old self.new }
         ensures trace { self.new.log ≡ noted self.old.log (event.Good (id_of self.old.clients job.client) job.node) }
     {
         let Job {
@@ -166,6 +169,7 @@ impl<L: Layout, D: Disk> Core<L, D> {
         ensures step { Follows L.Layout D.Disk self.old (event.Good (id_of self.old.clients job.client) job.node) self.new }
         ensures sound { IsSound L.Layout D.Disk self.new }
         ensures goes { GoesOn self.old self.new }
+        ensures stays { OthersStay D.Disk L.Layout job.client job.node self.old self.new }
         ensures trace { self.new.log ≡ noted self.old.log (event.Good (id_of self.old.clients job.client) job.node) }
     {
         let Job {

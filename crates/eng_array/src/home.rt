@@ -9,7 +9,7 @@ ghost use Rattle.eng_array.specs.Sound.{IsSound};
 ghost use Rattle.eng_array.specs.Moves.{id_of};
 ghost use Rattle.eng_array.specs.Steps.{Follows};
 ghost use Rattle.eng_array.specs.GoesOn.{GoesOn};
-ghost use Rattle.eng_array.specs.Out.{CameBack};
+ghost use Rattle.eng_array.specs.Out.{CameBack, OthersStay};
 ghost use Rattle.eng_array.specs.Bad.{Standing, IsOnColumn};
 ghost use Rattle.eng_array.specs.Copied.{AreLaid};
 ghost use Rattle.eng_array.specs.Rebuilt.{MayCount};
@@ -65,6 +65,7 @@ impl<L: Layout, D: Disk> Core<L, D> {
         ensures step { Follows L.Layout D.Disk self.old (event.Good (id_of self.old.clients job.client) job.node) self.new }
         ensures sound { IsSound L.Layout D.Disk self.new }
         ensures goes { GoesOn self.old self.new }
+        ensures stays { OthersStay D.Disk L.Layout job.client job.node self.old self.new }
         ensures trace { LogEnds (L.shape self.old.layout) self.old.cols.states (desk_at self.old.clients job.client) self.old.log (event.Good (id_of self.old.clients job.client) job.node) self.new.log (id_of self.old.clients job.client) (kind_at (desk_at self.old.clients job.client).run.graph job.node) self.old.lost }
     {
         match self.lost {
@@ -85,6 +86,7 @@ impl<L: Layout, D: Disk> Core<L, D> {
         ensures step { Follows L.Layout D.Disk self.old (event.Good (id_of self.old.clients job.client) job.node) self.new }
         ensures sound { IsSound L.Layout D.Disk self.new }
         ensures goes { GoesOn self.old self.new }
+        ensures stays { OthersStay D.Disk L.Layout job.client job.node self.old self.new }
         ensures trace { LogEnds (L.shape self.old.layout) self.old.cols.states (desk_at self.old.clients job.client) self.old.log (event.Good (id_of self.old.clients job.client) job.node) self.new.log (id_of self.old.clients job.client) (kind_at (desk_at self.old.clients job.client).run.graph job.node) self.old.lost }
     {
         match &job.work {
@@ -109,6 +111,7 @@ impl<L: Layout, D: Disk> Core<L, D> {
         ensures step { Follows L.Layout D.Disk self.old (ended_by self.old job outcome) self.new }
         ensures sound { IsSound L.Layout D.Disk self.new }
         ensures goes { GoesOn self.old self.new }
+        ensures stays { OthersStay D.Disk L.Layout job.client job.node self.old self.new }
         ensures trace { LogEnds (L.shape self.old.layout) self.old.cols.states (desk_at self.old.clients job.client) self.old.log (ended_by self.old job outcome) self.new.log (id_of self.old.clients job.client) (kind_at (desk_at self.old.clients job.client).run.graph job.node) self.old.lost }
     {
         if self.comes_back_bad(&job, outcome) {

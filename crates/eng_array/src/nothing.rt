@@ -9,7 +9,7 @@ ghost use Rattle.eng_array.specs.Sound.{IsSound, IsOutOf};
 ghost use Rattle.eng_array.specs.Moves.{id_of};
 ghost use Rattle.eng_array.specs.Steps.{Follows};
 ghost use Rattle.eng_array.specs.GoesOn.{GoesOn};
-ghost use Rattle.eng_array.specs.Out.{CameBack};
+ghost use Rattle.eng_array.specs.Out.{CameBack, OthersStay};
 ghost use Rattle.eng_array.specs.Copied.{AreLaid};
 ghost use Rattle.eng_array.specs.Rebuilt.{MayCount};
 ghost use Rattle.eng_array.specs.EndLog.{LogEnds, LogEndsItem, LogEndsOp};
@@ -48,6 +48,7 @@ impl<L: Layout, D: Disk> Core<L, D> {
         ensures step { Follows L.Layout D.Disk self.old (event.Good (id_of self.old.clients client) node) self.new }
         ensures sound { IsSound L.Layout D.Disk self.new }
         ensures goes { GoesOn self.old self.new }
+        ensures stays { OthersStay D.Disk L.Layout client node self.old self.new }
         ensures trace { LogEndsOp (L.shape self.old.layout) self.old.cols.states (desk_at self.old.clients client) self.old.log (event.Good (id_of self.old.clients client) node) self.new.log op }
     {
         match op {
@@ -72,6 +73,7 @@ impl<L: Layout, D: Disk> Core<L, D> {
         ensures step { Follows L.Layout D.Disk self.old (event.Good (id_of self.old.clients client) node) self.new }
         ensures sound { IsSound L.Layout D.Disk self.new }
         ensures goes { GoesOn self.old self.new }
+        ensures stays { OthersStay D.Disk L.Layout client node self.old self.new }
         ensures trace { LogEndsItem (L.shape self.old.layout) self.old.cols.states (desk_at self.old.clients client) self.old.log (event.Good (id_of self.old.clients client) node) self.new.log (item_at (desk_at self.old.clients client)) }
     {
         let Some(item) = self.clients.item(client) else {
@@ -96,6 +98,7 @@ impl<L: Layout, D: Disk> Core<L, D> {
         ensures step { Follows L.Layout D.Disk self.old (event.Good (id_of self.old.clients job.client) job.node) self.new }
         ensures sound { IsSound L.Layout D.Disk self.new }
         ensures goes { GoesOn self.old self.new }
+        ensures stays { OthersStay D.Disk L.Layout job.client job.node self.old self.new }
         ensures trace { LogEnds (L.shape self.old.layout) self.old.cols.states (desk_at self.old.clients job.client) self.old.log (event.Good (id_of self.old.clients job.client) job.node) self.new.log (id_of self.old.clients job.client) (kind_at (desk_at self.old.clients job.client).run.graph job.node) self.old.lost }
     {
         let Job {

@@ -14,6 +14,7 @@ ghost use Rattle.eng_array.specs.Sound.{IsSound, IsOutOf};
 ghost use Rattle.eng_array.specs.Moves.{id_of};
 ghost use Rattle.eng_array.specs.Steps.{Follows};
 ghost use Rattle.eng_array.specs.GoesOn.{GoesOn};
+ghost use Rattle.eng_array.specs.Out.{OthersStay};
 ghost use Rattle.eng_array.specs.Rebuilt.{IsRebuild, HasRebuilt, StripeEnds, MayCount, CountsRebuilt, counted};
 
 use crate::state::Core;
@@ -86,6 +87,7 @@ impl<L: Layout, D: Disk> Core<L, D> {
         ensures step { Follows L.Layout D.Disk self.old (event.Good (id_of self.old.clients client) node) self.new }
         ensures sound { IsSound L.Layout D.Disk self.new }
         ensures goes { GoesOn self.old self.new }
+        ensures stays { OthersStay D.Disk L.Layout client node self.old self.new }
         ensures trace { CountsRebuilt (L.shape self.old.layout) self.old.cols.states (desk_at self.old.clients client) (noted self.old.log (event.Good (id_of self.old.clients client) node)) self.new.log }
     {
         let id = self.id(client);

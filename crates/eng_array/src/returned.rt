@@ -15,6 +15,7 @@ ghost use Rattle.eng_array.specs.Sound.{IsSound, IsOutOf};
 ghost use Rattle.eng_array.specs.Moves.{id_of};
 ghost use Rattle.eng_array.specs.Steps.{Follows};
 ghost use Rattle.eng_array.specs.GoesOn.{GoesOn};
+ghost use Rattle.eng_array.specs.Out.{OthersStay};
 ghost use Rattle.eng_array.specs.Handed.{region_at};
 ghost use Rattle.eng_array.specs.Copied.{AreLaid, Reads, CopiesOne, Copies, block_at, sector_for};
 
@@ -171,6 +172,7 @@ impl<L: Layout, D: Disk> Core<L, D> {
         ensures step { Follows L.Layout D.Disk self.old (event.Good (id_of self.old.clients client) node) self.new }
         ensures sound { IsSound L.Layout D.Disk self.new }
         ensures goes { GoesOn self.old self.new }
+        ensures stays { OthersStay D.Disk L.Layout client node self.old self.new }
         ensures trace { self.new.log ≡ noted (with_bytes self.old.log self.new.log.handed.bytes) (event.Good (id_of self.old.clients client) node) }
     {
         let id = self.id(client);

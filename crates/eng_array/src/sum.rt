@@ -10,7 +10,7 @@ ghost use Rattle.eng_array.specs.Sound.{IsSound, IsOutOf};
 ghost use Rattle.eng_array.specs.Moves.{id_of};
 ghost use Rattle.eng_array.specs.Steps.{Follows};
 ghost use Rattle.eng_array.specs.GoesOn.{GoesOn};
-ghost use Rattle.eng_array.specs.Out.{CameBack};
+ghost use Rattle.eng_array.specs.Out.{CameBack, OthersStay};
 ghost use Rattle.eng_array.specs.Summed.{SourcesOut, SourcesHome, SumBack, SumHome};
 
 use crate::client::Client;
@@ -105,6 +105,7 @@ impl<L: Layout, D: Disk> Core<L, D> {
         ensures step { Follows L.Layout D.Disk self.old (event.Good (id_of self.old.clients client) node) self.new }
         ensures sound { IsSound L.Layout D.Disk self.new }
         ensures goes { GoesOn self.old self.new }
+        ensures stays { OthersStay D.Disk L.Layout client node self.old self.new }
         ensures trace { self.new.log ≡ noted self.old.log (event.Good (id_of self.old.clients client) node) }
     {
         let id = self.id(client);
@@ -121,6 +122,7 @@ impl<L: Layout, D: Disk> Core<L, D> {
         ensures step { Follows L.Layout D.Disk self.old (event.Good (id_of self.old.clients job.client) job.node) self.new }
         ensures sound { IsSound L.Layout D.Disk self.new }
         ensures goes { GoesOn self.old self.new }
+        ensures stays { OthersStay D.Disk L.Layout job.client job.node self.old self.new }
         ensures trace { self.new.log ≡ noted self.old.log (event.Good (id_of self.old.clients job.client) job.node) }
     {
         let Job {

@@ -11,9 +11,11 @@ use Rattle.eng_array.specs.Steps.{Follows}
 use Rattle.eng_array.specs.Moves.{id_of, CameHome}
 use Rattle.eng_array.specs.Bad.{CallBack, struck_lost}
 use Rattle.eng_array.proofs.EndingBad as ending
-use Rattle.eng_array.proofs.FinishingBad.{bad-sound}
+use Rattle.eng_array.proofs.FinishingBad.{bad-sound, bad-stays}
 use Rattle.eng_array.proofs.LosingBad.{back-at, sound-at, lost-follows}
 use Rattle.eng_array.proofs.GoingOn.{goes-logged, goes-ended, goes-further, goes-struck}
+use Rattle.eng_array.specs.Out.{OthersStay}
+use Rattle.eng_array.proofs.HomeStays.{struck-stays}
 use Rattle.eng_array.proofs.state.Core.comes_bad.Goals as goal
 
 pub spot-requires-clause-node : goal.spot-requires-clause-node
@@ -109,3 +111,17 @@ returns-clause-goes g c =
     goes-logged c.args.self.now fin c.note.new.self _ c.note.ensures
     (goes-further old mid fin (goes-struck old mid r.at is)
     (goes-ended g.L.Layout g.D.Disk mid fin c.args.client c.args.node s b.0.out Bad (c.bad_home.ensures b.0).clients (c.bad_home.ensures b.0).layout (c.bad_home.ensures b.0).graphs))
+
+pub returns-clause-stays : goal.returns-clause-stays
+returns-clause-stays g c =
+    let old : Core g.row.L.Denot g.row.D.Denot = c.args.self.now in
+    let mid : Core g.row.L.Denot g.row.D.Denot = c.strike.new.self in
+    let fin : Core g.row.L.Denot g.row.D.Denot = c.bad_home.new.self in
+    let r = c.requires.back.0 in
+    let same : Some c.in-Some.at ≡ Some r.at = sym c.in-Some.is ∙ (c.spot.ensures ∙ r.spot) in
+    let e : c.in-Some.at ≡ r.at = cc in
+    let is : mid ≡ struck_lost old r.at = c.strike.ensures ∙ ap (λ (a : Spot). struck_lost old a) e in
+    let b = back-at g.L.Layout g.D.Disk old c.args.client c.args.node c.args.coming.disk c.args.first c.args.count c.args.coming.buffer c.args.outcome c.requires.sound r (c.requires.on r.at r.spot) mid is in
+    let s = sound-at g.L.Layout g.D.Disk old c.args.client c.args.node c.args.coming.disk c.args.first c.args.count c.args.coming.buffer c.args.outcome c.requires.sound r (c.requires.on r.at r.spot) mid is in
+    subst (λ (s : Core g.row.L.Denot g.row.D.Denot). OthersStay g.D.Disk g.L.Layout c.args.client c.args.node c.args.self.now s) (sym c.note.ensures)
+    (λ job other o. bad-stays g.L.Layout g.D.Disk mid c.args.client c.args.node c.args.coming.disk c.args.first c.args.count c.args.coming.buffer c.args.outcome s b.0 fin fin.log (c.bad_home.ensures b.0) job other (struck-stays g.L.Layout g.D.Disk old mid r.at is job o))

@@ -6,9 +6,10 @@ use Rattle.eng_array.specs.Log.{Logged, noted, entered}
 use Rattle.eng_array.specs.Moves.{id_of}
 use Rattle.eng_array.specs.Sound.{IsSound}
 use Rattle.eng_array.specs.Steps.{Follows}
-use Rattle.eng_array.proofs.Committing.{commit-follows, commit-sound}
+use Rattle.eng_array.proofs.Committing.{commit-follows, commit-sound, commit-stays}
 use Rattle.blk_plain.specs.declared.op.Outcome.TheVariants.{Good}
 use Rattle.eng_array.proofs.GoingOn.{goes-logged, goes-ended}
+use Rattle.eng_array.specs.Out.{OthersStay}
 use Rattle.eng_array.proofs.state.Core.commit_ends.Goals as goal
 
 pub returns-clause-step : goal.returns-clause-step
@@ -41,3 +42,9 @@ pub returns-clause-goes : goal.returns-clause-goes
 returns-clause-goes g c = goes-logged c.args.self.now c.enter.new.self c.note.new.self _ c.note.ensures
     (goes-logged c.args.self.now c.plain_home.new.self c.enter.new.self _ c.enter.ensures
     (goes-ended g.L.Layout g.D.Disk c.args.self.now c.plain_home.new.self c.args.client c.args.node c.requires.sound c.requires.out Good (c.plain_home.ensures).clients (c.plain_home.ensures).layout (c.plain_home.ensures).graphs))
+
+pub returns-clause-stays : goal.returns-clause-stays
+returns-clause-stays g c =
+    subst (λ (s : Core g.row.L.Denot g.row.D.Denot). OthersStay g.D.Disk g.L.Layout c.args.client c.args.node c.args.self.now s) (sym c.note.ensures)
+    (subst (λ (s : Core g.row.L.Denot g.row.D.Denot). OthersStay g.D.Disk g.L.Layout c.args.client c.args.node c.args.self.now s) (sym c.enter.ensures)
+    (commit-stays g.L.Layout g.D.Disk c.args.self.now c.plain_home.new.self c.args.client c.args.node c.requires.sound c.requires.not_lost c.requires.out c.requires.commit c.plain_home.ensures))

@@ -10,6 +10,8 @@ use Rattle.eng_array.specs.Sound.{IsSound}
 use Rattle.blk_plain.specs.declared.op.Outcome.TheVariants.{Good}
 use Rattle.eng_world.specs.declared.item.Reply.TheVariants as reply
 use Rattle.eng_array.proofs.GoingOn.{goes-logged, goes-terminated}
+use Rattle.eng_array.specs.Out.{OthersStay}
+use Rattle.eng_array.proofs.Over.{over-stays}
 use Rattle.eng_array.proofs.state.Core.end_plain.Goals as goal
 
 pub returns-clause-step : goal.returns-clause-step
@@ -37,3 +39,8 @@ returns-clause-trace g c =
 pub returns-clause-goes : goal.returns-clause-goes
 returns-clause-goes g c = goes-logged c.args.self.now c.terminate.new.self c.note.new.self _ c.note.ensures
     (goes-terminated g.L.Layout g.D.Disk c.args.self.now c.terminate.new.self c.args.client c.args.node c.requires.sound c.requires.out Good reply.Done (c.terminate.ensures).clients (c.terminate.ensures).layout (c.terminate.ensures).graphs)
+
+pub returns-clause-stays : goal.returns-clause-stays
+returns-clause-stays g c =
+    subst (λ (s : Core g.row.L.Denot g.row.D.Denot). OthersStay g.D.Disk g.L.Layout c.args.client c.args.node c.args.self.now s) (sym c.note.ensures)
+    (over-stays g.L.Layout g.D.Disk c.args.self.now c.terminate.new.self c.args.client c.args.node reply.Done c.requires.sound c.requires.out c.requires.end c.terminate.ensures c.terminate.new.self.log)

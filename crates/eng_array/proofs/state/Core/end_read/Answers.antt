@@ -15,6 +15,8 @@ use Rattle.eng_array.proofs.EndingData.{data-follows, data-sound}
 use Rattle.eng_array.proofs.EndingPlain.{all-home}
 use Rattle.blk_plain.specs.declared.op.Outcome.TheVariants.{Good}
 use Rattle.eng_array.proofs.GoingOn.{goes-logged, goes-terminated}
+use Rattle.eng_array.specs.Out.{OthersStay}
+use Rattle.eng_array.proofs.Over.{over-stays}
 use Rattle.eng_array.proofs.state.Core.end_read.Goals as goal
 
 pub copy_returns-requires-clause-home : goal.copy_returns-requires-clause-home
@@ -70,3 +72,12 @@ returns-clause-goes g c =
     let t = subst (λ (s : Core g.row.L.Denot g.row.D.Denot). Terminated s c.args.client c.args.node reply.Data c.terminate.new.self) c.copy_returns.ensures.rest c.terminate.ensures in
     goes-logged c.args.self.now c.terminate.new.self c.note.new.self _ c.note.ensures
     (goes-terminated g.L.Layout g.D.Disk c.args.self.now c.terminate.new.self c.args.client c.args.node c.requires.sound c.requires.out Good reply.Data (t).clients (t).layout (t).graphs)
+
+pub returns-clause-stays : goal.returns-clause-stays
+returns-clause-stays g c =
+    let old : Core g.row.L.Denot g.row.D.Denot = c.args.self.now in
+    let end : Core g.row.L.Denot g.row.D.Denot = c.terminate.new.self in
+    let l = with_bytes old.log c.copy_returns.new.self.log.handed.bytes in
+    let t = subst (λ (s : Core g.row.L.Denot g.row.D.Denot). Terminated s c.args.client c.args.node reply.Data end) c.copy_returns.ensures.rest c.terminate.ensures in
+    subst (λ (s : Core g.row.L.Denot g.row.D.Denot). OthersStay g.D.Disk g.L.Layout c.args.client c.args.node c.args.self.now s) (sym c.note.ensures)
+    (over-stays g.L.Layout g.D.Disk (record old { cols = old.cols; log = l }) end c.args.client c.args.node reply.Data (stripe-sound g.L.Layout g.D.Disk old c.requires.sound old.cols l c.requires.sound.seated) c.requires.out c.requires.end t end.log)

@@ -8,13 +8,14 @@ use Rattle.eng_array.specs.Moves.{id_of}
 use Rattle.eng_array.specs.Rebuilt.{CountsRebuilt}
 use Rattle.eng_array.specs.Steps.{Follows}
 use Rattle.eng_array.specs.Sound.{IsSound}
-use Rattle.eng_array.proofs.EndingRebuild.{rebuild-follows, rebuild-sound}
+use Rattle.eng_array.proofs.EndingRebuild.{rebuild-follows, rebuild-sound, rebuild-trace, rebuild-stays}
 use Rattle.blk_plain.specs.declared.op.Outcome.TheVariants.{Good}
 use Rattle.eng_world.specs.declared.item.Reply.TheVariants as reply
 use Rattle.std.proofs.Common.{List}
 use Rattle.eng_array.specs.Desk.{Desk}
 use Rattle.eng_array.specs.Sound.{IsOutOf}
 use Rattle.eng_array.proofs.GoingOn.{goes-logged, goes-terminated, goes-further, goes-stripe, stripe-clients}
+use Rattle.eng_array.specs.Out.{OthersStay}
 use Rattle.eng_array.proofs.state.Core.end_rebuild.Goals as goal
 
 pub returns-clause-step : goal.returns-clause-step
@@ -43,3 +44,17 @@ returns-clause-goes g c =
     goes-logged c.args.self.now c.terminate.new.self c.note.new.self _ c.note.ensures
     (goes-further c.args.self.now mid c.terminate.new.self (goes-stripe y c.args.self.now mid c.args.client c.end_stripe.ensures.ends)
     (goes-terminated g.L.Layout g.D.Disk mid c.terminate.new.self c.args.client c.args.node c.end_stripe.ensures.sound out Good reply.Done (c.terminate.ensures).clients (c.terminate.ensures).layout (c.terminate.ensures).graphs))
+
+pub returns-clause-trace : goal.returns-clause-trace
+returns-clause-trace g c =
+    let old : Core g.row.L.Denot g.row.D.Denot = c.args.self.now in
+    let end : Core g.row.L.Denot g.row.D.Denot = c.terminate.new.self in
+    let was = noted old.log (event.Good (id_of old.clients c.args.client) c.args.node) in
+    subst (λ (s : Core g.row.L.Denot g.row.D.Denot). CountsRebuilt (g.L.Layout.shape old.layout) old.cols.states (desk_at old.clients c.args.client) was s.log) (sym c.note.ensures)
+    (subst (λ (id : OpId). CountsRebuilt (g.L.Layout.shape old.layout) old.cols.states (desk_at old.clients c.args.client) was (noted end.log (event.Good id c.args.node))) (sym c.id-id.ensures)
+    (rebuild-trace g.L.Layout g.D.Disk old c.end_stripe.new.self end c.args.client c.args.node c.requires.out c.requires.end c.end_stripe.ensures.ends c.end_stripe.ensures.sound c.terminate.ensures))
+
+pub returns-clause-stays : goal.returns-clause-stays
+returns-clause-stays g c =
+    subst (λ (s : Core g.row.L.Denot g.row.D.Denot). OthersStay g.D.Disk g.L.Layout c.args.client c.args.node c.args.self.now s) (sym c.note.ensures)
+    (rebuild-stays g.L.Layout g.D.Disk c.args.self.now c.end_stripe.new.self c.terminate.new.self c.args.client c.args.node c.requires.out c.requires.end c.end_stripe.ensures.ends c.end_stripe.ensures.sound c.terminate.ensures)

@@ -10,8 +10,10 @@ use Rattle.eng_array.specs.Sound.{IsSound}
 use Rattle.eng_array.specs.Steps.{Follows}
 use Rattle.eng_array.specs.Moves.{id_of, CameHome}
 use Rattle.eng_array.specs.Bad.{FailedIfAlive, CallBack}
-use Rattle.eng_array.proofs.FinishingBad.{failed-sound_if, back-kept, bad-sound, bad-follows, log-kept}
+use Rattle.eng_array.proofs.FinishingBad.{failed-sound_if, back-kept, bad-sound, bad-stays, bad-follows, log-kept}
 use Rattle.eng_array.proofs.GoingOn.{goes-logged, goes-ended, goes-further, goes-if-alive}
+use Rattle.eng_array.specs.Out.{OthersStay}
+use Rattle.eng_array.proofs.HomeStays.{if-alive-stays}
 use Rattle.eng_array.proofs.state.Core.ends_bad.Goals as goal
 
 pub bad_home-requires-clause-sound : goal.bad_home-requires-clause-sound
@@ -70,3 +72,13 @@ returns-clause-goes g c =
     goes-logged c.args.self.now c.bad_home.new.self c.note.new.self _ c.note.ensures
     (goes-further c.args.self.now mid c.bad_home.new.self (goes-if-alive g.L.Layout c.args.self.now mid c.in-Some.at.column c.fail_if_alive.ensures)
     (goes-ended g.L.Layout g.D.Disk mid c.bad_home.new.self c.args.client c.args.node sound b.out Bad (c.bad_home.ensures b).clients (c.bad_home.ensures b).layout (c.bad_home.ensures b).graphs))
+
+pub returns-clause-stays : goal.returns-clause-stays
+returns-clause-stays g c =
+    let old : Core g.row.L.Denot g.row.D.Denot = c.args.self.now in
+    let mid : Core g.row.L.Denot g.row.D.Denot = c.fail_if_alive.new.self in
+    let fin : Core g.row.L.Denot g.row.D.Denot = c.bad_home.new.self in
+    let s = failed-sound_if g.L.Layout g.D.Disk old mid c.in-Some.at.column c.requires.sound c.fail_if_alive.ensures in
+    let b = (back g c).0 in
+    subst (λ (s : Core g.row.L.Denot g.row.D.Denot). OthersStay g.D.Disk g.L.Layout c.args.client c.args.node c.args.self.now s) (sym c.note.ensures)
+    (λ job other o. bad-stays g.L.Layout g.D.Disk mid c.args.client c.args.node c.args.coming.disk c.args.first c.args.count c.args.coming.buffer c.args.outcome s b fin fin.log (c.bad_home.ensures b) job other (if-alive-stays g.L.Layout g.D.Disk old mid c.in-Some.at.column c.fail_if_alive.ensures job o))

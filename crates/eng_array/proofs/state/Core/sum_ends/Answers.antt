@@ -7,9 +7,10 @@ use Rattle.eng_array.specs.Moves.{id_of}
 use Rattle.eng_array.specs.Room.{HasRoom}
 use Rattle.eng_array.specs.Steps.{Follows}
 use Rattle.eng_array.specs.Sound.{IsSound}
-use Rattle.eng_array.proofs.EndingSum.{sum-follows, sum-sound}
+use Rattle.eng_array.proofs.EndingSum.{sum-follows, sum-sound, sum-stays}
 use Rattle.blk_plain.specs.declared.op.Outcome.TheVariants.{Good}
 use Rattle.eng_array.proofs.GoingOn.{goes-logged, goes-ended}
+use Rattle.eng_array.specs.Out.{OthersStay}
 use Rattle.eng_array.proofs.state.Core.sum_ends.Goals as goal
 
 pub returns-clause-step : goal.returns-clause-step
@@ -41,3 +42,8 @@ note-requires g c = subst HasRoom (sym (c.sum_home.ensures c.requires.back).log)
 pub returns-clause-goes : goal.returns-clause-goes
 returns-clause-goes g c = goes-logged c.args.self.now c.sum_home.new.self c.note.new.self _ c.note.ensures
     (goes-ended g.L.Layout g.D.Disk c.args.self.now c.sum_home.new.self c.args.client c.args.node c.requires.sound c.requires.back.out Good (c.sum_home.ensures c.requires.back).clients (c.sum_home.ensures c.requires.back).layout (c.sum_home.ensures c.requires.back).graphs)
+
+pub returns-clause-stays : goal.returns-clause-stays
+returns-clause-stays g c =
+    subst (λ (s : Core g.row.L.Denot g.row.D.Denot). OthersStay g.D.Disk g.L.Layout c.args.client c.args.node c.args.self.now s) (sym c.note.ensures)
+    (sum-stays g.L.Layout g.D.Disk c.args.self.now c.sum_home.new.self c.args.client c.args.node c.args.target c.args.sources.items c.args.count c.requires.sound c.requires.back (c.sum_home.ensures c.requires.back))

@@ -9,8 +9,9 @@ use Rattle.eng_array.specs.Moves.{CameHome, id_of}
 use Rattle.eng_array.specs.Steps.{Follows}
 use Rattle.eng_array.proofs.Running.{runs_below}
 use Rattle.eng_array.specs.Sound.{IsSound}
-use Rattle.eng_array.proofs.EndingWrite.{write-follows, write-sound, write-below}
+use Rattle.eng_array.proofs.EndingWrite.{write-follows, write-sound, write-stays, write-below}
 use Rattle.eng_array.proofs.GoingOn.{goes-logged, goes-ended}
+use Rattle.eng_array.specs.Out.{OthersStay}
 use Rattle.eng_array.proofs.state.Core.write_ends.Goals as goal
 
 came : (g : _) (c : goal.After-note g) → CameHome c.args.self.now c.args.client c.args.node c.requires.back.0.buf c.requires.back.0.at c.args.disk c.args.buffer Good c.call_home.new.self
@@ -70,3 +71,8 @@ returns-clause-trace g c =
 pub returns-clause-goes : goal.returns-clause-goes
 returns-clause-goes g c = goes-logged c.args.self.now c.call_home.new.self c.note.new.self _ c.note.ensures
     (goes-ended g.L.Layout g.D.Disk c.args.self.now c.call_home.new.self c.args.client c.args.node c.requires.sound c.requires.back.0.out Good (came g c).clients (came g c).layout (came g c).graphs)
+
+pub returns-clause-stays : goal.returns-clause-stays
+returns-clause-stays g c =
+    subst (λ (s : Core g.row.L.Denot g.row.D.Denot). OthersStay g.D.Disk g.L.Layout c.args.client c.args.node c.args.self.now s) (sym c.note.ensures)
+    (write-stays g.L.Layout g.D.Disk c.args.self.now c.call_home.new.self c.args.client c.args.node c.args.disk c.args.first c.args.count c.args.buffer c.requires.sound c.requires.back.0 c.requires.back.1 (came g c))
