@@ -113,3 +113,7 @@ pub mod HandingBack
 pub mod MadeDesk
 pub mod SteadyPick
 pub mod Laying
+pub mod LaidItems
+pub mod OpenedSteady
+pub mod StartedSteady
+pub mod OpenedFits

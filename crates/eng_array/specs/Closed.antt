@@ -27,7 +27,7 @@ pub record AreClosed (lost : Option Loss) (desks : List Desk) (count : ℕ) (ite
   pub items_each : (c : ℕ) → c < count → items_at items c ≡ (desk_at desks c).items
   pub replies_each : (c : ℕ) → c < count → replies_at replies c ≡ replies_of lost (desk_at desks c)
 
--- All that the core has: layout, columns, history, trace, loss and count; each device in its place; and of each client that was handed in its items and its replies.
+-- All that the core has: layout, columns, history, trace, loss and count; each device in its place; of each client that was handed in its items and its replies; and the sectors that reads handed out, with the region of each item, the row of the array's own client last.
 pub record IsClosed {L D : Type 0} (core : Core L D) (closed : Closed L D) : Type 0 where
   pub layout : closed.layout ≡ core.layout
   pub count : length closed.devices.items ≡ length core.devices.slots
@@ -39,3 +39,5 @@ pub record IsClosed {L D : Type 0} (core : Core L D) (closed : Closed L D) : Typ
   pub trace : closed.trace.items ≡ core.log.trace
   pub lost : closed.lost ≡ core.lost
   pub rebuilt : closed.rebuilt ≡ core.log.rebuilt
+  pub sectors : closed.sectors.items ≡ core.log.handed.bytes
+  pub regions : closed.regions.items ≡ core.log.handed.regions

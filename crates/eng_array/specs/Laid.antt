@@ -37,6 +37,10 @@ row_sectors given c = below (sectors_at (items_at given c)) (length (items_at gi
 abbrev pub sectors_before : List (Vec Item Global) → ℕ → ℕ
 sectors_before given c = below (row_sectors given) c
 
+-- how many items the clients before this one have
+abbrev pub items_before : List (Vec Item Global) → ℕ → ℕ
+items_before given c = below (λ k. length (items_at given k)) c
+
 -- a region for each of the first n items, from this sector on
 pub record IsRow (items : List Item) (first n : ℕ) (row : List Region) : Type 0 where
   pub count : length row ≡ n

@@ -39,3 +39,4 @@ pub mod Rebuilding
 pub mod Closed
 pub mod Given
 pub mod Laid
+pub mod Fitting

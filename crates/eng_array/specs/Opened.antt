@@ -1,5 +1,5 @@
 -- What a core is opened over, and what it is then.
-use Rattle.std.specs.Prelude.{◌≡◌, ◌<◌, ◌≤◌, ◌+◌, ◌*◌, ℕ, List, [], length, Bool, false, Option, Some, None, Vec, slice_get, map, replicate, count_by, if◌then◌else◌}
+use Rattle.std.specs.Prelude.{◌≡◌, ◌<◌, ◌≤◌, ◌+◌, ◌*◌, ℕ, List, [], length, Bool, false, Some, None, Vec, slice_get, map, replicate, count_by, if◌then◌else◌}
 use Rattle.std.specs.declared.alloc.Global.{Global}
 use Rattle.blk_disk.specs.declared.disk.Disk.{Ghosts as DiskGhosts}
 use Rattle.buf_pool.specs.Pool.{IsFresh}
@@ -30,7 +30,7 @@ use Rattle.eng_array.specs.Brought.{brought}
 use Rattle.eng_array.specs.Desk.{Desk, desk_at}
 use Rattle.eng_array.specs.Given.{items_at}
 use Rattle.eng_array.specs.Handed.{Handout}
-use Rattle.eng_array.specs.Laid.{IsLaidOut}
+use Rattle.eng_array.specs.Laid.{items_before, IsLaidOut}
 use Rattle.eng_array.specs.Log.{Logged}
 use Rattle.eng_array.specs.Beginning.{IsAsked}
 use Rattle.eng_array.specs.Shows.{Shows}
@@ -69,7 +69,7 @@ fresh_log y trace handed = record {
 
 -- ## The room
 
--- The room is one for this layout, so many devices and these items: all columns are dead, all buffers free, no stripe is held, each client has its items and has begun none, and there is a rebuild's place for each stripe.
+-- The room is one for this layout, so many devices and these items: all columns are dead, all buffers free, no stripe is held, each client has its items, not too many in all, and has begun none, and there is a rebuild's place for each stripe.
 pub record IsRoomFor {D : Type 0} (y : Shape) (most : ℕ) (given : List (Vec Item Global)) (trace : Bool) (room : CoreRoom D) : Type 0 where
   pub cols : room.cols ≡ record { states = replicate y.columns Dead; stripes = y.stripes }
   pub devices : room.devices ≡ most
@@ -77,6 +77,7 @@ pub record IsRoomFor {D : Type 0} (y : Shape) (most : ℕ) (given : List (Vec It
   pub pool : IsFresh room.pool 2048
   pub locks : IsIdle room.locks 17
   pub lists : room.lists ≡ 32
+  pub few : items_before given 16 ≤ 65536
   pub count : length room.clients ≡ 17
   pub clients : (c : ℕ) → c < 17 → desk_at room.clients c ≡ new_desk (items_at given c)
   pub log : room.log ≡ fresh_log y trace room.log.handed

@@ -51,6 +51,7 @@ impl<L: Layout, D: Disk + Drop> Core<L, D> {
         list_columns(&cols, layout.columns(), &mut columns);
         let told = clients.close(given, lost, items, replies);
         let left = log.close();
+        let handed = left.3.close();
         let home = devices.close();
         Closed {
             layout,
@@ -62,6 +63,8 @@ impl<L: Layout, D: Disk + Drop> Core<L, D> {
             trace: left.1,
             lost,
             rebuilt: left.2,
+            sectors: handed.0,
+            regions: handed.1,
         }
     }
 }

@@ -9,9 +9,9 @@ use crate::fill::put_at;
 use crate::region::Region;
 use std::marker::Model;
 
-// The regions of one client's items.
+/// The regions of one client's items.
 #[derive(Drop)]
-pub(crate) struct Regions {
+pub struct Regions {
     pub(crate) list: Vec<Region>,
 }
 
@@ -42,8 +42,8 @@ impl Model for Handed {
 }
 
 impl Regions {
-    // The region of an item.
-    fn region(&self, item: u32) -> Region
+    /// The region of an item.
+    pub fn region(&self, item: u32) -> Region
         requires { item < length self.now }
         ensures { result ≡ slice_index_or self.now item (record { first = 0; count = 0 }) }
     {
@@ -67,6 +67,14 @@ impl Handed {
         ensures { self.new ≡ record self.old { bytes = put self.old.bytes first from.now } }
     {
         put_at(self.bytes.as_mut_slice(), first, from);
+    }
+
+    /// The bytes, and the regions of each client's items.
+    pub(crate) fn close(self) -> (Vec<u8>, Vec<Regions>)
+        ensures bytes { result.0.items ≡ self.bytes }
+        ensures regions { result.1.items ≡ self.regions }
+    {
+        (self.bytes, self.regions)
     }
 
     /// What is so of the regions. It does nothing.

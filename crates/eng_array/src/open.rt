@@ -3,6 +3,7 @@ ghost use Rattle.std.specs.Prelude.{◌≡◌, ◌≤◌, length, map, count_by,
 ghost use Rattle.eng_cols.specs.Cols.{IsFor, IsKept, is_set_filling, is_set_spread, state_set};
 ghost use Rattle.eng_cols.specs.Lost.{NotLost};
 ghost use Rattle.eng_array.specs.Beginning.{AllAsked};
+ghost use Rattle.eng_array.specs.Copied.{AreLaid};
 ghost use Rattle.eng_array.specs.Opened.{states_of, IsRoomFor, IsSetup, IsAssembled, IsOpened, NoneOut, OpensWorlds, IsFault};
 ghost use Rattle.eng_array.specs.Serves.{Stands};
 ghost use Rattle.eng_array.specs.Sound.{IsSound};
@@ -85,6 +86,7 @@ impl<L: Layout, D: Disk + Drop> Core<L, D> {
         ensures asked { IfOk result (AllAsked L.Layout) }
         ensures stands { IfOk result (Stands L.Layout) }
         ensures worlds { IfOk result (OpensWorlds L.Layout D.Disk) }
+        ensures laid { IfOk result (λ core. AreLaid core.log.handed core.clients) }
     {
         let mut room = room;
         room.set_columns(&setup.layout, setup.columns.as_slice());

@@ -174,6 +174,7 @@ impl<L: Layout, D: Disk> Core<L, D> {
         ensures step { Follows L.Layout D.Disk self.old (event.Fill column device) self.new }
         ensures sound { IsSound L.Layout D.Disk self.new }
         ensures trace { self.new.log ≡ noted self.old.log (event.Fill column device) }
+        ensures started { Started L.Layout self.old column (begun_filling self.old.cols column device) (event.Fill column device) self.new }
     {
         self.start_filling(column, device);
     }
@@ -187,6 +188,7 @@ impl<L: Layout, D: Disk> Core<L, D> {
         ensures step { Follows L.Layout D.Disk self.old (event.Spread column) self.new }
         ensures sound { IsSound L.Layout D.Disk self.new }
         ensures trace { self.new.log ≡ noted self.old.log (event.Spread column) }
+        ensures started { Started L.Layout self.old column (begun_spreading self.old.cols column) (event.Spread column) self.new }
     {
         self.start_spreading(column);
     }

@@ -1,10 +1,11 @@
 //! The room of a core is taken.
-ghost use Rattle.std.specs.Prelude.{◌≡◌, ◌≤◌, ◌*◌, ℕ, length, replicate, IfOk};
+ghost use Rattle.std.specs.Prelude.{◌≡◌, ◌<◌, ◌≤◌, ◌*◌, ℕ, length, replicate, IfOk};
 ghost use Rattle.buf_pool.specs.Pool.{IsFresh};
 ghost use Rattle.eng_cols.specs.Cols.{Dead};
 ghost use Rattle.eng_array.specs.Given.{items_at};
-ghost use Rattle.eng_array.specs.Opened.{fresh_log, IsRoomFor};
-ghost use Rattle.eng_array.specs.Laid.{sectors_before, IsLaidOut};
+ghost use Rattle.eng_array.specs.Desk.{desk_at};
+ghost use Rattle.eng_array.specs.Opened.{fresh_log, new_desk, IsRoomFor};
+ghost use Rattle.eng_array.specs.Laid.{items_before, sectors_before, IsLaidOut};
 
 use crate::clients::Clients;
 use crate::core_room::CoreRoom;
@@ -72,6 +73,16 @@ fn log_for<L: Layout>(
     Log::open(alloc, trace, handed, ITEMS + layout.stripes(), events)
 }
 
+// The clients, of which none has begun an item.
+fn clients_for(alloc: Global, clients: &[Vec<Item>]) -> Result<Clients, Memory>
+    requires clients { length clients.now ≤ 16 }
+    requires items { items_before clients.now 16 ≤ 65536 }
+    ensures count { IfOk result (λ opened. length opened ≡ 17) }
+    ensures each { IfOk result (λ opened. (c : ℕ) → c < 17 → desk_at opened c ≡ new_desk (items_at clients.now c)) }
+{
+    Clients::open(alloc, clients)
+}
+
 impl<D: Drop> CoreRoom<D> {
     /// Takes all memory that a run takes over this layout, so many devices and these items, with the trace if it is to
     /// be kept. The only error is want of memory.
@@ -84,7 +95,7 @@ impl<D: Drop> CoreRoom<D> {
         trace: bool,
     ) -> Result<CoreRoom<D>, Memory>
         requires clients { length clients.now ≤ 16 }
-        requires items { (c : ℕ) → length (items_at clients.now c) ≤ 65536 }
+        requires items { items_before clients.now 16 ≤ 65536 }
         requires sectors { sectors_before clients.now 16 ≤ 262144 }
         ensures { IfOk result (IsRoomFor (L.shape layout.now) devices clients.now trace) }
     {
@@ -98,7 +109,7 @@ impl<D: Drop> CoreRoom<D> {
             pool,
             locks: Locks::open(alloc, OWNERS)?,
             lists: Lists::open(alloc)?,
-            clients: Clients::open(alloc, clients)?,
+            clients: clients_for(alloc, clients)?,
             scratch: Scratch::open(alloc)?,
             log,
             rebuilds: Rebuilds::open(alloc, layout.stripes())?,

@@ -1,4 +1,5 @@
 //! What a core is opened over, and what it hands back.
+use crate::handed::Regions;
 use blk_plain::OpId;
 use eng_cols::{Column, Loss};
 use eng_world::{Item, Reply, Traced};
@@ -28,7 +29,8 @@ pub enum OpenFault {
 }
 
 /// What a closed core hands back: devices and columns as they are, the items as handed in with a reply to each, the
-/// history, the trace where it was kept, by what the array was lost, and how many stripes were rebuilt.
+/// history, the trace where it was kept, by what the array was lost, and how many stripes were rebuilt; and the sectors
+/// that reads handed out, with the regions of each client's items, those of the array's own client last.
 #[derive(Drop)]
 pub struct Closed<L, D> {
     pub layout: L,
@@ -40,4 +42,6 @@ pub struct Closed<L, D> {
     pub trace: Vec<Traced>,
     pub lost: Option<Loss>,
     pub rebuilt: u32,
+    pub sectors: Vec<u8>,
+    pub regions: Vec<Regions>,
 }

@@ -30,12 +30,13 @@ impl Log {
         })
     }
 
-    /// History, trace, and how many stripes were rebuilt.
-    pub(crate) fn close(self) -> (Vec<OpId>, Vec<Traced>, u32)
+    /// History, trace, how many stripes were rebuilt, and what reads hand out.
+    pub(crate) fn close(self) -> (Vec<OpId>, Vec<Traced>, u32, Handed)
         ensures history { result.0.items ≡ self.history }
         ensures trace { result.1.items ≡ self.trace }
         ensures rebuilt { result.2 ≡ self.rebuilt }
+        ensures handed { result.3 ≡ self.handed }
     {
-        (self.history, self.trace, self.rebuilt)
+        (self.history, self.trace, self.rebuilt, self.handed)
     }
 }

@@ -1,5 +1,6 @@
-use Rattle.std.proofs.Common.{ℕ, refl, subst}
+use Rattle.std.proofs.Common.{ℕ, refl, subst, ap, ◌∙◌}
 use Rattle.eng_array.specs.Closed.{AreClosed}
+use Rattle.eng_array.specs.Handed.{Handout}
 use Rattle.eng_array.proofs.HandingBack.{back-count, back-absent, back-devices}
 use Rattle.eng_array.proofs.state.Core.close.Goals as goal
 
@@ -15,4 +16,6 @@ returns g c = record {
   trace = c.close-left.ensures.trace;
   lost = refl;
   rebuilt = c.close-left.ensures.rebuilt;
+  sectors = c.close-handed.ensures.bytes ∙ ap (λ (h : Handout). h.bytes) c.close-left.ensures.handed;
+  regions = c.close-handed.ensures.regions ∙ ap (λ (h : Handout). h.regions) c.close-left.ensures.handed;
 }

@@ -4,6 +4,7 @@ use Rattle.eng_cols.specs.Cols.{Columns, state_set}
 use Rattle.eng_cols.specs.Lost.{NotLost}
 use Rattle.eng_array.specs.Opened.{IsFault}
 use Rattle.eng_array.proofs.Opening.{columns-set, set-fit, room-fit, assembled-opened, cols-kept, opened-none-out, opened-sound, opened-asked, opened-stands, opened-worlds}
+use Rattle.eng_array.proofs.LaidItems.{opened-laid}
 use Rattle.eng_array.proofs.state.Core.open.Goals as goal
 
 pub set_columns-requires-clause-layout : goal.set_columns-requires-clause-layout
@@ -35,3 +36,6 @@ returns-clause-stands g c = opened-stands g.L.Layout g.D.Disk c.args.setup c.put
 
 pub returns-clause-worlds : goal.returns-clause-worlds
 returns-clause-worlds g c = opened-worlds g.L.Layout g.D.Disk c.args.setup c.put_together.result (g.met.L.Layout.is_layout c.args.setup.layout) c.requires.setup (assembled-opened g.L.Layout g.D.Disk c.args.setup c.args.room c.set_columns.new.self c.put_together.result c.requires.room (subst (λ (cs : List Column). c.set_columns.new.self ≡ record c.args.room { cols = record c.args.room.cols { states = map (state_set c.args.room.cols.stripes) cs } }) c.as_slice.ensures.value c.set_columns.ensures.set) c.put_together.ensures) (cols-kept g.L.Layout g.D.Disk c.args.setup c.args.room c.set_columns.new.self c.put_together.result c.requires.room (subst (λ (cs : List Column). c.set_columns.new.self ≡ record c.args.room { cols = record c.args.room.cols { states = map (state_set c.args.room.cols.stripes) cs } }) c.as_slice.ensures.value c.set_columns.ensures.set) c.put_together.ensures c.set_columns.ensures.kept) (subst (λ (v : Columns). NotLost (g.L.Layout.shape c.args.setup.layout) v.states) (columns-set (g.L.Layout.shape c.args.setup.layout) (length c.args.setup.devices.items) c.args.setup.clients.items c.args.setup.trace c.args.room c.set_columns.new.self c.args.setup.columns.items c.requires.room (subst (λ (cs : List Column). c.set_columns.new.self ≡ record c.args.room { cols = record c.args.room.cols { states = map (state_set c.args.room.cols.stripes) cs } }) c.as_slice.ensures.value c.set_columns.ensures.set)) c.in-None.ensures)
+
+pub returns-clause-laid : goal.returns-clause-laid
+returns-clause-laid g c = opened-laid g.L.Layout g.D.Disk c.args.setup c.put_together.result (assembled-opened g.L.Layout g.D.Disk c.args.setup c.args.room c.set_columns.new.self c.put_together.result c.requires.room (subst (λ (cs : List Column). c.set_columns.new.self ≡ record c.args.room { cols = record c.args.room.cols { states = map (state_set c.args.room.cols.stripes) cs } }) c.as_slice.ensures.value c.set_columns.ensures.set) c.put_together.ensures)

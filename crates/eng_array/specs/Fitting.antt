@@ -1,0 +1,52 @@
+-- Whether a log has room for all that may come: of a core that opens, and of one that begins a rebuild.
+use Rattle.std.specs.Prelude.{◌≡◌, ◌≤◌, ◌+◌, ◌*◌, ℕ, List, [], length, true, Option, Some, None, Vec, slice_get, slice_index_or}
+use Rattle.std.specs.declared.alloc.Global.{Global}
+use Rattle.lay_core.specs.Layout.{Shape}
+use Rattle.lay_core.specs.declared.layout.Layout.{Ghosts as LayoutGhosts}
+use Rattle.graph_mean.specs.Graph.{Held}
+use Rattle.eng_cols.specs.Cols.{ColumnState}
+use Rattle.eng_world.specs.declared.item.Item.{Item}
+use Rattle.eng_world.specs.declared.item.Item.TheVariants as item
+use Rattle.eng_rest.specs.Left.{below, alive}
+use Rattle.eng_array.specs.declared.setup.Setup.{Setup}
+use Rattle.eng_array.specs.declared.state.Core.{Core}
+use Rattle.eng_array.specs.Desk.{desk_at}
+use Rattle.eng_array.specs.Given.{items_at}
+use Rattle.eng_array.specs.Opened.{states_of}
+use Rattle.eng_array.specs.Serving.{most_by, most_for}
+
+-- the most nodes of a graph of the item, if there is one
+abbrev pub most_in : Shape → List Held → Option Item → ℕ
+most_in y graphs None = 0
+most_in y graphs (Some (item.Run op file)) = most_for y graphs op file
+most_in y graphs (Some (item.Fail column)) = 0
+
+-- The events of an item whose graphs have at most m nodes, where n columns may fail: it begins, takes its stripes, and each node is fired and ends; and each failure may have it planned anew.
+abbrev pub item_events : ℕ → ℕ → ℕ
+item_events n m = 2 * m + 2 + n * (2 * m + 1)
+
+-- those of these items
+abbrev pub row_events : Shape → List Held → ℕ → List Item → ℕ
+row_events y graphs n items = below (λ i. item_events n (most_in y graphs (slice_get items i))) (length items)
+
+-- those of all items, and the failure of each column that isn't dead
+abbrev pub opening_events : Shape → List Held → List ColumnState → List (Vec Item Global) → ℕ
+opening_events y graphs columns given = below (λ c. row_events y graphs (alive columns) (items_at given c)) 16 + alive columns
+
+-- the trace, if it is kept, has room for them
+abbrev pub FitsTrace : {L D : Type 0} → LayoutGhosts L → Setup L D → Type 0
+FitsTrace lay setup = setup.trace ≡ true → opening_events (lay.shape setup.layout) setup.graphs.items (states_of (lay.shape setup.layout) setup.columns.items) setup.clients.items ≤ 1048576 + 2 + (lay.shape setup.layout).columns
+
+-- those of a rebuild of each stripe, which is an operation over one
+abbrev pub rebuild_events : Shape → ℕ → ℕ
+rebuild_events y n = below (λ s. item_events n (most_by y [] 1 None)) y.stripes
+
+-- A core that has begun no operation has room for a rebuild of a dead column: its trace, if it is kept, for the start, for all events of all items and of a rebuild of each stripe, where one column more may fail, and for these failures; its history for one operation more for each stripe; and client 16 has a region for each.
+pub record FitsRebuild {L D : Type 0} (lay : LayoutGhosts L) (core : Core L D) : Type 0 where
+  pub trace : core.log.keeps ≡ true → length core.log.trace + 1 + below (λ c. row_events (lay.shape core.layout) core.graphs.items (alive core.cols.states + 1) (desk_at core.clients c).items) 16 + rebuild_events (lay.shape core.layout) (alive core.cols.states + 1) + (alive core.cols.states + 1) ≤ core.log.trace_room
+  pub history : below (λ c. length (desk_at core.clients c).items) 16 + (lay.shape core.layout).stripes ≤ core.log.history_room
+  pub regions : (lay.shape core.layout).stripes ≤ length (slice_index_or core.log.handed.regions 16 [])
+
+-- the trace of an opening, if it is kept, has room for a rebuild too
+abbrev pub FitsRebuilding : {L D : Type 0} → LayoutGhosts L → Setup L D → Type 0
+FitsRebuilding lay setup = setup.trace ≡ true → 1 + below (λ c. row_events (lay.shape setup.layout) setup.graphs.items (alive (states_of (lay.shape setup.layout) setup.columns.items) + 1) (items_at setup.clients.items c)) 16 + rebuild_events (lay.shape setup.layout) (alive (states_of (lay.shape setup.layout) setup.columns.items) + 1) + (alive (states_of (lay.shape setup.layout) setup.columns.items) + 1) ≤ 1048576 + 2 + (lay.shape setup.layout).columns
