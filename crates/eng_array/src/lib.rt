@@ -54,6 +54,8 @@ mod stage;
 mod state;
 mod sum;
 mod take;
+#[cfg(test)]
+mod tests;
 mod turns;
 mod worlds;
 
