@@ -54,8 +54,6 @@ mod stage;
 mod state;
 mod sum;
 mod take;
-#[cfg(test)]
-mod tests;
 mod turns;
 mod worlds;
 
