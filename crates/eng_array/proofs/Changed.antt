@@ -3,19 +3,19 @@ use Rattle.std.proofs.Common.{◌≡◌, ℕ, ◌<◌, List, length, subst, sym}
 use Rattle.blk_disk.specs.declared.disk.Disk.{Ghosts as DiskGhosts}
 use Rattle.lay_core.specs.declared.layout.Layout.{Ghosts as LayoutGhosts}
 use Rattle.eng_world.specs.declared.item.Traced.{Traced}
-use Rattle.eng_array.specs.declared.state.Core.{Core}
+use Rattle.eng_events.specs.declared.array.Array.{Array}
 use Rattle.eng_array.specs.Changed.{Changed}
-use Rattle.eng_array.specs.Desk.{Desk, desk_at}
+use Rattle.eng_parts.specs.Desk.{Desk, desk_at}
 use Rattle.eng_array.specs.Serving.{IsServing}
-use Rattle.eng_array.specs.Sound.{IsSound}
+use Rattle.eng_events.specs.Sound.{IsSound}
 use Rattle.eng_array.specs.Steady.{IsSteady}
-use Rattle.eng_array.specs.Steps.{Follows}
+use Rattle.eng_events.specs.Steps.{Follows}
 use Rattle.eng_array.proofs.Kept.{Goes, goes-items, goes-serving}
 use Rattle.eng_array.proofs.OneServing.{each-set, items-set}
 use Rattle.eng_array.proofs.Steady.{IsEvent, Keeps, steady-on}
 
-module _ {L D : Type 0} (lay : LayoutGhosts L) (disk : DiskGhosts D) (old new : Core L D) (c : ℕ) (d : Desk) (e : Traced) (steady : IsSteady lay disk old) (among : c < length old.clients) (g : Goes (desk_at old.clients c) d) (changed : Changed old c d e new) where
-  changed-keeps : Keeps lay disk old e new
+module _ {L D : Type 0} (lay : LayoutGhosts L) (disk : DiskGhosts D) (old new : Array L D) (c : ℕ) (d : Desk) (e : Traced) (steady : IsSteady lay disk old) (among : c < length old.clients) (g : Goes (desk_at old.clients c) d) (changed : Changed old c d e new) where
+  pub changed-keeps : Keeps lay disk old e new
   changed-keeps = record {
     layout = changed.layout;
     graphs = changed.graphs;

@@ -8,16 +8,16 @@ use Rattle.lay_core.specs.declared.layout.Layout.{Ghosts as LayoutGhosts}
 use Rattle.graph_mean.specs.Graph.{Held}
 use Rattle.eng_cols.specs.Cols.{ColumnState}
 use Rattle.eng_world.specs.declared.item.Traced.{Traced}
-use Rattle.eng_array.specs.declared.stage.Stage.{Stage}
-use Rattle.eng_array.specs.declared.stage.Stage.TheVariants.{Nothing, Waits, Runs}
-use Rattle.eng_array.specs.declared.state.Core.{Core}
-use Rattle.eng_array.specs.Desk.{Desk, desk_at}
-use Rattle.eng_array.specs.Failing.{suffered_in, FailedBy}
-use Rattle.eng_array.specs.Log.{Logged, noted}
+use Rattle.eng_parts.specs.declared.stage.Stage.{Stage}
+use Rattle.eng_parts.specs.declared.stage.Stage.TheVariants.{Nothing, Waits, Runs}
+use Rattle.eng_events.specs.declared.array.Array.{Array}
+use Rattle.eng_parts.specs.Desk.{Desk, desk_at}
+use Rattle.eng_events.specs.Failing.{suffered_in, FailedBy}
+use Rattle.eng_parts.specs.Log.{Logged, noted}
 use Rattle.eng_array.specs.Serving.{IsServing}
-use Rattle.eng_array.specs.Sound.{IsSound}
+use Rattle.eng_events.specs.Sound.{IsSound}
 use Rattle.eng_array.specs.Steady.{IsSteady}
-use Rattle.eng_array.specs.Steps.{Follows}
+use Rattle.eng_events.specs.Steps.{Follows}
 use Rattle.eng_array.proofs.OneServing.{each-set, same-serving, idle-serving, items-set}
 use Rattle.eng_array.proofs.Steady.{IsEvent, Keeps, steady-on}
 
@@ -56,7 +56,7 @@ pub goes-serving : (y : Shape) (graphs : List Held) (old new : Desk) → Goes ol
 goes-serving y graphs old new (rests items idle) s = idle-serving y graphs old new items idle s
 goes-serving y graphs old new (same items ran replies map lease graph) s = same-serving y graphs old new items ran replies (λ h. map) lease graph s
 
-module _ {L D : Type 0} (lay : LayoutGhosts L) (disk : DiskGhosts D) (old : Core L D) (steady : IsSteady lay disk old) where
+module _ {L D : Type 0} (lay : LayoutGhosts L) (disk : DiskGhosts D) (old : Array L D) (steady : IsSteady lay disk old) where
   abbrev y : Shape
   y = lay.shape old.layout
 
@@ -64,7 +64,7 @@ module _ {L D : Type 0} (lay : LayoutGhosts L) (disk : DiskGhosts D) (old : Core
   gs = old.graphs.items
 
   -- what is kept before the event is traced
-  pub record Kept (new : Core L D) : Type 0 where
+  pub record Kept (new : Array L D) : Type 0 where
     pub count : length new.clients ≡ length old.clients
     pub layout : new.layout ≡ old.layout
     pub graphs : new.graphs ≡ old.graphs
@@ -76,7 +76,7 @@ module _ {L D : Type 0} (lay : LayoutGhosts L) (disk : DiskGhosts D) (old : Core
   stays = record { count = refl; layout = refl; graphs = refl; log = same-log old.log old.log refl; items = λ c. refl; serving = steady.serving }
 
   -- one client goes on, or comes to rest
-  pub one-goes : (mid new : Core L D) (c : ℕ) (b : Desk) → c < length old.clients → Goes (desk_at mid.clients c) b → new.clients ≡ slice_set mid.clients c b → new.layout ≡ mid.layout → new.graphs ≡ mid.graphs → Untraced mid.log new.log → Kept mid → Kept new
+  pub one-goes : (mid new : Array L D) (c : ℕ) (b : Desk) → c < length old.clients → Goes (desk_at mid.clients c) b → new.clients ≡ slice_set mid.clients c b → new.layout ≡ mid.layout → new.graphs ≡ mid.graphs → Untraced mid.log new.log → Kept mid → Kept new
   one-goes mid new c b below g clients layout graphs log k =
       let among : c < length mid.clients = subst (λ (n : ℕ). c < n) (sym k.count) below in
       record {
@@ -89,18 +89,18 @@ module _ {L D : Type 0} (lay : LayoutGhosts L) (disk : DiskGhosts D) (old : Core
       }
 
   -- a column fails
-  pub column-fails : (mid new : Core L D) (column : ℕ) → FailedBy lay mid column new → Kept mid → Kept new
+  pub column-fails : (mid new : Array L D) (column : ℕ) → FailedBy lay mid column new → Kept mid → Kept new
   column-fails mid new column f k = record {
     count = f.desks.count ∙ k.count;
-    layout = ap (λ (s : Core L D). s.layout) f.is ∙ k.layout;
-    graphs = ap (λ (s : Core L D). s.graphs) f.is ∙ k.graphs;
-    log = subst (λ (l : Logged). Untraced old.log l) (sym (ap (λ (s : Core L D). s.log) f.is)) k.log;
+    layout = ap (λ (s : Array L D). s.layout) f.is ∙ k.layout;
+    graphs = ap (λ (s : Array L D). s.graphs) f.is ∙ k.graphs;
+    log = subst (λ (l : Logged). Untraced old.log l) (sym (ap (λ (s : Array L D). s.log) f.is)) k.log;
     items = λ c. ap (λ (d : Desk). d.items) (f.desks.each c) ∙ (suffered-items (lay.shape mid.layout) mid.cols.states column (desk_at mid.clients c) (desk_at mid.clients c).stage ∙ k.items c);
     serving = λ c. subst (IsServing y gs) (sym (f.desks.each c)) (suffered-serving y (lay.shape mid.layout) gs mid.cols.states column (desk_at mid.clients c) (desk_at mid.clients c).stage (k.serving c));
   }
 
   -- the event is traced
-  pub noted-keeps : (e : Traced) (mid new : Core L D) → new ≡ record mid { log = noted mid.log e } → Kept mid → Keeps lay disk old e new
+  pub noted-keeps : (e : Traced) (mid new : Array L D) → new ≡ record mid { log = noted mid.log e } → Kept mid → Keeps lay disk old e new
   noted-keeps e mid new is k = subst (Keeps lay disk old e) (sym is) (record {
     layout = k.layout;
     graphs = k.graphs;
@@ -113,5 +113,5 @@ module _ {L D : Type 0} (lay : LayoutGhosts L) (disk : DiskGhosts D) (old : Core
       again = ap (λ (b : Bool). if b then mid.log.trace ++ e ∷ [] else mid.log.trace) k.log.keeps ∙ ap (λ (t : List Traced). if old.log.keeps then t ++ e ∷ [] else t) k.log.trace
 
   -- so that a sound core is steady after a traced event
-  pub traced-steady : (e : Traced) (mid new : Core L D) → IsEvent e → new ≡ record mid { log = noted mid.log e } → Kept mid → IsSound lay disk new → Follows lay disk old e new → IsSteady lay disk new
+  pub traced-steady : (e : Traced) (mid new : Array L D) → IsEvent e → new ≡ record mid { log = noted mid.log e } → Kept mid → IsSound lay disk new → Follows lay disk old e new → IsSteady lay disk new
   traced-steady e mid new is noting k sound follows = steady-on lay disk old new e is steady sound follows (noted-keeps e mid new noting k)

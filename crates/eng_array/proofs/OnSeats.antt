@@ -34,7 +34,7 @@ use Rattle.eng_world.proofs.Outs.{WasOut, still, fired, was-out}
 use Rattle.eng_world.proofs.Promised.{not-lost}
 use Rattle.eng_world.proofs.Reaching.{reaches}
 use Rattle.eng_world.proofs.Rebuilt.{rebuilt-back}
-use Rattle.eng_array.proofs.Placing.{read-seat, write-seat}
+use Rattle.eng_events.proofs.Placing.{read-seat, write-seat}
 
 -- the place is on a column, which has its device still, or the device has failed and the column has none
 abbrev pub OnSeat : Shape → World → Spot → Type 0
@@ -55,7 +55,7 @@ or-last true b h = refl
 or-last false b h = h
 
 -- a column has one device
-one-device : (cols : List ColumnState) (c d e : ℕ) → HasDevice cols c d → HasDevice cols c e → d ≡ e
+pub one-device : (cols : List ColumnState) (c d e : ℕ) → HasDevice cols c d → HasDevice cols c e → d ≡ e
 one-device cols c d e (inl a) (inl b) = let z : Some (Live d) ≡ Some (Live e) = sym a ∙ b in cc
 one-device cols c d e (inl a) (inr b) = let z : Some (Live d) ≡ Some (Filling e b.0) = sym a ∙ b.1 in absurd (let u : ⊥ = cc in u)
 one-device cols c d e (inr a) (inl b) = let z : Some (Filling d a.0) ≡ Some (Live e) = sym a.1 ∙ b in absurd (let u : ⊥ = cc in u)
@@ -116,7 +116,7 @@ after-forward y (op.Sync stripe) r old new h c d has = subst (λ cs. HasDevice c
 after-forward y (op.Rebuild stripe) r old new (inl h) c d has = done-forward (slice_get old.columns c) (slice_get new.columns c) (is_unit_of y old.columns stripe h.0 c) stripe d (h.4 c) has
 after-forward y (op.Rebuild stripe) r old new (inr h) c d has = subst (λ cs. HasDevice cs c d) (sym h.1.0) has
 
-after-back : (y : Shape) (o : Op) (r : Running) (old new : World) → ColumnsAfter y o r old new → (c d : ℕ) → HasDevice new.columns c d → HasDevice old.columns c d
+pub after-back : (y : Shape) (o : Op) (r : Running) (old new : World) → ColumnsAfter y o r old new → (c d : ℕ) → HasDevice new.columns c d → HasDevice old.columns c d
 after-back y (op.Write span pattern) r old new h c d has = subst (λ cs. HasDevice cs c d) h.0 has
 after-back y (op.Read span) r old new h c d has = subst (λ cs. HasDevice cs c d) h.0 has
 after-back y (op.Sync stripe) r old new h c d has = subst (λ cs. HasDevice cs c d) h.0 has

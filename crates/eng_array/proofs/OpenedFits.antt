@@ -11,18 +11,18 @@ use Rattle.eng_cols.specs.Cols.{ColumnState, Columns}
 use Rattle.eng_world.specs.declared.item.Item.{Item}
 use Rattle.eng_rest.specs.Left.{below, alive}
 use Rattle.eng_rest.proofs.Summing.{below-le}
-use Rattle.eng_array.specs.declared.region.Region.{Region}
-use Rattle.eng_array.specs.declared.setup.Setup.{Setup}
-use Rattle.eng_array.specs.declared.state.Core.{Core}
-use Rattle.eng_array.specs.Desk.{Desk, desk_at}
+use Rattle.eng_parts.specs.declared.region.Region.{Region}
+use Rattle.eng_parts.specs.declared.setup.Setup.{Setup}
+use Rattle.eng_events.specs.declared.array.Array.{Array}
+use Rattle.eng_parts.specs.Desk.{Desk, desk_at}
 use Rattle.eng_array.specs.Fitting.{row_events, rebuild_events, FitsRebuild, FitsRebuilding}
-use Rattle.eng_array.specs.Given.{items_at}
-use Rattle.eng_array.specs.Handed.{no_region}
-use Rattle.eng_array.specs.Laid.{items_before}
-use Rattle.eng_array.specs.Log.{Logged}
-use Rattle.eng_array.specs.Opened.{states_of, IsOpened}
+use Rattle.eng_parts.specs.Given.{items_at}
+use Rattle.eng_parts.specs.Handed.{no_region}
+use Rattle.eng_parts.specs.Laid.{items_before}
+use Rattle.eng_parts.specs.Log.{Logged}
+use Rattle.eng_events.specs.Opened.{states_of, IsOpened}
 
-module _ {L D : Type 0} (lay : LayoutGhosts L) (disk : DiskGhosts D) (setup : Setup L D) (core : Core L D) (o : IsOpened lay disk setup core) (few : items_before setup.clients.items 16 ≤ 65536) where
+module _ {L D : Type 0} (lay : LayoutGhosts L) (disk : DiskGhosts D) (setup : Setup L D) (core : Array L D) (o : IsOpened lay disk setup core) (few : items_before setup.clients.items 16 ≤ 65536) where
   abbrev y : Shape
   y = lay.shape setup.layout
 

@@ -14,25 +14,25 @@ use Rattle.eng_world.specs.World.{World}
 use Rattle.eng_world.specs.Step.{IsOpening}
 use Rattle.eng_rest.specs.Left.{below, alive}
 use Rattle.eng_rest.proofs.Summing.{below-le}
-use Rattle.eng_array.specs.declared.setup.Setup.{Setup}
-use Rattle.eng_array.specs.declared.state.Core.{Core}
-use Rattle.eng_array.specs.Beginning.{AllAsked}
-use Rattle.eng_array.specs.Desk.{Desk, desk_at}
+use Rattle.eng_parts.specs.declared.setup.Setup.{Setup}
+use Rattle.eng_events.specs.declared.array.Array.{Array}
+use Rattle.eng_events.specs.Beginning.{AllAsked}
+use Rattle.eng_parts.specs.Desk.{Desk, desk_at}
 use Rattle.eng_array.specs.Fitting.{most_in, item_events, row_events, opening_events, FitsTrace}
-use Rattle.eng_array.specs.Given.{items_at}
-use Rattle.eng_array.specs.Laid.{items_before}
-use Rattle.eng_array.specs.Log.{Logged}
-use Rattle.eng_array.specs.Opened.{states_of, IsSetup, IsOpened, OpensWorlds}
-use Rattle.eng_array.specs.Opened as opened
+use Rattle.eng_parts.specs.Given.{items_at}
+use Rattle.eng_parts.specs.Laid.{items_before}
+use Rattle.eng_parts.specs.Log.{Logged}
+use Rattle.eng_events.specs.Opened.{states_of, IsSetup, IsOpened, OpensWorlds}
+use Rattle.eng_events.specs.Opened as opened
 use Rattle.eng_array.specs.Serving.{AreServing, most_for}
 use Rattle.eng_array.specs.Serving as serving
-use Rattle.eng_array.specs.Shows.{Shows}
-use Rattle.eng_array.specs.Sound.{IsSound}
-use Rattle.eng_array.specs.Copied.{AreLaid}
+use Rattle.eng_events.specs.Shows.{Shows}
+use Rattle.eng_events.specs.Sound.{IsSound}
+use Rattle.eng_events.specs.Copied.{AreLaid}
 use Rattle.eng_array.specs.Steady.{events_left, HasPlaces, IsSteady}
-use Rattle.eng_array.proofs.LaidItems.{none-past}
-use Rattle.eng_array.proofs.Laying.{below-none, below-one}
-use Rattle.eng_array.proofs.OpeningDesks.{item-of, not-runs}
+use Rattle.eng_parts.proofs.FewItems.{none-past}
+use Rattle.eng_parts.proofs.Laying.{below-none, below-one}
+use Rattle.eng_events.proofs.OpeningDesks.{item-of, not-runs}
 use Rattle.eng_array.proofs.SteadyOpen.{unbegun-left, open-steady}
 
 -- a graph that is one of so many is one of them
@@ -41,7 +41,7 @@ named-one n graphs count (item.Run op None) is = tt
 named-one n graphs count (item.Run op (Some g)) is = omega (arith, count, is)
 named-one n graphs count (item.Fail column) is = tt
 
-module _ {L D : Type 0} (lay : LayoutGhosts L) (disk : DiskGhosts D) (setup : Setup L D) (core : Core L D) (can : IsSetup lay disk setup) (o : IsOpened lay disk setup core) (few : items_before setup.clients.items 16 ≤ 65536) (fits : FitsTrace lay setup) (sound : IsSound lay disk core) (asked : AllAsked lay core) (worlds : OpensWorlds lay disk core) (laid : AreLaid core.log.handed core.clients) where
+module _ {L D : Type 0} (lay : LayoutGhosts L) (disk : DiskGhosts D) (setup : Setup L D) (core : Array L D) (can : IsSetup lay disk setup) (o : IsOpened lay disk setup core) (few : items_before setup.clients.items 16 ≤ 65536) (fits : FitsTrace lay setup) (sound : IsSound lay disk core) (asked : AllAsked lay core) (worlds : OpensWorlds lay disk core) (laid : AreLaid core.log.handed core.clients) where
   abbrev y : Shape
   y = lay.shape core.layout
 
@@ -143,4 +143,4 @@ module _ {L D : Type 0} (lay : LayoutGhosts L) (disk : DiskGhosts D) (setup : Se
   places = record { most = most; bound = bound; trace = trace-room; history = history-room }
 
   pub opened-steady : IsSteady lay disk core
-  opened-steady = open-steady lay disk core w sound opening shows unnoted are-serving places laid
+  opened-steady = open-steady lay disk core w sound opening o.pool.free shows unnoted are-serving places laid

@@ -8,11 +8,11 @@ use Rattle.lay_core.specs.declared.layout.Layout.{Ghosts as LayoutGhosts}
 use Rattle.graph_mean.specs.Graph.{Held}
 use Rattle.eng_world.specs.declared.item.Traced.{Traced}
 use Rattle.eng_world.specs.Step.{IsOpening, Run}
-use Rattle.eng_array.specs.declared.state.Core.{Core}
-use Rattle.eng_array.specs.Steps.{graphs_of, Follows}
+use Rattle.eng_events.specs.declared.array.Array.{Array}
+use Rattle.eng_events.specs.Steps.{graphs_of, Follows}
 use Rattle.eng_array.specs.Run.{HasRun, Notes}
 
-module _ {L D : Type 0} (lay : LayoutGhosts L) (disk : DiskGhosts D) (old new : Core L D) (e : Traced) where
+module _ {L D : Type 0} (lay : LayoutGhosts L) (disk : DiskGhosts D) (old new : Array L D) (e : Traced) where
   abbrev pub run-on : lay.shape new.layout ≡ lay.shape old.layout → new.graphs.items ≡ old.graphs.items → Notes old.log e new.log → Follows lay disk old e new → HasRun lay disk old → HasRun lay disk new
   run-on shape graphs notes follows r =
       let f = follows r.now r.shows in
@@ -21,6 +21,7 @@ module _ {L D : Type 0} (lay : LayoutGhosts L) (disk : DiskGhosts D) (old new : 
         events = e ∷ r.events;
         now = f.0;
         is_opening = subst (λ (v : Shape). IsOpening v r.opening) (sym shape) r.is_opening;
+        all_free = r.all_free;
         run = subst (λ (v : Shape). Run v (graphs_of new.graphs.items) r.opening (e ∷ r.events) f.0) (sym shape)
             (subst (λ (g : List Held). Run (lay.shape old.layout) (graphs_of g) r.opening (e ∷ r.events) f.0) (sym graphs) (r.now, r.run, f.2));
         shows = f.1;

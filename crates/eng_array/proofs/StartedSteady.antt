@@ -19,26 +19,26 @@ use Rattle.eng_world.specs.World.{World}
 use Rattle.eng_world.specs.Serving.{IsUnbegun}
 use Rattle.eng_rest.specs.Left.{below, is_alive, alive}
 use Rattle.eng_rest.proofs.Summing.{below-le}
-use Rattle.eng_array.specs.declared.stage.Stage.{Stage}
-use Rattle.eng_array.specs.declared.stage.Stage.TheVariants.{Nothing, Runs}
-use Rattle.eng_array.specs.declared.state.Core.{Core}
-use Rattle.eng_array.specs.Beginning.{IsAsked}
-use Rattle.eng_array.specs.Copied.{AreLaid}
-use Rattle.eng_array.specs.Desk.{Desk, desk_at}
+use Rattle.eng_parts.specs.declared.stage.Stage.{Stage}
+use Rattle.eng_parts.specs.declared.stage.Stage.TheVariants.{Nothing, Runs}
+use Rattle.eng_events.specs.declared.array.Array.{Array}
+use Rattle.eng_events.specs.Beginning.{IsAsked}
+use Rattle.eng_events.specs.Copied.{AreLaid}
+use Rattle.eng_parts.specs.Desk.{Desk, desk_at}
 use Rattle.eng_array.specs.Fitting.{most_in, item_events, row_events, rebuild_events, FitsRebuild}
-use Rattle.eng_array.specs.Listing.{rebuild}
-use Rattle.eng_array.specs.Log.{noted}
-use Rattle.eng_array.specs.Rebuilding.{CanRebuild, Started, with_items}
-use Rattle.eng_array.specs.Room.{HasRoom}
+use Rattle.eng_parts.specs.Listing.{rebuild}
+use Rattle.eng_parts.specs.Log.{noted}
+use Rattle.eng_events.specs.Rebuilding.{CanRebuild, Started, with_items}
+use Rattle.eng_events.specs.Room.{HasRoom}
 use Rattle.eng_array.specs.Serving.{NamesGraph, most_by, most_for, IsServing, AreServing}
-use Rattle.eng_array.specs.Shows.{Shows, ShowsCurrent}
-use Rattle.eng_array.specs.Sound.{IsSound}
+use Rattle.eng_events.specs.Shows.{Shows, ShowsCurrent}
+use Rattle.eng_events.specs.Sound.{IsSound}
 use Rattle.eng_array.specs.Steady.{events_left, HasPlaces, IsSteady}
-use Rattle.eng_array.specs.Steps.{Follows}
-use Rattle.eng_array.proofs.Laying.{below-grows, below-one}
-use Rattle.eng_array.proofs.Maps.{whole-one}
+use Rattle.eng_events.specs.Steps.{Follows}
+use Rattle.eng_parts.proofs.Laying.{below-grows, below-one}
+use Rattle.eng_parts.proofs.Maps.{whole-one}
 use Rattle.eng_array.proofs.OneServing.{each-set}
-use Rattle.eng_array.proofs.Shown.{desk-set, desk-else, replies-shown}
+use Rattle.eng_events.proofs.Shown.{desk-set, desk-else, replies-shown}
 use Rattle.eng_array.proofs.Steady.{notes-of}
 use Rattle.eng_array.proofs.SteadyOpen.{unbegun-left, room-steady}
 
@@ -49,10 +49,10 @@ alive-more (k ∷ ks) zero x dead one = let z : Some k ≡ Some Dead = dead in l
 alive-more (k ∷ ks) (suc c) x dead one = let r = alive-more ks c x dead one in omega (arith, r)
 
 -- the trace has room for the start
-pub start-room : {L D : Type 0} (lay : LayoutGhosts L) (core : Core L D) → FitsRebuild lay core → HasRoom core.log
+pub start-room : {L D : Type 0} (lay : LayoutGhosts L) (core : Array L D) → FitsRebuild lay core → HasRoom core.log
 start-room lay core fits keeps = let a = fits.trace keeps in omega (arith, a)
 
-module _ {L D : Type 0} (lay : LayoutGhosts L) (disk : DiskGhosts D) (old new : Core L D) (c : ℕ) (states : List ColumnState) (e : Traced) (steady : IsSteady lay disk old) (can : CanRebuild lay disk old c) (fits : FitsRebuild lay old) (f : Started lay old c states e new) (more : alive states ≡ alive old.cols.states + 1) where
+module _ {L D : Type 0} (lay : LayoutGhosts L) (disk : DiskGhosts D) (old new : Array L D) (c : ℕ) (states : List ColumnState) (e : Traced) (steady : IsSteady lay disk old) (can : CanRebuild lay disk old c) (fits : FitsRebuild lay old) (f : Started lay old c states e new) (more : alive states ≡ alive old.cols.states + 1) where
   abbrev y : Shape
   y = lay.shape old.layout
 
@@ -65,10 +65,10 @@ module _ {L D : Type 0} (lay : LayoutGhosts L) (disk : DiskGhosts D) (old new : 
   abbrev desks : List Desk
   desks = slice_set old.clients 16 now
 
-  abbrev plain : Core L D
+  abbrev plain : Array L D
   plain = record old { cols = record old.cols { states = states }; clients = desks; rebuilds = record { items = []; room = 0 }; log = noted old.log e }
 
-  to-new : (P : Core L D → Type 0) → P plain → P new
+  to-new : (P : Array L D → Type 0) → P plain → P new
   to-new P h = subst P (sym f.is) h
 
   below-all : 16 < length old.clients
@@ -223,10 +223,10 @@ module _ {L D : Type 0} (lay : LayoutGhosts L) (disk : DiskGhosts D) (old new : 
 
   -- so is what is handed out
   pub started-laid : AreLaid old.log.handed old.clients → AreLaid new.log.handed new.clients
-  started-laid h = to-new (λ (k : Core L D). AreLaid k.log.handed k.clients) (laid h)
+  started-laid h = to-new (λ (k : Array L D). AreLaid k.log.handed k.clients) (laid h)
 
   pub started-steady : IsSound lay disk new → Follows lay disk old e new → IsSteady lay disk new
-  started-steady sound follows = room-steady lay disk old new e steady sound follows (ap (λ (k : Core L D). k.layout) f.is) (ap (λ (k : Core L D). k.graphs) f.is) (notes-of old.log e new.log (ap (λ (k : Core L D). k.log) f.is))
+  started-steady sound follows = room-steady lay disk old new e steady sound follows (ap (λ (k : Array L D). k.layout) f.is) (ap (λ (k : Array L D). k.graphs) f.is) (notes-of old.log e new.log (ap (λ (k : Array L D). k.log) f.is))
       (to-new (AreServing lay) are-serving)
-      (to-new (λ (k : Core L D). (w : World) → Shows disk k w → HasPlaces lay disk k w) places)
+      (to-new (λ (k : Array L D). (w : World) → Shows disk k w → HasPlaces lay disk k w) places)
       (started-laid steady.laid)

@@ -22,26 +22,26 @@ use Rattle.eng_world.specs.Step.{Step}
 use Rattle.eng_world.specs.Pool.{HaveItems}
 use Rattle.eng_rest.specs.Left.{below, cost, run_left, current_left, alive, IsOwn, EachWithin, IsIndexed}
 use Rattle.eng_rest.proofs.Summing.{below-le}
-use Rattle.eng_array.specs.declared.stage.Stage.{Stage}
-use Rattle.eng_array.specs.declared.stage.Stage.TheVariants.{Nothing, Waits, Runs}
-use Rattle.eng_array.specs.declared.state.Core.{Core}
-use Rattle.eng_array.specs.declared.region.Region.{Region}
-use Rattle.eng_array.specs.Copied.{AreLaid}
-use Rattle.eng_array.specs.Desk.{Desk, desk_at, no_desk, item_at}
-use Rattle.eng_array.specs.Handed.{no_region}
-use Rattle.eng_array.specs.Log.{Logged, noted}
-use Rattle.eng_array.specs.Room.{HasRoom}
+use Rattle.eng_parts.specs.declared.stage.Stage.{Stage}
+use Rattle.eng_parts.specs.declared.stage.Stage.TheVariants.{Nothing, Waits, Runs}
+use Rattle.eng_events.specs.declared.array.Array.{Array}
+use Rattle.eng_parts.specs.declared.region.Region.{Region}
+use Rattle.eng_events.specs.Copied.{AreLaid}
+use Rattle.eng_parts.specs.Desk.{Desk, desk_at, no_desk, item_at}
+use Rattle.eng_parts.specs.Handed.{no_region}
+use Rattle.eng_parts.specs.Log.{Logged, noted}
+use Rattle.eng_events.specs.Room.{HasRoom}
 use Rattle.eng_array.specs.Run.{HasRun, Notes}
 use Rattle.eng_array.specs.Serving.{IsServing, AreServing, most_for}
-use Rattle.eng_array.specs.Shows.{Shows, ShowsCurrent}
-use Rattle.eng_array.specs.Sound.{IsSound, RunsWell}
+use Rattle.eng_events.specs.Shows.{Shows, ShowsCurrent}
+use Rattle.eng_events.specs.Sound.{IsSound, RunsWell}
 use Rattle.eng_array.specs.Steady.{events_left, IsSteady}
-use Rattle.eng_array.specs.Steps.{graphs_of, Follows}
+use Rattle.eng_events.specs.Steps.{graphs_of, Follows}
 use Rattle.eng_array.proofs.EventsLeft.{reached-indexed, own-falls, fail-falls, alive-some, node-left, item-left}
 use Rattle.eng_array.proofs.Reaching.{run-on}
-use Rattle.eng_array.proofs.Running.{runs_below}
-use Rattle.eng_array.proofs.Served.{item-below}
-use Rattle.eng_array.proofs.Shown.{runs-shown, shown-running, replies-shown}
+use Rattle.eng_events.proofs.Running.{runs_below}
+use Rattle.eng_events.proofs.Served.{item-below}
+use Rattle.eng_events.proofs.Shown.{runs-shown, shown-running, replies-shown}
 
 -- an event of an item, or the failure of a column
 abbrev pub IsEvent : Traced → Type 0
@@ -53,7 +53,7 @@ notes-of l e m is = subst (Notes l e) (sym is) (record { keeps = refl; trace = r
 
 module _ {L D : Type 0} (lay : LayoutGhosts L) (disk : DiskGhosts D) where
   -- a client with an item is one of them
-  pub item-among : (core : Core L D) → IsSound lay disk core → (c : ℕ) (i : Item) → item_at (desk_at core.clients c) ≡ Some i → c < 17
+  pub item-among : (core : Array L D) → IsSound lay disk core → (c : ℕ) (i : Item) → item_at (desk_at core.clients c) ≡ Some i → c < 17
   item-among core sound c i at = elim (cases_lt c 17) [
     | inl lt ↦ lt
     | inr over ↦
@@ -64,7 +64,7 @@ module _ {L D : Type 0} (lay : LayoutGhosts L) (disk : DiskGhosts D) where
   ]
 
   -- what an event keeps beside soundness
-  pub record Keeps (old : Core L D) (e : Traced) (new : Core L D) : Type 0 where
+  pub record Keeps (old : Array L D) (e : Traced) (new : Array L D) : Type 0 where
     pub layout : new.layout ≡ old.layout
     pub graphs : new.graphs ≡ old.graphs
     pub log : Notes old.log e new.log
@@ -72,11 +72,11 @@ module _ {L D : Type 0} (lay : LayoutGhosts L) (disk : DiskGhosts D) where
     pub serving : (c : ℕ) → IsServing (lay.shape old.layout) old.graphs.items (desk_at new.clients c)
 
   -- only seventeen clients have items
-  pub shown-items : (core : Core L D) (w : World) → IsSound lay disk core → Shows disk core w → HaveItems w 17
+  pub shown-items : (core : Array L D) (w : World) → IsSound lay disk core → Shows disk core w → HaveItems w 17
   shown-items core w sound s = (omega arith, λ c l. (s.clients c).items ∙ ap (λ (d : Desk). d.items) (get_or_past core.clients c no_desk (let all = sound.well.all in omega (arith, all, l))))
 
   -- no operation that runs has a graph of more nodes than its item may have
-  pub shown-within : (core : Core L D) (w : World) (most : ℕ → ℕ → ℕ) → IsSound lay disk core → Shows disk core w → AreServing lay core
+  pub shown-within : (core : Array L D) (w : World) (most : ℕ → ℕ → ℕ) → IsSound lay disk core → Shows disk core w → AreServing lay core
       → ((c n : ℕ) (op : Op) (file : Option ℕ) → slice_get (desk_at core.clients c).items n ≡ Some (item.Run op file) → most_for (lay.shape core.layout) core.graphs.items op file ≤ most c n)
       → EachWithin most w
   shown-within core w most sound s serving bound c i r runs at =
@@ -92,16 +92,16 @@ module _ {L D : Type 0} (lay : LayoutGhosts L) (disk : DiskGhosts D) where
       omega (arith, n, b, m, g)
 
   -- the run that led to what a steady core shows
-  pub steady-indexed : (core : Core L D) → IsSteady lay disk core → (s : HasRun lay disk core) → IsIndexed s.now
+  pub steady-indexed : (core : Array L D) → IsSteady lay disk core → (s : HasRun lay disk core) → IsIndexed s.now
   steady-indexed core k s = reached-indexed (lay.shape core.layout) (graphs_of core.graphs.items) s.opening s.events s.now s.is_opening s.run
 
   -- where an event may come the trace has room for one
-  pub has-room : (core : Core L D) → (k : IsSteady lay disk core) → 1 ≤ events_left k.places.most k.reached.now → HasRoom core.log
+  pub has-room : (core : Array L D) → (k : IsSteady lay disk core) → 1 ≤ events_left k.places.most k.reached.now → HasRoom core.log
   has-room core k some keeps = let a = k.places.trace keeps in omega (arith, a, some)
 
   -- ## Room for an event that may come
 
-  module _ (core : Core L D) (k : IsSteady lay disk core) (none : core.lost ≡ None) (c : ℕ) where
+  module _ (core : Array L D) (k : IsSteady lay disk core) (none : core.lost ≡ None) (c : ℕ) where
     abbrev d : Desk
     d = desk_at core.clients c
 
@@ -148,13 +148,13 @@ module _ {L D : Type 0} (lay : LayoutGhosts L) (disk : DiskGhosts D) where
         item-room i at (λ m. subst (λ (a : Current). 1 ≤ current_left m a) (sym s) (omega arith))
 
   -- a column that may fail
-  pub fail-room : (core : Core L D) (k : IsSteady lay disk core) (column : ℕ) → column < length core.cols.states → (slice_get core.cols.states column ≡ Some Dead → ⊥) → HasRoom core.log
+  pub fail-room : (core : Array L D) (k : IsSteady lay disk core) (column : ℕ) → column < length core.cols.states → (slice_get core.cols.states column ≡ Some Dead → ⊥) → HasRoom core.log
   fail-room core k column below there =
       let a = alive-some core.cols.states column below there in
       let e : alive k.reached.now.columns ≡ alive core.cols.states = ap alive k.reached.shows.columns in
       has-room core k (omega (arith, a, e))
 
-  module _ (old new : Core L D) (e : Traced) (is : IsEvent e) (steady : IsSteady lay disk old) (sound : IsSound lay disk new) (follows : Follows lay disk old e new) (keeps : Keeps old e new) where
+  module _ (old new : Array L D) (e : Traced) (is : IsEvent e) (steady : IsSteady lay disk old) (sound : IsSound lay disk new) (follows : Follows lay disk old e new) (keeps : Keeps old e new) where
     abbrev y : Shape
     y = lay.shape old.layout
 

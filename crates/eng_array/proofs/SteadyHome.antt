@@ -19,28 +19,27 @@ use Rattle.eng_world.specs.declared.item.Item.{Item}
 use Rattle.eng_world.specs.declared.item.Item.TheVariants as item
 use Rattle.eng_world.specs.declared.item.Traced.{Traced}
 use Rattle.eng_world.specs.declared.item.Traced.TheVariants as event
-use Rattle.eng_array.specs.declared.state.Core.{Core}
-use Rattle.eng_array.specs.Bad.{Standing, IsOnColumn}
-use Rattle.eng_array.specs.Beginning.{IsAsked}
-use Rattle.eng_array.specs.Desk.{Desk, desk_at, item_at, spot_at}
-use Rattle.eng_array.specs.EndLog.{LogEnds, LogEndsItem, LogEndsOp}
-use Rattle.eng_array.specs.GoesOn.{ServesOn, GoesOn}
-use Rattle.eng_array.specs.Log.{Logged}
-use Rattle.eng_array.specs.Moves.{id_of}
-use Rattle.eng_array.specs.Out.{CameBack}
-use Rattle.eng_array.specs.Rebuilt.{MayCount}
-use Rattle.eng_array.specs.Returned.{ends_bad, ended_by}
-use Rattle.eng_array.specs.Room.{HasRoom, MayEnter}
+use Rattle.eng_events.specs.declared.array.Array.{Array}
+use Rattle.eng_events.specs.Bad.{Standing, IsOnColumn}
+use Rattle.eng_events.specs.Beginning.{IsAsked}
+use Rattle.eng_parts.specs.Desk.{Desk, desk_at, item_at, spot_at}
+use Rattle.eng_events.specs.EndLog.{LogEnds, LogEndsItem, LogEndsOp}
+use Rattle.eng_events.specs.GoesOn.{ServesOn, GoesOn}
+use Rattle.eng_parts.specs.Log.{Logged, MayCount}
+use Rattle.eng_events.specs.Moves.{id_of}
+use Rattle.eng_events.specs.Out.{CameBack}
+use Rattle.eng_events.specs.Returned.{ends_bad, ended_by}
+use Rattle.eng_events.specs.Room.{HasRoom, MayEnter}
 use Rattle.eng_array.specs.Run.{Notes}
 use Rattle.eng_array.specs.Serving.{NamesGraph, IsServing}
-use Rattle.eng_array.specs.Sound.{IsSound, IsOutOf}
+use Rattle.eng_events.specs.Sound.{IsSound, IsOutOf}
 use Rattle.eng_array.specs.Steady.{IsSteady}
-use Rattle.eng_array.specs.Steps.{Follows}
+use Rattle.eng_events.specs.Steps.{Follows}
 use Rattle.eng_array.proofs.OneServing.{same-serving}
-use Rattle.eng_array.proofs.Putting.{out-below}
+use Rattle.eng_events.proofs.Putting.{out-below}
 use Rattle.eng_array.proofs.Reached.{run-within, run-on-column, run-standing}
-use Rattle.eng_array.proofs.Ripe.{runs-well}
-use Rattle.eng_array.proofs.Steady.{IsEvent, notes-of, steady-on}
+use Rattle.eng_events.proofs.Ripe.{runs-well}
+use Rattle.eng_array.proofs.Steady.{IsEvent, Keeps, notes-of, steady-on}
 use Rattle.eng_array.proofs.SteadyEnds.{out-room, may-enter, may-count}
 
 -- what serves on serves as it was planned
@@ -79,7 +78,7 @@ end-event : (b : Bool) (id : OpId) (n : ℕ) → IsEvent (if b then event.Bad id
 end-event true id n = inl tt
 end-event false id n = inl tt
 
-module _ {L D : Type 0} (lay : LayoutGhosts L) (disk : DiskGhosts D) (old : Core L D) (job : Job D) (outcome : Outcome) (steady : IsSteady lay disk old) (back : CameBack disk lay old job outcome) where
+module _ {L D : Type 0} (lay : LayoutGhosts L) (disk : DiskGhosts D) (old : Array L D) (job : Job D) (outcome : Outcome) (steady : IsSteady lay disk old) (back : CameBack disk lay old job outcome) where
   abbrev d : Desk
   d = desk_at old.clients job.client
 
@@ -117,12 +116,16 @@ module _ {L D : Type 0} (lay : LayoutGhosts L) (disk : DiskGhosts D) (old : Core
 
   -- ## What it leaves
 
-  pub home-steady : (new : Core L D) → Follows lay disk old (ended_by old job outcome) new → IsSound lay disk new → GoesOn old new
-      → LogEnds (lay.shape old.layout) old.cols.states d old.log (ended_by old job outcome) new.log (id_of old.clients job.client) (kind_at d.run.graph job.node) old.lost → IsSteady lay disk new
-  home-steady new follows sound goes trace = steady-on lay disk old new (ended_by old job outcome) (end-event (ends_bad old job outcome) (id_of old.clients job.client) job.node) steady sound follows (record {
+  pub home-keeps : (new : Array L D) → GoesOn old new
+      → LogEnds (lay.shape old.layout) old.cols.states d old.log (ended_by old job outcome) new.log (id_of old.clients job.client) (kind_at d.run.graph job.node) old.lost → Keeps lay disk old (ended_by old job outcome) new
+  home-keeps new goes trace = record {
     layout = goes.layout;
     graphs = goes.graphs;
     log = ends-notes (lay.shape old.layout) old.cols.states d old.log (ended_by old job outcome) new.log (id_of old.clients job.client) (kind_at d.run.graph job.node) old.lost trace;
     items = λ k. (goes.desks k).items;
     serving = λ k. on-serving (lay.shape old.layout) old.graphs.items (desk_at old.clients k) (desk_at new.clients k) (goes.desks k) (steady.serving k);
-  })
+  }
+
+  pub home-steady : (new : Array L D) → Follows lay disk old (ended_by old job outcome) new → IsSound lay disk new → GoesOn old new
+      → LogEnds (lay.shape old.layout) old.cols.states d old.log (ended_by old job outcome) new.log (id_of old.clients job.client) (kind_at d.run.graph job.node) old.lost → IsSteady lay disk new
+  home-steady new follows sound goes trace = steady-on lay disk old new (ended_by old job outcome) (end-event (ends_bad old job outcome) (id_of old.clients job.client) job.node) steady sound follows (home-keeps new goes trace)

@@ -10,14 +10,14 @@ use Rattle.eng_world.specs.Step.{IsOpening}
 use Rattle.eng_rest.specs.Left.{below, alive, left, item_left, current_left}
 use Rattle.eng_rest.proofs.Items.{left-now, left-later}
 use Rattle.eng_rest.proofs.Summing.{below-le}
-use Rattle.eng_array.specs.declared.state.Core.{Core}
-use Rattle.eng_array.specs.Copied.{AreLaid}
+use Rattle.eng_events.specs.declared.array.Array.{Array}
+use Rattle.eng_events.specs.Copied.{AreLaid}
 use Rattle.eng_array.specs.Run.{Notes}
 use Rattle.eng_array.specs.Serving.{AreServing}
-use Rattle.eng_array.specs.Shows.{Shows}
-use Rattle.eng_array.specs.Sound.{IsSound}
+use Rattle.eng_events.specs.Shows.{Shows}
+use Rattle.eng_events.specs.Sound.{IsSound}
 use Rattle.eng_array.specs.Steady.{events_left, HasPlaces, IsSteady}
-use Rattle.eng_array.specs.Steps.{Follows}
+use Rattle.eng_events.specs.Steps.{Follows}
 use Rattle.eng_array.proofs.Reaching.{run-on}
 
 -- ## The room that an opening needs
@@ -43,17 +43,17 @@ unbegun-left most w u =
 
 module _ {L D : Type 0} (lay : LayoutGhosts L) (disk : DiskGhosts D) where
   -- an opened core
-  pub open-steady : (core : Core L D) (w : World) → IsSound lay disk core → IsOpening (lay.shape core.layout) w → Shows disk core w → core.log.trace ≡ [] → AreServing lay core → HasPlaces lay disk core w → AreLaid core.log.handed core.clients → IsSteady lay disk core
-  open-steady core w sound opening shows none serving places laid = record {
+  pub open-steady : (core : Array L D) (w : World) → IsSound lay disk core → IsOpening (lay.shape core.layout) w → length core.pool.free ≡ 2048 → Shows disk core w → core.log.trace ≡ [] → AreServing lay core → HasPlaces lay disk core w → AreLaid core.log.handed core.clients → IsSteady lay disk core
+  open-steady core w sound opening free shows none serving places laid = record {
     sound = sound;
-    reached = record { opening = w; events = []; now = w; is_opening = opening; run = refl; shows = shows; traced = λ keeps. none };
+    reached = record { opening = w; events = []; now = w; is_opening = opening; all_free = shows.free ∙ free; run = refl; shows = shows; traced = λ keeps. none };
     serving = serving;
     places = places;
     laid = laid;
   }
 
   -- a core after any event that has room for what may come then
-  pub room-steady : (old new : Core L D) (e : Traced) → IsSteady lay disk old → IsSound lay disk new → Follows lay disk old e new → new.layout ≡ old.layout → new.graphs ≡ old.graphs → Notes old.log e new.log → AreServing lay new → ((w : World) → Shows disk new w → HasPlaces lay disk new w) → AreLaid new.log.handed new.clients → IsSteady lay disk new
+  pub room-steady : (old new : Array L D) (e : Traced) → IsSteady lay disk old → IsSound lay disk new → Follows lay disk old e new → new.layout ≡ old.layout → new.graphs ≡ old.graphs → Notes old.log e new.log → AreServing lay new → ((w : World) → Shows disk new w → HasPlaces lay disk new w) → AreLaid new.log.handed new.clients → IsSteady lay disk new
   room-steady old new e steady sound follows layout graphs log serving places laid = record {
     sound = sound;
     reached = run-on lay disk old new e (ap lay.shape layout) (ap (λ v. v.items) graphs) log follows steady.reached;

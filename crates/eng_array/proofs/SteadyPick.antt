@@ -2,13 +2,13 @@
 use Rattle.std.proofs.Common.{◌≡◌, ℕ, None}
 use Rattle.blk_disk.specs.declared.disk.Disk.{Ghosts as DiskGhosts}
 use Rattle.lay_core.specs.declared.layout.Layout.{Ghosts as LayoutGhosts}
-use Rattle.eng_array.specs.declared.state.Core.{Core}
-use Rattle.eng_array.specs.Serves.{Stands}
+use Rattle.eng_events.specs.declared.array.Array.{Array}
+use Rattle.eng_events.specs.Serves.{Stands}
 use Rattle.eng_array.specs.Steady.{IsSteady}
-use Rattle.eng_array.proofs.Picking.{sound-moved, shows-moved}
+use Rattle.eng_events.proofs.Picking.{sound-moved, shows-moved}
 use Rattle.eng_array.proofs.Reached.{run-stands}
 
-module _ {L D : Type 0} (lay : LayoutGhosts L) (disk : DiskGhosts D) (core : Core L D) where
+module _ {L D : Type 0} (lay : LayoutGhosts L) (disk : DiskGhosts D) (core : Array L D) where
   pub steady-stands : IsSteady lay disk core → core.lost ≡ None → Stands lay core
   steady-stands steady none = run-stands lay disk core steady.sound steady.reached steady.serving none
 
@@ -21,6 +21,7 @@ module _ {L D : Type 0} (lay : LayoutGhosts L) (disk : DiskGhosts D) (core : Cor
       events = steady.reached.events;
       now = steady.reached.now;
       is_opening = steady.reached.is_opening;
+      all_free = steady.reached.all_free;
       run = steady.reached.run;
       shows = shows-moved lay disk core next steady.reached.now steady.reached.shows;
       traced = steady.reached.traced;

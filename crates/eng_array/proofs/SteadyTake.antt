@@ -19,25 +19,25 @@ use Rattle.eng_world.specs.declared.item.Reply.{Reply}
 use Rattle.eng_world.specs.declared.item.Reply.TheVariants as reply
 use Rattle.eng_world.specs.declared.item.Traced.{Traced}
 use Rattle.eng_world.specs.declared.item.Traced.TheVariants as event
-use Rattle.eng_array.specs.declared.stage.Stage.TheVariants.{Nothing, Waits, Runs}
-use Rattle.eng_array.specs.declared.state.Core.{Core}
-use Rattle.eng_array.specs.Desk.{Desk, desk_at, item_at, graph_of, with_reply}
-use Rattle.eng_array.specs.Log.{noted}
-use Rattle.eng_array.specs.Moves.{id_of}
-use Rattle.eng_array.specs.Planned.{IsInside, IsPlanned, IsDrawn, CanRun, span_of, lease_for}
-use Rattle.eng_array.specs.Room.{HasRoom}
-use Rattle.eng_array.specs.Serves.{Serves, Stands, CanTake, CanBack}
+use Rattle.eng_parts.specs.declared.stage.Stage.TheVariants.{Nothing, Waits, Runs}
+use Rattle.eng_events.specs.declared.array.Array.{Array}
+use Rattle.eng_parts.specs.Desk.{Desk, desk_at, item_at, graph_of, with_reply, with_started, with_lease}
+use Rattle.eng_parts.specs.Log.{noted}
+use Rattle.eng_events.specs.Moves.{id_of}
+use Rattle.eng_parts.specs.Planned.{IsInside, IsPlanned, IsDrawn, CanRun, span_of, lease_for, Replanned}
+use Rattle.eng_events.specs.Room.{HasRoom}
+use Rattle.eng_events.specs.Serves.{Serves, Stands, CanTake, CanBack}
 use Rattle.eng_array.specs.Serving.{WasPlanned, IsServing, most_for}
-use Rattle.eng_array.specs.Sound.{IsSound}
+use Rattle.eng_events.specs.Sound.{IsSound}
 use Rattle.eng_array.specs.Steady.{IsSteady}
-use Rattle.eng_array.specs.Steps.{Follows}
-use Rattle.eng_array.specs.Taken.{Replanned, Taken, IsTaken, Replaced, GivenUp, BackAs, IsBack, with_started, with_lease}
-use Rattle.eng_array.proofs.Lacking.{missing-each}
+use Rattle.eng_events.specs.Steps.{Follows}
+use Rattle.eng_events.specs.Taken.{Taken, IsTaken, Replaced, GivenUp, BackAs, IsBack}
+use Rattle.eng_parts.proofs.Lacking.{missing-each}
 use Rattle.eng_array.proofs.OneServing.{each-set, idle-serving, planned-serving, items-set}
-use Rattle.eng_array.proofs.Plans.{task-sound}
+use Rattle.eng_events.proofs.Plans.{task-sound}
 use Rattle.eng_array.proofs.Reached.{run-stands}
-use Rattle.eng_array.proofs.Served as served
-use Rattle.eng_array.proofs.Settling.{lent-file}
+use Rattle.eng_events.proofs.Served as served
+use Rattle.eng_events.proofs.Settling.{lent-file}
 use Rattle.eng_array.proofs.Steady.{Keeps, notes-of, item-among, steady-on, waits-room, undone-room}
 
 -- a planned graph has no more nodes than one for its operation may have
@@ -59,7 +59,7 @@ module _ (y : Shape) (law : IsLayout y) (graphs : List Held) (cols : List Column
   planned-most : length (graph_of graphs d).nodes ≤ most_for y graphs op file
   planned-most = most-by file p.file_is p.drawn
 
-module _ {L D : Type 0} (lay : LayoutGhosts L) (disk : DiskGhosts D) (old new : Core L D) (c : ℕ) (steady : IsSteady lay disk old) (none : old.lost ≡ None) where
+module _ {L D : Type 0} (lay : LayoutGhosts L) (disk : DiskGhosts D) (old new : Array L D) (c : ℕ) (steady : IsSteady lay disk old) (none : old.lost ≡ None) where
   abbrev y : Shape
   y = lay.shape old.layout
 
@@ -129,11 +129,14 @@ module _ {L D : Type 0} (lay : LayoutGhosts L) (disk : DiskGhosts D) (old new : 
     pub take-room : HasRoom old.log
     take-room = let s = (stands.serves c).busy (λ z. let e : Waits ≡ Nothing = sym can.waits ∙ z in let u : ⊥ = cc in u) in waits-room lay disk old steady none c (item.Run s.0 s.1) s.2.item can.waits
 
-    pub take-steady : IsTaken lay old c (event.Take (id_of old.clients c)) new → IsSound lay disk new → Follows lay disk old (event.Take (id_of old.clients c)) new → IsSteady lay disk new
-    take-steady t sound follows = steady-on lay disk old new (event.Take (id_of old.clients c)) (inl tt) steady sound follows (elim t.became [
+    pub take-keeps : IsTaken lay old c (event.Take (id_of old.clients c)) new → Keeps lay disk old (event.Take (id_of old.clients c)) new
+    take-keeps t = elim t.became [
       | inl f ↦ taken-keeps t.op t.file t.serves (event.Take (id_of old.clients c)) f
       | inr f ↦ refused-keeps t.op t.file t.serves (event.Take (id_of old.clients c)) (reply.Refused f.0) f.1.plan f.1.replanned f.1.clients f.1.rest.layout f.1.rest.graphs f.1.log
-    ])
+    ]
+
+    pub take-steady : IsTaken lay old c (event.Take (id_of old.clients c)) new → IsSound lay disk new → Follows lay disk old (event.Take (id_of old.clients c)) new → IsSteady lay disk new
+    take-steady t sound follows = steady-on lay disk old new (event.Take (id_of old.clients c)) (inl tt) steady sound follows (take-keeps t)
 
   -- ## One that was undone goes back
 
@@ -147,7 +150,7 @@ module _ {L D : Type 0} (lay : LayoutGhosts L) (disk : DiskGhosts D) (old new : 
         let long : length f.plan.lease ≡ lease_for y gs op None = ap (λ (l : List ℕ). length l) leased ∙ ((stands.serves c).runs can.runs op None serves).lease in
         one-keeps op None serves e (with_started gs f.plan) (items-same op None serves f.plan f.replanned) (started op None serves f.plan f.replanned f.runs f.plan.lease long) f.clients f.rest.layout f.rest.graphs f.log
 
-    back-keeps : (e : Traced) (op : Op) (file : Option ℕ) → Serves gs y d op file → BackAs lay old c op file e new → Keeps lay disk old e new
+    pub back-keeps : (e : Traced) (op : Op) (file : Option ℕ) → Serves gs y d op file → BackAs lay old c op file e new → Keeps lay disk old e new
     back-keeps e op None serves f = replaced-keeps e op serves f
     back-keeps e op (Some n) serves f = given-keeps op (Some n) serves e (reply.Undone f.0) f.2
 

@@ -1,12 +1,12 @@
 -- An event of one client.
 use Rattle.std.specs.Prelude.{◌≡◌, ℕ, slice_set}
 use Rattle.eng_world.specs.declared.item.Traced.{Traced}
-use Rattle.eng_array.specs.declared.state.Core.{Core}
-use Rattle.eng_array.specs.Desk.{Desk}
+use Rattle.eng_events.specs.declared.array.Array.{Array}
+use Rattle.eng_parts.specs.Desk.{Desk}
 use Rattle.eng_array.specs.Run.{Notes}
 
 -- by a traced event client c alone has become another; of devices, columns, pool, locks and lists nothing is said
-pub record Changed {L D : Type 0} (old : Core L D) (c : ℕ) (d : Desk) (event : Traced) (new : Core L D) : Type 0 where
+pub record Changed {L D : Type 0} (old : Array L D) (c : ℕ) (d : Desk) (event : Traced) (new : Array L D) : Type 0 where
   pub clients : new.clients ≡ slice_set old.clients c d
   pub layout : new.layout ≡ old.layout
   pub graphs : new.graphs ≡ old.graphs

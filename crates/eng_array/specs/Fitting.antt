@@ -8,11 +8,11 @@ use Rattle.eng_cols.specs.Cols.{ColumnState}
 use Rattle.eng_world.specs.declared.item.Item.{Item}
 use Rattle.eng_world.specs.declared.item.Item.TheVariants as item
 use Rattle.eng_rest.specs.Left.{below, alive}
-use Rattle.eng_array.specs.declared.setup.Setup.{Setup}
-use Rattle.eng_array.specs.declared.state.Core.{Core}
-use Rattle.eng_array.specs.Desk.{desk_at}
-use Rattle.eng_array.specs.Given.{items_at}
-use Rattle.eng_array.specs.Opened.{states_of}
+use Rattle.eng_parts.specs.declared.setup.Setup.{Setup}
+use Rattle.eng_events.specs.declared.array.Array.{Array}
+use Rattle.eng_parts.specs.Desk.{desk_at}
+use Rattle.eng_parts.specs.Given.{items_at}
+use Rattle.eng_events.specs.Opened.{states_of}
 use Rattle.eng_array.specs.Serving.{most_by, most_for}
 
 -- the most nodes of a graph of the item, if there is one
@@ -42,7 +42,7 @@ abbrev pub rebuild_events : Shape → ℕ → ℕ
 rebuild_events y n = below (λ s. item_events n (most_by y [] 1 None)) y.stripes
 
 -- A core that has begun no operation has room for a rebuild of a dead column: its trace, if it is kept, for the start, for all events of all items and of a rebuild of each stripe, where one column more may fail, and for these failures; its history for one operation more for each stripe; and client 16 has a region for each.
-pub record FitsRebuild {L D : Type 0} (lay : LayoutGhosts L) (core : Core L D) : Type 0 where
+pub record FitsRebuild {L D : Type 0} (lay : LayoutGhosts L) (core : Array L D) : Type 0 where
   pub trace : core.log.keeps ≡ true → length core.log.trace + 1 + below (λ c. row_events (lay.shape core.layout) core.graphs.items (alive core.cols.states + 1) (desk_at core.clients c).items) 16 + rebuild_events (lay.shape core.layout) (alive core.cols.states + 1) + (alive core.cols.states + 1) ≤ core.log.trace_room
   pub history : below (λ c. length (desk_at core.clients c).items) 16 + (lay.shape core.layout).stripes ≤ core.log.history_room
   pub regions : (lay.shape core.layout).stripes ≤ length (slice_index_or core.log.handed.regions 16 [])

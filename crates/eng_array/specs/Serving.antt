@@ -7,12 +7,11 @@ use Rattle.lay_core.specs.Touched.{IsSpanSplit, stripe_count}
 use Rattle.graph_mean.specs.Graph.{Held}
 use Rattle.eng_world.specs.declared.item.Item.{Item}
 use Rattle.eng_world.specs.declared.item.Item.TheVariants as item
-use Rattle.eng_array.specs.declared.stage.Stage.TheVariants.{Runs}
-use Rattle.eng_array.specs.declared.state.Core.{Core}
-use Rattle.eng_array.specs.Beginning.{IsAsked}
-use Rattle.eng_array.specs.Desk.{Desk, desk_at, item_at}
-use Rattle.eng_array.specs.Planned.{span_of, lease_for}
-use Rattle.eng_array.specs.Steps.{no_graph}
+use Rattle.eng_parts.specs.declared.stage.Stage.TheVariants.{Runs}
+use Rattle.eng_events.specs.declared.array.Array.{Array}
+use Rattle.eng_events.specs.Beginning.{IsAsked}
+use Rattle.eng_parts.specs.Desk.{Desk, desk_at, item_at, no_graph}
+use Rattle.eng_parts.specs.Planned.{span_of, lease_for}
 
 -- the graph that an item names is one of the file
 abbrev pub IsGraphOf : List Held → Option ℕ → Type 0
@@ -44,5 +43,5 @@ pub record IsServing (y : Shape) (graphs : List Held) (d : Desk) : Type 0 where
   pub runs : d.stage ≡ Runs → (op : Op) (file : Option ℕ) → item_at d ≡ Some (item.Run op file) → WasPlanned y graphs d op file
 
 -- so it is of every client
-abbrev pub AreServing : {L D : Type 0} → LayoutGhosts L → Core L D → Type 0
+abbrev pub AreServing : {L D : Type 0} → LayoutGhosts L → Array L D → Type 0
 AreServing lay core = (c : ℕ) → IsServing (lay.shape core.layout) core.graphs.items (desk_at core.clients c)

@@ -6,12 +6,12 @@ use Rattle.lay_core.specs.declared.layout.Layout.{Ghosts as LayoutGhosts}
 use Rattle.eng_world.specs.declared.item.Item.TheVariants as item
 use Rattle.eng_world.specs.World.{World}
 use Rattle.eng_rest.specs.Left.{below, alive, all_left}
-use Rattle.eng_array.specs.declared.state.Core.{Core}
-use Rattle.eng_array.specs.Copied.{AreLaid}
-use Rattle.eng_array.specs.Desk.{desk_at}
+use Rattle.eng_events.specs.declared.array.Array.{Array}
+use Rattle.eng_events.specs.Copied.{AreLaid}
+use Rattle.eng_parts.specs.Desk.{desk_at}
 use Rattle.eng_array.specs.Run.{HasRun}
 use Rattle.eng_array.specs.Serving.{AreServing, most_for}
-use Rattle.eng_array.specs.Sound.{IsSound}
+use Rattle.eng_events.specs.Sound.{IsSound}
 
 -- how many events may still come, where no graph of client c's item i has more than most c i nodes: those of all items, and the failure of each column
 abbrev pub events_left : (ℕ → ℕ → ℕ) → World → ℕ
@@ -19,14 +19,14 @@ events_left most w = all_left most w 17 + alive w.columns
 
 module _ {L D : Type 0} (lay : LayoutGhosts L) (disk : DiskGhosts D) where
   -- the trace, where it is kept, has room for each event that may still come, and the history for each item
-  pub record HasPlaces (core : Core L D) (now : World) : Type 0 where
+  pub record HasPlaces (core : Array L D) (now : World) : Type 0 where
     pub most : ℕ → ℕ → ℕ
     pub bound : (c n : ℕ) (op : Op) (file : Option ℕ) → slice_get (desk_at core.clients c).items n ≡ Some (item.Run op file) → most_for (lay.shape core.layout) core.graphs.items op file ≤ most c n
     pub trace : core.log.keeps ≡ true → length core.log.trace + events_left most now ≤ core.log.trace_room
     pub history : below (λ c. length (desk_at core.clients c).items) 17 ≤ core.log.history_room
 
   -- the core is sound, a run has led to what it shows, its clients are served as planned, there is room for what may still come, and a region for what each item hands out
-  pub record IsSteady (core : Core L D) : Type 0 where
+  pub record IsSteady (core : Array L D) : Type 0 where
     pub sound : IsSound lay disk core
     pub reached : HasRun lay disk core
     pub serving : AreServing lay core

@@ -1,70 +1,23 @@
-//! The core of the array engine: each call is one event of `eng_world`.
+//! The core of the array engine: each call is one event of `eng_world`, and leaves the core as steady as it was.
 #![tactic(auto)]
 
-mod back;
-mod bad;
-mod bad_returns;
-mod begin;
 mod calls;
-mod can;
-mod can_take;
-mod client;
-mod clients;
-mod close;
-mod coming;
-mod commit;
-mod core_room;
-mod devices;
-mod end;
-mod engine_calls;
-mod engine_open;
-mod engine_rebuild;
-mod fail;
-mod fill;
-mod finish;
-mod fire;
-mod gather;
-mod handed;
-mod home;
-mod log;
-mod lost;
-mod memory;
-mod moving;
-mod nothing;
-mod open;
-mod pick;
-mod place;
-mod planned;
-mod planning;
-mod queries;
-mod rebuild;
-mod rebuilds;
-mod rebuilt;
-mod region;
-mod rest;
-mod returned;
-mod rewritten;
-mod room;
-mod serving;
-mod setup;
-mod skip;
-mod slot;
-mod spare;
-mod stage;
-mod state;
-mod sum;
-mod take;
-mod turns;
-mod worlds;
+mod core_calls;
+mod core_open;
+mod core_rebuild;
+mod progress;
+mod tickets;
 
-pub use calls::Engine;
-pub use core_room::CoreRoom;
+pub use calls::Core;
 pub use eng_cols::{Column, Loss, Spot};
+pub use eng_events::{Array, what_is_possible_can_be_done};
 pub use eng_job::{Job, Lists, Outcome};
+pub use eng_parts::{Closed, CoreRoom, Memory, OpenFault, Region, Regions, Setup};
 pub use eng_world::{Event, Item, Reply, Traced};
-pub use handed::Regions;
-pub use memory::Memory;
-pub use region::Region;
-pub use setup::{Closed, OpenFault, Setup};
-pub use state::Core;
-pub use worlds::what_is_possible_can_be_done;
+pub use progress::{each_event_leaves_less, events_of_an_item_are_few, somebody_goes_on};
+pub use tickets::{
+    chains_are_runs, failed_devices_are_blamed, looks_are_quiet, what_is_out_has_one_place,
+};
+
+#[cfg(test)]
+mod tests;

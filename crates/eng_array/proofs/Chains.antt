@@ -1,0 +1,53 @@
+-- A chain of cores is a run of worlds, from whichever world the first core shows.
+use Rattle.std.proofs.Common.{◌≡◌, ◌≤◌, ℕ, List, [], ◌∷◌, ◌++◌, true, refl, sym, ◌∙◌, ap, subst, arith}
+use Rattle.std.specs.Prelude.{reverse}
+use Rattle.std.proofs.lemmas.Grind.{reverse_onto}
+use Rattle.std.proofs.lemmas.List.{append_assoc, append-nil}
+use Rattle.blk_disk.specs.declared.disk.Disk.{Ghosts as DiskGhosts}
+use Rattle.lay_core.specs.Layout.{Shape}
+use Rattle.lay_core.specs.declared.layout.Layout.{Ghosts as LayoutGhosts}
+use Rattle.eng_world.specs.declared.item.Traced.{Traced}
+use Rattle.eng_world.specs.World.{World}
+use Rattle.eng_world.specs.Planning.{Graphs}
+use Rattle.eng_world.specs.Step.{Step, Run}
+use Rattle.eng_events.specs.declared.array.Array.{Array}
+use Rattle.eng_events.specs.Shows.{Shows}
+use Rattle.eng_array.specs.Tickets.{Goes, Same, keeps_trace, traced, shape_of, graphs_of, size_at, faults_at}
+
+module _ {L D : Type 0} (lay : LayoutGhosts L) (disk : DiskGhosts D) where
+  -- one chain behind another
+  pub goes-append : (first mid last : Array L D) (events more : List Traced) → Goes lay disk first events mid → Goes lay disk mid more last → Goes lay disk first (more ++ events) last
+  goes-append first mid last events [] g h = subst (λ (c : Array L D). Goes lay disk first events c) (sym h) g
+  goes-append first mid last events (e ∷ more) g h = (h.0, goes-append first mid h.0 events more g h.1, h.2)
+
+  pub same-same : (core : Array L D) → Same lay disk core core
+  same-same core = record { shape = refl; graphs = refl; keeps = refl }
+
+  pub goes-same : (old new : Array L D) (events : List Traced) → Goes lay disk old events new → Same lay disk old new
+  goes-same old new [] g = subst (λ (c : Array L D). Same lay disk old c) (sym g) (same-same old)
+  goes-same old new (e ∷ events) g =
+      let before = goes-same old g.0 events g.1 in
+      record { shape = g.2.same.shape ∙ before.shape; graphs = g.2.same.graphs ∙ before.graphs; keeps = g.2.same.keeps ∙ before.keeps }
+
+  pub goes-leads : (old new : Array L D) (events : List Traced) → Goes lay disk old events new → (w : World) → Shows disk old w → (x : World) × Shows disk new x × Run (shape_of lay disk old) (graphs_of old) w events x
+  goes-leads old new [] g w f = (w, subst (λ (c : Array L D). Shows disk c w) (sym g) f, refl)
+  goes-leads old new (e ∷ events) g w f =
+      let mid = goes-leads old g.0 events g.1 w f in
+      let last = g.2.leads mid.0 mid.1 in
+      let same = goes-same old g.0 events g.1 in
+      (last.0, last.1, (mid.0, mid.2, subst (λ (y : Shape). Step y (graphs_of old) e mid.0 last.0) same.shape (subst (λ (gs : Graphs). Step (shape_of lay disk g.0) gs e mid.0 last.0) same.graphs last.2)))
+
+  pub goes-later : (old new : Array L D) (events : List Traced) → Goes lay disk old events new → (d : ℕ) → (size_at lay disk new d ≡ size_at lay disk old d) × (faults_at lay disk old d ≤ faults_at lay disk new d)
+  goes-later old new [] g d = (ap (λ (c : Array L D). size_at lay disk c d) g, (let e : faults_at lay disk new d ≡ faults_at lay disk old d = ap (λ (c : Array L D). faults_at lay disk c d) g in omega (arith, e)))
+  goes-later old new (e ∷ events) g d =
+      let a = goes-later old g.0 events g.1 d in
+      let b = g.2.later d in
+      let p = a.1 in
+      let q = b.1 in
+      (b.0 ∙ a.0, omega (arith, p, q))
+
+  -- the trace is the chain's events, where it is kept
+  pub goes-told : (old new : Array L D) (events : List Traced) → Goes lay disk old events new → keeps_trace old ≡ true → traced new ≡ traced old ++ reverse events
+  goes-told old new [] g on = ap traced g ∙ sym (append-nil (traced old))
+  goes-told old new (e ∷ events) g on =
+      g.2.told ((goes-same old g.0 events g.1).keeps ∙ on) ∙ (ap (λ (l : List Traced). l ++ e ∷ []) (goes-told old g.0 events g.1 on) ∙ (append_assoc (traced old) (reverse events) (e ∷ []) ∙ ap (λ l. traced old ++ l) (sym (reverse_onto events e []))))

@@ -1,0 +1,121 @@
+-- A core of which no job is out, and that can do nothing, has nothing left to do.
+use Rattle.std.proofs.Common.{◌≡◌, ◌≢◌, ◌≤◌, inl, inr, ℕ, List, length, refl, sym, ◌∙◌, ap, arith, Option, Some, None}
+use Rattle.std.specs.Prelude.{◌+◌, ◌*◌}
+use Rattle.std.proofs.Math.Nat.{mul-le-mul}
+use Rattle.blk_plain.specs.declared.op.Op.{Op}
+use Rattle.blk_disk.specs.declared.disk.Disk.{Ghosts as DiskGhosts}
+use Rattle.lay_core.specs.Layout.{Shape, data_units}
+use Rattle.lay_core.specs.Touched.{stripe_count}
+use Rattle.lay_core.specs.declared.layout.Layout.{Ghosts as LayoutGhosts}
+use Rattle.eng_world.specs.declared.item.Event.TheVariants as may
+use Rattle.eng_world.specs.declared.item.Item.{Item}
+use Rattle.eng_world.specs.declared.item.Reply.{Reply}
+use Rattle.eng_world.specs.World.{Running, Current, World, Nothing as Idles, Waits as IsWaiting, Runs as IsRunning}
+use Rattle.eng_world.specs.Going.{NoneRuns}
+use Rattle.eng_world.specs.Pool.{leased_by, MakeUp, HaveItems}
+use Rattle.eng_world.proofs.Continuing.{run-continues}
+use Rattle.eng_world.proofs.Pooling.{over-none, opening-pool, run-pool}
+use Rattle.eng_rest.specs.Few.{Stands as GoesOn}
+use Rattle.eng_rest.proofs.Waiting.{somebody}
+use Rattle.eng_parts.specs.declared.stage.Stage.TheVariants.{Waits, Runs}
+use Rattle.eng_events.specs.declared.array.Array.{Array}
+use Rattle.eng_parts.specs.Desk.{Desk, desk_at}
+use Rattle.eng_events.specs.Opened.{NoneOut}
+use Rattle.eng_events.specs.Picked.{IsResting, IsStuck}
+use Rattle.eng_parts.specs.Planned.{span_of, lease_for}
+use Rattle.eng_array.specs.Progress.{FitThePool}
+use Rattle.eng_events.specs.Serves.{Serves, CanTake}
+use Rattle.eng_array.specs.Steady.{IsSteady}
+use Rattle.eng_events.specs.Steps.{graphs_of}
+use Rattle.eng_parts.proofs.Maps.{span-short}
+use Rattle.eng_events.proofs.Possible.{current-waits}
+use Rattle.eng_events.proofs.PossibleDoing.{possible-can}
+use Rattle.eng_array.proofs.Promised.{library-promises}
+use Rattle.eng_events.proofs.Resting.{all-home}
+use Rattle.eng_events.proofs.Shown.{shown-running, replies-shown}
+use Rattle.eng_array.proofs.Steady.{shown-items}
+use Rattle.eng_array.proofs.SteadyPick.{steady-stands}
+use Rattle.eng_array.proofs.TakeAlone.{take-alone}
+
+-- an operation that doesn't run leases nothing
+not-leased : (x : Current) → ((r : Running) → x ≡ IsRunning r → ⊥) → leased_by x ≡ 0
+not-leased Idles none = refl
+not-leased IsWaiting none = refl
+not-leased (IsRunning r) none = absurd (none r refl)
+
+module _ {L D : Type 0} (lay : LayoutGhosts L) (disk : DiskGhosts D) (core : Array L D) (steady : IsSteady lay disk core) where
+  abbrev y : Shape
+  y = lay.shape core.layout
+
+  abbrev opening : World
+  opening = steady.reached.opening
+
+  abbrev now : World
+  now = steady.reached.now
+
+  -- only seventeen clients had items as the core was opened
+  opening-items : HaveItems opening 17
+  opening-items = (
+    omega arith,
+    λ c l. elim ((run-continues y (graphs_of core.graphs.items) opening steady.reached.events now steady.reached.run).items c) [
+      | inl same ↦ sym same ∙ (shown-items lay disk core now steady.sound steady.reached.shows).1 c l
+      | inr last ↦ last.1
+    ],
+  )
+
+  -- ## The pool
+
+  -- while no operation runs all buffers are free
+  all-free : NoneRuns now → length core.pool.free ≡ 2048
+  all-free none =
+      let h : MakeUp opening.free now 17 = (run-pool y (graphs_of core.graphs.items) opening.free 17 opening steady.reached.events now (opening-pool y opening 17 steady.reached.is_opening opening-items) steady.reached.run).made_up in
+      let leases = over-none leased_by now 17 (λ c. not-leased (now.clients c).current (none c)) in
+      let shown = steady.reached.shows.free in
+      let whole = steady.reached.all_free in
+      omega (arith, h, leases, shown, whole)
+
+  -- no operation wants more
+  lease-fits : FitThePool (graphs_of core.graphs.items) → (op : Op) (file : Option ℕ) (d : Desk) → Serves core.graphs.items y d op file → lease_for y core.graphs.items op file ≤ 2048
+  lease-fits small op None d serves =
+      let w = steady.sound.layout.width_most in
+      let c = steady.sound.layout.columns_most in
+      let few = span-short y steady.sound.layout op serves.inside in
+      let units : 2 * data_units y + 2 ≤ 66 = omega (arith, w, c) in
+      let stripes : stripe_count y (span_of y op) + 2 ≤ 18 = omega (arith, few) in
+      let all : (2 * data_units y + 2) * (stripe_count y (span_of y op) + 2) ≤ 66 * 18 = mul-le-mul units stripes in
+      omega (arith, all)
+  lease-fits small op (Some n) d serves = small n
+
+  -- ## Who waits
+
+  not-running : NoneRuns now → (k : ℕ) → (desk_at core.clients k).stage ≢ Runs
+  not-running none k runs = let s = shown-running disk.tells core.lost core.pool (desk_at core.clients k) (now.clients k) (steady.reached.shows.clients k) runs in none k _ s.1
+
+  waiting-can : FitThePool (graphs_of core.graphs.items) → core.lost ≡ None → NoneRuns now → (c : ℕ) → (now.clients c).current ≡ IsWaiting → CanTake lay core c
+  waiting-can small lost none c is =
+      let waits : (desk_at core.clients c).stage ≡ Waits = current-waits disk.tells core.pool (desk_at core.clients c) (now.clients c).current (desk_at core.clients c).stage (steady.reached.shows.clients c).current is in
+      let serves = ((steady-stands lay disk core steady lost).serves c).busy (λ idle. let z = sym waits ∙ idle in let u : ⊥ = cc in u) in
+      let fits = lease-fits small serves.0 serves.1 (desk_at core.clients c) serves.2 in
+      let free = all-free none in
+      take-alone lay disk core c serves.0 serves.1 serves.2 steady.sound lost waits (not-running none) (omega (arith, fits, free))
+
+  -- ## All is done
+
+  module _ (small : FitThePool (graphs_of core.graphs.items)) (home : NoneOut core.clients) (stuck : IsStuck lay core) where
+    replied-by : core.lost ≡ None → GoesOn y (graphs_of core.graphs.items) now → (c : ℕ) → length (desk_at core.clients c).replies ≡ length (desk_at core.clients c).items
+    replied-by lost (inl all) c =
+        let a = all c in
+        let r = ap (λ (l : List Reply). length l) (replies-shown disk core now steady.reached.shows lost c) in
+        let i = ap (λ (l : List Item). length l) (steady.reached.shows.clients c).items in
+        omega (arith, a, r, i)
+    replied-by lost (inr (inl can)) c = absurd (stuck can.0 (possible-can lay disk core now steady.sound (steady-stands lay disk core steady lost) steady.reached.shows can.0 can.1))
+    replied-by lost (inr (inr waits)) c = absurd (stuck (may.Take waits.1.0) (waiting-can small lost waits.0 waits.1.0 waits.1.1))
+
+    pub somebody-goes-on : IsResting core
+    somebody-goes-on = record {
+      replied = λ lost c.
+          let lists = all-home lay disk core steady.sound home in
+          let shown = steady.reached.shows.out in
+          replied-by lost (somebody y steady.sound.layout (graphs_of core.graphs.items) (library-promises core.graphs.items) opening steady.reached.events now 17 steady.reached.is_opening opening-items steady.reached.run (steady.reached.shows.lost ∙ lost) (omega (arith, lists, shown))) c;
+      home = home;
+    }

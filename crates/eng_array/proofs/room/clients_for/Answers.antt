@@ -1,5 +1,0 @@
-use Rattle.eng_array.proofs.LaidItems.{few-each}
-use Rattle.eng_array.proofs.room.clients_for.Goals as goal
-
-pub open-requires : goal.open-requires
-open-requires c = few-each c.args.clients.now c.requires.clients c.requires.items

@@ -1,0 +1,56 @@
+//! What an engine tells of itself, and which event is next.
+ghost use Rattle.std.specs.Prelude.{◌≡◌, ◌↔◌, None, IsTrue, MatchOption, IfSome};
+ghost use Rattle.eng_world.specs.World.{World};
+ghost use Rattle.eng_events.specs.Doing.{CanDo};
+ghost use Rattle.eng_events.specs.Out.{IsOut};
+ghost use Rattle.eng_events.specs.Picked.{next_after, IsPicked, IsResting, IsStuck};
+ghost use Rattle.eng_events.specs.Shows.{Shows};
+ghost use Rattle.eng_array.specs.Steady.{IsSteady};
+ghost use Rattle.eng_array.specs.Tickets.{Quiet};
+
+use crate::calls::Core;
+use blk_disk::Disk;
+use eng_job::Job;
+use eng_world::Event;
+use lay_core::Layout;
+
+impl<L: Layout, D: Disk> Core<L, D> {
+    /// Whether the event can be done now. Events of clients and nodes that aren't there can't.
+    pub fn can(&self, event: Event) -> bool
+        requires { IsSteady L.Layout D.Disk self.now.array }
+        ensures { IsTrue result ↔ CanDo L.Layout self.now.array event }
+    {
+        match self.array.lost {
+            Some(_) => false,
+            None => self.array.can(event),
+        }
+    }
+
+    /// Chooses the event that is done next: the clients are tried in a ring, from the one after that of the last
+    /// choice on, and of a client its begin, take and back, and then the least node that can be skipped or fired. None
+    /// exactly where no event can be done but the end of a job.
+    pub fn pick(&mut self) -> Option<Event>
+        requires { IsSteady L.Layout D.Disk self.old.array }
+        ensures event { MatchOption result (IsStuck L.Layout self.old.array) (IsPicked L.Layout self.old.array) }
+        ensures can { IfSome result (CanDo L.Layout self.new.array) }
+        ensures next { self.new.array ≡ record self.old.array { next = next_after self.old.array.next result } }
+        ensures steady { IsSteady L.Layout D.Disk self.new.array }
+        ensures shows { (w : World) → Shows D.Disk self.old.array w → Shows D.Disk self.new.array w }
+        ensures stays { (job : Job D) → IsOut D.Disk L.Layout self.old.array job → IsOut D.Disk L.Layout self.new.array job }
+        ensures quiet { Quiet L.Layout D.Disk self.old.array self.new.array }
+        ensures none { result ≡ None → self.new.array ≡ self.old.array }
+    {
+        match self.array.lost {
+            Some(_) => None,
+            None => self.array.pick(),
+        }
+    }
+
+    /// Whether each item has a reply, or the array is lost, and no job is out.
+    pub fn rest(&self) -> bool
+        requires { IsSteady L.Layout D.Disk self.now.array }
+        ensures { IsTrue result ↔ IsResting self.now.array }
+    {
+        self.array.rest()
+    }
+}

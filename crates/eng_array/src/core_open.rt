@@ -1,0 +1,53 @@
+//! An engine is opened, and closed.
+ghost use Rattle.std.specs.Prelude.{◌≡◌, length, MatchResult, IfOk, IfErr};
+ghost use Rattle.eng_cols.specs.Lost.{NotLost};
+ghost use Rattle.eng_events.specs.Closed.{IsClosed};
+ghost use Rattle.eng_events.specs.Copied.{AreLaid};
+ghost use Rattle.eng_array.specs.Fitting.{FitsTrace, FitsRebuild, FitsRebuilding};
+ghost use Rattle.eng_events.specs.Opened.{states_of, IsSetup, IsOpened, NoneOut, OpensWorlds};
+ghost use Rattle.eng_events.specs.Serves.{Stands};
+ghost use Rattle.eng_array.specs.Steady.{IsSteady};
+ghost use Rattle.eng_parts.specs.Fresh.{IsRoomFor, IsFault};
+
+use crate::calls::Core;
+use blk_disk::Disk;
+use eng_events::Array;
+use eng_parts::{Closed, CoreRoom, OpenFault, Setup};
+use lay_core::Layout;
+
+impl<L: Layout, D: Disk + Drop> Core<L, D> {
+    /// Opens an engine over the setup, in room that was taken for it. Where the array is lost, the setup is handed back.
+    /// It takes no memory. A trace that is to be kept must have room for all events of the setup.
+    pub fn open(
+        setup: Setup<L, D>,
+        room: CoreRoom<D>,
+    ) -> Result<Core<L, D>, (OpenFault, Setup<L, D>)>
+        requires setup { IsSetup L.Layout D.Disk setup }
+        requires room { IsRoomFor (L.shape setup.layout) (length setup.devices.items) setup.clients.items setup.trace room }
+        requires trace { FitsTrace L.Layout setup }
+        ensures fault { MatchResult result (λ engine. NotLost (L.shape setup.layout) (states_of (L.shape setup.layout) setup.columns.items)) (λ e. IsFault (L.shape setup.layout) (states_of (L.shape setup.layout) setup.columns.items) e.0) }
+        ensures back { IfErr result (λ e. e.1 ≡ setup) }
+        ensures opened { IfOk result (λ engine. IsOpened L.Layout D.Disk setup engine.array) }
+        ensures none_out { IfOk result (λ engine. NoneOut engine.array.clients) }
+        ensures stands { IfOk result (λ engine. Stands L.Layout engine.array) }
+        ensures worlds { IfOk result (λ engine. OpensWorlds L.Layout D.Disk engine.array) }
+        ensures laid { IfOk result (λ engine. AreLaid engine.array.log.handed engine.array.clients) }
+        ensures steady { IfOk result (λ engine. IsSteady L.Layout D.Disk engine.array) }
+        ensures rebuilds { IfOk result (λ engine. FitsRebuilding L.Layout setup → FitsRebuild L.Layout engine.array) }
+    {
+        match Array::open(setup, room) {
+            Ok(array) => Ok(Core { array }),
+            Err(fault) => Err(fault),
+        }
+    }
+
+    /// Closes an engine of which no node is out, as where it is at rest, and hands back what it has. Once the array is
+    /// lost, each item without a reply is replied so.
+    pub fn close(self) -> Closed<L, D>
+        requires steady { IsSteady L.Layout D.Disk self.array }
+        requires none_out { NoneOut self.array.clients }
+        ensures { IsClosed self.array result }
+    {
+        self.array.close()
+    }
+}

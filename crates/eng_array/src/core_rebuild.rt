@@ -1,0 +1,48 @@
+//! An engine begins a rebuild.
+ghost use Rattle.std.specs.Prelude.{◌≡◌};
+ghost use Rattle.eng_cols.specs.Changes.{begun_filling, begun_spreading};
+ghost use Rattle.eng_world.specs.declared.item.Traced.TheVariants as event;
+ghost use Rattle.eng_array.specs.Fitting.{FitsRebuild};
+ghost use Rattle.eng_parts.specs.Log.{noted};
+ghost use Rattle.eng_events.specs.Rebuilding.{CanFill, CanSpread, Started};
+ghost use Rattle.eng_array.specs.Steady.{IsSteady};
+ghost use Rattle.eng_events.specs.Steps.{Follows};
+ghost use Rattle.eng_array.specs.Tickets.{Happens, KeepsJobs};
+
+use crate::calls::Core;
+use blk_disk::Disk;
+use lay_core::Layout;
+
+impl<L: Layout, D: Disk> Core<L, D> {
+    /// Starts a rebuild of a dead column onto a device that is in no column, before any operation has begun. Client 16
+    /// gets a rebuild for each of the column's stripes, for which there must be room.
+    pub fn fill(&mut self, column: u32, device: u32)
+        requires steady { IsSteady L.Layout D.Disk self.old.array }
+        requires can { CanFill L.Layout D.Disk self.old.array column device }
+        requires room { FitsRebuild L.Layout self.old.array }
+        ensures started { Started L.Layout self.old.array column (begun_filling self.old.array.cols column device) (event.Fill column device) self.new.array }
+        ensures step { Follows L.Layout D.Disk self.old.array (event.Fill column device) self.new.array }
+        ensures steady { IsSteady L.Layout D.Disk self.new.array }
+        ensures trace { self.new.array.log ≡ noted self.old.array.log (event.Fill column device) }
+        ensures happens { Happens L.Layout D.Disk (event.Fill column device) self.old.array self.new.array }
+        ensures keeps { KeepsJobs L.Layout D.Disk self.old.array self.new.array }
+    {
+        self.array.fill(column, device);
+    }
+
+    /// Starts a rebuild of a dead column into the spare places, before any operation has begun. Client 16 gets a rebuild
+    /// for each of the column's stripes, for which there must be room.
+    pub fn spread(&mut self, column: u32)
+        requires steady { IsSteady L.Layout D.Disk self.old.array }
+        requires can { CanSpread L.Layout D.Disk self.old.array column }
+        requires room { FitsRebuild L.Layout self.old.array }
+        ensures started { Started L.Layout self.old.array column (begun_spreading self.old.array.cols column) (event.Spread column) self.new.array }
+        ensures step { Follows L.Layout D.Disk self.old.array (event.Spread column) self.new.array }
+        ensures steady { IsSteady L.Layout D.Disk self.new.array }
+        ensures trace { self.new.array.log ≡ noted self.old.array.log (event.Spread column) }
+        ensures happens { Happens L.Layout D.Disk (event.Spread column) self.old.array self.new.array }
+        ensures keeps { KeepsJobs L.Layout D.Disk self.old.array self.new.array }
+    {
+        self.array.spread(column);
+    }
+}

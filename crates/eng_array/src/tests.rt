@@ -1,0 +1,116 @@
+//! Runs of a core over devices in memory. What is wanted is worked by hand from the layout.
+ghost use Rattle.std.specs.Prelude.{◌≡◌, ◌≤◌, IfOk, None, false, length};
+
+mod closed;
+mod driving;
+mod faults;
+mod graphs;
+mod late;
+mod opening;
+mod rows;
+mod together;
+mod traced;
+
+use crate::{Item, Setup};
+use blk_disk::{MemDisk, SECTOR};
+use blk_plain::{Op, OpId, Pattern, Span};
+use eng_cols::Column;
+use std::alloc::Global;
+use std::test::Fail;
+
+// A device of so many sectors of zeros that fails its calls of these numbers.
+fn device(alloc: Global, sectors: usize, fails: &[u32]) -> Result<MemDisk, Fail>
+    requires { sectors ≤ 1000 }
+{
+    let bytes = vec![in alloc; 0; SECTOR * sectors]?;
+    let fails = fails.to_vec(alloc)?;
+    Ok(MemDisk::new(alloc, bytes, fails, 100)?)
+}
+
+// Devices of 128 sectors of zeros, each of which fails the calls of its list.
+fn devices(alloc: Global, fails: &[&[u32]]) -> Result<Vec<Option<MemDisk>>, Fail> {
+    let mut devices = Vec::new(alloc);
+    for numbers in fails {
+        devices.push(Some(device(alloc, 128, numbers)?))?;
+    }
+    Ok(devices)
+}
+
+// Each column is live on the device of its number.
+fn live(alloc: Global, count: u32) -> Result<Vec<Column>, Fail>
+    ensures { IfOk result (λ columns. length columns.items ≡ count) }
+{
+    let mut columns = Vec::new(alloc);
+    for device in 0..count {
+        columns.push(Column::Live { device })?;
+    }
+    Ok(columns)
+}
+
+fn write(first: u64, count: u32, byte: u8) -> Item
+    ensures { (pattern : Pattern) × (result ≡ Item.Run (Op.Write (record { first = first; count = count }) pattern) None) }
+{
+    let mut bytes = [0; 32];
+    bytes[0] = byte;
+    Item::Run {
+        op: Op::Write {
+            span: Span { first, count },
+            pattern: Pattern { len: 1, bytes },
+        },
+        graph: None,
+    }
+}
+
+fn read(first: u64, count: u32) -> Item
+    ensures { result ≡ Item.Run (Op.Read (record { first = first; count = count })) None }
+{
+    Item::Run {
+        op: Op::Read {
+            span: Span { first, count },
+        },
+        graph: None,
+    }
+}
+
+fn sync(stripe: u32) -> Item {
+    Item::Run {
+        op: Op::Sync { stripe },
+        graph: None,
+    }
+}
+
+fn fail(column: u32) -> Item {
+    Item::Fail { column }
+}
+
+fn id(client: u32, index: u32) -> OpId {
+    OpId { client, index }
+}
+
+// Lists of items, one for each client.
+fn scripts(alloc: Global, lists: &[&[Item]]) -> Result<Vec<Vec<Item>>, Fail> {
+    let mut scripts = Vec::new(alloc);
+    for list in lists {
+        scripts.push(list.to_vec(alloc)?)?;
+    }
+    Ok(scripts)
+}
+
+// An array of live columns without graphs of a file, of which no trace is kept.
+fn setup<L: Drop>(
+    alloc: Global,
+    layout: L,
+    fails: &[&[u32]],
+    lists: &[&[Item]],
+) -> Result<Setup<L, MemDisk>, Fail>
+    ensures { IfOk result (λ setup. setup.trace ≡ false) }
+{
+    Ok(Setup {
+        layout,
+        devices: devices(alloc, fails)?,
+        columns: live(alloc, u32::try_from(fails.len()).unwrap_or(0))?,
+        clients: scripts(alloc, lists)?,
+        graphs: Vec::new(alloc),
+        trace: false,
+    })
+}

@@ -1,0 +1,149 @@
+//! Openings of small setups: what an opening asks is tested, and the test is proved.
+ghost use Rattle.std.specs.Prelude.{◌≡◌, ◌≤◌, ◌*◌, ◌+◌, length, IfOk, IsTrue, All};
+ghost use Rattle.eng_parts.specs.Laid.{item_sectors};
+ghost use Rattle.eng_world.specs.Step.{MayBeAsked};
+ghost use Rattle.eng_events.specs.Beginning.{IsAsked};
+ghost use Rattle.eng_events.specs.Opened.{IsSetup, NamesGraph};
+ghost use Rattle.eng_array.specs.Fitting.{FitsTrace};
+ghost use Rattle.eng_array.specs.Small.{HasSectors, IsOwn, AreOwn, IsSmall, IsScript, AreScripts};
+ghost use Rattle.eng_array.specs.Steady.{IsSteady};
+
+use crate::{Core, CoreRoom, Item, Setup};
+use blk_disk::Disk;
+use blk_plain::Op;
+use eng_cols::Column;
+use lay_core::Layout;
+use std::alloc::Global;
+use std::test::Fail;
+
+// Whether there is a device of this number with so many sectors.
+fn has_sectors<D: Disk>(devices: &[Option<D>], at: usize, need: u64) -> bool
+    ensures { IsTrue result → HasSectors D.Disk devices.now at need }
+{
+    match devices.get(at) {
+        Some(Some(disk)) => need <= disk.sectors(),
+        _ => false,
+    }
+}
+
+// Whether the column is dead, or live on the device of its number.
+fn is_own<D: Disk>(column: Column, number: usize, devices: &[Option<D>], need: u64) -> bool
+    ensures { IsTrue result → IsOwn D.Disk devices.now need number column }
+{
+    match column {
+        Column::Dead => true,
+        Column::Live { device } => device as usize == number && has_sectors(devices, number, need),
+        Column::Filling { .. } | Column::Spread => false,
+    }
+}
+
+// Whether each column is.
+fn are_own<D: Disk>(columns: &[Column], devices: &[Option<D>], need: u64) -> bool
+    ensures { IsTrue result → AreOwn D.Disk devices.now need columns.now }
+{
+    for number in 0..columns.len() {
+        if !is_own(columns[number], number, devices, need) {
+            return false;
+        }
+    }
+    true
+}
+
+// Whether the operation may be asked, with a graph of the file if one is named.
+fn may_run<L: Layout>(layout: &L, graphs: usize, op: Op, graph: Option<u32>) -> bool
+    ensures { IsTrue result → IsSmall (L.shape layout.now) graphs (Item.Run op graph) }
+{
+    if let Some(number) = graph {
+        if number as usize >= graphs {
+            return false;
+        }
+    }
+    match op {
+        Op::Write { span, .. } => 1 <= span.count,
+        Op::Read { span } => 1 <= span.count && span.count <= 1024,
+        Op::Rebuild { .. } => graph.is_none(),
+        Op::Sync { .. } => true,
+    }
+}
+
+// Whether the item may be asked.
+fn is_small<L: Layout>(layout: &L, graphs: usize, item: Item) -> bool
+    ensures { IsTrue result → IsSmall (L.shape layout.now) graphs item }
+{
+    match item {
+        Item::Run { op, graph } => may_run(layout, graphs, op, graph),
+        Item::Fail { column } => column < layout.columns(),
+    }
+}
+
+// Whether the items are few and each may be asked.
+fn is_script<L: Layout>(layout: &L, graphs: usize, items: &[Item]) -> bool
+    ensures { IsTrue result → IsScript (L.shape layout.now) graphs items.now }
+{
+    if items.len() > 16 {
+        return false;
+    }
+    for item in items {
+        if !is_small(layout, graphs, *item) {
+            return false;
+        }
+    }
+    true
+}
+
+// Whether the clients are few and each has such items.
+fn are_scripts<L: Layout>(layout: &L, graphs: usize, clients: &[Vec<Item>]) -> bool
+    ensures { IsTrue result → AreScripts (L.shape layout.now) graphs clients.now }
+{
+    if clients.len() > 16 {
+        return false;
+    }
+    for items in clients {
+        if !is_script(layout, graphs, items) {
+            return false;
+        }
+    }
+    true
+}
+
+// Whether a core may be opened over the setup.
+fn is_setup<L: Layout, D: Disk>(setup: &Setup<L, D>) -> bool
+    ensures setup { IsTrue result → IsSetup L.Layout D.Disk setup.now }
+    ensures scripts { IsTrue result → AreScripts (L.shape setup.now.layout) (length setup.now.graphs.items) setup.now.clients.items }
+{
+    let layout = &setup.layout;
+    let need = 64 + u64::from(layout.rows()) * u64::from(layout.unit_sectors());
+    if setup.columns.len() != layout.columns() as usize {
+        return false;
+    }
+    if !are_own(&setup.columns, &setup.devices, need) {
+        return false;
+    }
+    are_scripts(layout, setup.graphs.len(), &setup.clients)
+}
+
+// A core over a small setup.
+pub(super) fn opened<L: Layout + Drop, D: Disk + Drop>(
+    alloc: Global,
+    setup: Setup<L, D>,
+) -> Result<Core<L, D>, Fail>
+    requires trace { FitsTrace L.Layout setup }
+    ensures { IfOk result (λ core. IsSteady L.Layout D.Disk core.array) }
+{
+    if !is_setup(&setup) || setup.devices.len() > 64 {
+        return Err(Fail::from("no setup"));
+    }
+    let devices = setup.devices.len() as u32;
+    let room = CoreRoom::open(
+        alloc,
+        &setup.layout,
+        devices,
+        &setup.clients,
+        &setup.graphs,
+        setup.trace,
+    )?;
+    match Core::open(setup, room) {
+        Ok(core) => Ok(core),
+        Err(_) => Err(Fail::from("lost as it was opened")),
+    }
+}

@@ -1,0 +1,71 @@
+-- The parts of a core before anything has begun, and the room that is one for a layout.
+use Rattle.std.specs.Prelude.{◌≡◌, ◌<◌, ◌≤◌, ◌+◌, ◌*◌, ℕ, List, [], length, Bool, None, Vec, replicate, if◌then◌else◌}
+use Rattle.std.specs.declared.alloc.Global.{Global}
+use Rattle.buf_pool.specs.Pool.{IsFresh}
+use Rattle.stripe_lock.specs.Table.{IsIdle}
+use Rattle.lay_core.specs.Layout.{Shape}
+use Rattle.lay_core.specs.Touched.{nothing}
+use Rattle.graph_mean.specs.declared.step.Phase.TheVariants as phase
+use Rattle.graph_mean.specs.Graph.{blank}
+use Rattle.graph_mean.specs.Task.{no_task}
+use Rattle.eng_cols.specs.Cols.{ColumnState, Dead}
+use Rattle.eng_cols.specs.Lost.{IsLost}
+use Rattle.eng_world.specs.declared.item.Item.{Item}
+use Rattle.eng_parts.specs.declared.stage.Stage.TheVariants.{Nothing}
+use Rattle.eng_parts.specs.declared.core_room.CoreRoom.{CoreRoom}
+use Rattle.eng_parts.specs.declared.setup.OpenFault.{OpenFault}
+use Rattle.eng_parts.specs.declared.setup.OpenFault.TheVariants as fault
+use Rattle.eng_parts.specs.Desk.{Desk, desk_at}
+use Rattle.eng_parts.specs.Given.{items_at}
+use Rattle.eng_parts.specs.Handed.{Handout}
+use Rattle.eng_parts.specs.Laid.{items_before, IsLaidOut}
+use Rattle.eng_parts.specs.Log.{Logged}
+
+-- a client with these items that has begun none
+abbrev pub new_desk : List Item → Desk
+new_desk items = record {
+  items = items;
+  replies = [];
+  stage = Nothing;
+  run = record { graph = blank; marks = []; phase = phase.Undone };
+  graph = record { drawn = blank; node_room = 2048; buf_room = 2048; edge_room = 16384 };
+  task = no_task;
+  map = nothing;
+  missing = [];
+  lease = [];
+  spots = replicate 2048 None;
+  by = None;
+  file = None;
+}
+
+-- an empty log: the history has room for 65,536 operations and a rebuild of each stripe, and the trace, if it is kept, for 1,048,576 events, the failure of each column, the start of a rebuild and one failure more
+abbrev pub fresh_log : Shape → Bool → Handout → Logged
+fresh_log y trace handed = record {
+  history = [];
+  trace = [];
+  keeps = trace;
+  rebuilt = 0;
+  handed = handed;
+  history_room = 65536 + y.stripes;
+  trace_room = if trace then 1048576 + 2 + y.columns else 0;
+}
+
+-- The room is one for this layout, so many devices and these items: all columns are dead, all buffers free, no stripe is held, each client has its items, not too many in all, and has begun none, and there is a rebuild's place for each stripe.
+pub record IsRoomFor {D : Type 0} (y : Shape) (most : ℕ) (given : List (Vec Item Global)) (trace : Bool) (room : CoreRoom D) : Type 0 where
+  pub cols : room.cols ≡ record { states = replicate y.columns Dead; stripes = y.stripes }
+  pub devices : room.devices ≡ most
+  pub unit : room.pool.unit ≡ 512 * y.unit_sectors
+  pub pool : IsFresh room.pool 2048
+  pub locks : IsIdle room.locks 17
+  pub lists : room.lists ≡ 32
+  pub few : items_before given 16 ≤ 65536
+  pub count : length room.clients ≡ 17
+  pub clients : (c : ℕ) → c < 17 → desk_at room.clients c ≡ new_desk (items_at given c)
+  pub log : room.log ≡ fresh_log y trace room.log.handed
+  pub laid : IsLaidOut given y.stripes room.log.handed
+  pub rebuilds : room.rebuilds ≡ record { items = []; room = y.stripes }
+  pub spare : room.spare ≡ length given
+
+-- the array is lost by this
+abbrev pub IsFault : Shape → List ColumnState → OpenFault → Type 0
+IsFault y cols (fault.Lost first second stripe) = IsLost y cols (record { first = first; second = second; stripe = stripe })

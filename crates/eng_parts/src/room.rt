@@ -1,0 +1,119 @@
+//! The room of a core is taken.
+ghost use Rattle.std.specs.Prelude.{◌≡◌, ◌<◌, ◌≤◌, ◌*◌, ℕ, length, replicate, IfOk};
+ghost use Rattle.buf_pool.specs.Pool.{IsFresh};
+ghost use Rattle.eng_cols.specs.Cols.{Dead};
+ghost use Rattle.eng_parts.specs.Given.{items_at};
+ghost use Rattle.eng_parts.specs.Desk.{desk_at};
+ghost use Rattle.eng_parts.specs.Laid.{items_before, sectors_before, IsLaidOut};
+ghost use Rattle.eng_parts.specs.Fresh.{new_desk, fresh_log, IsRoomFor};
+
+use crate::clients::Clients;
+use crate::core_room::CoreRoom;
+use crate::devices::DeviceRoom;
+use crate::handed::Handed;
+use crate::log::Log;
+use crate::memory::Memory;
+use crate::rebuilds::Rebuilds;
+use crate::spare::Spare;
+use buf_pool::Pool;
+use eng_cols::Cols;
+use eng_job::Lists;
+use eng_world::Item;
+use graph_check::Scratch;
+use graph_mean::Graph;
+use lay_core::Layout;
+use std::alloc::Global;
+use stripe_lock::Locks;
+
+// The buffers of the pool: as many as the largest graph has.
+const BUFFERS: u32 = 2048;
+
+// The owners of locks: all clients.
+const OWNERS: u32 = 17;
+
+// The most items of all clients, and the most events of a trace that is kept, but for those of the array itself.
+const ITEMS: u32 = 65536;
+
+const EVENTS: u32 = 1048576;
+
+// The columns, all dead.
+fn cols_for<L: Layout>(alloc: Global, layout: &L) -> Result<Cols, Memory>
+    ensures { IfOk result (λ cols. cols ≡ record { states = replicate (L.shape layout.now).columns Dead; stripes = (L.shape layout.now).stripes }) }
+{
+    Ok(Cols::with_room(alloc, layout.columns(), layout.stripes())?)
+}
+
+// Buffers of the layout's units.
+fn pool_for<L: Layout>(alloc: Global, layout: &L) -> Result<Pool, Memory>
+    ensures unit { IfOk result (λ pool. pool.unit ≡ 512 * (L.shape layout.now).unit_sectors) }
+    ensures fresh { IfOk result (λ pool. IsFresh pool 2048) }
+{
+    Ok(Pool::open(alloc, BUFFERS, 512 * layout.unit_sectors())?)
+}
+
+// A history for each operation that there may be; and a trace, if it is kept, with the failure of each column, the
+// start of a rebuild and one failure more. And a region for each item.
+fn log_for<L: Layout>(
+    alloc: Global,
+    layout: &L,
+    trace: bool,
+    clients: &[Vec<Item>],
+) -> Result<Log, Memory>
+    requires clients { length clients.now ≤ 16 }
+    requires sectors { sectors_before clients.now 16 ≤ 262144 }
+    ensures log { IfOk result (λ log. log ≡ fresh_log (L.shape layout.now) trace log.handed) }
+    ensures laid { IfOk result (λ log. IsLaidOut clients.now (L.shape layout.now).stripes log.handed) }
+{
+    let events = if trace {
+        EVENTS + 2 + layout.columns()
+    } else {
+        0
+    };
+    let handed = Handed::open(alloc, clients, layout.stripes())?;
+    Log::open(alloc, trace, handed, ITEMS + layout.stripes(), events)
+}
+
+// The clients, of which none has begun an item.
+fn clients_for(alloc: Global, clients: &[Vec<Item>]) -> Result<Clients, Memory>
+    requires clients { length clients.now ≤ 16 }
+    requires items { items_before clients.now 16 ≤ 65536 }
+    ensures count { IfOk result (λ opened. length opened ≡ 17) }
+    ensures each { IfOk result (λ opened. (c : ℕ) → c < 17 → desk_at opened c ≡ new_desk (items_at clients.now c)) }
+{
+    Clients::open(alloc, clients)
+}
+
+impl<D: Drop> CoreRoom<D> {
+    /// Takes all memory that a run takes over this layout, so many devices and these items, with the trace if it is to
+    /// be kept. The only error is want of memory.
+    pub fn open<L: Layout>(
+        alloc: Global,
+        layout: &L,
+        devices: u32,
+        clients: &[Vec<Item>],
+        graphs: &[Graph],
+        trace: bool,
+    ) -> Result<CoreRoom<D>, Memory>
+        requires clients { length clients.now ≤ 16 }
+        requires items { items_before clients.now 16 ≤ 65536 }
+        requires sectors { sectors_before clients.now 16 ≤ 262144 }
+        ensures { IfOk result (IsRoomFor (L.shape layout.now) devices clients.now trace) }
+    {
+        let _ = graphs;
+        let cols = cols_for(alloc, layout)?;
+        let pool = pool_for(alloc, layout)?;
+        let log = log_for(alloc, layout, trace, clients)?;
+        Ok(CoreRoom {
+            cols,
+            devices: DeviceRoom::open(alloc, devices)?,
+            pool,
+            locks: Locks::open(alloc, OWNERS)?,
+            lists: Lists::open(alloc)?,
+            clients: clients_for(alloc, clients)?,
+            scratch: Scratch::open(alloc)?,
+            log,
+            rebuilds: Rebuilds::open(alloc, layout.stripes())?,
+            spare: Spare::open(alloc, clients.len() as u32)?,
+        })
+    }
+}
