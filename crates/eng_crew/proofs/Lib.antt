@@ -1,0 +1,7 @@
+pub mod Falling
+pub mod Few
+pub mod Following
+pub mod Keeps
+pub mod Placing
+pub mod Sent
+pub mod Trials

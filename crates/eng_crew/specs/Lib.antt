@@ -1,0 +1,5 @@
+pub mod Drained
+pub mod Idle
+pub mod Laws
+pub mod Places
+pub mod Trial

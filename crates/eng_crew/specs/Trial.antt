@@ -1,0 +1,36 @@
+-- What tests ask of clients: small writes and reads; and what they know of a core that is to be served.
+use Rattle.std.specs.Prelude.{◌≤◌, length, Some, None, Vec, All}
+use Rattle.std.specs.declared.alloc.Global.{Global}
+use Rattle.blk_plain.specs.declared.op.Op.{Op}
+use Rattle.blk_plain.specs.declared.op.Op.TheVariants as op
+use Rattle.blk_disk.specs.declared.disk.Disk.{Ghosts as DiskGhosts}
+use Rattle.lay_core.specs.declared.layout.Layout.{Ghosts as LayoutGhosts}
+use Rattle.eng_world.specs.declared.item.Item.{Item}
+use Rattle.eng_world.specs.declared.item.Item.TheVariants as item
+use Rattle.eng_events.specs.declared.array.Array.{Array}
+use Rattle.eng_events.specs.Opened.{NoneOut}
+use Rattle.eng_array.specs.Progress.{FitThePool}
+use Rattle.eng_array.specs.Steady.{IsSteady}
+use Rattle.eng_array.specs.Tickets.{graphs_of}
+
+-- a write of some blocks, or a read of one to four
+abbrev pub IsSmallOp : Op → Type 0
+IsSmallOp (op.Write span pattern) = 1 ≤ span.count
+IsSmallOp (op.Read span) = (1 ≤ span.count) × (span.count ≤ 4)
+IsSmallOp (op.Rebuild stripe) = ⊥
+IsSmallOp (op.Sync stripe) = ⊥
+
+-- by the library's graph
+abbrev pub IsSmall : Item → Type 0
+IsSmall (item.Run op None) = IsSmallOp op
+IsSmall (item.Run op (Some graph)) = ⊥
+IsSmall (item.Fail column) = ⊥
+
+-- a client's items
+abbrev pub AreSmall : Vec Item Global → Type 0
+AreSmall items = (length items.items ≤ 4096) × All IsSmall items.items
+
+module _ {L D : Type 0} (lay : LayoutGhosts L) (disk : DiskGhosts D) where
+  -- the core is steady, no job is out, and each graph of the file fits the pool
+  abbrev pub IsServable : Array L D → Type 0
+  IsServable core = IsSteady lay disk core × NoneOut core.clients × FitThePool (graphs_of core)

@@ -1,0 +1,64 @@
+//! The drain: it serves the core alone, on this thread, waits for nobody and takes no memory.
+ghost use Rattle.std.specs.Prelude.{◌≡◌, ◌≤◌, true, false, [], ◌∷◌, None};
+ghost use Rattle.eng_events.specs.Opened.{NoneOut};
+ghost use Rattle.eng_events.specs.Picked.{IsResting};
+ghost use Rattle.eng_array.specs.Progress.{FitThePool, left_of, Falls};
+ghost use Rattle.eng_array.specs.Steady.{IsSteady};
+ghost use Rattle.eng_array.specs.Tickets.{graphs_of, After, Shared};
+ghost use Rattle.eng_crew.specs.Drained.{Drained};
+ghost use Rattle.eng_crew.specs.Idle.{IsIdle};
+
+use crate::turns::{Found, go_on};
+use blk_disk::Disk;
+use eng_array::{Core, Job};
+use lay_core::Layout;
+
+/// Serves the core, which has no job out, until every item has its reply, or the array is lost, and no job is out. A
+/// node that is fired is performed and comes home before the next event. No graph of the file may have more buffers than
+/// the pool, which are 2,048: its operation would wait for good.
+///
+/// An item of which no graph has more than m nodes has at most 2 m + 4 events, and as many again for each column that
+/// dies meanwhile. It waits for nobody and takes no memory.
+pub fn drain<L: Layout, D: Disk>(core: &mut Core<L, D>)
+    requires steady { IsSteady L.Layout D.Disk core.old.array }
+    requires home { NoneOut core.old.array.clients }
+    requires pool { FitThePool (graphs_of core.old.array) }
+    ensures steady { IsSteady L.Layout D.Disk core.new.array }
+    ensures home { NoneOut core.new.array.clients }
+    ensures rest { IsResting core.new.array }
+    ensures drained { Drained L.Layout D.Disk core.old.array core.new.array }
+{
+    while drain_one(core) {}
+}
+
+// One event and, if it fires a node, the end of its job; and whether there was one.
+fn drain_one<L: Layout, D: Disk>(core: &mut Core<L, D>) -> bool
+    requires steady { IsSteady L.Layout D.Disk core.old.array }
+    requires home { NoneOut core.old.array.clients }
+    ensures steady { IsSteady L.Layout D.Disk core.new.array }
+    ensures home { NoneOut core.new.array.clients }
+    ensures after { After L.Layout D.Disk core.old.array core.new.array }
+    ensures falls { result ≡ true → Falls core.old.array core.new.array }
+    ensures idle { result ≡ false → IsIdle L.Layout core.new.array }
+{
+    let (found, ticket) = go_on(core);
+    finish_now(core, ticket);
+    match found {
+        Found::Event => true,
+        Found::Nothing => false,
+        Found::Rest => false,
+    }
+}
+
+// The job, if there is one, is performed and comes home.
+fn finish_now<L: Layout, D: Disk>(core: &mut Core<L, D>, ticket: Option<Job<D>>)
+    requires { Shared L.Layout D.Disk core.old.array (ticket ∷ []) }
+    ensures shared { Shared L.Layout D.Disk core.new.array (None ∷ []) }
+    ensures after { After L.Layout D.Disk core.old.array core.new.array }
+    ensures left { left_of core.new.array ≤ left_of core.old.array }
+    ensures none { ticket ≡ None → core.new.array ≡ core.old.array }
+{
+    let Some(mut job) = ticket else { return };
+    let outcome = job.perform();
+    core.finish(job, outcome);
+}

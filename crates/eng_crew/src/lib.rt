@@ -1,0 +1,23 @@
+//! A crew of workers, which is let at a core and hands it back, and the drain, which serves it alone.
+//!
+//! Up to 16 workers take turns at one core. In one turn a worker makes one event; a node that it fires it performs
+//! outside the turn, beside the others, and brings it home in another turn. What the workers leave is completed by the
+//! drain, on one thread.
+#![tactic(auto)]
+
+mod crew;
+mod draining;
+mod laws;
+mod rule;
+#[cfg(test)]
+mod tests;
+mod turns;
+mod worker;
+
+pub use crew::{Memory, run_crew};
+pub use draining::drain;
+pub use laws::{
+    each_has_one_place, few_events_follow, what_fits_meets_the_invariant, what_follows_continues,
+};
+pub use rule::CrewRule;
+pub use worker::work;

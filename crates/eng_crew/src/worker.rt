@@ -1,0 +1,47 @@
+//! A worker.
+ghost use Rattle.std.specs.Prelude.{◌≡◌};
+ghost use Rattle.eng_turn.specs.Turn.{share_of};
+ghost use Rattle.eng_crew.specs.Idle.{IsReady, HasIdleMark};
+
+use crate::rule::CrewRule;
+use crate::turns::{Found, turn_by};
+use blk_disk::Disk;
+use eng_turn::{Pass, Turn};
+use lay_core::Layout;
+use std::sync::Wait;
+use std::thread;
+
+// A worker ends after so many turns in a row in which there was nothing to do.
+const EMPTY: u32 = 1_048_576;
+
+/// Takes turns until every item has its reply and no job is out, or until 1,048,576 turns in a row found nothing to do.
+/// The pass must be this turn's and outside, with no job; it is so again, and has the share that it had.
+///
+/// The core that the pass left last is then at rest, or one in which nothing can be done but that jobs come home.
+/// Nobody else needs to be there: what is left over the drain completes. It waits for the turn, and takes no memory.
+pub fn work<L: Layout + Drop, D: Disk + Drop, W: Wait>(
+    rt: &W,
+    turn: &Turn<CrewRule<L, D>>,
+    pass: &mut Pass<CrewRule<L, D>>,
+)
+    requires { IsReady turn.now pass.old }
+    ensures ready { IsReady turn.now pass.new }
+    ensures share { share_of pass.new ≡ share_of pass.old }
+    ensures idle { HasIdleMark L.Layout pass.new }
+{
+    let mut empty = 0;
+    for _ in rt.forever() {
+        match turn_by(rt, turn, pass) {
+            Found::Event => empty = 0,
+            Found::Rest => return,
+            Found::Nothing => {
+                empty += 1;
+                if empty == EMPTY {
+                    return;
+                }
+                thread::yield_now();
+            }
+        }
+    }
+    unreachable!()
+}
