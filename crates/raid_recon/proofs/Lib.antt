@@ -1,0 +1,15 @@
+pub mod Places
+pub mod Calls
+pub mod Bytes
+pub mod OneCall
+pub mod Differing
+pub mod Frames
+pub mod UnitReads
+pub mod Backs
+pub mod Visits
+pub mod Answered
+pub mod Logs
+pub mod Counting
+pub mod Ends
+pub mod UnitCalls
+pub mod Fitting

@@ -1,0 +1,9 @@
+pub mod Array
+pub mod Sums
+pub mod Turns
+pub mod Log
+pub mod Units
+pub mod Swept
+pub mod Samples
+pub mod Counts
+pub mod Ends

@@ -1,0 +1,52 @@
+//! One call of one device of a list.
+ghost use Rattle.std.specs.Prelude.{◌≡◌, ◌<◌, ◌≤◌, ◌+◌, ◌*◌, length, is_ok};
+ghost use Rattle.blk_disk.specs.Devices.{size_of};
+ghost use Rattle.raid_recon.specs.Units.{IsRead, IsWritten};
+
+use blk_disk::{Disk, Failed};
+use eng_cols::Spot;
+
+// The first sector of the unit that stands there.
+fn first_sector(at: Spot, unit_sectors: u32) -> u64
+    ensures { result ≡ 64 + at.row * unit_sectors }
+{
+    64 + u64::from(at.row) * u64::from(unit_sectors)
+}
+
+/// Reads the unit that stands there.
+pub(crate) fn read_at<D: Disk>(
+    devices: &mut [Option<D>],
+    at: Spot,
+    unit_sectors: u32,
+    into: &mut [u8],
+) -> Result<(), Failed>
+    requires there { at.device < length devices.old }
+    requires long { length into.old ≡ 512 * unit_sectors }
+    requires some { 1 ≤ unit_sectors }
+    requires fits { 64 + at.row * unit_sectors + unit_sectors ≤ size_of D.Disk devices.old at.device }
+    ensures { IsRead D.Disk at unit_sectors devices.old devices.new into.new (is_ok result) }
+{
+    match &mut devices[at.device as usize] {
+        Some(disk) => disk.read(first_sector(at, unit_sectors), into),
+        None => unreachable!(),
+    }
+}
+
+/// Writes the unit that stands there.
+pub(crate) fn write_at<D: Disk>(
+    devices: &mut [Option<D>],
+    at: Spot,
+    unit_sectors: u32,
+    from: &[u8],
+) -> Result<(), Failed>
+    requires there { at.device < length devices.old }
+    requires long { length from.now ≡ 512 * unit_sectors }
+    requires some { 1 ≤ unit_sectors }
+    requires fits { 64 + at.row * unit_sectors + unit_sectors ≤ size_of D.Disk devices.old at.device }
+    ensures { IsWritten D.Disk at unit_sectors devices.old devices.new from.now (is_ok result) }
+{
+    match &mut devices[at.device as usize] {
+        Some(disk) => disk.write(first_sector(at, unit_sectors), from),
+        None => unreachable!(),
+    }
+}
