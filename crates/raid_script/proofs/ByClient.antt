@@ -1,0 +1,151 @@
+-- Items by client: what each has, and how many all have.
+use Rattle.std.proofs.Common.{◌≡◌, ◌≢◌, ◌∙◌, ℕ, zero, suc, ◌+◌, ◌<◌, ◌≤◌, ◌⊎◌, inl, inr, ⊎_elim, Bool, true, false, cond, List, [], ◌∷◌, ◌++◌, length, map, refl, sym, ap, subst, arith, All, add-one, zero-add}
+use Rattle.std.specs.Prelude.{filter, nat_eq, nat_le, sum_by}
+use Rattle.std.proofs.lemmas.Bool.{eqb-true, leb-false, leb-true}
+use Rattle.std.proofs.lemmas.Bool.Decides.{nat_tests}
+use Rattle.std.proofs.lemmas.List.Elements.{All-cons, All-head, All-nil, All-push, All-tail}
+use Rattle.std.proofs.lemmas.List.FromFn.{length-map-range_with_len, map-range_with_len_more, sum_by-map-range_with_len_more}
+use Rattle.std.proofs.lemmas.List.Sums.{sum_by-cons}
+use Rattle.raid_script.specs.declared.entry.Entry.{Entry}
+use Rattle.raid_script.specs.Asked.{AreFew, Asked, IsAsked, Request, asked_by, by_client, by_first, read_sectors, seen, seen_entry}
+use Rattle.raid_script.specs.Form.{AreRequests, IsRequest}
+
+-- ---- what was read of one client
+
+pub client_items : (client : ℕ) (entries : List Entry) → map seen (map (λ e. e.item) (filter (λ e. nat_eq e.client client) entries)) ≡ asked_by (map seen_entry entries) client
+unfolding asked_by
+client_items client [] = refl
+client_items client (e ∷ es) = go (nat_eq e.client client) refl (client_items client es)
+  where
+    go : (b : Bool) → nat_eq e.client client ≡ b → map seen (map (λ x. x.item) (filter (λ x. nat_eq x.client client) es)) ≡ asked_by (map seen_entry es) client → map seen (map (λ x. x.item) (filter (λ x. nat_eq x.client client) (e ∷ es))) ≡ asked_by (map seen_entry (e ∷ es)) client
+    go true h others = rw h (ap (λ (xs : List Asked). seen e.item ∷ xs) others)
+    go false h others = rw h others
+
+-- ---- all clients
+
+pub by_first_more : (n : ℕ) (requests : List Request) → by_first (n + 1) requests ≡ by_first n requests ++ asked_by requests n ∷ []
+unfolding by_first
+by_first_more n requests = map-range_with_len_more (asked_by requests) 0 n n (omega arith)
+
+pub by_first_none : (requests : List Request) → by_first 0 requests ≡ []
+unfolding by_first
+by_first_none requests = refl
+
+-- ---- what each may ask for
+
+one_asked : (columns graphs client : ℕ) (qs : List Request) → All (IsRequest columns graphs) qs → All (IsAsked columns graphs) (asked_by qs client)
+unfolding asked_by
+one_asked columns graphs client [] are = All-nil _
+one_asked columns graphs client (q ∷ qs) are =
+    go (nat_eq q.client client) refl (All-head (IsRequest columns graphs) q qs are) (one_asked columns graphs client qs (All-tail (IsRequest columns graphs) q qs are))
+  where
+    go : (b : Bool) → nat_eq q.client client ≡ b → IsRequest columns graphs q → All (IsAsked columns graphs) (asked_by qs client) → All (IsAsked columns graphs) (asked_by (q ∷ qs) client)
+    go true h is others = rw h (All-cons (IsAsked columns graphs) q.asked (asked_by qs client) is.1 others)
+    go false h is others = rw h others
+
+first_asked : (columns graphs n : ℕ) (qs : List Request) → All (IsRequest columns graphs) qs → All (All (IsAsked columns graphs)) (by_first n qs)
+first_asked columns graphs zero qs are = rw (by_first_none qs) (All-nil _)
+first_asked columns graphs (suc n) qs are =
+    let more = All-push (All (IsAsked columns graphs)) (by_first n qs) (asked_by qs n) (first_asked columns graphs n qs are) (one_asked columns graphs n qs are) in
+    subst (λ (xs : List (List Asked)). All (All (IsAsked columns graphs)) xs) (sym (ap (λ (k : ℕ). by_first k qs) (sym (add-one n)) ∙ by_first_more n qs)) more
+
+pub clients_asked : (columns graphs : ℕ) (qs : List Request) → AreRequests columns graphs qs → All (All (IsAsked columns graphs)) (by_client qs)
+clients_asked columns graphs qs are = first_asked columns graphs 16 qs are.asked
+
+-- ---- how many there are
+
+-- a measure of a client's items that adds up what each of them weighs
+pub record Adds (measure : List Asked → ℕ) (weight : Asked → ℕ) : Type 0 where
+  pub none : measure [] ≡ 0
+  pub more : (a : Asked) (others : List Asked) → measure (a ∷ others) ≡ weight a + measure others
+
+module _ (measure : List Asked → ℕ) (weight : Asked → ℕ) (adds : Adds measure weight) where
+  -- one client's, with one request more
+  one_more : (client : ℕ) (q : Request) (qs : List Request) → measure (asked_by (q ∷ qs) client) ≡ cond (nat_eq q.client client) (weight q.asked) 0 + measure (asked_by qs client)
+  unfolding asked_by
+  one_more client q qs = go (nat_eq q.client client) refl
+    where
+      go : (b : Bool) → nat_eq q.client client ≡ b → measure (asked_by (q ∷ qs) client) ≡ cond (nat_eq q.client client) (weight q.asked) 0 + measure (asked_by qs client)
+      go true h = rw h (adds.more q.asked (asked_by qs client))
+      go false h = rw h (sym (zero-add (measure (asked_by qs client))))
+
+  -- the first n clients'
+  abbrev firsts : ℕ → List Request → ℕ
+  firsts n qs = sum_by measure (by_first n qs)
+
+  firsts_more : (n : ℕ) (qs : List Request) → firsts (suc n) qs ≡ firsts n qs + measure (asked_by qs n)
+  unfolding by_first
+  firsts_more n qs = ap (λ (k : ℕ). firsts k qs) (sym (add-one n)) ∙ sum_by-map-range_with_len_more measure (asked_by qs) 0 n n (omega arith)
+
+  -- a request weighs at its own client alone
+  record Weighs (n : ℕ) (q : Request) (qs : List Request) : Type 0 where
+    before : n ≤ q.client → firsts n (q ∷ qs) ≡ firsts n qs
+    behind : q.client < n → firsts n (q ∷ qs) ≡ weight q.asked + firsts n qs
+
+  weighs : (n : ℕ) (q : Request) (qs : List Request) → Weighs n q qs
+  weighs zero q qs = record { before = λ _. rw (by_first_none (q ∷ qs), by_first_none qs) refl; behind = λ h. absurd (omega arith) }
+  weighs (suc n) q qs = go (nat_eq q.client n) refl (weighs n q qs)
+    where
+      go : (b : Bool) → nat_eq q.client n ≡ b → Weighs n q qs → Weighs (suc n) q qs
+      go true h last =
+          let is : q.client ≡ n = eqb-true q.client n h in
+          let same = last.before (omega arith) in
+          let one : measure (asked_by (q ∷ qs) n) ≡ weight q.asked + measure (asked_by qs n) = rw h at (one_more n q qs) in
+          let all = firsts_more n (q ∷ qs) in
+          let less = firsts_more n qs in
+          record { before = λ k. absurd (omega arith); behind = λ _. omega (arith, same, one, all, less) }
+      go false h last =
+          let other : q.client ≢ n = grind (arith, nat_tests) in
+          let one : measure (asked_by (q ∷ qs) n) ≡ 0 + measure (asked_by qs n) = rw h at (one_more n q qs) in
+          let all = firsts_more n (q ∷ qs) in
+          let less = firsts_more n qs in
+          record {
+            before = λ k. let same = last.before (omega arith) in omega (arith, same, one, all, less);
+            behind = λ k. let same = last.behind (omega arith) in omega (arith, same, one, all, less);
+          }
+
+  nothing : (client : ℕ) → measure (asked_by [] client) ≡ 0
+  unfolding asked_by
+  nothing client = adds.none
+
+  firsts_none : (n : ℕ) → firsts n [] ≡ 0
+  firsts_none zero = rw (by_first_none []) refl
+  firsts_none (suc n) =
+      let last = firsts_none n in
+      let none = nothing n in
+      omega (arith, last, none, firsts_more n [])
+
+  -- all clients together have no more than there is
+  pub firsts_most : (n : ℕ) (qs : List Request) → firsts n qs ≤ sum_by (λ q. weight q.asked) qs
+  firsts_most n [] = omega (arith, firsts_none n)
+  firsts_most n (q ∷ qs) =
+      let others = firsts_most n qs in
+      let total = sum_by-cons (λ (x : Request). weight x.asked) q qs in
+      let one = weighs n q qs in
+      ⊎_elim (λ (h : n ≤ q.client). let same = one.before h in omega (arith, others, total, same)) (λ (h : q.client < n). let same = one.behind h in omega (arith, others, total, same)) (order n q.client)
+    where
+      order : (a b : ℕ) → (a ≤ b) ⊎ (b < a)
+      order a b = go (nat_le a b) refl
+        where
+          go : (t : Bool) → nat_le a b ≡ t → (a ≤ b) ⊎ (b < a)
+          go true h = inl (leb-true a b h)
+          go false h = inr (leb-false a b h)
+
+-- each weighs one
+ones : (qs : List Request) → sum_by (λ (_ : Request). 1) qs ≡ length qs
+ones [] = refl
+ones (q ∷ qs) = let total = sum_by-cons (λ (_ : Request). 1) q qs in omega (arith, total, ones qs)
+
+sixteen : (qs : List Request) → length (by_client qs) ≡ 16
+unfolding by_first
+sixteen qs = length-map-range_with_len (asked_by qs) 0 16
+
+pub clients_few : (columns graphs : ℕ) (qs : List Request) → AreRequests columns graphs qs → AreFew (by_client qs)
+clients_few columns graphs qs are =
+    let items = firsts_most (λ items. length items) (λ _. 1) (record { none = refl; more = λ a others. omega arith }) 16 qs in
+    let sectors = firsts_most (λ items. sum_by read_sectors items) read_sectors (record { none = refl; more = λ a others. sum_by-cons read_sectors a others }) 16 qs in
+    record {
+      clients = let all = sixteen qs in omega arith;
+      items = omega (arith, items, ones qs, are.few);
+      sectors = omega (arith, sectors, are.sectors);
+    }

@@ -1,0 +1,15 @@
+pub mod PlacesFilled
+pub mod PlacesRead
+pub mod ScriptForm
+pub mod ScriptRead
+pub mod LinesInTurn
+pub mod ByClient
+pub mod DrawnWords
+pub mod Refused
+pub mod DrawnShares
+pub mod OwnItems
+pub mod Halves
+pub mod RunLaws
+pub mod Printed
+pub mod ReplyTexts
+pub mod Summed

@@ -1,0 +1,33 @@
+-- What becomes of a script once its lines were read.
+use Rattle.std.proofs.Common.{◌≡◌, ℕ, List, Ok, refl, length, All}
+use Rattle.raid_text.specs.Text.{Text}
+use Rattle.graph_text.specs.Format.{Named}
+use Rattle.raid_script.specs.declared.fault.ScriptFault.{ScriptFault}
+use Rattle.raid_script.specs.declared.fault.ScriptFault.TheVariants as fault
+use Rattle.raid_script.specs.Answers.{GivesFault}
+use Rattle.raid_script.specs.Asked.{AreFew, Asked, IsAsked, Request, by_client}
+use Rattle.raid_script.specs.Format.{requests_of, script_of}
+use Rattle.raid_script.proofs.ByClient.{clients_asked, clients_few}
+use Rattle.raid_script.proofs.ScriptForm.{script_of_form}
+
+-- the fault of a line is the script's
+pub refused : (book : List Named) (columns : ℕ) (text : Text) (f : ScriptFault) → GivesFault f (requests_of book columns text) → GivesFault f (script_of book columns text)
+unfolding script_of
+refused book columns text (fault.At line code) told = rw told refl
+refused book columns text fault.Memory told = tt
+
+-- all lines were read
+pub sorted : (book : List Named) (columns : ℕ) (text : Text) (requests : List Request) → requests_of book columns text ≡ Ok requests → script_of book columns text ≡ Ok (by_client requests)
+unfolding script_of
+sorted book columns text requests told = rw told refl
+
+-- what was read may stand in a script, and is within its limits
+pub are_asked : (book : List Named) (columns : ℕ) (text : Text) (clients : List (List Asked)) → script_of book columns text ≡ Ok clients → All (All (IsAsked columns (length book))) clients
+are_asked book columns text clients told =
+    let s = script_of_form book columns text clients told in
+    rw (← s.1.sorted) (clients_asked columns (length book) s.0 s.1.are)
+
+pub are_few : (book : List Named) (columns : ℕ) (text : Text) (clients : List (List Asked)) → script_of book columns text ≡ Ok clients → AreFew clients
+are_few book columns text clients told =
+    let s = script_of_form book columns text clients told in
+    rw (← s.1.sorted) (clients_few columns (length book) s.0 s.1.are)

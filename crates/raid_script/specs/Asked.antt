@@ -1,0 +1,77 @@
+-- What a script asks for: its items as they are spoken of, each with its client, and in the order of the clients.
+use Rattle.std.specs.Prelude.{ℕ, ◌<◌, ◌≤◌, ◌^◌, List, Option, Some, None, length, map, filter, sum_by, nat_eq}
+use Rattle.std.specs.List.{range_with_len}
+use Rattle.std.specs.Option.{ForSome}
+use Rattle.blk_plain.specs.declared.op.Op.{Op}
+use Rattle.blk_plain.specs.declared.op.Op.TheVariants.{Write, Read, Rebuild, Sync}
+use Rattle.raid_text.specs.Pattern.{pattern_bytes}
+use Rattle.eng_world.specs.declared.item.Item.{Item}
+use Rattle.eng_world.specs.declared.item.Item.TheVariants.{Run, Fail}
+use Rattle.raid_script.specs.declared.entry.Entry.{Entry}
+
+-- What an item asks for: the first block, how many, the bytes that are repeated, and the graph of the file, if one is named; a stripe; a column.
+pub data Asked : Type 0 where
+  Writes : ℕ → ℕ → List ℕ → Option ℕ → Asked
+  Reads : ℕ → ℕ → Option ℕ → Asked
+  Syncs : ℕ → Asked
+  Fails : ℕ → Asked
+  Other : Asked
+
+-- what a client asks for
+pub record Request : Type 0 where
+  pub client : ℕ
+  pub asked : Asked
+
+-- ---- items, as what they ask for; no script asks for a rebuild, or for a sync by a graph of the file
+
+abbrev pub seen_op : Op → Option ℕ → Asked
+seen_op (Write span pattern) graph = Writes span.first span.count (pattern_bytes pattern) graph
+seen_op (Read span) graph = Reads span.first span.count graph
+seen_op (Sync stripe) None = Syncs stripe
+seen_op (Sync stripe) (Some graph) = Other
+seen_op (Rebuild stripe) graph = Other
+
+abbrev pub seen : Item → Asked
+seen (Run op graph) = seen_op op graph
+seen (Fail column) = Fails column
+
+abbrev pub seen_entry : Entry → Request
+seen_entry e = record { client = e.client; asked = seen e.item }
+
+-- ---- by client
+
+-- what this client asks for, in order
+unfoldable pub asked_by : List Request → ℕ → List Asked
+asked_by requests client = map (λ r. r.asked) (filter (λ r. nat_eq r.client client) requests)
+
+-- what each of the first n clients asks for
+unfoldable pub by_first : ℕ → List Request → List (List Asked)
+by_first n requests = map (asked_by requests) (range_with_len 0 n)
+
+-- what each of the sixteen clients asks for
+abbrev pub by_client : List Request → List (List Asked)
+by_client requests = by_first 16 requests
+
+-- ---- limits
+
+-- how many sectors an item reads
+abbrev pub read_sectors : Asked → ℕ
+read_sectors (Writes first count bytes graph) = 0
+read_sectors (Reads first count graph) = count
+read_sectors (Syncs stripe) = 0
+read_sectors (Fails column) = 0
+read_sectors Other = 0
+
+-- an item that may stand in a script for an array of so many columns, beside so many graphs: a block at least, a column of the array, a graph of the file
+abbrev pub IsAsked : ℕ → ℕ → Asked → Type 0
+IsAsked columns graphs (Writes first count bytes graph) = (first < 2 ^ 32) × (0 < count) × ForSome graph (λ g. g < graphs)
+IsAsked columns graphs (Reads first count graph) = (first < 2 ^ 32) × (0 < count) × ForSome graph (λ g. g < graphs)
+IsAsked columns graphs (Syncs stripe) = Unit {0}
+IsAsked columns graphs (Fails column) = column < columns
+IsAsked columns graphs Other = ⊥
+
+-- at most 16 clients, 65,536 items, and 262,144 sectors that are read
+pub record AreFew (rows : List (List Asked)) : Type 0 where
+  pub clients : length rows ≤ 16
+  pub items : sum_by (λ row. length row) rows ≤ 65536
+  pub sectors : sum_by (λ row. sum_by read_sectors row) rows ≤ 262144

@@ -1,0 +1,20 @@
+-- The lines of the blocks that a read replied.
+use Rattle.std.specs.Prelude.{ℕ, ◌+◌, List, [], ◌∷◌, ◌++◌, codes, decimal}
+use Rattle.hex.specs.Hex.{encode_lower}
+use Rattle.raid_script.specs.Line.{line}
+use Rattle.raid_script.specs.Repetition.{shortest}
+use Rattle.raid_script.specs.Runs.{Run, runs}
+
+-- block FIRST COUNT HEX
+unfoldable pub block_line : ℕ → ℕ → List ℕ → List ℕ
+block_line first count sector = line
+    (codes "block " ∷ decimal first ∷ codes " " ∷ decimal count ∷ codes " " ∷ encode_lower (shortest sector) ∷ codes "\n" ∷ [])
+
+-- the lines of runs, of which the first begins at this block and each other one behind the one before it
+abbrev pub run_lines : ℕ → List Run → List ℕ
+run_lines first [] = []
+run_lines first (run ∷ others) = block_line first run.count run.sector ++ run_lines (first + run.count) others
+
+-- the lines of sectors, the first of which is this block's
+abbrev pub blocks_text : ℕ → List (List ℕ) → List ℕ
+blocks_text first sectors = run_lines first (runs sectors)

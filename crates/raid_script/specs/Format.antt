@@ -1,0 +1,140 @@
+-- Scripts: what a text asks for, or the first line that is refused and the code of its refusal.
+use Rattle.std.specs.Prelude.{ℕ, ◌+◌, ◌&&◌, not, List, [], ◌∷◌, Option, Some, None, Result, Ok, Err, if◌then◌else◌, nat_eq, nat_le, nat_lt, codes, position}
+use Rattle.std.specs.Str.{bytes_eq}
+use Rattle.raid_text.specs.Text.{Text, Numbered, is_sound, lines_in, words_of}
+use Rattle.raid_text.specs.Pattern.{pattern_of}
+use Rattle.graph_text.specs.FormatSteps.{◌>>=◌, at_end, next_number, next_word, only_if, or_code}
+use Rattle.graph_text.specs.Format.{At, Named, at_line}
+use Rattle.raid_script.specs.Asked.{Asked, Writes, Reads, Syncs, Fails, Request, by_client, read_sectors}
+
+-- ---- words
+
+-- the client that comes next, and the words behind it; code 3 where it isn't below 16
+unfoldable pub next_client : List Text → Result (ℕ × List Text) ℕ
+next_client words = do
+  client ← next_number words
+  known ← only_if (nat_lt client.0 16) 3
+  Ok client
+
+-- FIRST and COUNT, and the words behind them; code 2 where COUNT is 0
+unfoldable pub next_span : List Text → Result (ℕ × ℕ × List Text) ℕ
+next_span words = do
+  first ← next_number words
+  count ← next_number first.1
+  some ← only_if (not (nat_eq count.0 0)) 2
+  Ok (first.0, count.0, count.1)
+
+-- the bytes of the pattern that comes next, and the words behind it; code 4 where the word is none
+unfoldable pub next_pattern : List Text → Result (List ℕ × List Text) ℕ
+next_pattern words = do
+  word ← next_word words
+  bytes ← or_code (pattern_of word.0) 4
+  Ok (bytes, word.1)
+
+-- the column that comes next, and the words behind it; code 5 where the array hasn't so many
+unfoldable pub next_column : ℕ → List Text → Result (ℕ × List Text) ℕ
+next_column columns words = do
+  column ← next_number words
+  known ← only_if (nat_lt column.0 columns) 5
+  Ok column
+
+-- the number of the graph of this name
+unfoldable pub graph_of : List Named → Text → Option ℕ
+graph_of book name = position (λ g. bytes_eq g.name name) book
+
+-- the graph whose name comes next, and the words behind it; code 6 where none has this name
+unfoldable pub next_graph : List Named → List Text → Result (ℕ × List Text) ℕ
+next_graph book words = do
+  name ← next_word words
+  graph ← or_code (graph_of book name.0) 6
+  Ok (graph, name.1)
+
+-- ---- one line
+
+-- FIRST COUNT PATTERN
+unfoldable pub write_of : Option ℕ → List Text → Result Asked ℕ
+write_of graph words = do
+  span ← next_span words
+  bytes ← next_pattern span.2
+  end ← at_end bytes.1
+  Ok (Writes span.0 span.1 bytes.0 graph)
+
+-- FIRST COUNT
+unfoldable pub read_of : Option ℕ → List Text → Result Asked ℕ
+read_of graph words = do
+  span ← next_span words
+  end ← at_end span.2
+  Ok (Reads span.0 span.1 graph)
+
+-- STRIPE
+unfoldable pub sync_of : List Text → Result Asked ℕ
+sync_of words = do
+  stripe ← next_number words
+  end ← at_end stripe.1
+  Ok (Syncs stripe.0)
+
+-- COLUMN
+unfoldable pub fail_of : ℕ → List Text → Result Asked ℕ
+fail_of columns words = do
+  column ← next_column columns words
+  end ← at_end column.1
+  Ok (Fails column.0)
+
+-- what stands behind `write` or `read`
+unfoldable pub run_of : Option ℕ → Text → List Text → Result Asked ℕ
+run_of graph kind words =
+    if bytes_eq kind (codes "write") then write_of graph words
+    else (if bytes_eq kind (codes "read") then read_of graph words else Err 1)
+
+-- NAME, and a write or a read behind it
+unfoldable pub use_of : List Named → List Text → Result Asked ℕ
+use_of book words = do
+  graph ← next_graph book words
+  kind ← next_word graph.1
+  run_of (Some graph.0) kind.0 kind.1
+
+-- what stands behind the word that says what kind of item it is
+unfoldable pub item_of : List Named → ℕ → Text → List Text → Result Asked ℕ
+item_of book columns kind words =
+    if bytes_eq kind (codes "sync") then sync_of words
+    else (if bytes_eq kind (codes "fail") then fail_of columns words
+    else (if bytes_eq kind (codes "use") then use_of book words else run_of None kind words))
+
+-- a client and its item
+unfoldable pub request_of : List Named → ℕ → List Text → Result Request ℕ
+request_of book columns words = do
+  client ← next_client words
+  kind ← next_word client.1
+  asked ← item_of book columns kind.0 kind.1
+  Ok (record { client = client.0; asked = asked })
+
+-- the item of a line, which code 1 refuses where a byte outside its comment neither separates words nor may stand in one
+unfoldable pub line_of : List Named → ℕ → Numbered → Result Request ℕ
+line_of book columns line = do
+  sound ← only_if (is_sound line.body) 1
+  request_of book columns (words_of line.body)
+
+-- ---- all lines
+
+-- the item of a line, behind n items whose reads have r sectors; code 7 where they are too many with it
+unfoldable pub next_of : List Named → ℕ → ℕ → ℕ → Numbered → Result Request ℕ
+next_of book columns n r line = do
+  request ← line_of book columns line
+  room ← only_if (nat_lt n 65536 && nat_le (r + read_sectors request.asked) 262144) 7
+  Ok request
+
+-- the items of these lines, behind n items whose reads have r sectors
+unfoldable pub requests_behind : List Named → ℕ → ℕ → ℕ → List Numbered → Result (List Request) At
+requests_behind book columns n r [] = Ok []
+requests_behind book columns n r (line ∷ lines) = do
+  request ← at_line line.at (next_of book columns n r line)
+  more ← requests_behind book columns (n + 1) (r + read_sectors request.asked) lines
+  Ok (request ∷ more)
+
+-- the items of a text, in the order of its lines
+abbrev pub requests_of : List Named → ℕ → Text → Result (List Request) At
+requests_of book columns text = requests_behind book columns 0 0 (lines_in text)
+
+-- what a text asks for, by client; the graphs of the file are numbered as the book has them, and there are none where no file was given
+unfoldable pub script_of : List Named → ℕ → Text → Result (List (List Asked)) At
+script_of book columns text = requests_of book columns text >>= λ requests. Ok (by_client requests)

@@ -1,0 +1,16 @@
+-- The lines of the history.
+use Rattle.std.specs.Prelude.{ℕ, List, [], ◌∷◌, codes, decimal, flat_map, nat_eq, if◌then◌else◌}
+use Rattle.blk_plain.specs.declared.op.OpId.{OpId}
+use Rattle.raid_script.specs.Line.{line}
+
+-- commit C.I
+unfoldable pub commit_line : OpId → List ℕ
+commit_line id = line (codes "commit " ∷ decimal id.client ∷ codes "." ∷ decimal id.index ∷ codes "\n" ∷ [])
+
+-- what is printed of an operation: its line, and nothing of client 16, the array's own
+abbrev pub commit_text : OpId → List ℕ
+commit_text id = if nat_eq id.client 16 then [] else commit_line id
+
+-- of all, in the history's order
+abbrev pub history_text : List OpId → List ℕ
+history_text history = flat_map commit_text history

@@ -1,0 +1,14 @@
+pub mod Asked
+pub mod Format
+pub mod Form
+pub mod Answers
+pub mod Laws
+pub mod Drawn
+pub mod Line
+pub mod History
+pub mod Trace
+pub mod Repetition
+pub mod Runs
+pub mod Blocks
+pub mod Replies
+pub mod Summary

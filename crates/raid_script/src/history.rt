@@ -1,0 +1,56 @@
+//! The history.
+ghost use Rattle.std.specs.Prelude.{◌≡◌, ◌≤◌, is_ok, OnErr};
+ghost use Rattle.blk_disk.specs.Disk.{Rose};
+ghost use Rattle.raid_bay.specs.Sink.{Puts};
+ghost use Rattle.raid_script.specs.History.{commit_line, commit_text, history_text};
+
+use crate::text_line::Line;
+use blk_disk::Failed;
+use blk_plain::OpId;
+use raid_bay::Sink;
+
+/// The client whose operations are the array's own.
+pub const OWN: u32 = 16;
+
+// The line of an operation in the history.
+#[tactic(auto, unfolding(crate::specs::History::commit_line))]
+fn set_commit(line: &mut Line, id: OpId)
+    ensures { line.new ≡ commit_line id }
+{
+    line.clear();
+    line.push(b"commit ");
+    line.push_number(id.client);
+    line.push(b".");
+    line.push_number(id.index);
+    line.push(b"\n");
+}
+
+// Prints what there is of an operation.
+fn put_commit<K: Sink>(id: OpId, line: &mut Line, out: &mut K) -> Result<(), Failed>
+    ensures output { K.tells → Puts (is_ok result) (K.output out.old) (commit_text id) (K.output out.new) }
+    ensures later { K.faults out.old ≤ K.faults out.new }
+    ensures cause { OnErr result (Rose (K.faults out.old) (K.faults out.new)) }
+{
+    if id.client == OWN {
+        return Ok(());
+    }
+    set_commit(line, id);
+    out.put(line.bytes())
+}
+
+/// Prints the history: `commit C.I` for each operation in it, in its order; those of client 16,
+/// the array's own, are left out.
+///
+/// It puts one line a call, and takes no memory. Failed, only where the sink's count of faults
+/// rose, has put a front of the text.
+pub fn put_history<K: Sink>(history: &[OpId], out: &mut K) -> Result<(), Failed>
+    ensures output { K.tells → Puts (is_ok result) (K.output out.old) (history_text history.now) (K.output out.new) }
+    ensures later { K.faults out.old ≤ K.faults out.new }
+    ensures cause { OnErr result (Rose (K.faults out.old) (K.faults out.new)) }
+{
+    let mut line = Line::new();
+    for id in history {
+        put_commit(*id, &mut line, out)?;
+    }
+    Ok(())
+}

@@ -1,0 +1,152 @@
+//! The replies.
+ghost use Rattle.std.specs.Prelude.{◌≡◌, ◌≤◌, ◌*◌, length, is_ok, IfOk, OnErr};
+ghost use Rattle.blk_disk.specs.Disk.{Rose};
+ghost use Rattle.raid_bay.specs.Sink.{Puts};
+ghost use Rattle.raid_script.specs.Replies.{op_sectors, item_sectors, row_sectors, op_first, item_first, data_text, item_text, row_text, replies_text, StandFor};
+
+use crate::causes::set_reply;
+use crate::runs::put_blocks;
+use crate::text_line::Line;
+use blk_disk::Failed;
+use blk_plain::{Op, SECTOR};
+use eng_world::{Item, Reply};
+use raid_bay::Sink;
+
+// The clients whose replies are printed: those below this number.
+const PRINTED: usize = 16;
+
+// How many sectors an operation is handed.
+fn op_sectors(op: &Op) -> u32
+    ensures { result ≡ op_sectors op.now }
+{
+    match op {
+        Op::Read { span } => span.count,
+        Op::Write { .. } | Op::Rebuild { .. } | Op::Sync { .. } => 0,
+    }
+}
+
+/// How many sectors an item is handed.
+pub fn item_sectors(item: &Item) -> u32
+    ensures { result ≡ item_sectors item.now }
+{
+    match item {
+        Item::Run { op, .. } => op_sectors(op),
+        Item::Fail { .. } => 0,
+    }
+}
+
+// The first block of a read.
+fn op_first(op: &Op) -> u64
+    ensures { result ≡ op_first op.now }
+{
+    match op {
+        Op::Read { span } => span.first,
+        Op::Write { .. } | Op::Rebuild { .. } | Op::Sync { .. } => 0,
+    }
+}
+
+// The first block that an item reads.
+fn item_first(item: &Item) -> u64
+    ensures { result ≡ item_first item.now }
+{
+    match item {
+        Item::Run { op, .. } => op_first(op),
+        Item::Fail { .. } => 0,
+    }
+}
+
+// Prints the runs behind `data`.
+fn put_data<K: Sink>(reply: Reply, first: u64, bytes: &[u8], out: &mut K) -> Result<(), Failed>
+    ensures output { K.tells → Puts (is_ok result) (K.output out.old) (data_text reply first bytes.now) (K.output out.new) }
+    ensures later { K.faults out.old ≤ K.faults out.new }
+    ensures cause { OnErr result (Rose (K.faults out.old) (K.faults out.new)) }
+{
+    match reply {
+        Reply::Data => put_blocks(first, bytes.as_chunks::<SECTOR>().0, out),
+        Reply::Done
+        | Reply::Okay
+        | Reply::Undone { .. }
+        | Reply::Range
+        | Reply::Long
+        | Reply::Refused(_)
+        | Reply::Lost => Ok(()),
+    }
+}
+
+// Prints an item's reply, and the runs of its sectors.
+fn put_item<K: Sink>(
+    client: usize,
+    index: usize,
+    item: &Item,
+    reply: Reply,
+    bytes: &[u8],
+    out: &mut K,
+) -> Result<(), Failed>
+    ensures output { K.tells → Puts (is_ok result)
+        (K.output out.old) (item_text client index item.now reply bytes.now) (K.output out.new) }
+    ensures later { K.faults out.old ≤ K.faults out.new }
+    ensures cause { OnErr result (Rose (K.faults out.old) (K.faults out.new)) }
+{
+    let mut line = Line::new();
+    set_reply(&mut line, client, index, reply);
+    out.put(line.bytes())?;
+    put_data(reply, item_first(item), bytes, out)
+}
+
+// Prints the replies to a client's items, whose sectors are the first of these bytes; and says how
+// many bytes these are.
+fn put_row<K: Sink>(
+    client: usize,
+    items: &[Item],
+    replies: &[Reply],
+    bytes: &[u8],
+    out: &mut K,
+) -> Result<usize, Failed>
+    requires answered { length replies.now ≡ length items.now }
+    requires enough { 512 * row_sectors items.now ≤ length bytes.now }
+    ensures output { K.tells → Puts (is_ok result)
+        (K.output out.old) (row_text client items.now replies.now bytes.now) (K.output out.new) }
+    ensures passed { IfOk result (λ n. n ≡ 512 * row_sectors items.now) }
+    ensures later { K.faults out.old ≤ K.faults out.new }
+    ensures cause { OnErr result (Rose (K.faults out.old) (K.faults out.new)) }
+{
+    let mut at = 0;
+    for (i, item) in items.iter().enumerate() {
+        let size = SECTOR * item_sectors(item) as usize;
+        put_item(client, i, item, replies[i], &bytes[at..at + size], out)?;
+        at += size;
+    }
+    Ok(at)
+}
+
+/// Prints the replies, client after client and item after item, those of client 16, the array's
+/// own, left out: `reply C.I` and `done`, `data`, `ok`, `undone DEVICE`, `refused R1` for a span
+/// out of range, `refused R2` for one of too many stripes, `refused Gn FIELDS` for a graph that the
+/// checker refuses, or `lost`. Behind each `data` stands a line for each maximal run of equal
+/// sectors, as [`put_blocks`](crate::put_blocks) prints it.
+///
+/// `sectors` are the bytes of the sectors that reads were handed: of each read as many as it has
+/// blocks, one read's behind the other's, client after client, those of a read without data too.
+///
+/// It puts one line a call, and takes no memory. Failed, only where the sink's count of faults
+/// rose, has put a front of the text.
+pub fn put_replies<K: Sink>(
+    clients: &[Vec<Item>],
+    replies: &[Vec<Reply>],
+    sectors: &[u8],
+    out: &mut K,
+) -> Result<(), Failed>
+    requires { StandFor clients.now replies.now sectors.now }
+    ensures output { K.tells → Puts (is_ok result)
+        (K.output out.old) (replies_text clients.now replies.now sectors.now) (K.output out.new) }
+    ensures later { K.faults out.old ≤ K.faults out.new }
+    ensures cause { OnErr result (Rose (K.faults out.old) (K.faults out.new)) }
+{
+    let mut at = 0;
+    for client in 0..clients.len().min(PRINTED) {
+        let items = clients[client].as_slice();
+        let told = replies[client].as_slice();
+        at += put_row(client, items, told, &sectors[at..], out)?;
+    }
+    Ok(())
+}

@@ -1,0 +1,72 @@
+//! Runs of equal sectors.
+ghost use Rattle.std.specs.Prelude.{◌≡◌, ◌≢◌, ◌≤◌, ◌<◌, ℕ, List, length, slice_index_or, is_ok, OnErr};
+ghost use Rattle.blk_disk.specs.Disk.{Rose};
+ghost use Rattle.raid_bay.specs.Sink.{Puts};
+ghost use Rattle.raid_script.specs.Runs.{Run, AreRuns, runs};
+ghost use Rattle.raid_script.specs.Blocks.{block_line, blocks_text};
+
+use crate::repetition::shortest_string;
+use crate::text_line::Line;
+use blk_disk::Failed;
+use raid_bay::Sink;
+
+/// How many sectors from the first on are equal to it, up to the first other one; 0 where there is none.
+pub fn run_length(sectors: &[[u8; 512]]) -> usize
+    ensures within { result ≤ length sectors.now }
+    ensures some { 0 < length sectors.now → 0 < result }
+    ensures equal { (k : ℕ) (d : List ℕ) → k < result →
+        slice_index_or sectors.now k d ≡ slice_index_or sectors.now 0 d }
+    ensures maximal { (d : List ℕ) → result < length sectors.now →
+        slice_index_or sectors.now result d ≢ slice_index_or sectors.now 0 d }
+{
+    for (i, sector) in sectors.iter().enumerate() {
+        if *sector != sectors[0] {
+            return i;
+        }
+    }
+    sectors.len()
+}
+
+// The line of a run.
+#[tactic(auto, unfolding(crate::specs::Blocks::block_line))]
+fn set_block(line: &mut Line, first: u128, count: usize, sector: &[u8; 512])
+    ensures { line.new ≡ block_line first count sector.now }
+{
+    line.clear();
+    line.push(b"block ");
+    line.push_number(first);
+    line.push(b" ");
+    line.push_number(count);
+    line.push(b" ");
+    line.push_hex(shortest_string(sector));
+    line.push(b"\n");
+}
+
+/// Prints a line for each maximal run of equal sectors: `block FIRST COUNT HEX`, with the number
+/// of its first block, its sectors, and the shortest string of 1, 2, 4, .., 512 bytes whose
+/// repetition is the sector.
+///
+/// `first` is the number of the first sector's block. `Failed` comes only from the sink.
+pub fn put_blocks<K: Sink>(first: u64, sectors: &[[u8; 512]], out: &mut K) -> Result<(), Failed>
+    ensures output { K.tells → Puts (is_ok result)
+        (K.output out.old) (blocks_text first sectors.now) (K.output out.new) }
+    ensures later { K.faults out.old ≤ K.faults out.new }
+    ensures cause { OnErr result (Rose (K.faults out.old) (K.faults out.new)) }
+
+    // The runs of the text are the maximal ones, and no other list of runs is that.
+    ensures maximal { AreRuns sectors.now (runs sectors.now) }
+    ensures only { (others : List Run) → AreRuns sectors.now others → others ≡ runs sectors.now }
+{
+    let mut line = Line::new();
+    // Of 128 bits, since the sum behind the last block may not fit in 64.
+    let mut block = u128::from(first);
+    let mut rest = sectors;
+    while !rest.is_empty() {
+        let count = run_length(rest);
+        set_block(&mut line, block, count, &rest[0]);
+        out.put(line.bytes())?;
+        block += count as u128;
+        rest = rest.split_at(count).1;
+    }
+    Ok(())
+}

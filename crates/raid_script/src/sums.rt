@@ -1,0 +1,130 @@
+//! What is summed up of a run: its items, the sectors that they write and read, the bytes replied.
+ghost use Rattle.std.specs.Prelude.{◌≡◌, ◌≤◌, ◌*◌, length, sum_by};
+ghost use Rattle.raid_script.specs.Replies.{row_sectors, StandFor};
+ghost use Rattle.raid_script.specs.Summary.{op_writes, item_writes, row_writes, byte_sum, data_sum, row_sum, all_sum};
+
+use crate::replies::item_sectors;
+use blk_plain::{Op, SECTOR};
+use eng_world::{Item, Reply};
+
+// How many sectors an operation writes.
+fn op_writes(op: &Op) -> u32
+    ensures { result ≡ op_writes op.now }
+{
+    match op {
+        Op::Write { span, .. } => span.count,
+        Op::Read { .. } | Op::Rebuild { .. } | Op::Sync { .. } => 0,
+    }
+}
+
+// How many sectors an item writes.
+fn item_writes(item: &Item) -> u32
+    ensures { result ≡ item_writes item.now }
+{
+    match item {
+        Item::Run { op, .. } => op_writes(op),
+        Item::Fail { .. } => 0,
+    }
+}
+
+// How many sectors a client's items write.
+fn row_writes(items: &[Item]) -> u128
+    ensures value { result ≡ row_writes items.now }
+    ensures small { result ≤ 4294967295 * length items.now }
+{
+    let mut total: u128 = 0;
+    for item in items {
+        total += u128::from(item_writes(item));
+    }
+    total
+}
+
+/// How many items there are.
+pub fn count_items(clients: &[Vec<Item>]) -> u128
+    requires { length clients.now ≤ 16 }
+    ensures { result ≡ sum_by (λ row. length row.items) clients.now }
+{
+    let mut total: u128 = 0;
+    for row in clients {
+        total += row.len() as u128;
+    }
+    total
+}
+
+/// How many sectors all items write.
+pub fn count_written(clients: &[Vec<Item>]) -> u128
+    requires { length clients.now ≤ 16 }
+    ensures { result ≡ sum_by (λ row. row_writes row.items) clients.now }
+{
+    let mut total: u128 = 0;
+    for row in clients {
+        total += row_writes(row.as_slice());
+    }
+    total
+}
+
+// The sum of bytes.
+fn sum_bytes(bytes: &[u8]) -> u128
+    ensures value { result ≡ byte_sum bytes.now }
+    ensures small { result ≤ 255 * length bytes.now }
+{
+    let mut total: u128 = 0;
+    for byte in bytes {
+        total += u128::from(*byte);
+    }
+    total
+}
+
+// The sum of the bytes behind `data`.
+fn sum_data(reply: Reply, bytes: &[u8]) -> u128
+    ensures value { result ≡ data_sum reply bytes.now }
+    ensures small { result ≤ 255 * length bytes.now }
+{
+    match reply {
+        Reply::Data => sum_bytes(bytes),
+        Reply::Done
+        | Reply::Okay
+        | Reply::Undone { .. }
+        | Reply::Range
+        | Reply::Long
+        | Reply::Refused(_)
+        | Reply::Lost => 0,
+    }
+}
+
+// The sum of what a client was replied, whose sectors are the first of these bytes; and how many
+// bytes these are.
+fn sum_row(items: &[Item], replies: &[Reply], bytes: &[u8]) -> (u128, usize)
+    requires answered { length replies.now ≡ length items.now }
+    requires enough { 512 * row_sectors items.now ≤ length bytes.now }
+    ensures sum { result.0 ≡ row_sum items.now replies.now bytes.now }
+    ensures passed { result.1 ≡ 512 * row_sectors items.now }
+    ensures small { result.0 ≤ 255 * result.1 }
+{
+    let mut sum: u128 = 0;
+    let mut at = 0;
+    for (i, item) in items.iter().enumerate() {
+        let size = SECTOR * item_sectors(item) as usize;
+        sum += sum_data(replies[i], &bytes[at..at + size]);
+        at += size;
+    }
+    (sum, at)
+}
+
+/// The sum of all bytes behind `data`, and how many sectors all items read.
+pub fn sum_all(clients: &[Vec<Item>], replies: &[Vec<Reply>], sectors: &[u8]) -> (u128, usize)
+    requires { StandFor clients.now replies.now sectors.now }
+    ensures sum { result.0 ≡ all_sum clients.now replies.now sectors.now }
+    ensures read { result.1 ≡ sum_by (λ row. row_sectors row.items) clients.now }
+{
+    let mut sum: u128 = 0;
+    let mut at = 0;
+    for client in 0..clients.len() {
+        let items = clients[client].as_slice();
+        let told = replies[client].as_slice();
+        let row = sum_row(items, told, &sectors[at..]);
+        sum += row.0;
+        at += row.1;
+    }
+    (sum, at / SECTOR)
+}

@@ -1,0 +1,100 @@
+//! A line that is printed, in room of its own.
+ghost use Rattle.std.specs.Prelude.{◌≡◌, ◌≤◌, ◌+◌, ◌*◌, ◌++◌, [], length, take};
+ghost use Rattle.hex.specs.Hex.{encode_lower};
+
+use itoa::{Buffer, Integer};
+use std::marker::Model;
+
+// The longest line names a block and a count, and has 1,024 digits of a sector.
+const ROOM: usize = 1200;
+
+/// A line, which contracts see as its bytes.
+#[derive(Drop)]
+pub struct Line {
+    bytes: [u8; ROOM],
+    len: usize,
+}
+
+impl Model for Line {
+    ghost use Rattle.std.specs.Prelude.{List, ℕ, ◌≤◌, take};
+
+    ghost Value = { List ℕ };
+
+    ghost view = { λ l. take l.len l.bytes };
+
+    ghost invariant = { λ l. l.len ≤ 1200 };
+}
+
+// Puts bytes into the place from `at` on.
+fn paste(to: &mut [u8; ROOM], at: usize, bytes: &[u8])
+    requires { at + length bytes.now ≤ 1200 }
+    ensures { take (at + length bytes.now) to.new ≡ take at to.old ++ bytes.now }
+{
+    let part = &mut to[at..at + bytes.len()];
+    part.copy_from_slice(bytes);
+}
+
+// Puts the digits of bytes into the place from `at` on.
+fn paste_hex(to: &mut [u8; ROOM], at: usize, bytes: &[u8])
+    requires { at + 2 * length bytes.now ≤ 1200 }
+    ensures { take (at + 2 * length bytes.now) to.new ≡ take at to.old ++ encode_lower bytes.now }
+{
+    let part = &mut to[at..at + 2 * bytes.len()];
+    match hex::encode_to_slice(bytes, part) {
+        Ok(()) => {}
+        Err(_) => unreachable!(),
+    }
+}
+
+impl Line {
+    /// An empty line.
+    pub fn new() -> Line
+        ensures { result ≡ [] }
+    {
+        Line {
+            bytes: [0; ROOM],
+            len: 0,
+        }
+    }
+
+    /// What stands in the line.
+    pub fn bytes(&self) -> &[u8]
+        ensures { result.now ≡ self.now }
+    {
+        &self.bytes[..self.len]
+    }
+
+    /// Takes all out of the line.
+    pub fn clear(&mut self)
+        ensures { self.new ≡ [] }
+    {
+        self.len = 0;
+    }
+
+    /// Adds bytes.
+    pub fn push(&mut self, bytes: &[u8])
+        requires { length self.old + length bytes.now ≤ 1200 }
+        ensures { self.new ≡ self.old ++ bytes.now }
+    {
+        paste(&mut self.bytes, self.len, bytes);
+        self.len += bytes.len();
+    }
+
+    /// Adds a number in decimal, without leading zeros.
+    pub fn push_number<I: Integer>(&mut self, number: I)
+        requires { length self.old + 40 ≤ 1200 }
+        ensures value { self.new ≡ self.old ++ I.text number }
+        ensures short { length self.new ≤ length self.old + 40 }
+    {
+        self.push(Buffer::new().format(number).as_bytes());
+    }
+
+    /// Adds two digits for each byte, in lower case.
+    pub fn push_hex(&mut self, bytes: &[u8])
+        requires { length self.old + 2 * length bytes.now ≤ 1200 }
+        ensures { self.new ≡ self.old ++ encode_lower bytes.now }
+    {
+        paste_hex(&mut self.bytes, self.len, bytes);
+        self.len += 2 * bytes.len();
+    }
+}

@@ -1,0 +1,119 @@
+//! What a line has next, read word by word.
+//!
+//! Each step answers the code by which the line is refused where it has something else there.
+ghost use Rattle.std.specs.Prelude.{◌≡◌};
+ghost use Rattle.raid_text.specs.Pattern.{pattern_bytes};
+ghost use Rattle.raid_text.specs.Seen.{words_left};
+ghost use Rattle.graph_text.specs.Answers.{Gives};
+ghost use Rattle.graph_text.specs.FormatSteps.{at_end, next_number, next_word};
+ghost use Rattle.raid_script.specs.Format.{next_client, next_column, next_graph, next_pattern, next_span};
+
+use crate::codes::{CLIENT, COLUMN, GRAPH, NUMBER, PATTERN, WORD};
+use blk_plain::{Pattern, Span};
+use graph_text::Book;
+use raid_text::{Words, number, pattern};
+
+/// How many clients there are.
+const CLIENTS: u32 = 16;
+
+/// The next word.
+#[tactic(auto, unfolding(graph_text::specs::FormatSteps::next_word))]
+pub fn next_word<'a>(words: &mut Words<'a>) -> Result<&'a [u8], u8>
+    ensures { Gives (λ word. (word.now, words_left words.new)) result (next_word (words_left words.old)) }
+{
+    match words.next() {
+        Some(word) => Ok(word),
+        None => Err(WORD),
+    }
+}
+
+/// The next word, which is a number.
+#[tactic(auto, unfolding(graph_text::specs::FormatSteps::next_number, graph_text::specs::FormatSteps::number_in))]
+pub fn next_number(words: &mut Words) -> Result<u32, u8>
+    ensures { Gives (λ n. (n, words_left words.new)) result (next_number (words_left words.old)) }
+{
+    let Some(word) = words.next() else {
+        return Err(WORD);
+    };
+    match number(word) {
+        Some(n) => Ok(n),
+        None => Err(NUMBER),
+    }
+}
+
+/// Sees that no word is left.
+#[tactic(auto, unfolding(graph_text::specs::FormatSteps::at_end))]
+pub fn pass_end(words: &mut Words) -> Result<(), u8>
+    ensures { result ≡ at_end (words_left words.old) }
+{
+    match words.next() {
+        Some(_) => Err(WORD),
+        None => Ok(()),
+    }
+}
+
+/// C, a client.
+#[tactic(auto, unfolding(crate::specs::Format::next_client))]
+pub fn next_client(words: &mut Words) -> Result<u32, u8>
+    ensures { Gives (λ n. (n, words_left words.new)) result (next_client (words_left words.old)) }
+{
+    let client = next_number(words)?;
+    if client < CLIENTS {
+        Ok(client)
+    } else {
+        Err(CLIENT)
+    }
+}
+
+/// FIRST and COUNT, which isn't 0.
+#[tactic(auto, unfolding(crate::specs::Format::next_span))]
+pub fn next_span(words: &mut Words) -> Result<Span, u8>
+    ensures { Gives (λ span. (span.first, span.count, words_left words.new)) result (next_span (words_left words.old)) }
+{
+    let first = next_number(words)?;
+    let count = next_number(words)?;
+    if count == 0 {
+        return Err(NUMBER);
+    }
+    Ok(Span {
+        first: u64::from(first),
+        count,
+    })
+}
+
+/// PATTERN.
+#[tactic(auto, unfolding(crate::specs::Format::next_pattern))]
+pub fn next_pattern(words: &mut Words) -> Result<Pattern, u8>
+    ensures { Gives (λ pattern. (pattern_bytes pattern, words_left words.new)) result (next_pattern (words_left words.old)) }
+{
+    let word = next_word(words)?;
+    match pattern(word) {
+        Some(pattern) => Ok(pattern),
+        None => Err(PATTERN),
+    }
+}
+
+/// COLUMN, one of so many.
+#[tactic(auto, unfolding(crate::specs::Format::next_column))]
+pub fn next_column(columns: u32, words: &mut Words) -> Result<u32, u8>
+    ensures { Gives (λ n. (n, words_left words.new)) result (next_column columns (words_left words.old)) }
+{
+    let column = next_number(words)?;
+    if column < columns {
+        Ok(column)
+    } else {
+        Err(COLUMN)
+    }
+}
+
+/// NAME, as the number of the graph that has it.
+#[tactic(auto, unfolding(crate::specs::Format::next_graph, crate::specs::Format::graph_of))]
+pub fn next_graph(book: &Book, words: &mut Words) -> Result<u32, u8>
+    ensures { Gives (λ n. (n, words_left words.new)) result (next_graph book.now (words_left words.old)) }
+{
+    let name = next_word(words)?;
+    match book.find(name) {
+        Some(graph) => Ok(graph),
+        None => Err(GRAPH),
+    }
+}
