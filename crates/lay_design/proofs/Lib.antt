@@ -1,0 +1,5 @@
+mod Pairs
+mod Tables
+mod Flat
+mod Combinations
+mod NoFault

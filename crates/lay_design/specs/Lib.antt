@@ -1,0 +1,5 @@
+pub mod Counting
+pub mod Blocks
+pub mod Design
+pub mod Given
+pub mod Families
