@@ -1,152 +1,94 @@
--- What an edit of one owner's row does to a table.
-use Rattle.std.proofs.Common.{◌≡◌, ◌≢◌, ◌⊎◌, ℕ, ◌<◌, ◌≤◌, ◌==◌, Bool, true, false, List, [], length, slice_set, replicate, None, Some, Contains, refl, sym, ap, ◌∙◌, subst, inl, inr, arith, eqb-true}
-use Rattle.std.specs.List.{list_any}
-use Rattle.std.specs.Cmp.{nat_eq_equiv}
-use Rattle.std.proofs.lemmas.Bool.{cases_eq, cases_lt}
-use Rattle.std.proofs.lemmas.Map.Views.{Contains-from_any, list_any-from_Contains}
-use Rattle.std.proofs.lemmas.List.{get_or-set_same, get_or-set_other, get_or-replicate, get_or_past, length-set, length-replicate}
+-- Tables of locks by their rows.
+use Rattle.std.proofs.Common.{◌≡◌, ◌≢◌, ◌↔◌, ℕ, ◌<◌, Bool, not, List, [], ◌∷◌, None, Some, IsTrue, IsFalse, refl, sym, ap, ◌∙◌, subst, inl, inr, arith}
+use Rattle.std.proofs.lemmas.Bool.{cases_eq, not-false}
 use Rattle.stripe_lock.specs.declared.mode.Mode.{Mode}
-use Rattle.stripe_lock.specs.declared.mode.Mode.TheVariants.{Share, Exclude}
-use Rattle.stripe_lock.specs.Holding.{Held}
-use Rattle.stripe_lock.specs.Table.{Table, nothing, held_by, owners_of, mode_in, mode_of, IsIdle, IsApart, Conflict, Takes, Releases, IsBarred}
+use Rattle.stripe_lock.specs.declared.mode.Mode.TheVariants.{Share}
+use Rattle.stripe_lock.specs.declared.row.Row.{Row}
+use Rattle.stripe_lock.specs.Rows.{mode_at, HoldsNone, IsBarred, Grows, IsSound}
+use Rattle.stripe_lock.specs.Table.{Table, owners_of, mode_of, HoldsNothing, IsIdle, IsApart, Conflict, Takes, Releases, IsTable}
+use Rattle.stripe_lock.proofs.Holders.{both_share}
+use Rattle.stripe_lock.proofs.Rows.{at_head, past_head}
+use Rattle.stripe_lock.proofs.Leaving.{gone, gone_own, gone_other, gone_sound}
 
--- ---- one owner
+-- a table as its type has it
+abbrev pub table_of : ℕ → List Row → Table
+table_of owners rows = record { owners = owners; rows = rows }
 
-pub mode_held : (h : Held) (stripe : ℕ) → Contains h.stripes stripe → mode_in h stripe ≡ Some h.mode
-mode_held h stripe has = let found = list_any-from_Contains {eq = λ a b. a == b} nat_eq_equiv stripe h.stripes has in rw found
+apart_rows : (rows : List Row) (one other stripe : ℕ) (mine theirs : Mode) → one ≢ other → mode_at rows one stripe ≡ Some mine → mode_at rows other stripe ≡ Some theirs → (mine ≡ Share) × (theirs ≡ Share)
+apart_rows [] one other stripe mine theirs apart first second = absurd cc
+apart_rows (row ∷ rows) one other stripe mine theirs apart first second = elim (cases_eq row.stripe stripe) [
+  | inl same ↦ both_share row.holder one other mine theirs apart (sym (at_head row rows one stripe same) ∙ first) (sym (at_head row rows other stripe same) ∙ second)
+  | inr away ↦ apart_rows rows one other stripe mine theirs apart (sym (past_head row rows one stripe away) ∙ first) (sym (past_head row rows other stripe away) ∙ second)
+]
 
-held_by_test : (h : Held) (stripe : ℕ) (mode : Mode) (found : Bool) → list_any (λ one. stripe == one) h.stripes ≡ found → mode_in h stripe ≡ Some mode → Contains h.stripes stripe × (h.mode ≡ mode)
-held_by_test h stripe mode true t is = let now = rw t at is in (Contains-from_any {eq = λ a b. a == b} eqb-true stripe h.stripes t, cc)
-held_by_test h stripe mode false t is = let now = rw t at is in absurd cc
-
-pub held_if_mode : (h : Held) (stripe : ℕ) (mode : Mode) → mode_in h stripe ≡ Some mode → Contains h.stripes stripe × (h.mode ≡ mode)
-held_if_mode h stripe mode is = held_by_test h stripe mode _ refl is
-
-none_by_test : (h : Held) (stripe : ℕ) (found : Bool) → list_any (λ one. stripe == one) h.stripes ≡ found → ¬ Contains h.stripes stripe → mode_in h stripe ≡ None
-none_by_test h stripe true t absent = absurd (absent (Contains-from_any {eq = λ a b. a == b} eqb-true stripe h.stripes t))
-none_by_test h stripe false t absent = rw t
-
-pub none_if_absent : (h : Held) (stripe : ℕ) → ¬ Contains h.stripes stripe → mode_in h stripe ≡ None
-none_if_absent h stripe absent = none_by_test h stripe _ refl absent
-
--- ---- a conflict
-
-pub conflict_if_barred : (table : Table) (owner : ℕ) (stripes : List ℕ) (mode : Mode) → IsBarred table owner stripes mode → Conflict table owner stripes mode
+pub apart_always : (table : Table) → IsApart table
 unfolding mode_of
-conflict_if_barred table owner stripes mode b = record {
-  other = b.other;
-  stripe = b.in_the_way.common.stripe;
-  theirs = (held_by table b.other).mode;
-  apart = b.apart;
-  wanted = b.in_the_way.common.right;
-  held = mode_held (held_by table b.other) b.in_the_way.common.stripe b.in_the_way.common.left;
-  alone = b.in_the_way.modes;
-}
+apart_always table one other stripe mine theirs apart first second = apart_rows table.rows one other stripe mine theirs apart first second
 
-no_stripe : (stripe : ℕ) → ¬ Contains {X = ℕ} [] stripe
-no_stripe stripe has = omega (arith, has.1)
+pub idle : (owners : ℕ) (rows : List Row) → rows ≡ [] → IsIdle (table_of owners rows) owners
+unfolding owners_of mode_of
+idle owners rows none = record { owners = refl; nothing = λ owner stripe. ap (λ (xs : List Row). mode_at xs owner stripe) none }
 
-pub nothing_past : (table : Table) (owner stripe : ℕ) → length table ≤ owner → mode_of table owner stripe ≡ None
-unfolding mode_of
-nothing_past table owner stripe past = let is : held_by table owner ≡ nothing = get_or_past table owner nothing past in rw is
+module _ (table : Table) (owners : ℕ) (rows : List Row) (is : table_of owners rows ≡ table) where
+  rows_are : table.rows ≡ rows
+  rows_are = sym (ap (λ (t : Table). t.rows) is)
 
-pub barred_if_conflict : (table : Table) (owner : ℕ) (stripes : List ℕ) (mode : Mode) → Conflict table owner stripes mode → IsBarred table owner stripes mode
-unfolding mode_of
-barred_if_conflict table owner stripes mode k = record {
-  other = k.other;
-  below = elim (cases_lt k.other (length table)) [
-    | inl low ↦ low
-    | inr past ↦ let none = nothing_past table k.other k.stripe past in let held = k.held in absurd cc
-  ];
-  apart = k.apart;
-  in_the_way = let has = held_if_mode (held_by table k.other) k.stripe k.theirs k.held in record {
-    modes = elim k.alone [ inl mine ↦ inl mine | inr theirs ↦ inr (has.1 ∙ theirs) ];
-    common = record { stripe = k.stripe; left = has.0; right = k.wanted };
-  };
-}
-
--- ---- an edit of one row
-
-module _ (old : Table) (owner : ℕ) (inside : owner < owners_of old) (stripes : List ℕ) (mode : Mode) where
-  abbrev pub edited : Table
-  edited = slice_set old owner (record { stripes = stripes; mode = mode })
-
-  others_kept : (other stripe : ℕ) → other ≢ owner → mode_of edited other stripe ≡ mode_of old other stripe
-  unfolding mode_of
-  others_kept other stripe apart = ap (λ h. mode_in h stripe) (get_or-set_other old owner other (record { stripes = stripes; mode = mode }) nothing apart)
-
-  own : (stripe : ℕ) → mode_of edited owner stripe ≡ mode_in (record { stripes = stripes; mode = mode }) stripe
-  unfolding mode_of owners_of
-  own stripe = ap (λ h. mode_in h stripe) (get_or-set_same old owner (record { stripes = stripes; mode = mode }) nothing inside)
-
-  pub takes : Takes old owner stripes mode edited
+  pub owner_few : (owner capacity : ℕ) → IsTable owners rows capacity → owner < owners_of table → owner < 17
   unfolding owners_of
-  takes = record {
-    owners = length-set old owner (record { stripes = stripes; mode = mode });
-    each = λ stripe has. own stripe ∙ mode_held (record { stripes = stripes; mode = mode }) stripe has;
-    only = λ stripe absent. own stripe ∙ none_if_absent (record { stripes = stripes; mode = mode }) stripe absent;
-    others = others_kept;
+  owner_few owner capacity kept low = let e : owners ≡ table.owners = ap (λ (t : Table). t.owners) is in let f = kept.few in let l : owner < table.owners = low in omega arith
+
+  pub holds_none : (owner : ℕ) → HoldsNothing table owner → HoldsNone rows owner
+  unfolding mode_of
+  holds_none owner none stripe = let n : mode_at table.rows owner stripe ≡ None = none stripe in ap (λ (xs : List Row). mode_at xs owner stripe) (sym rows_are) ∙ n
+
+  pub conflict_if_barred : (owner : ℕ) (stripes : List ℕ) (mode : Mode) → IsBarred rows owner stripes mode → Conflict table owner stripes mode
+  unfolding mode_of
+  conflict_if_barred owner stripes mode b = record {
+    other = b.other;
+    stripe = b.stripe;
+    theirs = b.theirs;
+    apart = b.apart;
+    wanted = b.wanted;
+    held = ap (λ (xs : List Row). mode_at xs b.other b.stripe) rows_are ∙ b.held;
+    alone = b.alone;
   }
 
-  wanted : (stripe : ℕ) (m : Mode) → mode_of edited owner stripe ≡ Some m → Contains stripes stripe × (mode ≡ m)
-  wanted stripe m is = held_if_mode (record { stripes = stripes; mode = mode }) stripe m (sym (own stripe) ∙ is)
+  pub barred_if_conflict : (owner : ℕ) (stripes : List ℕ) (mode : Mode) → Conflict table owner stripes mode → IsBarred rows owner stripes mode
+  unfolding mode_of
+  barred_if_conflict owner stripes mode k = record {
+    other = k.other;
+    stripe = k.stripe;
+    theirs = k.theirs;
+    apart = k.apart;
+    wanted = k.wanted;
+    held = let h : mode_at table.rows k.other k.stripe ≡ Some k.theirs = k.held in ap (λ (xs : List Row). mode_at xs k.other k.stripe) (sym rows_are) ∙ h;
+    alone = k.alone;
+  }
 
-  both_share : (m n : Mode) → ¬ ((m ≡ Exclude) ⊎ (n ≡ Exclude)) → (m ≡ Share) × (n ≡ Share)
-  both_share Share Share _ = (refl, refl)
-  both_share Share Exclude never = absurd (never (inr refl))
-  both_share Exclude n never = absurd (never (inl refl))
+  pub refused_if : (owner : ℕ) (stripes : List ℕ) (mode : Mode) (barred : Bool) → (IsTrue barred ↔ IsBarred rows owner stripes mode) → IsFalse (not barred) ↔ Conflict table owner stripes mode
+  refused_if owner stripes mode barred says = (
+    λ refused. conflict_if_barred owner stripes mode (says.0 (not-false barred refused)),
+    λ conflict. ap not (says.1 (barred_if_conflict owner stripes mode conflict)),
+  )
 
-  pub stays_apart : IsApart old → ¬ Conflict old owner stripes mode → IsApart edited
-  stays_apart was free one other stripe m n apart first second = elim (cases_eq one owner) [
-    | inl mine ↦
-        let w = wanted stripe m (subst (λ (o : ℕ). mode_of edited o stripe ≡ Some m) mine first) in
-        let away : other ≢ owner = λ e. apart (mine ∙ sym e) in
-        both_share m n (λ alone. free (record {
-          other = other;
-          stripe = stripe;
-          theirs = n;
-          apart = away;
-          wanted = w.0;
-          held = sym (others_kept other stripe away) ∙ second;
-          alone = elim alone [ inl e ↦ inl (w.1 ∙ e) | inr e ↦ inr e ];
-        }))
-    | inr away ↦ elim (cases_eq other owner) [
-      | inl theirs ↦
-          let w = wanted stripe n (subst (λ (o : ℕ). mode_of edited o stripe ≡ Some n) theirs second) in
-          both_share m n (λ alone. free (record {
-            other = one;
-            stripe = stripe;
-            theirs = m;
-            apart = away;
-            wanted = w.0;
-            held = sym (others_kept one stripe away) ∙ first;
-            alone = elim alone [ inl e ↦ inr e | inr e ↦ inl (w.1 ∙ e) ];
-          }))
-      | inr too ↦ was one other stripe m n apart (sym (others_kept one stripe away) ∙ first) (sym (others_kept other stripe too) ∙ second)
-    ]
-  ]
+  pub takes : (new : List Row) (owner : ℕ) (stripes : List ℕ) (mode : Mode) → HoldsNothing table owner → Grows rows owner stripes mode new → Takes table owner stripes mode (table_of owners new)
+  unfolding mode_of owners_of
+  takes new owner stripes mode none grows = record {
+    owners = ap (λ (t : Table). t.owners) is;
+    each = λ stripe has. grows.each stripe has;
+    only = λ stripe absent. grows.only stripe absent ∙ holds_none owner none stripe;
+    others = λ other stripe apart. grows.others other stripe apart ∙ ap (λ (xs : List Row). mode_at xs other stripe) (sym rows_are);
+  }
 
--- ---- no stripes
+  pub releases : (new : List Row) (owner : ℕ) → owner < 17 → IsSound rows → new ≡ gone owner rows → Releases table owner (table_of owners new)
+  unfolding mode_of owners_of
+  releases new owner low sound new_is = record {
+    owners = ap (λ (t : Table). t.owners) is;
+    nothing = λ stripe. ap (λ (xs : List Row). mode_at xs owner stripe) new_is ∙ gone_own owner (omega arith) rows stripe;
+    others = λ other stripe apart.
+        ap (λ (xs : List Row). mode_at xs other stripe) new_is
+        ∙ (gone_other owner (omega arith) rows other stripe sound.ascending apart ∙ ap (λ (xs : List Row). mode_at xs other stripe) (sym rows_are));
+  }
 
-pub releases : (old : Table) (owner : ℕ) → owner < owners_of old → Releases old owner (slice_set old owner nothing)
-releases old owner inside = let t = takes old owner inside [] Share in record {
-  owners = t.owners;
-  nothing = λ stripe. t.only stripe (no_stripe stripe);
-  others = t.others;
-}
-
-pub apart_without : (old : Table) (owner : ℕ) → owner < owners_of old → IsApart old → IsApart (slice_set old owner nothing)
-apart_without old owner inside was = stays_apart old owner inside [] Share was (λ k. no_stripe k.stripe k.wanted)
-
-pub idle : (count : ℕ) → IsIdle (replicate count nothing) count
-unfolding owners_of mode_of
-idle count = record {
-  owners = length-replicate count nothing;
-  nothing = λ owner stripe. elim (cases_lt owner count) [
-    | inl low ↦ ap (λ h. mode_in h stripe) (get_or-replicate count owner nothing nothing low)
-    | inr past ↦ nothing_past (replicate count nothing) owner stripe (let long = length-replicate count nothing in omega arith)
-  ];
-}
-
-pub apart_if_idle : (table : Table) (count : ℕ) → IsIdle table count → IsApart table
-apart_if_idle table count is one other stripe m n apart first second = let none = is.nothing one stripe in absurd cc
+pub kept_after_leave : (rows new : List Row) (owner : ℕ) → owner < 17 → IsSound rows → new ≡ gone owner rows → IsSound new
+kept_after_leave rows new owner low sound new_is = subst IsSound (sym new_is) (gone_sound owner (omega arith) rows sound)

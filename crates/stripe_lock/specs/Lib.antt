@@ -1,2 +1,3 @@
-pub mod Holding
+pub mod Holder
+pub mod Rows
 pub mod Table

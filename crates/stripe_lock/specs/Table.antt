@@ -1,31 +1,22 @@
 -- The table of locks: who holds which stripe, and how.
-use Rattle.std.specs.Prelude.{◌≡◌, ◌≢◌, ◌⊎◌, ℕ, ◌<◌, List, [], length, get_or, Option, None, Some, Contains, ◌==◌, if◌then◌else◌}
-use Rattle.std.specs.List.{list_any}
+use Rattle.std.specs.Prelude.{◌≡◌, ◌≢◌, ◌⊎◌, ℕ, ◌≤◌, List, Option, None, Some, Contains}
 use Rattle.stripe_lock.specs.declared.mode.Mode.{Mode}
 use Rattle.stripe_lock.specs.declared.mode.Mode.TheVariants.{Share, Exclude}
-use Rattle.stripe_lock.specs.Holding.{Held, IsInTheWay}
+use Rattle.stripe_lock.specs.declared.row.Row.{Row}
+use Rattle.stripe_lock.specs.Rows.{mode_at, IsSound}
 
 -- what contracts see of a table: callers go by `owners_of` and `mode_of` alone
-abbrev pub Table : Type 0
-Table = List Held
-
-abbrev pub nothing : Held
-nothing = record { stripes = []; mode = Share }
-
-abbrev pub held_by : Table → ℕ → Held
-held_by table owner = get_or table owner nothing
+pub record Table : Type 0 where
+  pub owners : ℕ
+  pub rows : List Row
 
 -- how many owners the table is for
 unfoldable pub owners_of : Table → ℕ
-owners_of table = length table
-
--- how what is held covers a stripe
-abbrev pub mode_in : Held → ℕ → Option Mode
-mode_in held stripe = if list_any (λ one. stripe == one) held.stripes then Some held.mode else None
+owners_of table = table.owners
 
 -- how an owner holds a stripe, or None where it doesn't
 unfoldable pub mode_of : Table → ℕ → ℕ → Option Mode
-mode_of table owner stripe = mode_in (held_by table owner) stripe
+mode_of table owner stripe = mode_at table.rows owner stripe
 
 -- the owner holds no stripe
 abbrev pub HoldsNothing : Table → ℕ → Type 0
@@ -64,9 +55,8 @@ pub record Releases (old : Table) (owner : ℕ) (new : Table) : Type 0 where
   pub nothing : HoldsNothing new owner
   pub others : (other stripe : ℕ) → other ≢ owner → mode_of new other stripe ≡ mode_of old other stripe
 
--- what another owner holds is in the way
-pub record IsBarred (table : Table) (owner : ℕ) (stripes : List ℕ) (mode : Mode) : Type 0 where
-  pub other : ℕ
-  pub below : other < length table
-  pub apart : other ≢ owner
-  pub in_the_way : IsInTheWay (held_by table other) stripes mode
+-- what a table keeps: rows in order, for at most 17 owners, with room for 272
+pub record IsTable (owners : ℕ) (rows : List Row) (capacity : ℕ) : Type 0 where
+  pub few : owners ≤ 17
+  pub sound : IsSound rows
+  pub room : 272 ≤ capacity

@@ -4,9 +4,10 @@
 //! no two that wait can stand in each other's way. Reads share a stripe; what writes takes it alone.
 #![tactic(auto)]
 
-mod holding;
+mod holder;
 mod locks;
 mod mode;
+mod row;
 #[cfg(test)]
 mod tests;
 

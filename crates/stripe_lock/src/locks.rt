@@ -1,10 +1,10 @@
 //! The table of locks.
 ghost use Rattle.std.specs.Prelude.{◌≡◌, ◌<◌, ◌≤◌, ◌↔◌, length, IsTrue, IsFalse, IfOk};
 ghost use Rattle.std.specs.Bool.{OnTrue, OnFalse};
-ghost use Rattle.stripe_lock.specs.Table.{Table, IsIdle, HoldsNothing, Conflict, Takes, Releases, IsApart, owners_of, IsBarred};
+ghost use Rattle.stripe_lock.specs.Table.{Table, IsIdle, HoldsNothing, Conflict, Takes, Releases, IsApart, owners_of};
 
-use crate::holding::Holding;
 use crate::mode::Mode;
+use crate::row::{ROWS, Row, hold, is_barred, leave};
 use std::alloc::{AllocError, AllocFailed, Global};
 use std::marker::Model;
 
@@ -26,20 +26,24 @@ impl<T: Drop> From<AllocFailed<T>> for Memory {
 
 /// Which owner holds which stripes, and how. Owners are numbered from 0.
 ///
-/// No two owners hold one stripe unless both share it. No call but `open` takes memory.
+/// The held stripes stand in one table, in ascending order, each with its sharers or its excluder;
+/// it has at most 272 rows, and a stripe is found in it by bisection. No two owners hold one stripe
+/// unless both share it. No call but `open` takes memory.
 #[derive(Drop)]
 pub struct Locks {
-    holdings: Vec<Holding>,
+    rows: Vec<Row>,
+    owners: u32,
 }
 
 impl Model for Locks {
-    ghost use Rattle.stripe_lock.specs.Table.{Table, IsApart};
+    ghost use Rattle.std.specs.Prelude.{vec_capacity};
+    ghost use Rattle.stripe_lock.specs.Table.{Table, IsTable};
 
     ghost Value = { Table };
 
-    ghost view = { λ l. l.holdings.items };
+    ghost view = { λ l. record { owners = l.owners; rows = l.rows.items } };
 
-    ghost invariant = { λ l. IsApart l.holdings.items };
+    ghost invariant = { λ l. IsTable l.owners l.rows.items (vec_capacity l.rows) };
 }
 
 impl Locks {
@@ -48,11 +52,8 @@ impl Locks {
         requires { owners ≤ 17 }
         ensures { IfOk result (λ locks. IsIdle locks owners) }
     {
-        let mut holdings = Vec::with_capacity(alloc, owners as usize)?;
-        for _ in 0..owners {
-            holdings.push(Holding::nothing())?;
-        }
-        Ok(Locks { holdings })
+        let rows = Vec::with_capacity(alloc, ROWS)?;
+        Ok(Locks { rows, owners })
     }
 
     /// Whether the owner could take all these stripes now: no other owner holds one of them, or
@@ -60,7 +61,7 @@ impl Locks {
     pub fn can_take(&self, owner: u32, stripes: &[u32], mode: Mode) -> bool
         ensures conflict { IsFalse result ↔ Conflict self.now owner stripes.now mode }
     {
-        !self.is_barred(owner, stripes, mode)
+        !is_barred(self.rows.as_slice(), owner, stripes, mode)
     }
 
     /// Takes all these stripes for an owner that holds none, and answers whether it did.
@@ -80,20 +81,8 @@ impl Locks {
         if !self.can_take(owner, stripes, mode) {
             return false;
         }
-        self.holdings[owner as usize].set(stripes, mode);
+        hold(&mut self.rows, owner, stripes, mode);
         true
-    }
-
-    // Whether what another owner holds is in the way.
-    fn is_barred(&self, owner: u32, stripes: &[u32], mode: Mode) -> bool
-        ensures { IsTrue result ↔ IsBarred self.now owner stripes.now mode }
-    {
-        for other in 0..self.holdings.len() {
-            if other != owner as usize && self.holdings[other].is_in_the_way(stripes, mode) {
-                return true;
-            }
-        }
-        false
     }
 
     /// The owner holds nothing from now on.
@@ -102,6 +91,6 @@ impl Locks {
         ensures released { Releases self.old owner self.new }
         ensures apart { IsApart self.new }
     {
-        self.holdings[owner as usize].set(&[], Mode::Share);
+        leave(&mut self.rows, owner);
     }
 }

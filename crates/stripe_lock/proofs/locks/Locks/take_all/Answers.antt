@@ -1,28 +1,33 @@
-use Rattle.std.proofs.Common.{◌<◌, length, slice_set, sym, ap, subst, arith}
-use Rattle.stripe_lock.specs.Holding.{Held}
-use Rattle.stripe_lock.specs.Table.{Table, Conflict, Takes, IsApart, owners_of}
-use Rattle.stripe_lock.proofs.Tables.{takes, stays_apart}
+use Rattle.stripe_lock.proofs.Growing.{sound_after}
+use Rattle.stripe_lock.proofs.Tables.{table_of, apart_always, owner_few, holds_none, conflict_if_barred, takes}
 use Rattle.stripe_lock.proofs.locks.Locks.take_all.Goals as goal
 
-pub index_mut-requires : goal.index_mut-requires
-unfolding owners_of
-index_mut-requires c = let inside : c.args.owner < length c.args.self.now = c.requires.owner in omega (arith, ap length c.self.view_is)
+pub returns-then-not-can_take-clause-apart : goal.returns-then-not-can_take-clause-apart
+returns-then-not-can_take-clause-apart c = apart_always c.args.self.now
+
+pub hold-requires-clause-owner : goal.hold-requires-clause-owner
+hold-requires-clause-owner c = owner_few c.args.self.now c.self.inside.owners c.self.inside.rows.items c.self.view_is c.args.owner _ c.self.invariant c.requires.owner
+
+pub hold-requires-clause-none : goal.hold-requires-clause-none
+hold-requires-clause-none c = holds_none c.args.self.now c.self.inside.owners c.self.inside.rows.items c.self.view_is c.args.owner c.requires.none
+
+pub hold-requires-clause-free : goal.hold-requires-clause-free
+hold-requires-clause-free c barred =
+    let refused = c.can_take.ensures.conflict.1 (conflict_if_barred c.args.self.now c.self.inside.owners c.self.inside.rows.items c.self.view_is c.args.owner c.args.stripes.now c.args.mode barred) in
+    let taken = c.if-not-can_take.false in
+    absurd cc
 
 pub invariant_of-self : goal.invariant_of-self
 invariant_of-self c =
-    let rows = c.self.inside.holdings.items in
-    let inside = subst (λ (t : Table). c.args.owner < owners_of t) (sym c.self.view_is) c.requires.owner in
-    let free = λ (k : Conflict c.args.self.now c.args.owner c.args.stripes.now c.args.mode). let refused = c.can_take.ensures.conflict.1 k in let taken = c.if-not-can_take.false in absurd cc in
-    let free_rows = subst (λ (t : Table). ¬ Conflict t c.args.owner c.args.stripes.now c.args.mode) (sym c.self.view_is) free in
-    subst (λ (row : Held). IsApart (slice_set rows c.args.owner row)) (sym c.set.ensures)
-    (stays_apart rows c.args.owner inside c.args.stripes.now c.args.mode c.self.invariant free_rows)
+    let none = holds_none c.args.self.now c.self.inside.owners c.self.inside.rows.items c.self.view_is c.args.owner c.requires.none in
+    record {
+      few = c.self.invariant.few;
+      sound = sound_after c.self.inside.rows.items c.hold.new.rows.items c.args.owner c.args.stripes.now c.args.mode c.self.invariant.sound none c.requires.few c.hold.ensures.grows;
+      room = c.hold.ensures.room;
+    }
 
 pub returns-clause-taken : goal.returns-clause-taken
-returns-clause-taken c =
-    let rows = c.self.inside.holdings.items in
-    let inside = subst (λ (t : Table). c.args.owner < owners_of t) (sym c.self.view_is) c.requires.owner in
-    subst (λ (t : Table). Takes t c.args.owner c.args.stripes.now c.args.mode (slice_set rows c.args.owner c.set.new.self)) c.self.view_is
-    (subst (λ (row : Held). Takes rows c.args.owner c.args.stripes.now c.args.mode (slice_set rows c.args.owner row)) (sym c.set.ensures) (takes rows c.args.owner inside c.args.stripes.now c.args.mode))
+returns-clause-taken c = takes c.args.self.now c.self.inside.owners c.self.inside.rows.items c.self.view_is c.hold.new.rows.items c.args.owner c.args.stripes.now c.args.mode c.requires.none c.hold.ensures.grows
 
 pub returns-clause-apart : goal.returns-clause-apart
-returns-clause-apart c = invariant_of-self c
+returns-clause-apart c = apart_always (table_of c.self.inside.owners c.hold.new.rows.items)
