@@ -22,6 +22,7 @@ use Rattle.eng_events.specs.Shows.{Shows}
 use Rattle.eng_array.specs.Tickets.{Happens, Goes, shape_of, graphs_of, failed_at, faults_at}
 use Rattle.eng_array.proofs.Causing.{had-on, run-had, FailsBy, by_node, by_item, by_call, step-fails}
 use Rattle.eng_array.proofs.Chains.{goes-same, goes-later}
+use Rattle.eng_array.proofs.DevicesOn.{devices-later}
 
 -- a count that rose and goes on has risen
 rose-further : (a b c : ℕ) → Rose a b → b ≤ c → Rose a c
@@ -42,7 +43,7 @@ module _ {L D : Type 0} (lay : LayoutGhosts L) (disk : DiskGhosts D) (old new : 
 
   -- after one event more
   pub blamed-on : (mid : Array L D) (e : Traced) (events : List Traced) (w m x : World) (d : ℕ) → Happens lay disk e mid new → Continues m x → IsBlamed lay disk old mid events w m d → IsBlamed lay disk old new (e ∷ events) w x d
-  blamed-on mid e events w m x d h go (rose r) = rose (rose-further (faults_at lay disk old d) (faults_at lay disk mid d) (faults_at lay disk new d) r (h.later d).1)
+  blamed-on mid e events w m x d h go (rose r) = rose (rose-further (faults_at lay disk old d) (faults_at lay disk mid d) (faults_at lay disk new d) r (devices-later disk mid.devices.slots new.devices.slots h.devices d).1)
   blamed-on mid e events w m x d h go (asked id column has it reply had) = asked id column (tail-has e events _ has) (item-still m x go id (item.Fail column) it)
       (let more = go.replies id.client in ap (λ (l : List Reply). slice_get l id.index) more.1 ∙ front-get (m.clients id.client).replies more.0 id.index _ reply)
       (had-on w events e column d had)

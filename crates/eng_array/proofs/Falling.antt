@@ -8,9 +8,9 @@ use Rattle.eng_rest.specs.Left.{IsOwn}
 use Rattle.eng_rest.proofs.Summing.{own-later}
 use Rattle.eng_events.specs.declared.array.Array.{Array}
 use Rattle.eng_array.specs.Chain.{Chain, HaveFewNodes}
-use Rattle.eng_array.specs.Progress.{left_of, Falls, FitThePool}
+use Rattle.eng_array.specs.Progress.{left_of, Falls}
 use Rattle.eng_array.specs.Steady.{IsSteady}
-use Rattle.eng_array.specs.Tickets.{AllOf, Same, Happens, Goes, Quiet, graphs_of}
+use Rattle.eng_array.specs.Tickets.{AllOf, Happens, Goes, Quiet}
 use Rattle.eng_array.proofs.Chained.{sound-few}
 use Rattle.eng_array.proofs.Lefts.{follows-falls, left-moved}
 
@@ -21,10 +21,6 @@ module _ {L D : Type 0} (lay : LayoutGhosts L) (disk : DiskGhosts D) where
   -- a look changes nothing of what is left
   pub quiet-left : (old new : Array L D) → Quiet lay disk old new → left_of new ≡ left_of old
   quiet-left old new q = ap (λ (core : Array L D). left_of core) q.is ∙ left-moved old new.next
-
-  -- the graphs of the file are the same throughout
-  pub fit-still : (old new : Array L D) → Same lay disk old new → FitThePool (graphs_of old) → FitThePool (graphs_of new)
-  fit-still old new same fit = subst FitThePool (sym same.graphs) fit
 
   pub goes-steady : (old new : Array L D) (events : List Traced) → IsSteady lay disk old → Goes lay disk old events new → IsSteady lay disk new
   goes-steady old new [] steady g = subst (IsSteady lay disk) (sym g) steady

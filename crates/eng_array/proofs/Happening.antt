@@ -1,6 +1,5 @@
 -- Each call is one event, and what it changes of what is out.
-use Rattle.std.proofs.Common.{◌≡◌, ◌≤◌, ◌+◌, ◌++◌, ℕ, List, [], ◌∷◌, Bool, true, false, Option, None, if◌then◌else◌, sym, ◌∙◌, ap, arith}
-use Rattle.std.specs.Prelude.{slice_index_or}
+use Rattle.std.proofs.Common.{◌≡◌, ◌+◌, ◌++◌, ℕ, List, [], ◌∷◌, Bool, true, false, if◌then◌else◌, sym, ◌∙◌, ap, arith}
 use Rattle.lay_core.specs.Layout.{Shape}
 use Rattle.lay_core.specs.declared.layout.Layout.{Ghosts as LayoutGhosts}
 use Rattle.blk_disk.specs.Disk.{Rose}
@@ -15,11 +14,11 @@ use Rattle.eng_parts.specs.declared.stage.Stage.{Stage}
 use Rattle.eng_parts.specs.declared.stage.Stage.TheVariants.{Nothing, Waits, Runs}
 use Rattle.eng_events.specs.declared.array.Array.{Array}
 use Rattle.eng_parts.specs.Desk.{Desk, desk_at}
-use Rattle.eng_parts.specs.Shelf.{Seen}
 use Rattle.eng_events.specs.Shows.{Shows, ShowsCurrent}
 use Rattle.eng_array.specs.Steady.{IsSteady}
 use Rattle.eng_events.specs.Steps as steps
-use Rattle.eng_array.specs.Tickets.{is_node, out_by, out_at, failed_at, size_at, faults_at, size_in, faults_in, IsBad, Happens}
+use Rattle.eng_array.specs.Tickets.{is_node, out_by, out_at, failed_at, faults_at, devices_of, DevicesGoOn, IsBad, Happens}
+use Rattle.eng_array.proofs.DevicesOn.{as-many-slots}
 use Rattle.eng_array.proofs.OutNodes.{node_out, node_at, OutAfter, SameOut, OneMore, OneLess, step-out}
 use Rattle.eng_array.proofs.Reached.{reached}
 use Rattle.eng_array.proofs.Steady.{Keeps}
@@ -27,23 +26,25 @@ use Rattle.eng_array.proofs.Steady.{Keeps}
 module _ {L D : Type 0} (lay : LayoutGhosts L) (disk : DiskGhosts D) where
   -- ## The event
 
-  -- devices, none of which has left or come home
-  pub same-later : (old new : Array L D) → new.devices.slots ≡ old.devices.slots → (d : ℕ) → (size_at lay disk new d ≡ size_at lay disk old d) × (faults_at lay disk old d ≤ faults_at lay disk new d)
-  same-later old new is d =
-      let seen : slice_index_or new.devices.slots d None ≡ slice_index_or old.devices.slots d None = ap (λ (l : List (Option (Seen D))). slice_index_or l d None) is in
-      let f = ap (faults_in disk) seen in
-      (ap (size_in disk) seen, omega (arith, f))
-
   module _ (old new : Array L D) (e : Traced) (steady : IsSteady lay disk new) (keeps : Keeps lay disk old e new) (follows : steps.Follows lay disk old e new) where
-    pub happens : ((d : ℕ) → (size_at lay disk new d ≡ size_at lay disk old d) × (faults_at lay disk old d ≤ faults_at lay disk new d))
+    pub happens : new.spare ≡ old.spare → DevicesGoOn disk (devices_of old) (devices_of new)
         → (IsBad e → (d : ℕ) → failed_at old d ≡ false → failed_at new d ≡ true → Rose (faults_at lay disk old d) (faults_at lay disk new d)) → Happens lay disk e old new
-    happens later blame = record {
+    happens spare devices blame = record {
       sound = steady;
-      same = record { shape = ap lay.shape keeps.layout; graphs = ap (λ v. steps.graphs_of v.items) keeps.graphs; keeps = keeps.log.keeps };
+      same = record {
+        layout = keeps.layout;
+        shape = ap lay.shape keeps.layout;
+        graphs = ap (λ v. steps.graphs_of v.items) keeps.graphs;
+        keeps = keeps.log.keeps;
+        spare = spare;
+        slots = as-many-slots disk old.devices.slots new.devices.slots devices;
+        regions = keeps.log.regions;
+      };
       items = λ own c. keeps.items c;
       told = λ on. keeps.log.trace ∙ ap (λ (b : Bool). if b then old.log.trace ++ e ∷ [] else old.log.trace) on;
+      untold = λ off. keeps.log.trace ∙ ap (λ (b : Bool). if b then old.log.trace ++ e ∷ [] else old.log.trace) off;
       leads = follows;
-      later = later;
+      devices = devices;
       blame = blame;
     }
 

@@ -1,5 +1,5 @@
 -- What the calls but the end of a job change of devices, and that each is one event.
-use Rattle.std.proofs.Common.{◌≡◌, ◌≤◌, inl, inr, ℕ, Bool, Option, Some, None, refl, sym, ◌∙◌, ap, subst, arith}
+use Rattle.std.proofs.Common.{◌≡◌, inl, inr, ℕ, Bool, length, Option, Some, None, sym, ◌∙◌, ap, subst}
 use Rattle.std.specs.Prelude.{◌++◌, ◌+◌, List, [], ◌∷◌, slice_set, if◌then◌else◌}
 use Rattle.lay_core.specs.declared.layout.Layout.{Ghosts as LayoutGhosts}
 use Rattle.blk_disk.specs.declared.disk.Disk.{Ghosts as DiskGhosts}
@@ -25,9 +25,9 @@ use Rattle.eng_parts.specs.Shelf.{Shelved}
 use Rattle.eng_array.specs.Steady.{IsSteady}
 use Rattle.eng_events.specs.Steps as steps
 use Rattle.eng_events.specs.Taken.{IsTaken, BackAs, IsBack}
-use Rattle.eng_array.specs.Tickets.{IsBad, is_node, out_at, size_at, faults_at, size_in, faults_in, Happens, KeepsJobs, Lends}
-use Rattle.eng_array.proofs.Happening.{same-later, happens, world-out, nodes-same, nodes-more}
-use Rattle.eng_events.proofs.Leaving.{device-left}
+use Rattle.eng_array.specs.Tickets.{IsBad, is_node, out_at, Happens, KeepsJobs, Lends}
+use Rattle.eng_array.proofs.DevicesOn.{same-devices, left-devices}
+use Rattle.eng_array.proofs.Happening.{happens, world-out, nodes-same, nodes-more}
 use Rattle.eng_array.proofs.SteadyBegin.{begin-keeps, fail-keeps}
 use Rattle.eng_array.proofs.SteadyNodes.{fire-keeps, skip-keeps}
 use Rattle.eng_array.proofs.SteadyTake.{take-keeps, back-keeps}
@@ -40,13 +40,8 @@ module _ {L D : Type 0} (lay : LayoutGhosts L) (disk : DiskGhosts D) (old new : 
   -- ## A node is fired
 
   module _ (c n : ℕ) (can : CanFire lay old c n) (f : Fired lay old c n new) (follows : steps.Follows lay disk old (event.Fire (id_of old.clients c) n) new) where
-    left-later : (d : ℕ) → (size_at lay disk new d ≡ size_at lay disk old d) × (faults_at lay disk old d ≤ faults_at lay disk new d)
-    left-later d =
-        let e = device-left old.devices new.devices (place_now lay old c n) f.devices (faults_in disk) (λ x. refl) d in
-        (device-left old.devices new.devices (place_now lay old c n) f.devices (size_in disk) (λ x. refl) d, omega (arith, e))
-
     pub fire-happens : Happens lay disk (event.Fire (id_of old.clients c) n) old new
-    fire-happens = happens lay disk old new (event.Fire (id_of old.clients c) n) after (fire-keeps lay disk old new c n steady can f) follows left-later (λ bad. absurd bad)
+    fire-happens = happens lay disk old new (event.Fire (id_of old.clients c) n) after (fire-keeps lay disk old new c n steady can f) follows f.spare (left-devices disk old.devices new.devices (place_now lay old c n) f.devices) (λ bad. absurd bad)
 
     pub fire-lends : (job : Job D) → job.client ≡ c → job.node ≡ n → IsOut disk lay new job → Stays → Lends lay disk job old new
     fire-lends job client node out stays = record {
@@ -59,7 +54,7 @@ module _ {L D : Type 0} (lay : LayoutGhosts L) (disk : DiskGhosts D) (old new : 
 
   module _ (c n : ℕ) (can : CanSkip lay old c n) (is : new ≡ record old { clients = slice_set old.clients c (with_skipped (desk_at old.clients c) n); log = noted old.log (event.Skip (id_of old.clients c) n) }) (follows : steps.Follows lay disk old (event.Skip (id_of old.clients c) n) new) where
     pub skip-happens : Happens lay disk (event.Skip (id_of old.clients c) n) old new
-    skip-happens = happens lay disk old new (event.Skip (id_of old.clients c) n) after (skip-keeps lay disk old new c n steady can is) follows (same-later lay disk old new (ap (λ (s : Array L D). s.devices.slots) is)) (λ bad. absurd bad)
+    skip-happens = happens lay disk old new (event.Skip (id_of old.clients c) n) after (skip-keeps lay disk old new c n steady can is) follows (ap (λ (s : Array L D). s.spare) is) (same-devices disk old.devices.slots new.devices.slots (ap (λ (s : Array L D). s.devices.slots) is)) (λ bad. absurd bad)
 
     pub skip-jobs : Stays → KeepsJobs lay disk old new
     skip-jobs stays = record { jobs = stays; nodes = nodes-same lay disk old new (event.Skip (id_of old.clients c) n) steady follows (world-out lay disk old new (event.Skip (id_of old.clients c) n) steady follows) }
@@ -72,9 +67,15 @@ module _ {L D : Type 0} (lay : LayoutGhosts L) (disk : DiskGhosts D) (old new : 
   begun-slots (item.Fail column) c mid (inl h) = ap (λ (s : Array L D). s.devices.slots) h.1
   begun-slots (item.Fail column) c mid (inr h) = ap (λ (s : Array L D). s.devices.slots) h.1.is
 
+  begun-spare : (i : Item) (c : ℕ) (mid : Array L D) → BegunAs lay i old c mid → mid.spare ≡ old.spare
+  begun-spare (item.Run op file) c mid (inl h) = ap (λ (s : Array L D). s.spare) h.1
+  begun-spare (item.Run op file) c mid (inr h) = ap (λ (s : Array L D). s.spare) h.2
+  begun-spare (item.Fail column) c mid (inl h) = ap (λ (s : Array L D). s.spare) h.1
+  begun-spare (item.Fail column) c mid (inr h) = ap (λ (s : Array L D). s.spare) h.1.is
+
   module _ (c : ℕ) (can : CanBegin old c) (i : Item) (mid : Array L D) (b : BegunAs lay i old c mid) (is : new ≡ record mid { log = noted mid.log (event.Begin (id_of old.clients c)) }) (follows : steps.Follows lay disk old (event.Begin (id_of old.clients c)) new) where
     pub begin-happens : Happens lay disk (event.Begin (id_of old.clients c)) old new
-    begin-happens = happens lay disk old new (event.Begin (id_of old.clients c)) after (begin-keeps lay disk old steady c can i mid new b is) follows (same-later lay disk old new (ap (λ (s : Array L D). s.devices.slots) is ∙ begun-slots i c mid b)) (λ bad. absurd bad)
+    begin-happens = happens lay disk old new (event.Begin (id_of old.clients c)) after (begin-keeps lay disk old steady c can i mid new b is) follows (ap (λ (s : Array L D). s.spare) is ∙ begun-spare i c mid b) (same-devices disk old.devices.slots new.devices.slots (ap (λ (s : Array L D). s.devices.slots) is ∙ begun-slots i c mid b)) (λ bad. absurd bad)
 
     pub begin-jobs : Stays → KeepsJobs lay disk old new
     begin-jobs stays = record { jobs = stays; nodes = nodes-same lay disk old new (event.Begin (id_of old.clients c)) steady follows (world-out lay disk old new (event.Begin (id_of old.clients c)) steady follows) }
@@ -83,7 +84,7 @@ module _ {L D : Type 0} (lay : LayoutGhosts L) (disk : DiskGhosts D) (old new : 
 
   module _ (column : ℕ) (mid : Array L D) (f : FailedBy lay old column mid) (is : new ≡ record mid { log = noted mid.log (event.Fail column) }) (follows : steps.Follows lay disk old (event.Fail column) new) where
     pub fail-happens : Happens lay disk (event.Fail column) old new
-    fail-happens = happens lay disk old new (event.Fail column) after (fail-keeps lay disk old steady column mid new f is) follows (same-later lay disk old new (ap (λ (s : Array L D). s.devices.slots) is ∙ ap (λ (s : Array L D). s.devices.slots) f.is)) (λ bad. absurd bad)
+    fail-happens = happens lay disk old new (event.Fail column) after (fail-keeps lay disk old steady column mid new f is) follows (ap (λ (s : Array L D). s.spare) is ∙ ap (λ (s : Array L D). s.spare) f.is) (same-devices disk old.devices.slots new.devices.slots (ap (λ (s : Array L D). s.devices.slots) is ∙ ap (λ (s : Array L D). s.devices.slots) f.is)) (λ bad. absurd bad)
 
     pub fail-jobs : Stays → KeepsJobs lay disk old new
     fail-jobs stays = record { jobs = stays; nodes = nodes-same lay disk old new (event.Fail column) steady follows (world-out lay disk old new (event.Fail column) steady follows) }
@@ -98,8 +99,14 @@ module _ {L D : Type 0} (lay : LayoutGhosts L) (disk : DiskGhosts D) (old new : 
         | inr f ↦ ap (λ (s : Shelved D). s.slots) f.1.rest.devices
       ]
 
+      taken-spare : new.spare ≡ old.spare
+      taken-spare = elim t.became [
+        | inl f ↦ f.rest.spare
+        | inr f ↦ f.1.rest.spare
+      ]
+
       pub take-happens : Happens lay disk (event.Take (id_of old.clients c)) old new
-      take-happens = happens lay disk old new (event.Take (id_of old.clients c)) after (take-keeps lay disk old new c steady none can t) follows (same-later lay disk old new taken-slots) (λ bad. absurd bad)
+      take-happens = happens lay disk old new (event.Take (id_of old.clients c)) after (take-keeps lay disk old new c steady none can t) follows taken-spare (same-devices disk old.devices.slots new.devices.slots taken-slots) (λ bad. absurd bad)
 
       pub take-jobs : Stays → KeepsJobs lay disk old new
       take-jobs stays = record { jobs = stays; nodes = nodes-same lay disk old new (event.Take (id_of old.clients c)) steady follows (world-out lay disk old new (event.Take (id_of old.clients c)) steady follows) }
@@ -109,8 +116,12 @@ module _ {L D : Type 0} (lay : LayoutGhosts L) (disk : DiskGhosts D) (old new : 
       back-slots None f = ap (λ (s : Shelved D). s.slots) f.rest.devices
       back-slots (Some n) f = ap (λ (s : Shelved D). s.slots) f.2.rest.devices
 
+      back-spare : (file : Option ℕ) → BackAs lay old c b.op file (event.Back (id_of old.clients c)) new → new.spare ≡ old.spare
+      back-spare None f = f.rest.spare
+      back-spare (Some n) f = f.2.rest.spare
+
       pub back-happens : Happens lay disk (event.Back (id_of old.clients c)) old new
-      back-happens = happens lay disk old new (event.Back (id_of old.clients c)) after (back-keeps lay disk old new c steady none can (event.Back (id_of old.clients c)) b.op b.file b.serves b.became) follows (same-later lay disk old new (back-slots b.file b.became)) (λ bad. absurd bad)
+      back-happens = happens lay disk old new (event.Back (id_of old.clients c)) after (back-keeps lay disk old new c steady none can (event.Back (id_of old.clients c)) b.op b.file b.serves b.became) follows (back-spare b.file b.became) (same-devices disk old.devices.slots new.devices.slots (back-slots b.file b.became)) (λ bad. absurd bad)
 
       pub back-jobs : Stays → KeepsJobs lay disk old new
       back-jobs stays = record { jobs = stays; nodes = nodes-same lay disk old new (event.Back (id_of old.clients c)) steady follows (world-out lay disk old new (event.Back (id_of old.clients c)) steady follows) }
@@ -121,11 +132,20 @@ module _ {L D : Type 0} (lay : LayoutGhosts L) (disk : DiskGhosts D) (old new : 
     pub start-happens : Happens lay disk e old new
     start-happens = record {
       sound = after;
-      same = record { shape = ap (λ (s : Array L D). lay.shape s.layout) f.is; graphs = ap (λ (s : Array L D). steps.graphs_of s.graphs.items) f.is; keeps = ap (λ (s : Array L D). s.log.keeps) f.is };
+      same = record {
+        layout = ap (λ (s : Array L D). s.layout) f.is;
+        shape = ap (λ (s : Array L D). lay.shape s.layout) f.is;
+        graphs = ap (λ (s : Array L D). steps.graphs_of s.graphs.items) f.is;
+        keeps = ap (λ (s : Array L D). s.log.keeps) f.is;
+        spare = ap (λ (s : Array L D). s.spare) f.is;
+        slots = ap (λ (s : Array L D). length s.devices.slots) f.is;
+        regions = ap (λ (s : Array L D). s.log.handed.regions) f.is;
+      };
       items = λ own. absurd (not_own own);
       told = λ on. ap (λ (s : Array L D). s.log.trace) f.is ∙ ap (λ (b : Bool). if b then old.log.trace ++ e ∷ [] else old.log.trace) on;
+      untold = λ off. ap (λ (s : Array L D). s.log.trace) f.is ∙ ap (λ (b : Bool). if b then old.log.trace ++ e ∷ [] else old.log.trace) off;
       leads = follows;
-      later = same-later lay disk old new (ap (λ (s : Array L D). s.devices.slots) f.is);
+      devices = same-devices disk old.devices.slots new.devices.slots (ap (λ (s : Array L D). s.devices.slots) f.is);
       blame = λ bad. absurd (not_bad bad);
     }
 

@@ -1,12 +1,13 @@
 -- A job that comes home is one event: its device alone has another count of faults, and it alone may be marked as failed.
-use Rattle.std.proofs.Common.{◌≡◌, ◌≢◌, ◌≤◌, inl, inr, ℕ, List, Bool, true, false, Option, Some, None, refl, sym, ◌∙◌, ap, subst, arith, if◌then◌else◌}
+use Rattle.std.proofs.Common.{◌≡◌, inl, inr, ℕ, List, Bool, true, false, Option, Some, None, refl, sym, ◌∙◌, ap, subst, arith, if◌then◌else◌}
 use Rattle.std.specs.Prelude.{slice_index_or}
-use Rattle.std.proofs.lemmas.Bool.{cases_eq, cond-true}
+use Rattle.std.proofs.lemmas.Bool.{cond-true}
 use Rattle.blk_plain.specs.declared.op.OpId.{OpId}
 use Rattle.blk_plain.specs.declared.op.Outcome.{Outcome}
 use Rattle.blk_plain.specs.declared.op.Outcome.TheVariants.{Good, Bad}
 use Rattle.blk_disk.specs.Disk.{Rose}
 use Rattle.blk_disk.specs.declared.disk.Disk.{Ghosts as DiskGhosts}
+use Rattle.blk_disk.proofs.DeviceLaws.{tells_on-one}
 use Rattle.lay_core.specs.declared.layout.Layout.{Ghosts as LayoutGhosts}
 use Rattle.graph_mean.specs.Graph.{kind_at}
 use Rattle.eng_cols.specs.declared.spot.Spot.{Spot}
@@ -30,10 +31,11 @@ use Rattle.eng_events.specs.Returned as returned
 use Rattle.eng_parts.specs.Shelf.{Seen, seen_at, IsAway, has_failed, come_home}
 use Rattle.eng_array.specs.Steady.{IsSteady}
 use Rattle.eng_events.specs.Steps as steps
-use Rattle.eng_array.specs.Tickets.{is_node, failed_at, size_at, faults_at, size_in, faults_in, IsBad, IsEndOf, Happens, GetsBack}
+use Rattle.eng_array.specs.Tickets.{is_node, failed_at, faults_at, faults_in, devices_of, DevicesGoOn, IsBad, IsEndOf, Happens, GetsBack}
 use Rattle.eng_array.proofs.Blaming.{StoodOn, step-blames}
-use Rattle.eng_array.proofs.Happening.{same-later, happens, world-out, nodes-less}
-use Rattle.eng_events.proofs.Homing.{home-here, home-else}
+use Rattle.eng_array.proofs.DevicesOn.{same-devices, came-devices}
+use Rattle.eng_array.proofs.Happening.{happens, world-out, nodes-less}
+use Rattle.eng_events.proofs.Homing.{home-here}
 use Rattle.eng_array.proofs.OnSeats.{run-on-seats}
 use Rattle.eng_array.proofs.OutNodes.{OneLess, OutAfter, node-here}
 use Rattle.eng_array.proofs.Promised.{library-promises}
@@ -70,22 +72,6 @@ module _ {L D : Type 0} (lay : LayoutGhosts L) (disk : DiskGhosts D) (old new : 
       ap (λ j. seen_at old.devices j) e ∙ away,
     )
 
-    seen-else : d ≢ at → seen_at new.devices d ≡ seen_at old.devices d
-    seen-else ne = ap (λ (l : List (Option (Seen D))). slice_index_or l d None) came ∙ home-else old.devices at after d ne
-
-    came-later : disk.size after ≡ disk.size left → disk.faults left ≤ disk.faults after → (size_at lay disk new d ≡ size_at lay disk old d) × (faults_at lay disk old d ≤ faults_at lay disk new d)
-    came-later size later = elim (cases_eq d at) [
-      | inl e ↦
-          let s = seen-here e in
-          let a : faults_at lay disk new d ≡ disk.faults after = ap (faults_in disk) s.0 in
-          let b : faults_at lay disk old d ≡ disk.faults left = ap (faults_in disk) s.1 in
-          (ap (size_in disk) s.0 ∙ (size ∙ sym (ap (size_in disk) s.1)), omega (arith, a, b, later))
-      | inr ne ↦
-          let s = seen-else ne in
-          let a : faults_at lay disk new d ≡ faults_at lay disk old d = ap (faults_in disk) s in
-          (ap (size_in disk) s, omega (arith, a))
-    ]
-
     came-rose : d ≡ at → Rose (disk.faults left) (disk.faults after) → Rose (faults_at lay disk old d) (faults_at lay disk new d)
     came-rose e rose =
         let s = seen-here e in
@@ -110,17 +96,17 @@ module _ {L D : Type 0} (lay : LayoutGhosts L) (disk : DiskGhosts D) (old new : 
     called-write : (e : D) (first : ℕ) (now : List ℕ) (count : ℕ) → job.work ≡ Write e first now count → CallBack lay disk old job.client job.node e first now count o
     called-write e first now count is = write-call lay disk old job.client job.node e first now count o (write-back lay disk old job o e first now count back is).0
 
-    call-later : (w : Work D) (e : D) (first : ℕ) (now : List ℕ) (count : ℕ) → job.work ≡ w → device_in w ≡ Some e → CallBack lay disk old job.client job.node e first now count o → (d : ℕ) → (size_at lay disk new d ≡ size_at lay disk old d) × (faults_at lay disk old d ≤ faults_at lay disk new d)
-    call-later w e first now count is has r d = came-later r.at.device r.left e (call-slots w e r.at is has r.spot) r.are_out.device d r.calls.size r.calls.later
+    call-devices : (w : Work D) (e : D) (first : ℕ) (now : List ℕ) (count : ℕ) → job.work ≡ w → device_in w ≡ Some e → CallBack lay disk old job.client job.node e first now count o → DevicesGoOn disk (devices_of old) (devices_of new)
+    call-devices w e first now count is has r = came-devices disk old.devices new.devices r.at.device r.left e (call-slots w e r.at is has r.spot) r.are_out.device r.calls.size r.calls.later (tells_on-one (disk.calls r.left) (disk.calls e) _ r.calls.told)
 
-    home-later : (d : ℕ) → (size_at lay disk new d ≡ size_at lay disk old d) × (faults_at lay disk old d ≤ faults_at lay disk new d)
-    home-later d = by job.work refl
+    home-devices : DevicesGoOn disk (devices_of old) (devices_of new)
+    home-devices = by job.work refl
       where
-        by : (w : Work D) → job.work ≡ w → (size_at lay disk new d ≡ size_at lay disk old d) × (faults_at lay disk old d ≤ faults_at lay disk new d)
-        by Nothing is = same-later lay disk old new (plain-slots Nothing is refl) d
-        by (Sum to count) is = same-later lay disk old new (plain-slots (Sum to count) is refl) d
-        by (Read e first now count) is = call-later (Read e first now count) e first now count is refl (called-read e first now count is) d
-        by (Write e first now count) is = call-later (Write e first now count) e first now count is refl (called-write e first now count is) d
+        by : (w : Work D) → job.work ≡ w → DevicesGoOn disk (devices_of old) (devices_of new)
+        by Nothing is = same-devices disk old.devices.slots new.devices.slots (plain-slots Nothing is refl)
+        by (Sum to count) is = same-devices disk old.devices.slots new.devices.slots (plain-slots (Sum to count) is refl)
+        by (Read e first now count) is = call-devices (Read e first now count) e first now count is refl (called-read e first now count is)
+        by (Write e first now count) is = call-devices (Write e first now count) e first now count is refl (called-write e first now count is)
 
     -- ## Blame
 
@@ -181,7 +167,7 @@ module _ {L D : Type 0} (lay : LayoutGhosts L) (disk : DiskGhosts D) (old new : 
     module _ (after : IsSteady lay disk new) (follows : steps.Follows lay disk old (ended_by old job o) new) (goes : GoesOn old new)
         (trace : LogEnds (lay.shape old.layout) old.cols.states (desk_at old.clients job.client) old.log (ended_by old job o) new.log (id_of old.clients job.client) (kind_at (desk_at old.clients job.client).run.graph job.node) old.lost) where
       pub home-happens : Happens lay disk (ended_by old job o) old new
-      home-happens = happens lay disk old new (ended_by old job o) after (home-keeps lay disk old job o steady back new goes trace) follows home-later (λ bad d before failed. home-blame follows bad d before failed)
+      home-happens = happens lay disk old new (ended_by old job o) after (home-keeps lay disk old job o steady back new goes trace) follows goes.spare home-devices (λ bad d before failed. home-blame follows bad d before failed)
 
       pub home-gets : OthersStay disk lay job.client job.node old new → GetsBack lay disk job.client job.node old new
       home-gets stays = record {

@@ -39,3 +39,7 @@ pub mod OutAt
 pub mod Falling
 pub mod SmallSetups
 pub mod ShortTraces
+pub mod DevicesOn
+pub mod ComingBack
+pub mod CountedEvents
+pub mod SmallRebuilds

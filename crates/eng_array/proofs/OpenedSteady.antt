@@ -28,6 +28,7 @@ use Rattle.eng_array.specs.Serving.{AreServing, most_for}
 use Rattle.eng_array.specs.Serving as serving
 use Rattle.eng_events.specs.Shows.{Shows}
 use Rattle.eng_events.specs.Sound.{IsSound}
+use Rattle.eng_events.specs.Steps.{graphs_of}
 use Rattle.eng_events.specs.Copied.{AreLaid}
 use Rattle.eng_array.specs.Steady.{events_left, HasPlaces, IsSteady}
 use Rattle.eng_parts.proofs.FewItems.{none-past}
@@ -143,4 +144,4 @@ module _ {L D : Type 0} (lay : LayoutGhosts L) (disk : DiskGhosts D) (setup : Se
   places = record { most = most; bound = bound; trace = trace-room; history = history-room }
 
   pub opened-steady : IsSteady lay disk core
-  opened-steady = open-steady lay disk core w sound opening o.pool.free shows unnoted are-serving places laid
+  opened-steady = open-steady lay disk core w sound opening o.pool.free shows unnoted are-serving places laid (subst (λ (v : List Held). opened.FitThePool (graphs_of v)) (sym same-graphs) can.fit)

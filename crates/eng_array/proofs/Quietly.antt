@@ -18,11 +18,12 @@ module _ {L D : Type 0} (lay : LayoutGhosts L) (disk : DiskGhosts D) (old new : 
     moved-happens : (e : Traced) → Happens lay disk e moved new → Happens lay disk e old new
     moved-happens e h = record {
       sound = h.sound;
-      same = record { shape = h.same.shape; graphs = h.same.graphs; keeps = h.same.keeps };
+      same = record { layout = h.same.layout; shape = h.same.shape; graphs = h.same.graphs; keeps = h.same.keeps; spare = h.same.spare; slots = h.same.slots; regions = h.same.regions };
       items = h.items;
       told = h.told;
+      untold = h.untold;
       leads = λ w shows. h.leads w (shows-moved lay disk old next w shows);
-      later = h.later;
+      devices = h.devices;
       blame = h.blame;
     }
 

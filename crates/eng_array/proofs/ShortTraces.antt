@@ -16,7 +16,7 @@ use Rattle.eng_events.specs.Opened.{states_of}
 use Rattle.eng_array.specs.Fitting.{row_events, opening_events}
 
 -- no more columns are alive than there are
-alive-most : (cols : List ColumnState) → alive cols ≤ length cols
+pub alive-most : (cols : List ColumnState) → alive cols ≤ length cols
 alive-most [] = omega arith
 alive-most (Live device ∷ cols) = let a = alive-most cols in omega (arith, a)
 alive-most (Dead ∷ cols) = let a = alive-most cols in omega (arith, a)

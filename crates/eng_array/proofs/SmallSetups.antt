@@ -2,11 +2,14 @@
 use Rattle.std.proofs.Common.{◌≡◌, ℕ, suc, ◌≤◌, inl, inr, Bool, false, cond, List, [], ◌∷◌, Option, Some, None, refl, sym, ◌∙◌, subst, length, map, arith}
 use Rattle.std.specs.Prelude.{◌+◌, ◌*◌, All, Vec, count_by, slice_get, option_map}
 use Rattle.std.specs.declared.alloc.Global.{Global}
+use Rattle.std.proofs.lemmas.Bool.{cases_lt}
+use Rattle.std.proofs.lemmas.List.{get_or_past}
 use Rattle.std.proofs.lemmas.List.Recursion.{is_count_by}
 use Rattle.std.proofs.lemmas.Option.{slice_get-map, slice_get_within, get_or_from_slice_get}
 use Rattle.blk_disk.specs.declared.disk.Disk.{Ghosts as DiskGhosts}
 use Rattle.lay_core.specs.Layout.{Shape}
 use Rattle.lay_core.specs.declared.layout.Layout.{Ghosts as LayoutGhosts}
+use Rattle.graph_mean.specs.Graph.{Held}
 use Rattle.eng_cols.specs.declared.column.Column.{Column}
 use Rattle.eng_cols.specs.declared.column.Column.TheVariants as column
 use Rattle.eng_cols.specs.Cols.{Live, Filling, Spread, HasDevice, state_set, is_set_filling, is_set_spread}
@@ -15,11 +18,13 @@ use Rattle.eng_rest.specs.Left.{below}
 use Rattle.eng_rest.proofs.Summing.{below-le}
 use Rattle.eng_world.specs.declared.item.Item.{Item}
 use Rattle.eng_parts.specs.declared.setup.Setup.{Setup}
+use Rattle.eng_parts.specs.Desk.{no_graph}
 use Rattle.eng_parts.specs.Given.{items_in, items_at}
 use Rattle.eng_parts.specs.Laid.{sectors_in, sectors_at, row_sectors, sectors_before, items_before}
 use Rattle.eng_parts.proofs.Laying.{below-grows}
-use Rattle.eng_events.specs.Opened.{IsSetup}
-use Rattle.eng_array.specs.Small.{HasSectors, IsOwn, AreOwn, IsSmall, IsScript, AreScripts}
+use Rattle.eng_events.specs.Opened.{FitThePool, IsSetup}
+use Rattle.eng_events.specs.Steps.{graphs_of}
+use Rattle.eng_array.specs.Small.{HasSectors, IsOwn, AreOwn, IsSmall, IsSlim, IsScript, AreScripts}
 
 -- an element of a list of which each has a property
 all-get : {X : Type 0} (P : X → Type 0) (xs : List X) (k : ℕ) (x : X) → All P xs → slice_get xs k ≡ Some x → P x
@@ -42,7 +47,7 @@ unfolding counted
 none-counted p xs none = sym (is_count_by (counted p) p refl (λ x ys. refl) xs) ∙ none-passes p xs none
 
 -- what a list is mapped from
-was : {A B : Type 0} (f : A → B) (xs : List A) (k : ℕ) (y : B) → slice_get (map f xs) k ≡ Some y → (x : A) × (slice_get xs k ≡ Some x) × (f x ≡ y)
+pub was : {A B : Type 0} (f : A → B) (xs : List A) (k : ℕ) (y : B) → slice_get (map f xs) k ≡ Some y → (x : A) × (slice_get xs k ≡ Some x) × (f x ≡ y)
 was {A} {B} f xs k y e = from (slice_get xs k) refl (sym (slice_get-map f xs k) ∙ e)
   where
     from : (o : Option A) → slice_get xs k ≡ o → option_map f o ≡ Some y → (x : A) × (slice_get xs k ≡ Some x) × (f x ≡ y)
@@ -81,7 +86,7 @@ module _ {D : Type 0} (disk : DiskGhosts D) (devices : List (Option D)) (need : 
   own-nowhere n c done column.Spread own e = absurd own
 
   module _ (columns : List Column) (own : AreOwn disk devices need columns) where
-    own-device : (n c device : ℕ) → HasDevice (map (state_set n) columns) c device → (device ≡ c) × HasSectors disk devices c need
+    pub own-device : (n c device : ℕ) → HasDevice (map (state_set n) columns) c device → (device ≡ c) × HasSectors disk devices c need
     own-device n c device (inl e) = let x = was (state_set n) columns c (Live device) e in own-live n c device x.0 (own c x.0 x.1) x.2
     own-device n c device (inr f) = let x = was (state_set n) columns c (Filling device f.0) f.1 in absurd (own-none n c device f.0 x.0 (own c x.0 x.1) x.2)
 
@@ -143,6 +148,14 @@ module _ (y : Shape) (graphs : ℕ) (given : List (Vec Item Global)) (small : Ar
       let most : below (λ k. 16384) 16 ≡ 262144 = refl in
       omega (arith, b, most)
 
+-- ## Graphs
+
+fit-slim : (graphs : List Held) → All IsSlim graphs → FitThePool (graphs_of graphs)
+fit-slim graphs slim n = elim (cases_lt n (length graphs)) [
+  | inl lt ↦ slim n no_graph lt
+  | inr past ↦ subst IsSlim (sym (get_or_past graphs n no_graph past)) (omega arith)
+]
+
 -- ## A setup
 
 module _ {L D : Type 0} (lay : LayoutGhosts L) (disk : DiskGhosts D) where
@@ -150,8 +163,9 @@ module _ {L D : Type 0} (lay : LayoutGhosts L) (disk : DiskGhosts D) where
       → length setup.columns.items ≡ (lay.shape setup.layout).columns
       → AreOwn disk setup.devices.items (64 + (lay.shape setup.layout).rows * (lay.shape setup.layout).unit_sectors) setup.columns.items
       → AreScripts (lay.shape setup.layout) (length setup.graphs.items) setup.clients.items
+      → All IsSlim setup.graphs.items
       → IsSetup lay disk setup
-  small-setup setup many own small =
+  small-setup setup many own small slim =
       let y = lay.shape setup.layout in
       let need = 64 + y.rows * y.unit_sectors in
       let columns = setup.columns.items in
@@ -164,4 +178,5 @@ module _ {L D : Type 0} (lay : LayoutGhosts L) (disk : DiskGhosts D) where
         there = own-there disk devices need columns own y.stripes;
         one_column = own-apart disk devices need columns own y.stripes;
         asked = λ c n i e. let s = item-at y (length setup.graphs.items) setup.clients.items small c n i e in (s.asked, s.may, s.named);
+        fit = fit-slim setup.graphs.items slim;
       }

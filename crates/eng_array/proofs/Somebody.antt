@@ -23,7 +23,6 @@ use Rattle.eng_parts.specs.Desk.{Desk, desk_at}
 use Rattle.eng_events.specs.Opened.{NoneOut}
 use Rattle.eng_events.specs.Picked.{IsResting, IsStuck}
 use Rattle.eng_parts.specs.Planned.{span_of, lease_for}
-use Rattle.eng_array.specs.Progress.{FitThePool}
 use Rattle.eng_events.specs.Serves.{Serves, CanTake}
 use Rattle.eng_array.specs.Steady.{IsSteady}
 use Rattle.eng_events.specs.Steps.{graphs_of}
@@ -75,8 +74,8 @@ module _ {L D : Type 0} (lay : LayoutGhosts L) (disk : DiskGhosts D) (core : Arr
       omega (arith, h, leases, shown, whole)
 
   -- no operation wants more
-  lease-fits : FitThePool (graphs_of core.graphs.items) → (op : Op) (file : Option ℕ) (d : Desk) → Serves core.graphs.items y d op file → lease_for y core.graphs.items op file ≤ 2048
-  lease-fits small op None d serves =
+  lease-fits : (op : Op) (file : Option ℕ) (d : Desk) → Serves core.graphs.items y d op file → lease_for y core.graphs.items op file ≤ 2048
+  lease-fits op None d serves =
       let w = steady.sound.layout.width_most in
       let c = steady.sound.layout.columns_most in
       let few = span-short y steady.sound.layout op serves.inside in
@@ -84,24 +83,24 @@ module _ {L D : Type 0} (lay : LayoutGhosts L) (disk : DiskGhosts D) (core : Arr
       let stripes : stripe_count y (span_of y op) + 2 ≤ 18 = omega (arith, few) in
       let all : (2 * data_units y + 2) * (stripe_count y (span_of y op) + 2) ≤ 66 * 18 = mul-le-mul units stripes in
       omega (arith, all)
-  lease-fits small op (Some n) d serves = small n
+  lease-fits op (Some n) d serves = steady.fit n
 
   -- ## Who waits
 
   not-running : NoneRuns now → (k : ℕ) → (desk_at core.clients k).stage ≢ Runs
   not-running none k runs = let s = shown-running disk.tells core.lost core.pool (desk_at core.clients k) (now.clients k) (steady.reached.shows.clients k) runs in none k _ s.1
 
-  waiting-can : FitThePool (graphs_of core.graphs.items) → core.lost ≡ None → NoneRuns now → (c : ℕ) → (now.clients c).current ≡ IsWaiting → CanTake lay core c
-  waiting-can small lost none c is =
+  waiting-can : core.lost ≡ None → NoneRuns now → (c : ℕ) → (now.clients c).current ≡ IsWaiting → CanTake lay core c
+  waiting-can lost none c is =
       let waits : (desk_at core.clients c).stage ≡ Waits = current-waits disk.tells core.pool (desk_at core.clients c) (now.clients c).current (desk_at core.clients c).stage (steady.reached.shows.clients c).current is in
       let serves = ((steady-stands lay disk core steady lost).serves c).busy (λ idle. let z = sym waits ∙ idle in let u : ⊥ = cc in u) in
-      let fits = lease-fits small serves.0 serves.1 (desk_at core.clients c) serves.2 in
+      let fits = lease-fits serves.0 serves.1 (desk_at core.clients c) serves.2 in
       let free = all-free none in
       take-alone lay disk core c serves.0 serves.1 serves.2 steady.sound lost waits (not-running none) (omega (arith, fits, free))
 
   -- ## All is done
 
-  module _ (small : FitThePool (graphs_of core.graphs.items)) (home : NoneOut core.clients) (stuck : IsStuck lay core) where
+  module _ (home : NoneOut core.clients) (stuck : IsStuck lay core) where
     replied-by : core.lost ≡ None → GoesOn y (graphs_of core.graphs.items) now → (c : ℕ) → length (desk_at core.clients c).replies ≡ length (desk_at core.clients c).items
     replied-by lost (inl all) c =
         let a = all c in
@@ -109,7 +108,7 @@ module _ {L D : Type 0} (lay : LayoutGhosts L) (disk : DiskGhosts D) (core : Arr
         let i = ap (λ (l : List Item). length l) (steady.reached.shows.clients c).items in
         omega (arith, a, r, i)
     replied-by lost (inr (inl can)) c = absurd (stuck can.0 (possible-can lay disk core now steady.sound (steady-stands lay disk core steady lost) steady.reached.shows can.0 can.1))
-    replied-by lost (inr (inr waits)) c = absurd (stuck (may.Take waits.1.0) (waiting-can small lost waits.0 waits.1.0 waits.1.1))
+    replied-by lost (inr (inr waits)) c = absurd (stuck (may.Take waits.1.0) (waiting-can lost waits.0 waits.1.0 waits.1.1))
 
     pub somebody-goes-on : IsResting core
     somebody-goes-on = record {

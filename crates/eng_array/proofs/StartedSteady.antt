@@ -3,7 +3,6 @@ use Rattle.std.proofs.Common.{◌≡◌, ℕ, zero, suc, ◌<◌, ◌≤◌, ◌
 use Rattle.std.specs.Prelude.{slice_get, slice_set, slice_index_or, option_map, if◌then◌else◌}
 use Rattle.std.proofs.lemmas.Bool.{cases_eq}
 use Rattle.std.proofs.lemmas.List.{length-set, length-map, length_push}
-use Rattle.std.proofs.lemmas.List.Elements.{Contains-get_or}
 use Rattle.std.proofs.lemmas.Option.{slice_get-map, slice_get-get_or, slice_get_within}
 use Rattle.blk_plain.specs.declared.op.Op.{Op}
 use Rattle.blk_plain.specs.declared.op.Op.TheVariants as op
@@ -30,13 +29,12 @@ use Rattle.eng_parts.specs.Listing.{rebuild}
 use Rattle.eng_parts.specs.Log.{noted}
 use Rattle.eng_events.specs.Rebuilding.{CanRebuild, Started, with_items}
 use Rattle.eng_events.specs.Room.{HasRoom}
-use Rattle.eng_array.specs.Serving.{NamesGraph, most_by, most_for, IsServing, AreServing}
+use Rattle.eng_array.specs.Serving.{NamesGraph, most_for_unit, most_for, IsServing, AreServing}
 use Rattle.eng_events.specs.Shows.{Shows, ShowsCurrent}
 use Rattle.eng_events.specs.Sound.{IsSound}
 use Rattle.eng_array.specs.Steady.{events_left, HasPlaces, IsSteady}
 use Rattle.eng_events.specs.Steps.{Follows}
 use Rattle.eng_parts.proofs.Laying.{below-grows, below-one}
-use Rattle.eng_parts.proofs.Maps.{whole-one}
 use Rattle.eng_array.proofs.OneServing.{each-set}
 use Rattle.eng_events.proofs.Shown.{desk-set, desk-else, replies-shown}
 use Rattle.eng_array.proofs.Steady.{notes-of}
@@ -155,7 +153,7 @@ module _ {L D : Type 0} (lay : LayoutGhosts L) (disk : DiskGhosts D) (old new : 
   old-row k = row_events y graphs (alive old.cols.states + 1) (desk_at old.clients k).items
 
   abbrev one : ℕ → ℕ
-  one s = item_events (alive states) (most_by y [] 1 None)
+  one s = item_events (alive states) (most_for_unit y)
 
   not-last : (k : ℕ) → k < 16 → k ≡ 16 → ⊥
   not-last k lt is = let u : ⊥ = omega (arith, lt, is) in u
@@ -165,14 +163,11 @@ module _ {L D : Type 0} (lay : LayoutGhosts L) (disk : DiskGhosts D) (old new : 
       ap (λ (d : Desk). row_events y graphs (alive states) d.items) (desk-else old.clients 16 k now (not-last k lt))
       ∙ ap (λ (m : ℕ). row_events y graphs m (desk_at old.clients k).items) more
 
-  -- no graph of a rebuild has more nodes than one over a stripe may have
-  most-rebuild : (n : ℕ) → n < length f.items → most_in y graphs (slice_get f.items n) ≡ most_by y [] 1 None
+  -- no graph of a rebuild has more nodes than one for a unit may have
+  most-rebuild : (n : ℕ) → n < length f.items → most_in y graphs (slice_get f.items n) ≡ most_for_unit y
   most-rebuild n lt =
       let k = count in
-      let within : n < length stripes = omega (arith, lt, k) in
-      let s = get_or stripes n 0 in
-      ap (most_in y graphs) (item-is n within)
-      ∙ ap (λ (m : ℕ). most_by y graphs m None) (whole-one y steady.sound.layout s (f.rebuilds.only s (Contains-get_or stripes n 0 within)).0)
+      ap (most_in y graphs) (item-is n (omega (arith, lt, k)))
 
   last-row : row 16 ≤ rebuild_events y (alive old.cols.states + 1)
   last-row =

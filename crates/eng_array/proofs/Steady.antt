@@ -30,6 +30,7 @@ use Rattle.eng_events.specs.Copied.{AreLaid}
 use Rattle.eng_parts.specs.Desk.{Desk, desk_at, no_desk, item_at}
 use Rattle.eng_parts.specs.Handed.{no_region}
 use Rattle.eng_parts.specs.Log.{Logged, noted}
+use Rattle.eng_events.specs.Opened.{FitThePool}
 use Rattle.eng_events.specs.Room.{HasRoom}
 use Rattle.eng_array.specs.Run.{HasRun, Notes}
 use Rattle.eng_array.specs.Serving.{IsServing, AreServing, most_for}
@@ -231,4 +232,5 @@ module _ {L D : Type 0} (lay : LayoutGhosts L) (disk : DiskGhosts D) where
       serving = serving;
       places = record { most = steady.places.most; bound = bound; trace = traced; history = history };
       laid = laid;
+      fit = subst (λ (v : List Held). FitThePool (graphs_of v)) (sym same-graphs) steady.fit;
     }

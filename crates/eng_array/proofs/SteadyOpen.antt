@@ -1,8 +1,9 @@
 -- A core is steady as it opens, and as a rebuild of a column begins.
-use Rattle.std.proofs.Common.{◌≡◌, ℕ, ◌≤◌, ◌+◌, ◌*◌, [], length, ap, ◌∙◌, arith, inl, inr, refl}
+use Rattle.std.proofs.Common.{◌≡◌, ℕ, ◌≤◌, ◌+◌, ◌*◌, List, [], length, subst, sym, ap, ◌∙◌, arith, inl, inr, refl}
 use Rattle.std.proofs.lemmas.Bool.{cases_eq}
 use Rattle.blk_disk.specs.declared.disk.Disk.{Ghosts as DiskGhosts}
 use Rattle.lay_core.specs.declared.layout.Layout.{Ghosts as LayoutGhosts}
+use Rattle.graph_mean.specs.Graph.{Held}
 use Rattle.eng_world.specs.declared.item.Traced.{Traced}
 use Rattle.eng_world.specs.World.{World}
 use Rattle.eng_world.specs.Serving.{IsUnbegun}
@@ -14,10 +15,11 @@ use Rattle.eng_events.specs.declared.array.Array.{Array}
 use Rattle.eng_events.specs.Copied.{AreLaid}
 use Rattle.eng_array.specs.Run.{Notes}
 use Rattle.eng_array.specs.Serving.{AreServing}
+use Rattle.eng_events.specs.Opened.{FitThePool}
 use Rattle.eng_events.specs.Shows.{Shows}
 use Rattle.eng_events.specs.Sound.{IsSound}
 use Rattle.eng_array.specs.Steady.{events_left, HasPlaces, IsSteady}
-use Rattle.eng_events.specs.Steps.{Follows}
+use Rattle.eng_events.specs.Steps.{graphs_of, Follows}
 use Rattle.eng_array.proofs.Reaching.{run-on}
 
 -- ## The room that an opening needs
@@ -43,13 +45,14 @@ unbegun-left most w u =
 
 module _ {L D : Type 0} (lay : LayoutGhosts L) (disk : DiskGhosts D) where
   -- an opened core
-  pub open-steady : (core : Array L D) (w : World) → IsSound lay disk core → IsOpening (lay.shape core.layout) w → length core.pool.free ≡ 2048 → Shows disk core w → core.log.trace ≡ [] → AreServing lay core → HasPlaces lay disk core w → AreLaid core.log.handed core.clients → IsSteady lay disk core
-  open-steady core w sound opening free shows none serving places laid = record {
+  pub open-steady : (core : Array L D) (w : World) → IsSound lay disk core → IsOpening (lay.shape core.layout) w → length core.pool.free ≡ 2048 → Shows disk core w → core.log.trace ≡ [] → AreServing lay core → HasPlaces lay disk core w → AreLaid core.log.handed core.clients → FitThePool (graphs_of core.graphs.items) → IsSteady lay disk core
+  open-steady core w sound opening free shows none serving places laid fit = record {
     sound = sound;
     reached = record { opening = w; events = []; now = w; is_opening = opening; all_free = shows.free ∙ free; run = refl; shows = shows; traced = λ keeps. none };
     serving = serving;
     places = places;
     laid = laid;
+    fit = fit;
   }
 
   -- a core after any event that has room for what may come then
@@ -60,4 +63,5 @@ module _ {L D : Type 0} (lay : LayoutGhosts L) (disk : DiskGhosts D) where
     serving = serving;
     places = places _ (follows steady.reached.now steady.reached.shows).1;
     laid = laid;
+    fit = subst (λ (v : List Held). FitThePool (graphs_of v)) (sym (ap (λ v. v.items) graphs)) steady.fit;
   }

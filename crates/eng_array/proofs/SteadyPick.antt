@@ -34,4 +34,5 @@ module _ {L D : Type 0} (lay : LayoutGhosts L) (disk : DiskGhosts D) (core : Arr
       history = steady.places.history;
     };
     laid = steady.laid;
+    fit = steady.fit;
   }

@@ -1,15 +1,19 @@
 -- A core is steady after an operation is taken, refused, planned anew or given up.
-use Rattle.std.proofs.Common.{◌≡◌, ℕ, ◌<◌, ◌≤◌, ◌+◌, ◌*◌, List, length, get_or, subst, sym, ap, ◌∙◌, arith, inl, inr, refl, true, Option, Some, None}
-use Rattle.std.specs.Prelude.{slice_set}
+use Rattle.std.proofs.Common.{◌≡◌, ℕ, ◌<◌, ◌≤◌, ◌+◌, ◌*◌, List, length, get_or, subst, sym, ap, ◌∙◌, arith, inl, inr, refl, Bool, true, false, if◌then◌else◌, Option, Some, None}
+use Rattle.std.specs.Prelude.{slice_set, nat_lt}
+use Rattle.std.proofs.lemmas.Bool.{cases_lt, le-ltb}
 use Rattle.blk_plain.specs.declared.op.Op.{Op}
+use Rattle.blk_plain.specs.declared.op.Op.TheVariants.{Write, Read, Rebuild, Sync}
+use Rattle.blk_plain.specs.declared.op.Span.{Span}
 use Rattle.blk_disk.specs.declared.disk.Disk.{Ghosts as DiskGhosts}
-use Rattle.lay_core.specs.Layout.{Shape, IsLayout, data_units}
+use Rattle.lay_core.specs.Layout.{Shape, IsLayout, data_units, blocks_in}
+use Rattle.lay_core.specs.Touched.{Touched, PassesEnd, IsSpanSplit, stripe_count}
 use Rattle.lay_core.specs.declared.layout.Layout.{Ghosts as LayoutGhosts}
 use Rattle.graph_mean.specs.Graph.{Held, View}
-use Rattle.graph_mean.specs.Task.{Aim, task_of, missing_of}
+use Rattle.graph_mean.specs.Task.{Aim, Missing, IsTask, task_of, missing_of, is_read, is_write}
 use Rattle.graph_lib.specs.Laws.{AreMissing}
 use Rattle.graph_lib.specs.Library.{library}
-use Rattle.graph_lib.proofs.Promises.{few-nodes}
+use Rattle.graph_lib.proofs.Promises.{few-nodes, few-made}
 use Rattle.graph_lib.proofs.SpanRanges.{span-few}
 use Rattle.eng_cols.specs.Cols.{ColumnState}
 use Rattle.eng_cols.specs.Lost.{NotLost}
@@ -24,21 +28,52 @@ use Rattle.eng_events.specs.declared.array.Array.{Array}
 use Rattle.eng_parts.specs.Desk.{Desk, desk_at, item_at, graph_of, with_reply, with_started, with_lease}
 use Rattle.eng_parts.specs.Log.{noted}
 use Rattle.eng_events.specs.Moves.{id_of}
-use Rattle.eng_parts.specs.Planned.{IsInside, IsPlanned, IsDrawn, CanRun, span_of, lease_for, Replanned}
+use Rattle.eng_parts.specs.Planned.{IsInside, IsPlanned, IsDrawn, CanRun, span_of, whole, lease_for, Replanned}
 use Rattle.eng_events.specs.Room.{HasRoom}
 use Rattle.eng_events.specs.Serves.{Serves, Stands, CanTake, CanBack}
-use Rattle.eng_array.specs.Serving.{WasPlanned, IsServing, most_for}
+use Rattle.eng_array.specs.Serving.{WasPlanned, IsServing, most_for_span, most_for_unit, most_drawn, most_for}
 use Rattle.eng_events.specs.Sound.{IsSound}
 use Rattle.eng_array.specs.Steady.{IsSteady}
 use Rattle.eng_events.specs.Steps.{Follows}
 use Rattle.eng_events.specs.Taken.{Taken, IsTaken, Replaced, GivenUp, BackAs, IsBack}
 use Rattle.eng_parts.proofs.Lacking.{missing-each}
+use Rattle.eng_parts.proofs.Maps.{whole-one, not-past}
 use Rattle.eng_array.proofs.OneServing.{each-set, idle-serving, planned-serving, items-set}
 use Rattle.eng_events.proofs.Plans.{task-sound}
 use Rattle.eng_array.proofs.Reached.{run-stands}
 use Rattle.eng_events.proofs.Served as served
 use Rattle.eng_events.proofs.Settling.{lent-file}
 use Rattle.eng_array.proofs.Steady.{Keeps, notes-of, item-among, steady-on, waits-room, undone-room}
+
+-- a graph of the library has no more nodes than one for its operation may have
+module _ (y : Shape) (law : IsLayout y) (cols : List ColumnState) (m : Touched) (missing : Missing) where
+  abbrev nodes : Op → ℕ
+  nodes op = length (library (task_of y (kind_of y cols op) m) missing true).nodes
+
+  inside-end : (span : Span) → (PassesEnd y span → ⊥) → nat_lt (blocks_in y) (span.first + span.count) ≡ false
+  inside-end span within = elim (cases_lt (blocks_in y) (span.first + span.count)) [
+    | inl past ↦ absurd (within past)
+    | inr le ↦ le-ltb (blocks_in y) (span.first + span.count) le
+  ]
+
+  span-most : (op : Op) (span : Span) → IsTask (task_of y (kind_of y cols op) m) → AreMissing (task_of y (kind_of y cols op) m) missing → IsSpanSplit y span m → (PassesEnd y span → ⊥) → nodes op ≤ most_for_span y span
+  span-most op span task gone split within =
+      let few : nodes op ≤ (2 * data_units y + 1) * (length m.stripes + 2) + 2 = few-nodes (task_of y (kind_of y cols op) m) missing true task gone 2 (span-few y (kind_of y cols op) span m law split) in
+      subst (λ (b : Bool). nodes op ≤ (if b then 0 else (2 * data_units y + 1) * (stripe_count y span + 2) + 2)) (sym (inside-end span within))
+      (subst (λ (n : ℕ). nodes op ≤ (2 * data_units y + 1) * (n + 2) + 2) split.stripes_many few)
+
+  unit-most : (op : Op) (stripe : ℕ) → IsTask (task_of y (kind_of y cols op) m) → AreMissing (task_of y (kind_of y cols op) m) missing → is_read (kind_of y cols op) ≡ false → is_write (kind_of y cols op) ≡ false → IsSpanSplit y (whole y stripe) m → (y.stripes ≤ stripe → ⊥) → nodes op ≤ most_for_unit y
+  unit-most op stripe task gone no_read no_write split within =
+      let few : nodes op ≤ (y.width + 1) * length m.stripes + 2 = few-made (task_of y (kind_of y cols op) m) missing true task gone no_read no_write in
+      let one : length m.stripes ≡ 1 = split.stripes_many ∙ whole-one y law stripe (not-past stripe y.stripes within) in
+      let least : nodes op ≤ (y.width + 1) * 1 + 2 = subst (λ (n : ℕ). nodes op ≤ (y.width + 1) * n + 2) one few in
+      omega (arith, least)
+
+  drawn-most : (op : Op) → IsInside y op → IsSpanSplit y (span_of y op) m → AreMissing (task_of y (kind_of y cols op) m) missing → nodes op ≤ most_drawn y op
+  drawn-most (Write span pattern) inside split gone = span-most (Write span pattern) span (task-sound y law m cols (Write span pattern) inside split) gone split inside.inside
+  drawn-most (Read span) inside split gone = span-most (Read span) span (task-sound y law m cols (Read span) inside split) gone split inside.inside
+  drawn-most (Rebuild stripe) inside split gone = unit-most (Rebuild stripe) stripe (task-sound y law m cols (Rebuild stripe) inside split) gone refl refl split inside.inside
+  drawn-most (Sync stripe) inside split gone = unit-most (Sync stripe) stripe (task-sound y law m cols (Sync stripe) inside split) gone refl refl split inside.inside
 
 -- a planned graph has no more nodes than one for its operation may have
 module _ (y : Shape) (law : IsLayout y) (graphs : List Held) (cols : List ColumnState) (kept : NotLost y cols) (op : Op) (file : Option ℕ) (d : Desk) (inside : IsInside y op) (p : IsPlanned y graphs cols op file d) where
@@ -50,10 +85,8 @@ module _ (y : Shape) (law : IsLayout y) (graphs : List Held) (cols : List Column
 
   most-by : (o : Option ℕ) → d.file ≡ o → IsDrawn graphs o d → length (graph_of graphs d).nodes ≤ most_for y graphs op o
   most-by None is drawn =
-      let few : length (library aim (missing_of d.missing) true).nodes ≤ (2 * data_units y + 1) * (length d.map.stripes + 2) + 2 = few-nodes aim (missing_of d.missing) true (task-sound y law d.map cols op inside p.split) gone 2 (span-few y (kind_of y cols op) (span_of y op) d.map law p.split) in
       let same : graph_of graphs d ≡ library aim (missing_of d.missing) true = drawn ∙ ap (λ (t : Aim). library t (missing_of d.missing) true) p.task in
-      subst (λ (n : ℕ). length (graph_of graphs d).nodes ≤ (2 * data_units y + 1) * (n + 2) + 2) p.split.stripes_many
-      (subst (λ (g : View). length g.nodes ≤ (2 * data_units y + 1) * (length d.map.stripes + 2) + 2) (sym same) few)
+      subst (λ (g : View). length g.nodes ≤ most_drawn y op) (sym same) (drawn-most y law cols d.map (missing_of d.missing) op inside p.split gone)
   most-by (Some n) is drawn = let e = ap (λ (v : View). length v.nodes) (lent-file graphs d n is drawn) in omega (arith, e)
 
   planned-most : length (graph_of graphs d).nodes ≤ most_for y graphs op file

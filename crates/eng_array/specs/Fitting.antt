@@ -13,7 +13,7 @@ use Rattle.eng_events.specs.declared.array.Array.{Array}
 use Rattle.eng_parts.specs.Desk.{desk_at}
 use Rattle.eng_parts.specs.Given.{items_at}
 use Rattle.eng_events.specs.Opened.{states_of}
-use Rattle.eng_array.specs.Serving.{most_by, most_for}
+use Rattle.eng_array.specs.Serving.{most_for_unit, most_for}
 
 -- the most nodes of a graph of the item, if there is one
 abbrev pub most_in : Shape → List Held → Option Item → ℕ
@@ -39,7 +39,7 @@ FitsTrace lay setup = setup.trace ≡ true → opening_events (lay.shape setup.l
 
 -- those of a rebuild of each stripe, which is an operation over one
 abbrev pub rebuild_events : Shape → ℕ → ℕ
-rebuild_events y n = below (λ s. item_events n (most_by y [] 1 None)) y.stripes
+rebuild_events y n = below (λ s. item_events n (most_for_unit y)) y.stripes
 
 -- A core that has begun no operation has room for a rebuild of a dead column: its trace, if it is kept, for the start, for all events of all items and of a rebuild of each stripe, where one column more may fail, and for these failures; its history for one operation more for each stripe; and client 16 has a region for each.
 pub record FitsRebuild {L D : Type 0} (lay : LayoutGhosts L) (core : Array L D) : Type 0 where
@@ -50,3 +50,17 @@ pub record FitsRebuild {L D : Type 0} (lay : LayoutGhosts L) (core : Array L D) 
 -- the trace of an opening, if it is kept, has room for a rebuild too
 abbrev pub FitsRebuilding : {L D : Type 0} → LayoutGhosts L → Setup L D → Type 0
 FitsRebuilding lay setup = setup.trace ≡ true → 1 + below (λ c. row_events (lay.shape setup.layout) setup.graphs.items (alive (states_of (lay.shape setup.layout) setup.columns.items) + 1) (items_at setup.clients.items c)) 16 + rebuild_events (lay.shape setup.layout) (alive (states_of (lay.shape setup.layout) setup.columns.items) + 1) + (alive (states_of (lay.shape setup.layout) setup.columns.items) + 1) ≤ 1048576 + 2 + (lay.shape setup.layout).columns
+
+-- ## By one number for all items
+
+-- how many events are counted for items, where there are so many devices: for each item four, and two for each node that a graph of it may have, once more for each device
+abbrev pub counted_events : Shape → List Held → ℕ → List Item → ℕ
+counted_events y graphs devices items = below (λ i. (2 * most_in y graphs (slice_get items i) + 4) * (1 + devices)) (length items)
+
+-- those of all items
+abbrev pub trace_sum : Shape → List Held → ℕ → List (Vec Item Global) → ℕ
+trace_sum y graphs devices given = below (λ c. counted_events y graphs devices (items_at given c)) 16
+
+-- those of so many rebuilds
+abbrev pub rebuilds_sum : Shape → ℕ → ℕ → ℕ
+rebuilds_sum y devices rebuilds = rebuilds * ((2 * most_for_unit y + 4) * (1 + devices))

@@ -7,4 +7,5 @@ pub mod Changed
 pub mod Fitting
 pub mod Tickets
 pub mod Blamed
+pub mod HandedBack
 pub mod Small

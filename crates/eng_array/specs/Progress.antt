@@ -1,7 +1,6 @@
 -- How much a core has left to do: a number that each event of an operation lowers, so that a core which makes one event after another comes to rest.
-use Rattle.std.specs.Prelude.{◌<◌, ◌≤◌, ℕ, [], length, false, Option}
+use Rattle.std.specs.Prelude.{◌<◌, ℕ, [], false, Option}
 use Rattle.eng_cols.specs.declared.spot.Loss.{Loss}
-use Rattle.eng_world.specs.Planning.{Graphs}
 use Rattle.eng_world.specs.World.{Current, Client, World, Nothing as Idles, Waits as IsWaiting, Runs as IsRunning}
 use Rattle.eng_rest.specs.Left.{left, all_left}
 use Rattle.eng_parts.specs.declared.stage.Stage.{Stage}
@@ -55,9 +54,3 @@ module _ {L D : Type 0} where
   -- less is left
   abbrev pub Falls : Array L D → Array L D → Type 0
   Falls old new = left_of new < left_of old
-
--- ## What goes on
-
--- no graph of the file has more buffers than the pool
-abbrev pub FitThePool : Graphs → Type 0
-FitThePool graphs = (n : ℕ) → length (graphs.file n).bufs ≤ 2048

@@ -1,7 +1,9 @@
 -- What a core keeps that the world doesn't show: what was asked of its clients, and how those that run were planned.
-use Rattle.std.specs.Prelude.{◌≡◌, ◌<◌, ◌≤◌, ◌+◌, ◌*◌, ℕ, List, length, Option, Some, None, slice_get, slice_index_or}
+use Rattle.std.specs.Prelude.{◌≡◌, ◌<◌, ◌≤◌, ◌+◌, ◌*◌, if◌then◌else◌, nat_lt, ℕ, List, length, Option, Some, None, slice_get, slice_index_or}
 use Rattle.blk_plain.specs.declared.op.Op.{Op}
-use Rattle.lay_core.specs.Layout.{Shape, data_units}
+use Rattle.blk_plain.specs.declared.op.Op.TheVariants.{Write, Read, Rebuild, Sync}
+use Rattle.blk_plain.specs.declared.op.Span.{Span}
+use Rattle.lay_core.specs.Layout.{Shape, data_units, blocks_in}
 use Rattle.lay_core.specs.declared.layout.Layout.{Ghosts as LayoutGhosts}
 use Rattle.lay_core.specs.Touched.{IsSpanSplit, stripe_count}
 use Rattle.graph_mean.specs.Graph.{Held}
@@ -22,13 +24,25 @@ abbrev pub NamesGraph : List Held → Item → Type 0
 NamesGraph graphs (item.Run op file) = IsGraphOf graphs file
 NamesGraph graphs (item.Fail column) = Unit {0}
 
--- the most nodes of a graph for an operation over so many stripes: those of the one of the file, or what the library needs
-abbrev pub most_by : Shape → List Held → ℕ → Option ℕ → ℕ
-most_by y graphs stripes None = (2 * data_units y + 1) * (stripes + 2) + 2
-most_by y graphs stripes (Some n) = length (slice_index_or graphs n no_graph).drawn.nodes
+-- the most nodes of a graph of the library for the blocks of a span: none where it passes the end, since none is drawn then
+abbrev pub most_for_span : Shape → Span → ℕ
+most_for_span y span = if nat_lt (blocks_in y) (span.first + span.count) then 0 else (2 * data_units y + 1) * (stripe_count y span + 2) + 2
 
+-- and for a unit of a stripe that is made from the others
+abbrev pub most_for_unit : Shape → ℕ
+most_for_unit y = y.width + 3
+
+-- and for an operation
+abbrev pub most_drawn : Shape → Op → ℕ
+most_drawn y (Write span pattern) = most_for_span y span
+most_drawn y (Read span) = most_for_span y span
+most_drawn y (Rebuild stripe) = most_for_unit y
+most_drawn y (Sync stripe) = most_for_unit y
+
+-- the most nodes of a graph for an operation: those of the one of the file, or what the library needs
 abbrev pub most_for : Shape → List Held → Op → Option ℕ → ℕ
-most_for y graphs op file = most_by y graphs (stripe_count y (span_of y op)) file
+most_for y graphs op None = most_drawn y op
+most_for y graphs op (Some n) = length (slice_index_or graphs n no_graph).drawn.nodes
 
 -- an operation that runs: its stripes are the operation's, so many buffers are leased, and its graph has few nodes
 pub record WasPlanned (y : Shape) (graphs : List Held) (d : Desk) (op : Op) (file : Option ℕ) : Type 0 where

@@ -1,8 +1,9 @@
 -- Small setups, as tests have them: columns on devices of their own numbers, and few short items.
-use Rattle.std.specs.Prelude.{◌≡◌, ◌≤◌, ℕ, List, length, Option, Some, Vec, All, slice_get}
+use Rattle.std.specs.Prelude.{◌≡◌, ◌≤◌, ◌+◌, ◌*◌, ℕ, List, length, Option, Some, Vec, All, slice_get}
 use Rattle.std.specs.declared.alloc.Global.{Global}
 use Rattle.blk_disk.specs.declared.disk.Disk.{Ghosts as DiskGhosts}
 use Rattle.lay_core.specs.Layout.{Shape}
+use Rattle.graph_mean.specs.Graph.{Held}
 use Rattle.eng_cols.specs.declared.column.Column.{Column}
 use Rattle.eng_cols.specs.declared.column.Column.TheVariants as column
 use Rattle.eng_world.specs.declared.item.Item.{Item}
@@ -10,6 +11,10 @@ use Rattle.eng_world.specs.Step.{MayBeAsked}
 use Rattle.eng_events.specs.Beginning.{IsAsked}
 use Rattle.eng_events.specs.Opened.{NamesGraph}
 use Rattle.eng_parts.specs.Laid.{item_sectors}
+
+-- the sectors that a device of a column has at least
+abbrev pub needed : Shape → ℕ
+needed y = 64 + y.rows * y.unit_sectors
 
 module _ {D : Type 0} (disk : DiskGhosts D) where
   -- there is a device of this number, and it has so many sectors
@@ -33,6 +38,10 @@ pub record IsSmall (y : Shape) (graphs : ℕ) (i : Item) : Type 0 where
   pub may : MayBeAsked y i
   pub named : NamesGraph graphs i
   pub few : item_sectors i ≤ 1024
+
+-- the graph has no more buffers than the pool
+abbrev pub IsSlim : Held → Type 0
+IsSlim g = length g.drawn.bufs ≤ 2048
 
 -- a client has few items, each small
 pub record IsScript (y : Shape) (graphs : ℕ) (items : List Item) : Type 0 where

@@ -11,7 +11,9 @@ use Rattle.eng_events.specs.Copied.{AreLaid}
 use Rattle.eng_parts.specs.Desk.{desk_at}
 use Rattle.eng_array.specs.Run.{HasRun}
 use Rattle.eng_array.specs.Serving.{AreServing, most_for}
+use Rattle.eng_events.specs.Opened.{FitThePool}
 use Rattle.eng_events.specs.Sound.{IsSound}
+use Rattle.eng_events.specs.Steps.{graphs_of}
 
 -- how many events may still come, where no graph of client c's item i has more than most c i nodes: those of all items, and the failure of each column
 abbrev pub events_left : (ℕ → ℕ → ℕ) → World → ℕ
@@ -25,10 +27,11 @@ module _ {L D : Type 0} (lay : LayoutGhosts L) (disk : DiskGhosts D) where
     pub trace : core.log.keeps ≡ true → length core.log.trace + events_left most now ≤ core.log.trace_room
     pub history : below (λ c. length (desk_at core.clients c).items) 17 ≤ core.log.history_room
 
-  -- the core is sound, a run has led to what it shows, its clients are served as planned, there is room for what may still come, and a region for what each item hands out
+  -- the core is sound, a run has led to what it shows, its clients are served as planned, there is room for what may still come, a region for what each item hands out, and each graph of the file fits the pool
   pub record IsSteady (core : Array L D) : Type 0 where
     pub sound : IsSound lay disk core
     pub reached : HasRun lay disk core
     pub serving : AreServing lay core
     pub places : HasPlaces core reached.now
     pub laid : AreLaid core.log.handed core.clients
+    pub fit : FitThePool (graphs_of core.graphs.items)

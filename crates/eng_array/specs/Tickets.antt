@@ -1,5 +1,6 @@
 -- How a core and the tickets of all passes fit together, and what one turn may do. A ticket is the job of a node that is out, as it left.
-use Rattle.std.specs.Prelude.{◌≡◌, ◌≤◌, ◌+◌, ◌++◌, ◌&&◌, ◌==◌, if◌then◌else◌, ℕ, Bool, true, false, List, [], ◌∷◌, sum_by, Option, Some, None}
+use Rattle.std.specs.Prelude.{◌≡◌, ◌≤◌, ◌+◌, ◌++◌, ◌&&◌, ◌==◌, if◌then◌else◌, ℕ, Bool, true, false, List, [], ◌∷◌, length, map, sum_by, Option, Some, None}
+use Rattle.blk_disk.specs.Devices.{Changes}
 use Rattle.blk_disk.specs.Disk.{Rose}
 use Rattle.blk_disk.specs.declared.disk.Disk.{Ghosts as DiskGhosts}
 use Rattle.lay_core.specs.Layout.{Shape}
@@ -127,7 +128,21 @@ module _ {L D : Type 0} where
   abbrev pub failed_at : Array L D → ℕ → Bool
   failed_at core d = has_failed core.devices d
 
+module _ {D : Type 0} where
+  -- the device of what is seen, at home or out
+  abbrev pub device_of : Option (Seen D) → Option D
+  device_of None = None
+  device_of (Some s) = Some s.device
+
+-- all devices, by number, one that is out as it left
+abbrev pub devices_of : {L D : Type 0} → Array L D → List (Option D)
+devices_of core = map device_of core.devices.slots
+
 module _ {D : Type 0} (disk : DiskGhosts D) where
+  -- A frame by device, in which any sector may have changed: there are as many slots, the same of them have a device, and of each device the size stays, the count of faults doesn't fall, and what it tells of its calls goes on.
+  abbrev pub DevicesGoOn : List (Option D) → List (Option D) → Type 0
+  DevicesGoOn old new = Changes disk (λ d n. Unit {0}) old new
+
   -- how many sectors what is seen has, and its count of faults; 0 where nothing is
   abbrev pub size_in : Option (Seen D) → ℕ
   size_in None = 0
@@ -150,20 +165,25 @@ module _ {L D : Type 0} (lay : LayoutGhosts L) (disk : DiskGhosts D) where
 
   -- ## One event
 
-  -- what no event changes
+  -- what no event changes: the layout, the graphs, whether a trace is kept, how many clients were handed in, how many slots for devices there are, and which region each item has for what it hands out
   pub record Same (old new : Array L D) : Type 0 where
+    pub layout : new.layout ≡ old.layout
     pub shape : shape_of new ≡ shape_of old
     pub graphs : graphs_of new ≡ graphs_of old
     pub keeps : keeps_trace new ≡ keeps_trace old
+    pub spare : new.spare ≡ old.spare
+    pub slots : length new.devices.slots ≡ length old.devices.slots
+    pub regions : new.log.handed.regions ≡ old.log.handed.regions
 
-  -- What each call promises, which is one event, named before any world is: for every world that the core before shows there is one that the core after shows, one step of the event on. No device changes its size, no count of faults falls, and which a bad end marks as failed, that one's count rose in the call.
+  -- What each call promises, which is one event, named before any world is: for every world that the core before shows there is one that the core after shows, one step of the event on. Each slot has a device where it had one; no device changes its size, no count of faults falls, and what a device tells of its calls goes on; and which a bad end marks as failed, that one's count rose in the call.
   pub record Happens (e : Traced) (old new : Array L D) : Type 0 where
     pub sound : IsSteady lay disk new
     pub same : Same old new
     pub items : IsOwn e → (c : ℕ) → items_of new c ≡ items_of old c
     pub told : keeps_trace old ≡ true → traced new ≡ traced old ++ e ∷ []
+    pub untold : keeps_trace old ≡ false → traced new ≡ traced old
     pub leads : steps.Follows lay disk old e new
-    pub later : (d : ℕ) → (size_at new d ≡ size_at old d) × (faults_at old d ≤ faults_at new d)
+    pub devices : DevicesGoOn disk (devices_of old) (devices_of new)
     pub blame : IsBad e → (d : ℕ) → failed_at old d ≡ false → failed_at new d ≡ true → Rose (faults_at old d) (faults_at new d)
 
   -- ## A chain of cores

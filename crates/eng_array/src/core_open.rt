@@ -7,6 +7,7 @@ ghost use Rattle.eng_array.specs.Fitting.{FitsTrace, FitsRebuild, FitsRebuilding
 ghost use Rattle.eng_events.specs.Opened.{states_of, IsSetup, IsOpened, NoneOut, OpensWorlds};
 ghost use Rattle.eng_events.specs.Serves.{Stands};
 ghost use Rattle.eng_array.specs.Steady.{IsSteady};
+ghost use Rattle.eng_parts.specs.Handed.{AreRegions};
 ghost use Rattle.eng_parts.specs.Fresh.{IsRoomFor, IsFault};
 
 use crate::calls::Core;
@@ -39,6 +40,13 @@ impl<L: Layout, D: Disk + Drop> Core<L, D> {
             Ok(array) => Ok(Core { array }),
             Err(fault) => Err(fault),
         }
+    }
+
+    /// What is so of the regions of what reads hand out. It does nothing.
+    pub fn regions_stand(&self)
+        ensures { AreRegions self.now.array.log.handed }
+    {
+        self.array.log.stands();
     }
 
     /// Closes an engine of which no node is out, as where it is at rest, and hands back what it has. Once the array is

@@ -5,6 +5,7 @@ mod calls;
 mod core_calls;
 mod core_open;
 mod core_rebuild;
+mod fitting;
 mod progress;
 mod tickets;
 
@@ -14,9 +15,11 @@ pub use eng_events::{Array, what_is_possible_can_be_done};
 pub use eng_job::{Job, Lists, Outcome};
 pub use eng_parts::{Closed, CoreRoom, Memory, OpenFault, Region, Regions, Setup};
 pub use eng_world::{Event, Item, Reply, Traced};
+pub use fitting::what_is_counted_fits_the_trace;
 pub use progress::{each_event_leaves_less, events_of_an_item_are_few, somebody_goes_on};
 pub use tickets::{
     chains_are_runs, failed_devices_are_blamed, looks_are_quiet, what_is_out_has_one_place,
+    what_was_handed_in_comes_back,
 };
 
 #[cfg(test)]

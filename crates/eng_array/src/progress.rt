@@ -9,11 +9,11 @@ ghost use Rattle.eng_array.specs.Chain.{Chain, HaveFewNodes};
 ghost use Rattle.eng_parts.specs.Desk.{desk_at};
 ghost use Rattle.eng_events.specs.Opened.{NoneOut};
 ghost use Rattle.eng_events.specs.Picked.{IsResting, IsStuck};
-ghost use Rattle.eng_array.specs.Progress.{most_nodes, item_left_of, left_of, Falls, FitThePool};
+ghost use Rattle.eng_array.specs.Progress.{most_nodes, item_left_of, left_of, Falls};
 ghost use Rattle.eng_events.specs.Shows.{Shows};
 ghost use Rattle.eng_events.specs.Sound.{IsOutOf};
 ghost use Rattle.eng_array.specs.Steady.{IsSteady};
-ghost use Rattle.eng_events.specs.Steps.{graphs_of, Follows};
+ghost use Rattle.eng_events.specs.Steps.{Follows};
 ghost use Rattle.eng_array.specs.Tickets.{AllOf, Happens, Goes, Quiet};
 
 use blk_disk::Disk;
@@ -47,8 +47,8 @@ pub fn events_of_an_item_are_few<L: Layout, D: Disk>()
 {}
 
 /// A steady core of which no node is out, and that can do no event, is at rest: there is always something to do until all
-/// is done. No graph of the file may have more buffers than the pool, which are 2,048: its operation would wait for good.
+/// is done.
 pub fn somebody_goes_on<L: Layout, D: Disk>()
-    ensures { (core : Array L D) → IsSteady L.Layout D.Disk core → FitThePool (graphs_of core.graphs.items)
+    ensures { (core : Array L D) → IsSteady L.Layout D.Disk core
         → NoneOut core.clients → IsStuck L.Layout core → IsResting core }
 {}

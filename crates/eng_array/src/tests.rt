@@ -7,7 +7,10 @@ mod faults;
 mod graphs;
 mod late;
 mod opening;
+mod rebuilding;
+mod rebuilt;
 mod rows;
+mod spared;
 mod together;
 mod traced;
 

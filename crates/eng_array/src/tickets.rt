@@ -1,21 +1,27 @@
 //! What holds of chains of events. These functions do nothing: what they ensure is so.
 ghost use Rattle.std.specs.Prelude.{◌≡◌, ◌<◌, ◌≤◌, ◌↔◌, ◌++◌, ℕ, List, true, false, length, reverse};
+ghost use Rattle.blk_disk.specs.Devices.{RisesOn};
+ghost use Rattle.blk_disk.specs.Disk.{Rose};
 ghost use Rattle.eng_job.specs.declared.job.Job.{Job as AnyJob};
 ghost use Rattle.eng_world.specs.declared.item.Traced.{Traced};
 ghost use Rattle.eng_world.specs.World.{World};
 ghost use Rattle.eng_world.specs.Nodes.{Takes};
 ghost use Rattle.eng_world.specs.Step.{Run};
 ghost use Rattle.eng_events.specs.declared.array.Array.{Array as AnyCore};
+ghost use Rattle.eng_parts.specs.declared.setup.Closed.{Closed};
+ghost use Rattle.eng_parts.specs.declared.setup.Setup.{Setup};
 ghost use Rattle.eng_parts.specs.declared.stage.Stage.TheVariants as stage;
 ghost use Rattle.eng_array.specs.Blamed.{IsBlamed};
+ghost use Rattle.eng_array.specs.HandedBack.{HandsBack};
 ghost use Rattle.eng_parts.specs.Desk.{desk_at};
-ghost use Rattle.eng_events.specs.Opened.{NoneOut};
+ghost use Rattle.eng_events.specs.Closed.{IsClosed};
+ghost use Rattle.eng_events.specs.Opened.{IsOpened, NoneOut};
 ghost use Rattle.eng_parts.specs.Seats.{seat_of};
 ghost use Rattle.eng_parts.specs.Shelf.{IsAway};
 ghost use Rattle.eng_events.specs.Shows.{Shows};
 ghost use Rattle.eng_events.specs.Sound.{IsOutOf, HasAway};
 ghost use Rattle.eng_array.specs.Steady.{IsSteady};
-ghost use Rattle.eng_array.specs.Tickets.{Happens, Goes, Same, KeepsJobs, Lends, Quiet, keeps_trace, traced, shape_of, graphs_of, out_at, failed_at, size_at, faults_at};
+ghost use Rattle.eng_array.specs.Tickets.{Happens, Goes, Same, KeepsJobs, Lends, Quiet, keeps_trace, traced, shape_of, graphs_of, out_at, failed_at, size_at, faults_at, devices_of, DevicesGoOn};
 
 use blk_disk::Disk;
 use lay_core::Layout;
@@ -28,15 +34,29 @@ pub fn looks_are_quiet<L: Layout, D: Disk>()
 {}
 
 /// From each world that the first core of a chain shows, the chain's events lead to one that the last core shows. Its
-/// trace, where it is kept, is longer by them, and no device has changed its size or counts fewer faults.
+/// trace is longer by them where it is kept, and else stays, and each device goes on: none has changed its size, counts fewer faults or
+/// tells its earlier calls otherwise.
 pub fn chains_are_runs<L: Layout, D: Disk>()
     ensures append { (first mid last : AnyCore L D) (events more : List Traced) → Goes L.Layout D.Disk first events mid → Goes L.Layout D.Disk mid more last → Goes L.Layout D.Disk first (more ++ events) last }
     ensures same { (old new : AnyCore L D) (events : List Traced) → Goes L.Layout D.Disk old events new → Same L.Layout D.Disk old new }
     ensures leads { (old new : AnyCore L D) (events : List Traced) (w : World) → Goes L.Layout D.Disk old events new → Shows D.Disk old w
         → (x : World) × Shows D.Disk new x × Run (shape_of L.Layout D.Disk old) (graphs_of old) w events x }
     ensures told { (old new : AnyCore L D) (events : List Traced) → Goes L.Layout D.Disk old events new → keeps_trace old ≡ true → traced new ≡ traced old ++ reverse events }
+    ensures untold { (old new : AnyCore L D) (events : List Traced) → Goes L.Layout D.Disk old events new → keeps_trace old ≡ false → traced new ≡ traced old }
     ensures later { (old new : AnyCore L D) (events : List Traced) (d : ℕ) → Goes L.Layout D.Disk old events new
         → (size_at L.Layout D.Disk new d ≡ size_at L.Layout D.Disk old d) × (faults_at L.Layout D.Disk old d ≤ faults_at L.Layout D.Disk new d) }
+    ensures devices { (old new : AnyCore L D) (events : List Traced) → Goes L.Layout D.Disk old events new → DevicesGoOn D.Disk (devices_of old) (devices_of new) }
+{}
+
+/// A core that comes of an opening by a chain of events hands back what was handed in: the layout, as many clients, and as
+/// many devices, the same of them absent, each of which goes on. A device whose count of faults rose between the two cores
+/// is one whose count rose from the setup to what is handed back.
+pub fn what_was_handed_in_comes_back<L: Layout, D: Disk>()
+    ensures back { (setup : Setup L D) (first last : AnyCore L D) (events : List Traced) (closed : Closed L D)
+        → IsOpened L.Layout D.Disk setup first → Goes L.Layout D.Disk first events last → IsClosed last closed → HandsBack D.Disk setup closed }
+    ensures rises { (setup : Setup L D) (first last : AnyCore L D) (events : List Traced) (closed : Closed L D) (d : ℕ)
+        → IsOpened L.Layout D.Disk setup first → Goes L.Layout D.Disk first events last → IsClosed last closed → Rose (faults_at L.Layout D.Disk first d) (faults_at L.Layout D.Disk last d)
+        → RisesOn D.Disk setup.devices.items closed.devices.items d }
 {}
 
 /// A device that has failed in a chain of events has failed by something: its count of faults rose, or an item was

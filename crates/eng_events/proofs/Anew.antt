@@ -110,5 +110,6 @@ module _ {L D : Type 0} (lay : LayoutGhosts L) (disk : DiskGhosts D) (old s1 : A
           lists = ap (λ (a : Array L D). a.lists) note ∙ (ap (λ (a : Array L D). a.lists) fill ∙ (ap (λ (a : Array L D). a.lists) start ∙ ap (λ (a : Array L D). a.lists) pf.now));
           graphs = ap (λ (a : Array L D). a.graphs) note ∙ (ap (λ (a : Array L D). a.graphs) fill ∙ (ap (λ (a : Array L D). a.graphs) start ∙ ap (λ (a : Array L D). a.graphs) pf.now));
           lost = ap (λ (a : Array L D). a.lost) note ∙ (ap (λ (a : Array L D). a.lost) fill ∙ (ap (λ (a : Array L D). a.lost) start ∙ ap (λ (a : Array L D). a.lost) pf.now));
+          spare = ap (λ (a : Array L D). a.spare) note ∙ (ap (λ (a : Array L D). a.spare) fill ∙ (ap (λ (a : Array L D). a.spare) start ∙ ap (λ (a : Array L D). a.spare) pf.now));
         };
       }

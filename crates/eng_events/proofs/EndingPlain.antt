@@ -274,6 +274,7 @@ module _ {L D : Type 0} (lay : LayoutGhosts L) (disk : DiskGhosts D) (old end : 
     cols = h.cols;
     graphs = h.graphs;
     lost = h.lost;
+    spare = h.spare;
   }
 
   none-out : (m : ℕ) → mark_of now.run m ≢ status.Out

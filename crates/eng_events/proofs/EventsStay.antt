@@ -115,7 +115,7 @@ module _ {L D : Type 0} (lay : LayoutGhosts L) (disk : DiskGhosts D) (old : Arra
   -- a client's stripes and buffers are given back, and its item is replied, after the last of its nodes has ended
   pub released-stays : (c : ℕ) (sound : IsSound lay disk old) (r : Reply) (new : Array L D) → Released old c r new → c < length old.clients → ((n : ℕ) → IsOutOf (desk_at old.clients c) n → ⊥) → KeepsOut lay disk old new
   released-stays c sound r new f below calm =
-      lease-stays c sound new (record { layout = f.layout; cols = f.cols; devices = f.devices; lists = f.lists; graphs = f.graphs; lost = f.lost }) _ f.clients below calm (desk_at old.clients c).lease f.pool.unit (λ k ne runs. sound.well.apart k c ne) f.pool.others
+      lease-stays c sound new (record { layout = f.layout; cols = f.cols; devices = f.devices; lists = f.lists; graphs = f.graphs; lost = f.lost; spare = f.spare }) _ f.clients below calm (desk_at old.clients c).lease f.pool.unit (λ k ne runs. sound.well.apart k c ne) f.pool.others
 
   module _ (c : ℕ) (event : Traced) (new : Array L D) (sound : IsSound lay disk old) where
     module _ (can : CanTake lay old c) where

@@ -31,4 +31,5 @@ module _ {L D : Type 0} (old mid end : Array L D) (c n : ℕ) (reply : Reply) (b
     cols = r.cols ∙ h.cols;
     graphs = r.graphs ∙ h.graphs;
     lost = r.lost ∙ h.lost;
+    spare = r.spare ∙ h.spare;
   }

@@ -86,6 +86,7 @@ module _ {L D : Type 0} (lay : LayoutGhosts L) (old mid : Array L D) (c : ℕ) (
         lists = ap (λ (a : Array L D). a.lists) log ∙ ap (λ (a : Array L D). a.lists) s.now;
         graphs = ap (λ (a : Array L D). a.graphs) log ∙ ap (λ (a : Array L D). a.graphs) s.now;
         lost = ap (λ (a : Array L D). a.lost) log ∙ ap (λ (a : Array L D). a.lost) s.now;
+        spare = ap (λ (a : Array L D). a.spare) log ∙ ap (λ (a : Array L D). a.spare) s.now;
       };
     }
 
@@ -106,6 +107,7 @@ module _ {L D : Type 0} (lay : LayoutGhosts L) (old mid : Array L D) (c : ℕ) (
         lists = ap (λ (a : Array L D). a.lists) now ∙ ap (λ (a : Array L D). a.lists) pf.now;
         graphs = ap (λ (a : Array L D). a.graphs) now ∙ ap (λ (a : Array L D). a.graphs) pf.now;
         lost = ap (λ (a : Array L D). a.lost) now ∙ ap (λ (a : Array L D). a.lost) pf.now;
+        spare = ap (λ (a : Array L D). a.spare) now ∙ ap (λ (a : Array L D). a.spare) pf.now;
       };
     }
 

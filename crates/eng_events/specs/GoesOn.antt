@@ -1,4 +1,4 @@
--- What the end of a node leaves of the core: its layout, its graphs, and what its clients serve.
+-- What the end of a node leaves of the core: its layout, its graphs, how many clients were handed in, and what its clients serve.
 use Rattle.std.specs.Prelude.{◌≡◌, ℕ}
 use Rattle.eng_parts.specs.declared.stage.Stage.TheVariants.{Runs}
 use Rattle.eng_events.specs.declared.array.Array.{Array}
@@ -17,4 +17,5 @@ pub record ServesOn (old new : Desk) : Type 0 where
 pub record GoesOn {L D : Type 0} (old new : Array L D) : Type 0 where
   pub layout : new.layout ≡ old.layout
   pub graphs : new.graphs ≡ old.graphs
+  pub spare : new.spare ≡ old.spare
   pub desks : (k : ℕ) → ServesOn (desk_at old.clients k) (desk_at new.clients k)

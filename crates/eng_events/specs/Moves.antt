@@ -49,6 +49,7 @@ module _ {L D : Type 0} (lay : LayoutGhosts L) where
     pub locks : new.locks ≡ old.locks
     pub graphs : new.graphs ≡ old.graphs
     pub lost : new.lost ≡ old.lost
+    pub spare : new.spare ≡ old.spare
 
 module _ {L D : Type 0} where
   -- A call's device and buffer came home, with what they hold now, and its list; and the node has ended so.
@@ -63,6 +64,7 @@ module _ {L D : Type 0} where
     pub locks : new.locks ≡ old.locks
     pub graphs : new.graphs ≡ old.graphs
     pub lost : new.lost ≡ old.lost
+    pub spare : new.spare ≡ old.spare
 
   -- Node n of client c has ended so, and neither lost nor tells of it here: its device, its buffers and its list are home, and else nothing has changed but the log.
   pub record NodeEnded (disk : DiskGhosts D) (old : Array L D) (c n : ℕ) (outcome : Outcome) (new : Array L D) : Type 0 where
@@ -87,6 +89,7 @@ module _ {L D : Type 0} where
     pub locks : new.locks ≡ old.locks
     pub graphs : new.graphs ≡ old.graphs
     pub lost : new.lost ≡ old.lost
+    pub spare : new.spare ≡ old.spare
 
   -- the client's item was replied, and its stripes and buffers were given back; of the log nothing is said
   pub record Released (old : Array L D) (c : ℕ) (reply : Reply) (new : Array L D) : Type 0 where
@@ -100,6 +103,7 @@ module _ {L D : Type 0} where
     pub cols : new.cols ≡ old.cols
     pub graphs : new.graphs ≡ old.graphs
     pub lost : new.lost ≡ old.lost
+    pub spare : new.spare ≡ old.spare
 
   -- Node n of client c, the terminator, has ended good: its item was replied so, and its list, its stripes and its buffers were given back.
   pub record Terminated (old : Array L D) (c n : ℕ) (reply : Reply) (new : Array L D) : Type 0 where
@@ -114,6 +118,7 @@ module _ {L D : Type 0} where
     pub cols : new.cols ≡ old.cols
     pub graphs : new.graphs ≡ old.graphs
     pub lost : new.lost ≡ old.lost
+    pub spare : new.spare ≡ old.spare
 
   -- client c alone is another
   pub record OnlyClient (old : Array L D) (c : ℕ) (d : Desk) (new : Array L D) : Type 0 where

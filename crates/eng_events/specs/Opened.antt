@@ -19,6 +19,7 @@ use Rattle.eng_cols.specs.Lost.{IsLost}
 use Rattle.eng_world.specs.declared.item.Item.{Item}
 use Rattle.eng_world.specs.declared.item.Item.TheVariants as item
 use Rattle.eng_world.specs.World.{World}
+use Rattle.eng_world.specs.Planning.{Graphs}
 use Rattle.eng_world.specs.Step.{MayBeAsked, IsOpening}
 use Rattle.eng_parts.specs.declared.stage.Stage.TheVariants.{Nothing}
 use Rattle.eng_parts.specs.declared.core_room.CoreRoom.{CoreRoom}
@@ -35,6 +36,7 @@ use Rattle.eng_parts.specs.Log.{Logged}
 use Rattle.eng_events.specs.Beginning.{IsAsked}
 use Rattle.eng_events.specs.Shows.{Shows}
 use Rattle.eng_events.specs.Sound.{IsOutOf}
+use Rattle.eng_events.specs.Steps.{graphs_of}
 use Rattle.eng_parts.specs.Fresh.{new_desk, fresh_log}
 
 -- ## What may be opened
@@ -49,8 +51,12 @@ NamesGraph graphs (item.Run op (Some g)) = g < graphs
 NamesGraph graphs (item.Run op None) = Unit {0}
 NamesGraph graphs (item.Fail column) = Unit {0}
 
+-- no graph of the file has more buffers than the pool: its operation would wait for good
+abbrev pub FitThePool : Graphs → Type 0
+FitThePool graphs = (n : ℕ) → length (graphs.file n).bufs ≤ 2048
+
 module _ {L D : Type 0} (lay : LayoutGhosts L) (disk : DiskGhosts D) where
-  -- There is one entry for each column; none is filling, and at most one is spread, where each stripe has a spare place; each device of a column is there, is in no other, and has room for the rows. Of the items no span is empty, each column that is to fail is there, no rebuild names a graph, and each graph that is named is there.
+  -- There is one entry for each column; none is filling, and at most one is spread, where each stripe has a spare place; each device of a column is there, is in no other, and has room for the rows. Of the items no span is empty, each column that is to fail is there, no rebuild names a graph, and each graph that is named is there. Each graph of the file fits the pool.
   pub record IsSetup (setup : Setup L D) : Type 0 where
     pub entries : length setup.columns.items ≡ (lay.shape setup.layout).columns
     pub filling : count_by is_set_filling setup.columns.items ≡ 0
@@ -59,6 +65,7 @@ module _ {L D : Type 0} (lay : LayoutGhosts L) (disk : DiskGhosts D) where
     pub there : (c device : ℕ) → HasDevice (states_of (lay.shape setup.layout) setup.columns.items) c device → (x : D) × (slice_get setup.devices.items device ≡ Some (Some x)) × (64 + (lay.shape setup.layout).rows * (lay.shape setup.layout).unit_sectors ≤ disk.size x)
     pub one_column : (c k device : ℕ) → HasDevice (states_of (lay.shape setup.layout) setup.columns.items) c device → HasDevice (states_of (lay.shape setup.layout) setup.columns.items) k device → c ≡ k
     pub asked : (c n : ℕ) (i : Item) → slice_get (items_at setup.clients.items c) n ≡ Some i → IsAsked (lay.shape setup.layout) i × MayBeAsked (lay.shape setup.layout) i × NamesGraph (length setup.graphs.items) i
+    pub fit : FitThePool (graphs_of setup.graphs.items)
 
   -- ## What is opened
 

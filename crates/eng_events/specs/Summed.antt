@@ -41,3 +41,4 @@ module _ {L D : Type 0} where
     pub locks : new.locks ≡ old.locks
     pub graphs : new.graphs ≡ old.graphs
     pub lost : new.lost ≡ old.lost
+    pub spare : new.spare ≡ old.spare

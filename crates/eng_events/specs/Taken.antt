@@ -38,6 +38,7 @@ module _ {L D : Type 0} (lay : LayoutGhosts L) where
     pub lists : new.lists ≡ old.lists
     pub graphs : new.graphs ≡ old.graphs
     pub lost : new.lost ≡ old.lost
+    pub spare : new.spare ≡ old.spare
 
   -- the planned operation runs, with stripes and buffers of its own
   pub record Settled (old : Array L D) (c : ℕ) (op : Op) (file : Option ℕ) (new : Array L D) : Type 0 where

@@ -16,7 +16,7 @@ use std::test::Fail;
 const TURNS: u32 = 10000;
 
 // Does the event.
-fn turn<L: Layout, D: Disk>(core: &mut Core<L, D>, event: Event)
+pub(super) fn turn<L: Layout, D: Disk>(core: &mut Core<L, D>, event: Event)
     requires steady { IsSteady L.Layout D.Disk core.old.array }
     requires can { CanDo L.Layout core.old.array event }
     ensures { IsSteady L.Layout D.Disk core.new.array }
@@ -119,6 +119,19 @@ pub(super) fn reaches<L: Layout, D: Disk>(core: &mut Core<L, D>, client: u32, wa
         }
     }
     false
+}
+
+// Does the client's events while there are any.
+pub(super) fn serve<L: Layout, D: Disk>(core: &mut Core<L, D>, client: u32)
+    requires { IsSteady L.Layout D.Disk core.old.array }
+    ensures { IsSteady L.Layout D.Disk core.new.array }
+{
+    for _ in 0..TURNS {
+        match event_of(core, client) {
+            Some(event) => turn(core, event),
+            None => return,
+        }
+    }
 }
 
 // A job that was performed, and is still out.

@@ -3,21 +3,22 @@ ghost use Rattle.std.specs.Prelude.{◌≡◌, ◌≤◌, ◌*◌, ◌+◌, leng
 ghost use Rattle.eng_parts.specs.Laid.{item_sectors};
 ghost use Rattle.eng_world.specs.Step.{MayBeAsked};
 ghost use Rattle.eng_events.specs.Beginning.{IsAsked};
-ghost use Rattle.eng_events.specs.Opened.{IsSetup, NamesGraph};
-ghost use Rattle.eng_array.specs.Fitting.{FitsTrace};
-ghost use Rattle.eng_array.specs.Small.{HasSectors, IsOwn, AreOwn, IsSmall, IsScript, AreScripts};
+ghost use Rattle.eng_events.specs.Opened.{IsSetup, IsOpened, NamesGraph};
+ghost use Rattle.eng_array.specs.Fitting.{FitsTrace, FitsRebuild, FitsRebuilding};
+ghost use Rattle.eng_array.specs.Small.{HasSectors, IsOwn, AreOwn, IsSmall, IsSlim, IsScript, AreScripts, needed};
 ghost use Rattle.eng_array.specs.Steady.{IsSteady};
 
 use crate::{Core, CoreRoom, Item, Setup};
 use blk_disk::Disk;
 use blk_plain::Op;
 use eng_cols::Column;
+use graph_mean::Graph;
 use lay_core::Layout;
 use std::alloc::Global;
 use std::test::Fail;
 
 // Whether there is a device of this number with so many sectors.
-fn has_sectors<D: Disk>(devices: &[Option<D>], at: usize, need: u64) -> bool
+pub(super) fn has_sectors<D: Disk>(devices: &[Option<D>], at: usize, need: u64) -> bool
     ensures { IsTrue result → HasSectors D.Disk devices.now at need }
 {
     match devices.get(at) {
@@ -106,10 +107,23 @@ fn are_scripts<L: Layout>(layout: &L, graphs: usize, clients: &[Vec<Item>]) -> b
     true
 }
 
+// Whether no graph has more buffers than the pool.
+fn are_slim(graphs: &[Graph]) -> bool
+    ensures { IsTrue result → All IsSlim graphs.now }
+{
+    for graph in graphs {
+        if graph.bufs() > 2048 {
+            return false;
+        }
+    }
+    true
+}
+
 // Whether a core may be opened over the setup.
-fn is_setup<L: Layout, D: Disk>(setup: &Setup<L, D>) -> bool
+pub(super) fn is_setup<L: Layout, D: Disk>(setup: &Setup<L, D>) -> bool
     ensures setup { IsTrue result → IsSetup L.Layout D.Disk setup.now }
     ensures scripts { IsTrue result → AreScripts (L.shape setup.now.layout) (length setup.now.graphs.items) setup.now.clients.items }
+    ensures own { IsTrue result → AreOwn D.Disk setup.now.devices.items (needed (L.shape setup.now.layout)) setup.now.columns.items }
 {
     let layout = &setup.layout;
     let need = 64 + u64::from(layout.rows()) * u64::from(layout.unit_sectors());
@@ -117,6 +131,9 @@ fn is_setup<L: Layout, D: Disk>(setup: &Setup<L, D>) -> bool
         return false;
     }
     if !are_own(&setup.columns, &setup.devices, need) {
+        return false;
+    }
+    if !are_slim(&setup.graphs) {
         return false;
     }
     are_scripts(layout, setup.graphs.len(), &setup.clients)
@@ -128,7 +145,10 @@ pub(super) fn opened<L: Layout + Drop, D: Disk + Drop>(
     setup: Setup<L, D>,
 ) -> Result<Core<L, D>, Fail>
     requires trace { FitsTrace L.Layout setup }
-    ensures { IfOk result (λ core. IsSteady L.Layout D.Disk core.array) }
+    ensures steady { IfOk result (λ core. IsSteady L.Layout D.Disk core.array) }
+    ensures opened { IfOk result (λ core. IsOpened L.Layout D.Disk setup core.array) }
+    ensures room { IfOk result (λ core. FitsRebuilding L.Layout setup → FitsRebuild L.Layout core.array) }
+    ensures own { IfOk result (λ core. AreOwn D.Disk setup.devices.items (needed (L.shape setup.layout)) setup.columns.items) }
 {
     if !is_setup(&setup) || setup.devices.len() > 64 {
         return Err(Fail::from("no setup"));

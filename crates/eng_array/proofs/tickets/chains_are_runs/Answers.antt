@@ -1,4 +1,4 @@
-use Rattle.eng_array.proofs.Chains.{goes-append, goes-same, goes-leads, goes-told, goes-later}
+use Rattle.eng_array.proofs.Chains.{goes-append, goes-same, goes-leads, goes-told, goes-untold, goes-later, goes-devices}
 use Rattle.eng_array.proofs.tickets.chains_are_runs.Goals as goal
 
 pub returns-clause-append : goal.returns-clause-append
@@ -13,5 +13,11 @@ returns-clause-leads g c = λ old new events w h s. goes-leads g.L.Layout g.D.Di
 pub returns-clause-told : goal.returns-clause-told
 returns-clause-told g c = λ old new events h on. goes-told g.L.Layout g.D.Disk old new events h on
 
+pub returns-clause-untold : goal.returns-clause-untold
+returns-clause-untold g c = λ old new events h off. goes-untold g.L.Layout g.D.Disk old new events h off
+
 pub returns-clause-later : goal.returns-clause-later
 returns-clause-later g c = λ old new events d h. goes-later g.L.Layout g.D.Disk old new events h d
+
+pub returns-clause-devices : goal.returns-clause-devices
+returns-clause-devices g c = λ old new events h. goes-devices g.L.Layout g.D.Disk old new events h

@@ -18,3 +18,6 @@ open-requires-clause-sectors g c =
 
 pub open-requires-2-clause-setup : goal.open-requires-2-clause-setup
 open-requires-2-clause-setup g c = c.is_setup.ensures.setup c.if-not-is_setup.false
+
+pub returns-in-Ok-clause-own : goal.returns-in-Ok-clause-own
+returns-in-Ok-clause-own g c = c.is_setup.ensures.own c.if-not-is_setup.false

@@ -111,7 +111,7 @@ returns-clause-goes g c =
     let s = sound-at g.L.Layout g.D.Disk old c.args.client c.args.node c.args.coming.disk c.args.first c.args.count c.args.coming.buffer c.args.outcome c.requires.sound r (c.requires.on r.at r.spot) mid is in
     goes-logged c.args.self.now fin c.note.new.self _ c.note.ensures
     (goes-further old mid fin (goes-struck old mid r.at is)
-    (goes-ended g.L.Layout g.D.Disk mid fin c.args.client c.args.node s b.0.out Bad (c.bad_home.ensures b.0).clients (c.bad_home.ensures b.0).layout (c.bad_home.ensures b.0).graphs))
+    (goes-ended g.L.Layout g.D.Disk mid fin c.args.client c.args.node s b.0.out Bad (c.bad_home.ensures b.0).clients (c.bad_home.ensures b.0).layout (c.bad_home.ensures b.0).graphs (c.bad_home.ensures b.0).spare))
 
 pub returns-clause-stays : goal.returns-clause-stays
 returns-clause-stays g c =

@@ -42,7 +42,7 @@ returns-clause-trace g c =
 pub returns-clause-goes : goal.returns-clause-goes
 returns-clause-goes g c = goes-logged c.args.self.now c.enter.new.self c.note.new.self _ c.note.ensures
     (goes-logged c.args.self.now c.plain_home.new.self c.enter.new.self _ c.enter.ensures
-    (goes-ended g.L.Layout g.D.Disk c.args.self.now c.plain_home.new.self c.args.client c.args.node c.requires.sound c.requires.out Good (c.plain_home.ensures).clients (c.plain_home.ensures).layout (c.plain_home.ensures).graphs))
+    (goes-ended g.L.Layout g.D.Disk c.args.self.now c.plain_home.new.self c.args.client c.args.node c.requires.sound c.requires.out Good (c.plain_home.ensures).clients (c.plain_home.ensures).layout (c.plain_home.ensures).graphs (c.plain_home.ensures).spare))
 
 pub returns-clause-stays : goal.returns-clause-stays
 returns-clause-stays g c =

@@ -39,7 +39,7 @@ returns-clause-trace g c =
 
 pub returns-clause-goes : goal.returns-clause-goes
 returns-clause-goes g c = goes-logged c.args.self.now c.terminate.new.self c.note.new.self _ c.note.ensures
-    (goes-terminated g.L.Layout g.D.Disk c.args.self.now c.terminate.new.self c.args.client c.args.node c.requires.sound c.requires.out Good reply.Done (c.terminate.ensures).clients (c.terminate.ensures).layout (c.terminate.ensures).graphs)
+    (goes-terminated g.L.Layout g.D.Disk c.args.self.now c.terminate.new.self c.args.client c.args.node c.requires.sound c.requires.out Good reply.Done (c.terminate.ensures).clients (c.terminate.ensures).layout (c.terminate.ensures).graphs (c.terminate.ensures).spare)
 
 pub returns-clause-stays : goal.returns-clause-stays
 returns-clause-stays g c =

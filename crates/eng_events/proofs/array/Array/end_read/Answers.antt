@@ -72,7 +72,7 @@ pub returns-clause-goes : goal.returns-clause-goes
 returns-clause-goes g c =
     let t = subst (λ (s : Array g.row.L.Denot g.row.D.Denot). Terminated s c.args.client c.args.node reply.Data c.terminate.new.self) c.copy_returns.ensures.rest c.terminate.ensures in
     goes-logged c.args.self.now c.terminate.new.self c.note.new.self _ c.note.ensures
-    (goes-terminated g.L.Layout g.D.Disk c.args.self.now c.terminate.new.self c.args.client c.args.node c.requires.sound c.requires.out Good reply.Data (t).clients (t).layout (t).graphs)
+    (goes-terminated g.L.Layout g.D.Disk c.args.self.now c.terminate.new.self c.args.client c.args.node c.requires.sound c.requires.out Good reply.Data (t).clients (t).layout (t).graphs (t).spare)
 
 pub returns-clause-stays : goal.returns-clause-stays
 returns-clause-stays g c =

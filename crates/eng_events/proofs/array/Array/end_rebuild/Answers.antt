@@ -45,7 +45,7 @@ returns-clause-goes g c =
     let out = subst (λ (l : List Desk). IsOutOf (desk_at l c.args.client) c.args.node) (sym still) c.requires.out in
     goes-logged c.args.self.now c.terminate.new.self c.note.new.self _ c.note.ensures
     (goes-further c.args.self.now mid c.terminate.new.self (goes-stripe y c.args.self.now mid c.args.client c.end_stripe.ensures.ends)
-    (goes-terminated g.L.Layout g.D.Disk mid c.terminate.new.self c.args.client c.args.node c.end_stripe.ensures.sound out Good reply.Done (c.terminate.ensures).clients (c.terminate.ensures).layout (c.terminate.ensures).graphs))
+    (goes-terminated g.L.Layout g.D.Disk mid c.terminate.new.self c.args.client c.args.node c.end_stripe.ensures.sound out Good reply.Done (c.terminate.ensures).clients (c.terminate.ensures).layout (c.terminate.ensures).graphs (c.terminate.ensures).spare))
 
 pub returns-clause-trace : goal.returns-clause-trace
 returns-clause-trace g c =

@@ -72,7 +72,7 @@ returns-clause-goes g c =
     let b = (back g c).0 in
     goes-logged c.args.self.now c.bad_home.new.self c.note.new.self _ c.note.ensures
     (goes-further c.args.self.now mid c.bad_home.new.self (goes-if-alive g.L.Layout c.args.self.now mid c.in-Some.at.column c.fail_if_alive.ensures)
-    (goes-ended g.L.Layout g.D.Disk mid c.bad_home.new.self c.args.client c.args.node sound b.out Bad (c.bad_home.ensures b).clients (c.bad_home.ensures b).layout (c.bad_home.ensures b).graphs))
+    (goes-ended g.L.Layout g.D.Disk mid c.bad_home.new.self c.args.client c.args.node sound b.out Bad (c.bad_home.ensures b).clients (c.bad_home.ensures b).layout (c.bad_home.ensures b).graphs (c.bad_home.ensures b).spare))
 
 pub returns-clause-stays : goal.returns-clause-stays
 returns-clause-stays g c =

@@ -42,7 +42,7 @@ note-requires g c = subst HasRoom (sym (c.sum_home.ensures c.requires.back).log)
 
 pub returns-clause-goes : goal.returns-clause-goes
 returns-clause-goes g c = goes-logged c.args.self.now c.sum_home.new.self c.note.new.self _ c.note.ensures
-    (goes-ended g.L.Layout g.D.Disk c.args.self.now c.sum_home.new.self c.args.client c.args.node c.requires.sound c.requires.back.out Good (c.sum_home.ensures c.requires.back).clients (c.sum_home.ensures c.requires.back).layout (c.sum_home.ensures c.requires.back).graphs)
+    (goes-ended g.L.Layout g.D.Disk c.args.self.now c.sum_home.new.self c.args.client c.args.node c.requires.sound c.requires.back.out Good (c.sum_home.ensures c.requires.back).clients (c.sum_home.ensures c.requires.back).layout (c.sum_home.ensures c.requires.back).graphs (c.sum_home.ensures c.requires.back).spare)
 
 pub returns-clause-stays : goal.returns-clause-stays
 returns-clause-stays g c =

@@ -72,7 +72,7 @@ returns-clause-trace g c =
 
 pub returns-clause-goes : goal.returns-clause-goes
 returns-clause-goes g c = goes-logged c.args.self.now c.call_home.new.self c.note.new.self _ c.note.ensures
-    (goes-ended g.L.Layout g.D.Disk c.args.self.now c.call_home.new.self c.args.client c.args.node c.requires.sound c.requires.back.0.out Good (came g c).clients (came g c).layout (came g c).graphs)
+    (goes-ended g.L.Layout g.D.Disk c.args.self.now c.call_home.new.self c.args.client c.args.node c.requires.sound c.requires.back.0.out Good (came g c).clients (came g c).layout (came g c).graphs (came g c).spare)
 
 pub returns-clause-stays : goal.returns-clause-stays
 returns-clause-stays g c =
