@@ -1,19 +1,16 @@
--- An item has few events in a chain that begins with all its jobs at home; and no event changes the graphs.
-use Rattle.std.proofs.Common.{ℕ, List, [], ◌∷◌, sym, subst}
+-- An item has few events in a chain that begins with all its jobs at home.
+use Rattle.std.proofs.Common.{ℕ, List, [], ◌∷◌}
 use Rattle.blk_disk.specs.declared.disk.Disk.{Ghosts as DiskGhosts}
 use Rattle.lay_core.specs.declared.layout.Layout.{Ghosts as LayoutGhosts}
 use Rattle.eng_world.specs.declared.item.Traced.{Traced}
 use Rattle.eng_world.specs.declared.item.Traced.TheVariants as event
-use Rattle.eng_world.specs.Planning.{Graphs}
 use Rattle.eng_rest.specs.Left.{IsOwn, IsLater}
 use Rattle.eng_events.specs.declared.array.Array.{Array}
 use Rattle.eng_array.specs.Chain.{Leads, Chain, HaveFewNodes}
 use Rattle.eng_events.specs.Opened.{NoneOut}
-use Rattle.eng_array.specs.Progress.{FitThePool}
 use Rattle.eng_array.specs.Steady.{IsSteady}
-use Rattle.eng_array.specs.Tickets.{AllOf, Happens, Goes, After, graphs_of}
+use Rattle.eng_array.specs.Tickets.{AllOf, Happens, Goes, After}
 use Rattle.eng_array.proofs.Chained.{chain-few}
-use Rattle.eng_array.proofs.Chains.{goes-same}
 use Rattle.eng_crew.specs.Drained.{HaveFew, Drained}
 
 own-later : (e : Traced) → IsOwn e → IsLater e
@@ -47,6 +44,3 @@ module _ {L D : Type 0} (lay : LayoutGhosts L) (disk : DiskGhosts D) where
     after = a;
     few = λ m c i deaths inside few die. chain-few lay disk m c i old a.events new (goes-chain old a.events new a.own a.goes) steady inside (few-chain m c i old a.events new a.own a.goes few) deaths (λ n. home c n) die;
   }
-
-  pub after-fits : (old new : Array L D) → After lay disk old new → FitThePool (graphs_of old) → FitThePool (graphs_of new)
-  after-fits old new a fits = subst (λ (gs : Graphs). FitThePool gs) (sym (goes-same lay disk old new a.events a.goes).graphs) fits

@@ -18,14 +18,12 @@ use Rattle.eng_world.specs.declared.item.Item.TheVariants as item
 use Rattle.eng_world.specs.Step.{MayBeAsked}
 use Rattle.eng_rest.specs.Left.{below}
 use Rattle.eng_parts.specs.declared.setup.Setup.{Setup}
-use Rattle.eng_events.specs.declared.array.Array.{Array}
 use Rattle.eng_events.specs.Beginning.{IsAsked}
 use Rattle.eng_parts.specs.Given.{items_in, items_at}
 use Rattle.eng_parts.specs.Laid.{item_sectors, sectors_in, sectors_at, row_sectors, sectors_before, items_before}
-use Rattle.eng_events.specs.Opened.{states_of, NamesGraph, IsSetup}
-use Rattle.eng_array.specs.Progress.{FitThePool}
+use Rattle.eng_events.specs.Opened.{states_of, NamesGraph, FitThePool, IsSetup}
+use Rattle.eng_events.specs.Steps.{graphs_of}
 use Rattle.eng_parts.specs.Desk.{no_graph}
-use Rattle.eng_array.specs.Tickets.{graphs_of}
 use Rattle.eng_crew.specs.Trial.{IsSmallOp, IsSmall, AreSmall}
 
 -- ## Sums
@@ -99,6 +97,11 @@ module _ (given : List (Vec Item Global)) (small : All AreSmall given) where
   given-asked : (y : Shape) (graphs : ℕ) (c n : ℕ) (i : Item) → slice_get (items_at given c) n ≡ Some i → IsAsked y i × MayBeAsked y i × NamesGraph graphs i
   given-asked y graphs c n i is = asked-item y graphs i (small-at IsSmall (items_at given c) n i (given-small c).1 is)
 
+-- ## Graphs
+
+fit-none : (graphs : List Held) → graphs ≡ [] → FitThePool (graphs_of graphs)
+fit-none graphs e n = subst (λ (l : List Held). length (slice_index_or l n no_graph).drawn.bufs ≤ 2048) (sym e) (omega arith)
+
 -- ## Columns
 
 abbrev both : List ColumnState
@@ -119,7 +122,7 @@ module _ {L D : Type 0} (lay : LayoutGhosts L) (disk : DiskGhosts D) where
   device-there first second one two (suc zero) lt = (second, refl, two)
   device-there first second one two (suc (suc device)) lt = absurd (omega (arith, lt))
 
-  module _ (setup : Setup L D) (first second : D) (shape : lay.shape setup.layout ≡ left_symmetric 2 1 64) (columns : setup.columns.items ≡ set.Live 0 ∷ set.Live 1 ∷ []) (devices : setup.devices.items ≡ Some first ∷ Some second ∷ []) (one : 128 ≤ disk.size first) (two : 128 ≤ disk.size second) (small : All AreSmall setup.clients.items) where
+  module _ (setup : Setup L D) (first second : D) (shape : lay.shape setup.layout ≡ left_symmetric 2 1 64) (columns : setup.columns.items ≡ set.Live 0 ∷ set.Live 1 ∷ []) (devices : setup.devices.items ≡ Some first ∷ Some second ∷ []) (one : 128 ≤ disk.size first) (two : 128 ≤ disk.size second) (small : All AreSmall setup.clients.items) (graphs : setup.graphs.items ≡ []) where
     states : states_of (lay.shape setup.layout) setup.columns.items ≡ both
     states = ap (λ (l : List Column). map (state_set (lay.shape setup.layout).stripes) l) columns
 
@@ -142,7 +145,5 @@ module _ {L D : Type 0} (lay : LayoutGhosts L) (disk : DiskGhosts D) where
           );
       one_column = λ c k device a b. sym (live c device a).1 ∙ (live k device b).1;
       asked = given-asked setup.clients.items small (lay.shape setup.layout) (length setup.graphs.items);
+      fit = fit-none setup.graphs.items graphs;
     }
-
-  pub fit-none : (core : Array L D) → core.graphs.items ≡ [] → FitThePool (graphs_of core)
-  fit-none core e n = subst (λ (l : List Held). length (slice_index_or l n no_graph).drawn.bufs ≤ 2048) (sym e) (omega arith)

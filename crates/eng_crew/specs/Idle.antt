@@ -1,10 +1,12 @@
 -- When a worker may end.
 use Rattle.std.specs.Prelude.{◌≡◌, ◌⊎◌, Option, Some, None}
+use Rattle.blk_disk.specs.declared.disk.Disk.{Ghosts as DiskGhosts}
 use Rattle.lay_core.specs.declared.layout.Layout.{Ghosts as LayoutGhosts}
 use Rattle.eng_job.specs.declared.job.Job.{Job}
 use Rattle.eng_events.specs.declared.array.Array.{Array}
 use Rattle.eng_array.specs.declared.calls.Core.{Core}
 use Rattle.eng_events.specs.Picked.{IsResting, IsStuck}
+use Rattle.eng_array.specs.Tickets.{After}
 use Rattle.eng_turn.specs.declared.turn.Pass.{Pass}
 use Rattle.eng_turn.specs.declared.turn.Turn.{Turn}
 use Rattle.eng_turn.specs.Turn.{IsOf, IsOutside, ticket_of, mark_of, share_of}
@@ -13,6 +15,13 @@ module _ {L D : Type 0} (lay : LayoutGhosts L) where
   -- all is done, or nothing can be done but that jobs come home
   abbrev pub IsIdle : Array L D → Type 0
   IsIdle core = IsResting core ⊎ IsStuck lay core
+
+  -- an idle core stands on the way from the one core to the other, by events of clients alone
+  pub record WasIdle (disk : DiskGhosts D) (old new : Array L D) : Type 0 where
+    pub mid : Array L D
+    pub idle : IsIdle mid
+    pub before : After lay disk old mid
+    pub behind : After lay disk mid new
 
 module _ {R L D : Type 0} where
   -- the pass is this turn's and outside, with no job
@@ -23,6 +32,6 @@ module _ {R L D : Type 0} where
   abbrev pub IsSpare : Turn R (Core L D) (Option (Job D)) → Pass R (Core L D) (Option (Job D)) → Type 0
   IsSpare t p = IsReady t p × (share_of p ≡ 1)
 
-  -- the core that the pass left last is idle
-  abbrev pub HasIdleMark : LayoutGhosts L → Pass R (Core L D) (Option (Job D)) → Type 0
-  HasIdleMark lay p = (m : Core L D) × (mark_of p ≡ Some m) × IsIdle lay m.array
+  -- the core that the pass left last is idle, and comes after the opening
+  abbrev pub HasIdleMark : LayoutGhosts L → DiskGhosts D → Core L D → Pass R (Core L D) (Option (Job D)) → Type 0
+  HasIdleMark lay disk opening p = (m : Core L D) × (mark_of p ≡ Some m) × IsIdle lay m.array × After lay disk opening.array m.array

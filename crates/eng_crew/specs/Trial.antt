@@ -9,9 +9,7 @@ use Rattle.eng_world.specs.declared.item.Item.{Item}
 use Rattle.eng_world.specs.declared.item.Item.TheVariants as item
 use Rattle.eng_events.specs.declared.array.Array.{Array}
 use Rattle.eng_events.specs.Opened.{NoneOut}
-use Rattle.eng_array.specs.Progress.{FitThePool}
 use Rattle.eng_array.specs.Steady.{IsSteady}
-use Rattle.eng_array.specs.Tickets.{graphs_of}
 
 -- a write of some blocks, or a read of one to four
 abbrev pub IsSmallOp : Op → Type 0
@@ -31,6 +29,6 @@ abbrev pub AreSmall : Vec Item Global → Type 0
 AreSmall items = (length items.items ≤ 4096) × All IsSmall items.items
 
 module _ {L D : Type 0} (lay : LayoutGhosts L) (disk : DiskGhosts D) where
-  -- the core is steady, no job is out, and each graph of the file fits the pool
+  -- the core is steady, and no job is out
   abbrev pub IsServable : Array L D → Type 0
-  IsServable core = IsSteady lay disk core × NoneOut core.clients × FitThePool (graphs_of core)
+  IsServable core = IsSteady lay disk core × NoneOut core.clients

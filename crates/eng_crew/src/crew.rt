@@ -4,8 +4,8 @@ ghost use Rattle.std.specs.Thread.{IsSync};
 ghost use Rattle.eng_events.specs.Opened.{NoneOut};
 ghost use Rattle.eng_array.specs.Steady.{IsSteady};
 ghost use Rattle.eng_array.specs.Tickets.{After};
-ghost use Rattle.eng_turn.specs.Turn.{share_of};
-ghost use Rattle.eng_crew.specs.Idle.{IsReady, IsSpare, HasIdleMark};
+ghost use Rattle.eng_turn.specs.Turn.{opening_of, share_of};
+ghost use Rattle.eng_crew.specs.Idle.{IsReady, IsSpare, HasIdleMark, WasIdle};
 
 use crate::rule::CrewRule;
 use crate::worker::work;
@@ -23,7 +23,8 @@ use std::thread::Threads;
 pub struct Memory;
 
 /// Lets 1 to 16 workers at the core, which has no job out, until each of them found nothing to do, and hands it back:
-/// with all jobs home, and by events of clients alone. Where the system makes no more threads, this one does the work
+/// with all jobs home, and by events of clients alone. On its way it was idle: at rest, or with nothing to do but that jobs
+/// came home. Where the system makes no more threads, this one does the work
 /// of those that are missing.
 ///
 /// All passes are made, and the memory for them taken, before the first event. `Memory` where there was none: it comes
@@ -38,6 +39,7 @@ pub fn run_crew<L: Layout + Drop + Send, D: Disk + Drop + Send, R: Threads + Wai
     requires steady { IsSteady L.Layout D.Disk core.array }
     requires home { NoneOut core.array.clients }
     ensures after { IfOk result (λ now. After L.Layout D.Disk core.array now.array) }
+    ensures idle { IfOk result (λ now. WasIdle L.Layout D.Disk core.array now.array) }
     ensures steady { IfOk result (λ now. IsSteady L.Layout D.Disk now.array) }
     ensures home { IfOk result (λ now. NoneOut now.array.clients) }
     ensures err { IfErr result (λ e. e.0 ≡ core) }
@@ -91,7 +93,7 @@ fn crew<L: Layout + Drop + Send, D: Disk + Drop + Send, R: Threads + Wait + Sync
     requires others { All (IsSpare turn.now) others.items }
     ensures ready { IsReady turn.now result }
     ensures share { share_of result ≡ share_of pass + vec_len others }
-    ensures idle { HasIdleMark L.Layout result }
+    ensures idle { HasIdleMark L.Layout D.Disk (opening_of turn.now) result }
 {
     let Some(other) = others.pop() else {
         return worked(rt, turn, pass)
@@ -104,7 +106,7 @@ fn crew<L: Layout + Drop + Send, D: Disk + Drop + Send, R: Threads + Wait + Sync
         { worked(rt, turn, other) },
         || -> Pass<CrewRule<L, D>>
             requires { IsSync R.row × (IsReady turn.now pass × All (IsSpare turn.now) others.items) }
-            ensures { IsReady turn.entry.now result × (share_of result ≡ share_of pass + vec_len others) × HasIdleMark L.Layout result }
+            ensures { IsReady turn.entry.now result × (share_of result ≡ share_of pass + vec_len others) × HasIdleMark L.Layout D.Disk (opening_of turn.entry.now) result }
         { crew(rt, turn, pass, others) },
     );
     turn.join(&mut pass, other);
@@ -120,7 +122,7 @@ fn worked<L: Layout + Drop, D: Disk + Drop, W: Wait>(
     requires { IsReady turn.now pass }
     ensures ready { IsReady turn.now result }
     ensures share { share_of result ≡ share_of pass }
-    ensures idle { HasIdleMark L.Layout result }
+    ensures idle { HasIdleMark L.Layout D.Disk (opening_of turn.now) result }
 {
     work(rt, turn, &mut pass);
     pass

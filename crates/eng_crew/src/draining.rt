@@ -2,9 +2,9 @@
 ghost use Rattle.std.specs.Prelude.{◌≡◌, ◌≤◌, true, false, [], ◌∷◌, None};
 ghost use Rattle.eng_events.specs.Opened.{NoneOut};
 ghost use Rattle.eng_events.specs.Picked.{IsResting};
-ghost use Rattle.eng_array.specs.Progress.{FitThePool, left_of, Falls};
+ghost use Rattle.eng_array.specs.Progress.{left_of, Falls};
 ghost use Rattle.eng_array.specs.Steady.{IsSteady};
-ghost use Rattle.eng_array.specs.Tickets.{graphs_of, After, Shared};
+ghost use Rattle.eng_array.specs.Tickets.{After, Shared};
 ghost use Rattle.eng_crew.specs.Drained.{Drained};
 ghost use Rattle.eng_crew.specs.Idle.{IsIdle};
 
@@ -14,15 +14,13 @@ use eng_array::{Core, Job};
 use lay_core::Layout;
 
 /// Serves the core, which has no job out, until every item has its reply, or the array is lost, and no job is out. A
-/// node that is fired is performed and comes home before the next event. No graph of the file may have more buffers than
-/// the pool, which are 2,048: its operation would wait for good.
+/// node that is fired is performed and comes home before the next event.
 ///
 /// An item of which no graph has more than m nodes has at most 2 m + 4 events, and as many again for each column that
 /// dies meanwhile. It waits for nobody and takes no memory.
 pub fn drain<L: Layout, D: Disk>(core: &mut Core<L, D>)
     requires steady { IsSteady L.Layout D.Disk core.old.array }
     requires home { NoneOut core.old.array.clients }
-    requires pool { FitThePool (graphs_of core.old.array) }
     ensures steady { IsSteady L.Layout D.Disk core.new.array }
     ensures home { NoneOut core.new.array.clients }
     ensures rest { IsResting core.new.array }

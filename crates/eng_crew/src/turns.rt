@@ -4,7 +4,7 @@ ghost use Rattle.eng_events.specs.Doing.{CanDo};
 ghost use Rattle.eng_array.specs.Progress.{Falls};
 ghost use Rattle.eng_array.specs.Steady.{IsSteady};
 ghost use Rattle.eng_array.specs.Tickets.{Turned, Acts};
-ghost use Rattle.eng_turn.specs.Turn.{IsOf, IsOutside, ticket_of, share_of};
+ghost use Rattle.eng_turn.specs.Turn.{IsOf, IsOutside, opening_of, ticket_of, share_of};
 ghost use Rattle.eng_crew.specs.Idle.{IsIdle, IsReady, HasIdleMark};
 
 use crate::rule::CrewRule;
@@ -80,7 +80,7 @@ pub(crate) fn turn_by<L: Layout + Drop, D: Disk + Drop, W: Wait>(
     requires { IsReady turn.now pass.old }
     ensures ready { IsReady turn.now pass.new }
     ensures share { share_of pass.new ≡ share_of pass.old }
-    ensures idle { (result ≡ Found.Event) ⊎ HasIdleMark L.Layout pass.new }
+    ensures idle { (result ≡ Found.Event) ⊎ HasIdleMark L.Layout D.Disk (opening_of turn.now) pass.new }
 {
     let mut core = turn.enter(rt, pass);
     let (found, ticket) = go_on(&mut core);

@@ -1,6 +1,6 @@
 //! A worker.
 ghost use Rattle.std.specs.Prelude.{◌≡◌};
-ghost use Rattle.eng_turn.specs.Turn.{share_of};
+ghost use Rattle.eng_turn.specs.Turn.{opening_of, share_of};
 ghost use Rattle.eng_crew.specs.Idle.{IsReady, HasIdleMark};
 
 use crate::rule::CrewRule;
@@ -17,7 +17,8 @@ const EMPTY: u32 = 1_048_576;
 /// Takes turns until every item has its reply and no job is out, or until 1,048,576 turns in a row found nothing to do.
 /// The pass must be this turn's and outside, with no job; it is so again, and has the share that it had.
 ///
-/// The core that the pass left last is then at rest, or one in which nothing can be done but that jobs come home.
+/// The core that the pass left last is then at rest, or one in which nothing can be done but that jobs come home, and it
+/// comes after the one with which the turn was opened.
 /// Nobody else needs to be there: what is left over the drain completes. It waits for the turn, and takes no memory.
 pub fn work<L: Layout + Drop, D: Disk + Drop, W: Wait>(
     rt: &W,
@@ -27,7 +28,7 @@ pub fn work<L: Layout + Drop, D: Disk + Drop, W: Wait>(
     requires { IsReady turn.now pass.old }
     ensures ready { IsReady turn.now pass.new }
     ensures share { share_of pass.new ≡ share_of pass.old }
-    ensures idle { HasIdleMark L.Layout pass.new }
+    ensures idle { HasIdleMark L.Layout D.Disk (opening_of turn.now) pass.new }
 {
     let mut empty = 0;
     for _ in rt.forever() {

@@ -32,4 +32,4 @@ join-other-requires-after_bounds g t c κs within =
     (popped.1, (search (rules, c.decreases), (λ a m. m, (λ a m. m, (λ a m. m, ((search rules, (c.requires.ready, popped.0)), (search rules, search rules, search rules)))))))
 
 pub returns-clause-idle : goal.returns-clause-idle
-returns-clause-idle g t c = let idle = c.join-other.ensures.second.2 in (idle.0, c.join.ensures.mark ∙ idle.1, idle.2)
+returns-clause-idle g t c = let idle = c.join-other.ensures.second.2 in (idle.0, c.join.ensures.mark ∙ idle.1, idle.2, idle.3)

@@ -17,3 +17,13 @@ returns-clause-steady g c = c.in-Some.ensures.fits.shared.sound
 
 pub returns-clause-home : goal.returns-clause-home
 returns-clause-home g c = shared-none g.L.Layout g.D.Disk c.in-Some.core.array (subst (λ (t : Option (Job g.row.D.Denot)). Shared g.L.Layout g.D.Disk c.in-Some.core.array (t ∷ [])) c.crew-pass.ensures.ready.2 c.in-Some.ensures.fits.shared)
+
+pub returns-clause-idle : goal.returns-clause-idle
+returns-clause-idle g c =
+    let idle = c.crew-pass.ensures.idle in
+    record {
+      mid = idle.0.array;
+      idle = idle.2;
+      before = subst (λ (o : Core g.row.L.Denot g.row.D.Denot). After g.L.Layout g.D.Disk o.array idle.0.array) c.in-Ok-open.ensures.opening idle.3;
+      behind = c.in-Some.ensures.after idle.0 idle.1;
+    }

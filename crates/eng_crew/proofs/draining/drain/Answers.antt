@@ -1,7 +1,7 @@
 use Rattle.std.proofs.Common.{inl, inr}
 use Rattle.eng_array.proofs.Somebody.{somebody-goes-on}
 use Rattle.eng_crew.specs.Laws.{later_itself, later_later}
-use Rattle.eng_crew.proofs.Few.{after-drained, after-fits}
+use Rattle.eng_crew.proofs.Few.{after-drained}
 use Rattle.eng_crew.proofs.draining.drain.Goals as goal
 
 pub loop-init : goal.loop-init
@@ -12,10 +12,9 @@ loop-preserved g c = record { steady = c.drain_one.ensures.steady; home = c.drai
 
 pub returns-clause-rest : goal.returns-clause-rest
 returns-clause-rest g c =
-    let after = later_later g.L.Layout g.D.Disk _ _ _ c.loop.invariant.after c.drain_one.ensures.after in
     elim (c.drain_one.ensures.idle c.loop-test.false) [
       | inl rest ↦ rest
-      | inr stuck ↦ somebody-goes-on g.L.Layout g.D.Disk c.drain_one.new.core.array c.drain_one.ensures.steady (after-fits g.L.Layout g.D.Disk _ _ after c.requires.pool) c.drain_one.ensures.home stuck
+      | inr stuck ↦ somebody-goes-on g.L.Layout g.D.Disk c.drain_one.new.core.array c.drain_one.ensures.steady c.drain_one.ensures.home stuck
     ]
 
 pub returns-clause-drained : goal.returns-clause-drained

@@ -2,6 +2,7 @@ use Rattle.std.proofs.Common.{◌≡◌, ◌∙◌, sym, subst, inl, inr, Option
 use Rattle.eng_job.specs.declared.job.Job.{Job}
 use Rattle.eng_array.specs.Tickets.{Turned}
 use Rattle.eng_turn.specs.Turn.{opening_of, ticket_of}
+use Rattle.eng_crew.specs.Laws.{later_later, later_step}
 use Rattle.eng_crew.proofs.Keeps.{turned-keeps}
 use Rattle.eng_crew.proofs.turns.turn_by.Goals as goal
 
@@ -19,4 +20,13 @@ leave-requires-clause-step g c =
     (v, c.enter-core.ensures.inside, turned, turned-keeps g.L.Layout g.D.Disk (opening_of c.args.turn.now) v w t u turned)
 
 pub returns-in_default-clause-idle : goal.returns-in_default-clause-idle
-returns-in_default-clause-idle g c = elim c.go_on-found.ensures.idle [ inl e ↦ inl e | inr h ↦ inr (c.go_on-found.new.core, c.leave.ensures.mark, h.1) ]
+returns-in_default-clause-idle g c = elim c.go_on-found.ensures.idle [
+  | inl e ↦ inl e
+  | inr h ↦ inr (
+    c.go_on-found.new.core,
+    c.leave.ensures.mark,
+    h.1,
+    later_later g.L.Layout g.D.Disk (opening_of c.args.turn.now).array c.enter-core.result.array c.go_on-found.new.core.array c.enter-core.ensures.fits.2.after
+        (later_step g.L.Layout g.D.Disk c.enter-core.result.array c.go_on-found.new.core.array None c.go_on-found.result.1 c.go_on-found.ensures.turned),
+  )
+]

@@ -13,4 +13,4 @@ pub open-requires-clause-sectors : goal.open-requires-clause-sectors
 open-requires-clause-sectors g c = subst (λ (l : List (Vec Item Global)). sectors_before l 16 ≤ 262144) (sym c.as_slice.ensures.value) (sectors-few c.args.clients.items c.requires.small)
 
 pub open-requires-2-clause-setup : goal.open-requires-2-clause-setup
-open-requires-2-clause-setup g c = is-setup _ g.D.Disk _ c.args.first c.args.second c.in-Ok.ensures.made c.in_ok-columns.ensures.items c.in_ok-devices.ensures c.requires.first c.requires.second c.requires.small
+open-requires-2-clause-setup g c = is-setup _ g.D.Disk _ c.args.first c.args.second c.in-Ok.ensures.made c.in_ok-columns.ensures.items c.in_ok-devices.ensures c.requires.first c.requires.second c.requires.small c.new-2.ensures.items
