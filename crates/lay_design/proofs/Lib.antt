@@ -3,3 +3,4 @@ mod Tables
 mod Flat
 mod Combinations
 mod NoFault
+pub mod Sent
