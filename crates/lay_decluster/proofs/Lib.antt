@@ -1,0 +1,7 @@
+mod Objects
+mod Seated
+mod Sums
+mod Spread
+mod Balanced
+mod Lowest
+pub mod Sent
