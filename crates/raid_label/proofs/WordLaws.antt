@@ -46,15 +46,14 @@ all_zero zero = refl
 all_zero (suc n) = all_zero n
 
 -- the sector that the writing of a label leaves
-pub written : (l : Label) (words one two three zeros : List ℕ) → words ≡ words_of l → length l.seats ≡ 32 → zeros ≡ replicate 420 0 → length three ≡ 512
-    → take 60 one ≡ magic ++ bytes_of_words (take 13 words) → take (60 + length l.seats) two ≡ take 60 one ++ l.seats → take (92 + length zeros) three ≡ take 92 two ++ zeros
+pub written : (l : Label) (words one two three zeros : List ℕ) → words ≡ words_of l → zeros ≡ replicate 420 0 → length three ≡ 512
+    → take 60 one ≡ magic ++ bytes_of_words (take 13 words) → take 92 two ≡ take 60 one ++ l.seats → take (92 + length zeros) three ≡ take 92 two ++ zeros
     → three ≡ bytes_of l
 unfolding bytes_of
-written l words one two three zeros all seats none long a b c =
-    let ninety : 60 + length l.seats ≡ 92 = omega (arith, seats) in
+written l words one two three zeros all none long a b c =
     let end : length three ≤ 92 + length zeros = omega (arith, long, ap length none, length-replicate {A = ℕ} 420 0) in
     let front : take 60 one ≡ magic ++ bytes_of_words (words_of l) = a ∙ ap (λ (ws : List ℕ). magic ++ bytes_of_words (take 13 ws)) all in
-    let middle : take 92 two ≡ (magic ++ bytes_of_words (words_of l)) ++ l.seats = ap (λ (n : ℕ). take n two) (sym ninety) ∙ (b ∙ ap (λ (t : List ℕ). t ++ l.seats) front) in
+    let middle : take 92 two ≡ (magic ++ bytes_of_words (words_of l)) ++ l.seats = b ∙ ap (λ (t : List ℕ). t ++ l.seats) front in
     sym (take_all (92 + length zeros) three end) ∙ (c ∙ (ap (λ (t : List ℕ). t ++ zeros) middle
     ∙ (ap (λ (z : List ℕ). ((magic ++ bytes_of_words (words_of l)) ++ l.seats) ++ z) none
     ∙ (append_assoc (magic ++ bytes_of_words (words_of l)) l.seats (replicate 420 0)

@@ -17,7 +17,7 @@ pub fn write_label(label: &Label, sector: &mut [u8])
     for i in 0..13 {
         put_word(sector, 8 + 4 * i, words[i]);
     }
-    put(sector, 60, &label.seats);
+    put_seats(sector, &label.seats);
     put(sector, 92, &[0; 420]);
 }
 
@@ -48,6 +48,14 @@ fn put_word(sector: &mut [u8], at: usize, word: u32)
     ensures { take (at + 4) sector.new ≡ take at sector.old ++ to_le_bytes w32 word }
 {
     put(sector, at, &word.to_le_bytes());
+}
+
+// Puts the seats behind the bytes that are in place.
+fn put_seats(sector: &mut [u8], seats: &[u8; 32])
+    requires { length sector.old ≡ 512 }
+    ensures { take 92 sector.new ≡ take 60 sector.old ++ seats.now }
+{
+    put(sector, 60, seats);
 }
 
 // Puts bytes behind those that are in place.
