@@ -1,7 +1,7 @@
 -- The lines of the blocks that a read replied.
 use Rattle.std.specs.Prelude.{ℕ, ◌+◌, List, [], ◌∷◌, ◌++◌, codes, decimal}
 use Rattle.hex.specs.Hex.{encode_lower}
-use Rattle.raid_script.specs.Line.{line}
+use Rattle.put_line.specs.Line.{line}
 use Rattle.raid_script.specs.Repetition.{shortest}
 use Rattle.raid_script.specs.Runs.{Run, runs}
 

@@ -1,7 +1,7 @@
 -- The lines of the history.
 use Rattle.std.specs.Prelude.{ℕ, List, [], ◌∷◌, codes, decimal, flat_map, nat_eq, if◌then◌else◌}
 use Rattle.blk_plain.specs.declared.op.OpId.{OpId}
-use Rattle.raid_script.specs.Line.{line}
+use Rattle.put_line.specs.Line.{line}
 
 -- commit C.I
 unfoldable pub commit_line : OpId → List ℕ

@@ -4,7 +4,6 @@ pub mod Form
 pub mod Answers
 pub mod Laws
 pub mod Drawn
-pub mod Line
 pub mod History
 pub mod Trace
 pub mod Repetition

@@ -8,7 +8,7 @@ use Rattle.eng_world.specs.declared.item.Item.{Item}
 use Rattle.eng_world.specs.declared.item.Item.TheVariants as item
 use Rattle.eng_world.specs.declared.item.Reply.{Reply}
 use Rattle.eng_world.specs.declared.item.Reply.TheVariants as reply
-use Rattle.raid_script.specs.Line.{line}
+use Rattle.put_line.specs.Line.{line}
 use Rattle.raid_script.specs.Replies.{item_sectors, row_sectors, item_bytes, items_at, replies_at, sectors_before, no_item}
 
 -- sweep clients C operations T

@@ -3,7 +3,7 @@ use Rattle.std.specs.Prelude.{ℕ, List, [], ◌∷◌, codes, decimal, flat_map
 use Rattle.blk_plain.specs.declared.op.OpId.{OpId}
 use Rattle.eng_world.specs.declared.item.Traced.{Traced}
 use Rattle.eng_world.specs.declared.item.Traced.TheVariants as traced
-use Rattle.raid_script.specs.Line.{line}
+use Rattle.put_line.specs.Line.{line}
 
 -- a word and C.I
 unfoldable pub id_line : List ℕ → OpId → List ℕ

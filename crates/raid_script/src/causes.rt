@@ -2,9 +2,9 @@
 ghost use Rattle.std.specs.Prelude.{◌≡◌, ◌≤◌, ◌+◌, ◌*◌, ◌++◌, length};
 ghost use Rattle.raid_script.specs.Replies.{numbers_text, cause_name, cause_fields, reply_words, reply_numbers, reply_line};
 
-use crate::text_line::Line;
 use eng_world::Reply;
 use graph_mean::Refusal;
+use put_line::Line;
 
 // Adds numbers, with a space before each.
 fn push_numbers(line: &mut Line, numbers: &[u32])

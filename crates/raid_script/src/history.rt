@@ -4,9 +4,9 @@ ghost use Rattle.blk_disk.specs.Disk.{Rose};
 ghost use Rattle.raid_bay.specs.Sink.{Puts};
 ghost use Rattle.raid_script.specs.History.{commit_line, commit_text, history_text};
 
-use crate::text_line::Line;
 use blk_disk::Failed;
 use blk_plain::OpId;
+use put_line::Line;
 use raid_bay::Sink;
 
 /// The client whose operations are the array's own.
@@ -35,7 +35,7 @@ fn put_commit<K: Sink>(id: OpId, line: &mut Line, out: &mut K) -> Result<(), Fai
         return Ok(());
     }
     set_commit(line, id);
-    out.put(line.bytes())
+    line.put(out)
 }
 
 /// Prints the history: `commit C.I` for each operation in it, in its order; those of client 16,

@@ -35,7 +35,6 @@ mod runs;
 mod script;
 mod summary;
 mod sums;
-mod text_line;
 mod trace;
 mod words;
 

@@ -6,10 +6,10 @@ ghost use Rattle.raid_script.specs.Replies.{op_sectors, item_sectors, row_sector
 
 use crate::causes::set_reply;
 use crate::runs::put_blocks;
-use crate::text_line::Line;
 use blk_disk::Failed;
 use blk_plain::{Op, SECTOR};
 use eng_world::{Item, Reply};
+use put_line::Line;
 use raid_bay::Sink;
 
 // The clients whose replies are printed: those below this number.
@@ -89,7 +89,7 @@ fn put_item<K: Sink>(
 {
     let mut line = Line::new();
     set_reply(&mut line, client, index, reply);
-    out.put(line.bytes())?;
+    line.put(out)?;
     put_data(reply, item_first(item), bytes, out)
 }
 

@@ -6,8 +6,8 @@ ghost use Rattle.raid_script.specs.Runs.{Run, AreRuns, runs};
 ghost use Rattle.raid_script.specs.Blocks.{block_line, blocks_text};
 
 use crate::repetition::shortest_string;
-use crate::text_line::Line;
 use blk_disk::Failed;
+use put_line::Line;
 use raid_bay::Sink;
 
 /// How many sectors from the first on are equal to it, up to the first other one; 0 where there is none.
@@ -64,7 +64,7 @@ pub fn put_blocks<K: Sink>(first: u64, sectors: &[[u8; 512]], out: &mut K) -> Re
     while !rest.is_empty() {
         let count = run_length(rest);
         set_block(&mut line, block, count, &rest[0]);
-        out.put(line.bytes())?;
+        line.put(out)?;
         block += count as u128;
         rest = rest.split_at(count).1;
     }

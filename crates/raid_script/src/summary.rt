@@ -6,9 +6,9 @@ ghost use Rattle.raid_script.specs.Replies.{StandFor};
 ghost use Rattle.raid_script.specs.Summary.{sweep_line, written_line, summary_text};
 
 use crate::sums::{count_items, count_written, sum_all};
-use crate::text_line::Line;
 use blk_disk::Failed;
 use eng_world::{Item, Reply};
+use put_line::Line;
 use raid_bay::Sink;
 
 // The line of the clients and their items.
@@ -62,8 +62,8 @@ pub fn put_summary<K: Sink>(
 {
     let mut line = Line::new();
     set_sweep(&mut line, clients.len(), count_items(clients));
-    out.put(line.bytes())?;
+    line.put(out)?;
     let sums = sum_all(clients, replies, sectors);
     set_written(&mut line, count_written(clients), sums.1, sums.0);
-    out.put(line.bytes())
+    line.put(out)
 }

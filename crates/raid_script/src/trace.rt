@@ -4,10 +4,10 @@ ghost use Rattle.blk_disk.specs.Disk.{Rose};
 ghost use Rattle.raid_bay.specs.Sink.{Puts};
 ghost use Rattle.raid_script.specs.Trace.{id_line, node_line, column_line, fill_line, event_line, trace_text};
 
-use crate::text_line::Line;
 use blk_disk::Failed;
 use blk_plain::OpId;
 use eng_world::Traced;
+use put_line::Line;
 use raid_bay::Sink;
 
 // The line of an operation's event.
@@ -101,7 +101,7 @@ pub fn put_trace<K: Sink>(trace: &[Traced], out: &mut K) -> Result<(), Failed>
     let mut line = Line::new();
     for event in trace {
         set_event(&mut line, *event);
-        out.put(line.bytes())?;
+        line.put(out)?;
     }
     Ok(())
 }

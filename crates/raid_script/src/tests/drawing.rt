@@ -50,6 +50,9 @@ fn words_are_those_of_the_published_algorithm(rt: HostRuntime) {
         296_513_984,
         4_177_522_235,
         689_909_480,
+        3_719_081_784,
+        441_867_712,
+        3_688_506_836,
     ] {
         assert_eq!(rt; next(&mut words), word);
     }
@@ -57,14 +60,21 @@ fn words_are_those_of_the_published_algorithm(rt: HostRuntime) {
 
 // By hand: of the first three words the first is a multiple of 3, so they make a read; the second is
 // 6 mod 8, so it has 7 blocks; a quarter of the first is 216,646,393, which is 81 mod 94, and 29
-// mod 44. Of the next three the first is 2 mod 3, the second 3 mod 8, and the third e8 mod 256.
+// mod 44. Of the next three the first is 2 mod 3, the second 3 mod 8, and the third e8 mod 256; a
+// quarter of the first is 74,128,496, which is 29 mod 97. Of the last three the first is a multiple
+// of 3 again, the second a multiple of 8, and a quarter of the first, 929,770,446, is 46 mod 100.
 #[test]
 fn words_make_items(rt: HostRuntime) -> Result<(), Fail> {
-    let clients = generate(rt.alloc(), 1, 1, 2, 100)
+    let clients = generate(rt.alloc(), 1, 1, 3, 100)
         .expect(&rt, "memory")
         .clients();
     assert!(rt; clients.len() == 1);
-    see(&rt, &clients, 0, &[read(81, 7), write(29, 4, 0xe8)]);
+    see(
+        &rt,
+        &clients,
+        0,
+        &[read(81, 7), write(29, 4, 0xe8), read(46, 1)],
+    );
     let clients = generate(rt.alloc(), 1, 2, 2, 100)
         .expect(&rt, "memory")
         .clients();

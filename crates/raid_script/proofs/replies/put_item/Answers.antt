@@ -8,10 +8,10 @@ pub returns-in_err-put-clause-output : goal.returns-in_err-put-clause-output
 returns-in_err-put-clause-output g c = λ told.
     let p = err_from_is_err_and c.from_residual.result c.from_residual.ensures.1 in
     rw p.1 (puts_cut _ _ (reply_line c.args.client c.args.index c.args.reply) (data_text c.args.reply (item_first c.args.item.now) c.args.bytes.now)
-    (rw (c.bytes.ensures, c.set_reply.ensures) at (c.in_err-put.ensures.output told)))
+    (rw c.set_reply.ensures at (c.in_err-put.ensures.output told)))
 
 pub returns-clause-output : goal.returns-clause-output
 returns-clause-output g c = λ told.
     puts_then (is_ok c.put_data.result) _ _ _ (reply_line c.args.client c.args.index c.args.reply) (data_text c.args.reply (item_first c.args.item.now) c.args.bytes.now)
-    (rw (c.bytes.ensures, c.set_reply.ensures) at (c.in_ok-put.ensures.output told))
+    (rw c.set_reply.ensures at (c.in_ok-put.ensures.output told))
     (rw c.item_first.ensures at (c.put_data.ensures.output told))

@@ -14,7 +14,7 @@ loop-rest-preserved g c =
     record {
       rest = λ told b new puts. c.loop-rest.invariant.rest told b new
           (puts_on b _ _ new _ _ _ (blocks_more c.loop-rest.block c.loop-rest.rest.now c.run_length-count.result _ (n.some some) n.within n.equal n.maximal)
-          (rw (c.bytes.ensures, c.set_block.ensures) at (c.in_ok-put.ensures.output told)) (subst (λ (s : List (List ℕ)). Puts b (g.K.Sink.output c.put.new.self) (blocks_text (c.loop-rest.block + c.run_length-count.result) s) new) c.split_at.ensures.back puts));
+          (rw c.set_block.ensures at (c.in_ok-put.ensures.output told)) (subst (λ (s : List (List ℕ)). Puts b (g.K.Sink.output c.put.new.out) (blocks_text (c.loop-rest.block + c.run_length-count.result) s) new) c.split_at.ensures.back puts));
       later = omega arith;
       fits = omega (arith, c.split_at.ensures.back_len);
     }
@@ -26,7 +26,7 @@ returns-in_err-put-clause-output g c = λ told.
     let some : 0 < length c.loop-rest.rest.now = search rules in
     rw p.1 (c.loop-rest.invariant.rest told false _
     (puts_off _ _ _ _ _ (blocks_more c.loop-rest.block c.loop-rest.rest.now c.run_length-count.result _ (n.some some) n.within n.equal n.maximal)
-    (rw (c.bytes.ensures, c.set_block.ensures) at (c.in_err-put.ensures.output told))))
+    (rw c.set_block.ensures at (c.in_err-put.ensures.output told))))
 
 pub returns-in_err-put-clause-maximal : goal.returns-in_err-put-clause-maximal
 returns-in_err-put-clause-maximal g c = are_runs c.args.sectors.now

@@ -1,14 +1,18 @@
-//! A line that is printed, in room of its own.
-ghost use Rattle.std.specs.Prelude.{◌≡◌, ◌≤◌, ◌+◌, ◌*◌, ◌++◌, [], length, take};
+//! A line, in room of its own.
+ghost use Rattle.std.specs.Prelude.{◌≡◌, ◌≤◌, ◌+◌, ◌*◌, ◌++◌, [], length, take, is_ok, OnErr};
 ghost use Rattle.hex.specs.Hex.{encode_lower};
+ghost use Rattle.blk_disk.specs.Disk.{Rose};
+ghost use Rattle.raid_bay.specs.Sink.{Puts};
 
+use blk_disk::Failed;
 use itoa::{Buffer, Integer};
+use raid_bay::Sink;
 use std::marker::Model;
 
 // The longest line names a block and a count, and has 1,024 digits of a sector.
 const ROOM: usize = 1200;
 
-/// A line, which contracts see as its bytes.
+/// A line of at most 1,200 bytes, which contracts see as its bytes.
 #[derive(Drop)]
 pub struct Line {
     bytes: [u8; ROOM],
@@ -92,9 +96,21 @@ impl Line {
     /// Adds two digits for each byte, in lower case.
     pub fn push_hex(&mut self, bytes: &[u8])
         requires { length self.old + 2 * length bytes.now ≤ 1200 }
-        ensures { self.new ≡ self.old ++ encode_lower bytes.now }
+        ensures value { self.new ≡ self.old ++ encode_lower bytes.now }
+        ensures long { length self.new ≡ length self.old + 2 * length bytes.now }
     {
         paste_hex(&mut self.bytes, self.len, bytes);
         self.len += 2 * bytes.len();
+    }
+
+    /// Puts the whole line by one call of the sink. It stays as it is.
+    ///
+    /// Failed, only where the sink's count of faults rose, has put a front of the line.
+    pub fn put<K: Sink>(&self, out: &mut K) -> Result<(), Failed>
+        ensures output { K.tells → Puts (is_ok result) (K.output out.old) self.now (K.output out.new) }
+        ensures later { K.faults out.old ≤ K.faults out.new }
+        ensures cause { OnErr result (Rose (K.faults out.old) (K.faults out.new)) }
+    {
+        out.put(self.bytes())
     }
 }
