@@ -1,0 +1,11 @@
+pub mod Judged
+pub mod Words
+pub mod Turns
+pub mod OneStep
+pub mod FormLines
+pub mod FormDesigns
+pub mod DifferentNames
+pub mod FormText
+pub mod FormConf
+pub mod ReadLines
+pub mod ReadConf

@@ -1,0 +1,9 @@
+pub mod Steps
+pub mod Levels
+pub mod Designs
+pub mod Sections
+pub mod Format
+pub mod Form
+pub mod Answers
+pub mod Laws
+pub mod Layouts

@@ -1,0 +1,247 @@
+//! One text for each way to be refused, and for each order of two faults.
+use crate::{ConfFault, read_conf};
+use std::alloc::Global;
+use std::process::Abort;
+use std::test::Fail;
+
+// Why a configuration isn't read, or line 0 where it is.
+fn refusal(rt: &impl Abort, alloc: Global, text: &[u8]) -> (u32, u8) {
+    assert!(rt; text.len() < 10_000_000);
+    match read_conf(alloc, text) {
+        Ok(_) => (0, 0),
+        Err(ConfFault::At { line, code }) => (line, code),
+        Err(ConfFault::Memory) => (0, 99),
+    }
+}
+
+#[test]
+fn lines_of_the_array_and_of_names_have_their_codes(rt: HostRuntime) {
+    for (text, at) in [
+        (b"".as_slice(), (1, 3)),
+        (b"\n# nothing\n", (3, 3)),
+        (b"array", (1, 1)),
+        (b"START", (1, 1)),
+        (b"START disks", (1, 3)),
+        (b"START arrays", (1, 3)),
+        (b"START array 1", (1, 1)),
+        (b"START array\x01", (1, 1)),
+        (b"START array", (2, 1)),
+        (b"START array\nSTART disks", (2, 2)),
+        (b"START array\n3", (2, 1)),
+        (b"START array\nx 3 0", (2, 2)),
+        (b"START array\n1 3 0 0", (2, 1)),
+        (b"START array\n2 3 0", (2, 2)),
+        (b"START array\n1 0 0", (2, 2)),
+        (b"START array\n1 33 0", (2, 2)),
+        (b"START array\n3 9", (2, 2)),
+        (b"START array\n1 3 9", (2, 2)),
+        (b"START array\n1 3 x", (2, 2)),
+        (b"START array\n3 0\n3 0", (3, 1)),
+        (b"START array\n3 0\nSTART spare", (3, 3)),
+        (b"START array\n3 0", (3, 3)),
+        (b"START array\n3 0\nSTART disks", (4, 5)),
+        (b"START array\n3 0\nSTART disks\na\nb\n", (6, 5)),
+        (b"START array\n3 0\nSTART disks\na\nb\nSTART layout", (6, 5)),
+        (b"START array\n3 0\nSTART disks\na\nb\nc\nd", (7, 5)),
+        (b"START array\n3 0\nSTART disks\na\nb\na", (6, 7)),
+        (b"START array\n3 0\nSTART disks\na b", (4, 1)),
+        (b"START array\n3 0\nSTART disks\na\nb\nc", (7, 3)),
+        (
+            b"START array\n3 0\nSTART disks\na\nb\nc\nSTART array",
+            (7, 3),
+        ),
+        (b"START array\n1 1\nSTART disks\na\nSTART layout", (5, 6)),
+        (b"START array\n1 1\nSTART disks\na\nSTART queue", (5, 3)),
+        (b"START array\n1 1\nSTART disks\na", (5, 3)),
+        (b"START array\n1 1\nSTART disks\na\nSTART spare", (6, 6)),
+        (
+            b"START array\n1 1\nSTART disks\na\nSTART spare\nSTART layout",
+            (6, 6),
+        ),
+        (b"START array\n1 1\nSTART disks\na\nSTART spare\na", (6, 7)),
+        (
+            b"START array\n1 1\nSTART disks\na\nSTART spare\nabsent",
+            (6, 7),
+        ),
+        (
+            b"START array\n1 1\nSTART disks\na\nSTART spare\ns\nt",
+            (7, 6),
+        ),
+        (
+            b"START array\n1 1\nSTART disks\na\nSTART spare\ns\nSTART queue",
+            (7, 3),
+        ),
+    ] {
+        assert_eq!(rt; refusal(&rt, rt.alloc(), text), at);
+    }
+}
+
+// Why a configuration with this text behind three disks isn't read. The text begins in line 7.
+fn behind_three(rt: &impl Abort, alloc: Global, text: &[u8]) -> Result<(u32, u8), Fail> {
+    let mut whole = Vec::new(alloc);
+    whole.extend_from_slice(b"START array\n1 3 0\nSTART disks\na\nb\nc\n")?;
+    whole.extend_from_slice(text)?;
+    Ok(refusal(rt, alloc, &whole))
+}
+
+#[test]
+fn lines_of_layout_and_queue_have_their_codes(rt: HostRuntime) -> Result<(), Fail> {
+    for (text, at) in [
+        (b"START layout".as_slice(), (8, 1)),
+        (b"START layout\nSTART queue", (8, 2)),
+        (b"START layout\n0 1 1 5", (8, 2)),
+        (b"START layout\n129 1 1 5", (8, 2)),
+        (b"START layout\n1 2 1 5", (8, 9)),
+        (b"START layout\n1 1 2 5", (8, 9)),
+        (b"START layout\n1 1 x 5", (8, 2)),
+        (b"START layout\n1 1 1", (8, 1)),
+        (b"START layout\n1 1 1 6", (8, 8)),
+        (b"START layout\n1 1 1 c", (8, 8)),
+        (b"START layout\n1 1 1 TT", (8, 8)),
+        (b"START layout\n1 1 1 1", (8, 4)),
+        (b"START layout\n1 1 1 5 5", (8, 1)),
+        (b"START layout\n1 1 1 5\n1 1 1 5", (9, 1)),
+        (b"START layout\n1 1 1 5\nSTART layout", (9, 3)),
+        (b"START layout\n1 1 1 5\nSTART queue", (10, 1)),
+        (b"START layout\n1 1 1 5\nSTART queue\nSTART debug", (10, 10)),
+        (b"START layout\n1 1 1 5\nSTART queue\nlifo 100", (10, 10)),
+        (b"START layout\n1 1 1 5\nSTART queue\nfifo", (10, 1)),
+        (b"START layout\n1 1 1 5\nSTART queue\nfifo x", (10, 2)),
+        (b"START layout\n1 1 1 5\nSTART queue\nfifo 1 1", (10, 1)),
+        (
+            b"START layout\n1 1 1 5\nSTART queue\nfifo 1\nfifo 1",
+            (11, 1),
+        ),
+        (
+            b"START layout\n1 1 1 5\nSTART queue\nfifo 1\nSTART queue",
+            (11, 3),
+        ),
+        (b"START layout\n1 1 1 5\nSTART debug\nSTART \x01", (0, 0)),
+    ] {
+        assert_eq!(rt; behind_three(&rt, rt.alloc(), text)?, at);
+    }
+    Ok(())
+}
+
+#[test]
+fn lines_of_designs_have_their_codes(rt: HostRuntime) -> Result<(), Fail> {
+    for (text, at) in [
+        (b"START layout\n1 1 1 T".as_slice(), (9, 11)),
+        (b"START layout\n1 1 1 D\nSTART queue", (9, 11)),
+        (b"START layout\n1 1 1 T\nplan 3 3", (9, 1)),
+        (b"START layout\n1 1 1 T\ncomplete 4 2", (9, 4)),
+        (b"START layout\n1 1 1 T\ncomplete 3 4", (9, 12)),
+        (b"START layout\n1 1 1 T\ncomplete 3", (9, 1)),
+        (b"START layout\n1 1 1 D\ncomplete 3 2", (9, 12)),
+        (b"START layout\n1 1 1 D\ncomplete 3 3", (0, 0)),
+        (b"START layout\n1 1 1 T\ncomplete 3 2\n0 1", (10, 1)),
+        (b"START layout\n1 1 1 T\ncyclic 3 :", (9, 1)),
+        (b"START layout\n1 1 1 T\ncyclic 3 0 1", (9, 1)),
+        (b"START layout\n1 1 1 T\ncyclic 3 : 0 x", (9, 2)),
+        (b"START layout\n1 1 1 T\ncyclic 3 : 0 3", (9, 12)),
+        (b"START layout\n1 1 1 T\ncyclic 3 : 0 1", (0, 0)),
+        (b"START layout\n1 1 1 T\ndesign 3 4 2 2", (9, 4)),
+        (b"START layout\n1 1 1 T\ndesign 3 3 2 2 1", (10, 11)),
+        (
+            b"START layout\n1 1 1 T\ndesign 3 3 2 2 1\n0 1\n0 2\nSTART queue",
+            (12, 11),
+        ),
+        (b"START layout\n1 1 1 T\ndesign 3 3 2 2 1\n0 1 2", (10, 11)),
+        (b"START layout\n1 1 1 T\ndesign 3 3 2 2 1\n0", (10, 11)),
+        (b"START layout\n1 1 1 T\ndesign 3 3 2 2 1\n0 x", (10, 2)),
+        (
+            b"START layout\n1 1 1 T\ndesign 3 3 2 2 1\n0 1\n0 1\n1 2",
+            (9, 12),
+        ),
+        (
+            b"START layout\n1 1 1 T\ndesign 3 3 2 2 1\n0 1\n0 2\n1 2",
+            (0, 0),
+        ),
+        (b"START layout\n1 1 1 T\ndesign 0 3 0 0 0", (9, 12)),
+    ] {
+        assert_eq!(rt; behind_three(&rt, rt.alloc(), text)?, at);
+    }
+    Ok(())
+}
+
+#[test]
+fn of_two_faults_the_first_is_judged(rt: HostRuntime) -> Result<(), Fail> {
+    for (text, at) in [
+        // a missing disk or spare before the words of the line that shows it
+        (
+            b"START array\n2 0\nSTART disks\na\nSTART lay out".as_slice(),
+            (5, 5),
+        ),
+        (
+            b"START array\n1 1\nSTART disks\na\nSTART spare\nSTART\n",
+            (6, 6),
+        ),
+        (b"START array\n1 1\nSTART disks\na\nSTART layout x", (5, 6)),
+        // a byte that no word has before all else
+        (b"START array\n2 0\nSTART disks\na\nSTART \x01", (5, 1)),
+        // a section's name before words too many
+        (b"START disks array", (1, 3)),
+        // a number out of its range before words too few or too many
+        (b"START array\n0", (2, 2)),
+        (b"START array\n5 1 3 4", (2, 2)),
+        // a name before words too many
+        (b"START array\n2 0\nSTART disks\na\na b", (5, 7)),
+        // a disk too many before its name and its words
+        (b"START array\n1 0\nSTART disks\na\na b", (5, 5)),
+    ] {
+        assert_eq!(rt; refusal(&rt, rt.alloc(), text), at);
+    }
+    for (text, at) in [
+        (b"START layout\n0 2".as_slice(), (8, 2)),
+        (b"START layout\n1 2 x 6 1", (8, 9)),
+        (b"START layout\n1 1 1 6 1", (8, 8)),
+        (b"START layout\n1 1 1 1 1", (8, 4)),
+        (b"START layout\n1 1 1 T\ndesign 3 4 x", (9, 4)),
+        (b"START layout\n1 1 1 T\ncyclic 4 x", (9, 4)),
+        (b"START layout\n1 1 1 T\ncomplete 4 2 2", (9, 4)),
+        (b"START layout\n1 1 1 T\ncomplete 3 9 2", (9, 1)),
+        (b"START layout\n1 1 1 T\ndesign 2 3 9 9 9\n0 1", (10, 11)),
+        (b"START layout\n1 1 1 T\ncyclic 3 : 0 0\nlast", (9, 12)),
+        (b"START layout\n1 1 1 5\nSTART queue\nlifo", (10, 10)),
+    ] {
+        assert_eq!(rt; behind_three(&rt, rt.alloc(), text)?, at);
+    }
+    Ok(())
+}
+
+// A configuration of 94 bytes in 11 lines.
+const WHOLE: &[u8] =
+    b"START array\n1 2 1\nSTART disks\nd0\nd1\nSTART spare\ns0\nSTART layout\n32 1 1 5\nSTART queue\nfifo 100\n";
+
+#[test]
+fn a_text_cut_short_is_refused_where_it_ends(rt: HostRuntime) {
+    for (end, at) in [
+        // nothing
+        (0, (1, 3)),
+        // `START arra`
+        (10, (1, 3)),
+        // `START array`, and no line behind it
+        (12, (2, 1)),
+        // `1 `
+        (14, (2, 1)),
+        // `1 2`, one column too few for what follows: two spares, and no disks
+        (15, (3, 3)),
+        // `START disks`, and no name
+        (30, (4, 5)),
+        // `d0`, `d`: the names differ, and the layout is missing
+        (34, (6, 3)),
+        // `START spare`, and no name
+        (48, (7, 6)),
+        // `32 1 1 `
+        (71, (9, 1)),
+        // `32 1 1 5`, which ends a configuration
+        (72, (0, 0)),
+        // `fifo `
+        (90, (11, 1)),
+        // the whole
+        (94, (0, 0)),
+    ] {
+        assert!(rt; end <= WHOLE.len());
+        assert_eq!(rt; refusal(&rt, rt.alloc(), &WHOLE[..end]), at);
+    }
+}
