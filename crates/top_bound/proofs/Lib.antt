@@ -1,0 +1,3 @@
+pub mod Below
+pub mod Limits
+pub mod Counted

@@ -1,0 +1,124 @@
+-- A script within its limits is one that a core has room for, and graphs that were read fit its pool.
+use Rattle.std.proofs.Common.{◌≡◌, ◌∙◌, ℕ, ◌+◌, ◌<◌, ◌≤◌, inl, inr, List, [], ◌∷◌, length, map, take, get_or, refl, sym, ap, subst, arith}
+use Rattle.std.specs.Prelude.{Option, Some, None, Vec, slice_get, slice_index_or, sum_by, option_map}
+use Rattle.std.specs.declared.alloc.Global.{Global}
+use Rattle.std.proofs.lemmas.Bool.{cases_lt}
+use Rattle.std.proofs.lemmas.List.{take_all, get_or_past, length-map}
+use Rattle.std.proofs.lemmas.Option.{slice_get-get_or, slice_get-map, slice_get_cases}
+use Rattle.std.proofs.lemmas.List.Sums.{sum_by-cons}
+use Rattle.blk_plain.specs.declared.op.Op.TheVariants.{Write, Read, Rebuild, Sync}
+use Rattle.graph_mean.specs.Graph.{Held, View}
+use Rattle.graph_text.specs.Format.{Named}
+use Rattle.graph_text.specs.FormatForm.{AreGraphs, IsWritable}
+use Rattle.eng_world.specs.declared.item.Item.{Item}
+use Rattle.eng_world.specs.declared.item.Item.TheVariants.{Run, Fail}
+use Rattle.eng_parts.specs.Desk.{no_graph}
+use Rattle.eng_parts.specs.Given.{items_at}
+use Rattle.eng_parts.specs.Laid as laid
+use Rattle.raid_script.specs.Asked.{Asked, AreFew, seen, read_sectors}
+use Rattle.raid_script.specs.Replies as replies
+use Rattle.top_bound.specs.Laws.{asked_of, HasRoomFor}
+use Rattle.top_bound.proofs.Below.{below-all, below-clients, below-same}
+
+-- ## Sums that agree at each place
+
+pub sum-same : {X : Type 0} (f g : X → ℕ) (xs : List X) → ((x : X) → f x ≡ g x) → sum_by f xs ≡ sum_by g xs
+sum-same f g [] same = refl
+sum-same f g (x ∷ xs) same =
+    let here = same x in
+    let rest = sum-same f g xs same in
+    let both : f x + sum_by f xs ≡ g x + sum_by g xs = omega (arith, here, rest) in
+    sum_by-cons f x xs ∙ (both ∙ sym (sum_by-cons g x xs))
+
+pub sum-map : {X Y : Type 0} (f : Y → ℕ) (g : X → Y) (xs : List X) → sum_by f (map g xs) ≡ sum_by (λ x. f (g x)) xs
+sum-map f g [] = refl
+sum-map {X} f g (x ∷ xs) =
+    sum_by-cons f (g x) (map g xs) ∙ (ap (λ k. f (g x) + k) (sum-map f g xs) ∙ sym (sum_by-cons (λ (y : X). f (g y)) x xs))
+
+-- ## Sectors
+
+-- how many sectors an item reads, as a script, a printer and a core say it
+item-read : (i : Item) → read_sectors (seen i) ≡ laid.item_sectors i
+item-read (Run (Write span pattern) file) = refl
+item-read (Run (Read span) file) = refl
+item-read (Run (Rebuild stripe) None) = refl
+item-read (Run (Rebuild stripe) (Some g)) = refl
+item-read (Run (Sync stripe) None) = refl
+item-read (Run (Sync stripe) (Some g)) = refl
+item-read (Fail column) = refl
+
+item-printed : (i : Item) → replies.item_sectors i ≡ laid.item_sectors i
+item-printed (Run (Write span pattern) file) = refl
+item-printed (Run (Read span) file) = refl
+item-printed (Run (Rebuild stripe) file) = refl
+item-printed (Run (Sync stripe) file) = refl
+item-printed (Fail column) = refl
+
+-- the sectors of the clients before this one, client by client and item by item
+laid-is : (given : List (Vec Item Global)) (c : ℕ) → laid.sectors_before given c ≡ sum_by (λ (row : Vec Item Global). sum_by laid.item_sectors row.items) (take c given)
+laid-is given c =
+    below-same (laid.row_sectors given) (λ k. sum_by laid.item_sectors (items_at given k)) c (λ k. below-all laid.sectors_in (items_at given k))
+    ∙ below-clients (λ items. sum_by laid.item_sectors items) refl given c
+
+pub sectors-alike : (given : List (Vec Item Global)) (c : ℕ) → replies.sectors_before given c ≡ laid.sectors_before given c
+sectors-alike given c =
+    sum-same (λ (row : Vec Item Global). replies.row_sectors row.items) (λ (row : Vec Item Global). sum_by laid.item_sectors row.items) (take c given)
+    (λ row. sum-same replies.item_sectors laid.item_sectors row.items item-printed)
+    ∙ sym (laid-is given c)
+
+-- ## Limits
+
+counted : (given : List (Vec Item Global)) → sum_by (λ items. length items) (asked_of given) ≡ sum_by (λ (row : Vec Item Global). length row.items) given
+counted given =
+    sum-map (λ (items : List Asked). length items) (λ (row : Vec Item Global). map seen row.items) given
+    ∙ sum-same (λ (row : Vec Item Global). length (map seen row.items)) (λ (row : Vec Item Global). length row.items) given (λ row. length-map row.items seen)
+
+read-in-all : (given : List (Vec Item Global)) → sum_by (λ items. sum_by read_sectors items) (asked_of given) ≡ sum_by (λ (row : Vec Item Global). sum_by laid.item_sectors row.items) given
+read-in-all given =
+    sum-map (λ (items : List Asked). sum_by read_sectors items) (λ (row : Vec Item Global). map seen row.items) given
+    ∙ sum-same (λ (row : Vec Item Global). sum_by read_sectors (map seen row.items)) (λ (row : Vec Item Global). sum_by laid.item_sectors row.items) given
+    (λ row. sum-map read_sectors seen row.items ∙ sum-same (λ i. read_sectors (seen i)) laid.item_sectors row.items item-read)
+
+pub few-have-room : (given : List (Vec Item Global)) → AreFew (asked_of given) → HasRoomFor given
+few-have-room given few =
+    let clients : length given ≤ 16 = subst (λ (n : ℕ). n ≤ 16) (length-map given (λ (row : Vec Item Global). map seen row.items)) few.clients in
+    let all : take 16 given ≡ given = take_all 16 given clients in
+    let items : laid.items_before given 16 ≡ sum_by (λ (row : Vec Item Global). length row.items) given =
+    below-clients (λ items. length items) refl given 16 ∙ ap (λ (rows : List (Vec Item Global)). sum_by (λ (row : Vec Item Global). length row.items) rows) all in
+    let sectors : laid.sectors_before given 16 ≡ sum_by (λ (row : Vec Item Global). sum_by laid.item_sectors row.items) given =
+    laid-is given 16 ∙ ap (λ (rows : List (Vec Item Global)). sum_by (λ (row : Vec Item Global). sum_by laid.item_sectors row.items) rows) all in
+    record {
+      clients = clients;
+      items = subst (λ (n : ℕ). n ≤ 65536) (counted given ∙ sym items) few.items;
+      sectors = subst (λ (n : ℕ). n ≤ 262144) (read-in-all given ∙ sym sectors) few.sectors;
+    }
+
+-- ## Graphs
+
+abbrev bufs-in : Option View → ℕ
+bufs-in None = 0
+bufs-in (Some v) = length v.bufs
+
+pub graphs-fit : (book : List Named) (graphs : List Held) → AreGraphs book → map (λ g. g.drawn) graphs ≡ map (λ g. g.graph) book
+    → (n : ℕ) → length (slice_index_or graphs n no_graph).drawn.bufs ≤ 2048
+graphs-fit book graphs are same n =
+    elim (cases_lt n (length graphs)) [
+      | inl within ↦
+          let there : slice_get graphs n ≡ Some (get_or graphs n no_graph) = slice_get-get_or graphs n no_graph within in
+          let drawn : option_map (λ (g : Held). g.drawn) (slice_get graphs n) ≡ option_map (λ (g : Named). g.graph) (slice_get book n) =
+          sym (slice_get-map (λ (g : Held). g.drawn) graphs n) ∙ (ap (λ (gs : List View). slice_get gs n) same ∙ slice_get-map (λ (g : Named). g.graph) book n) in
+          let count : length graphs ≡ length book = sym (length-map graphs (λ (g : Held). g.drawn)) ∙ (ap length same ∙ length-map book (λ (g : Named). g.graph)) in
+          let below : n < length book = omega (arith, within, count) in
+          elim (slice_get_cases book n).1 [
+            | inl found ↦
+                let g : Named = found.0 in
+                let one : Some (get_or graphs n no_graph).drawn ≡ Some g.graph = ap (option_map (λ (h : Held). h.drawn)) (sym there) ∙ (drawn ∙ ap (option_map (λ (h : Named). h.graph)) found.2) in
+                let same_bufs : length (get_or graphs n no_graph).drawn.bufs ≡ length g.graph.bufs = ap bufs-in one in
+                let writable : IsWritable (get_or book n g).graph = are.writable n g below in
+                let limit : length g.graph.bufs ≤ 2048 = subst (λ (h : Named). length h.graph.bufs ≤ 2048) found.3 writable.limits.bufs in
+                omega (arith, same_bufs, limit)
+            | inr past ↦ absurd (omega (arith, below, past.0))
+          ]
+      | inr past ↦
+          subst (λ (h : Held). length h.drawn.bufs ≤ 2048) (sym (get_or_past graphs n no_graph (omega (arith, past)))) (omega arith)
+    ]

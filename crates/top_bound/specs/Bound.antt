@@ -1,0 +1,47 @@
+-- How many events a trace may come to: a bound for each item, and the sum of these.
+use Rattle.std.specs.Prelude.{ℕ, ◌+◌, ◌*◌, List, length, Option, Some, None, if◌then◌else◌, nat_lt, slice_get, sum_by}
+use Rattle.blk_plain.specs.declared.op.Span.{Span}
+use Rattle.lay_core.specs.Layout.{Shape, data_units, blocks_in}
+use Rattle.lay_core.specs.Touched.{stripe_count}
+use Rattle.graph_text.specs.Format.{Named}
+use Rattle.raid_script.specs.Asked.{Asked, Writes, Reads, Syncs, Fails, Other}
+
+-- ---- nodes
+
+-- the library's graph of a write or read of a span: none where a block of it is past the end, and else 2d + 1 nodes for each stripe that it touches and for two more, and two
+unfoldable pub span_nodes : Shape → Span → ℕ
+span_nodes y span = if nat_lt (blocks_in y) (span.first + span.count) then 0 else (2 * data_units y + 1) * (stripe_count y span + 2) + 2
+
+-- the graph of the file of this number, if there is one
+abbrev pub nodes_in : Option Named → ℕ
+nodes_in None = 0
+nodes_in (Some g) = length g.graph.nodes
+
+abbrev pub graph_nodes : List Named → ℕ → ℕ
+graph_nodes book n = nodes_in (slice_get book n)
+
+-- the graph of a write or read: the one of the file, or the library's
+abbrev pub run_nodes : Shape → List Named → Span → Option ℕ → ℕ
+run_nodes y book span None = span_nodes y span
+run_nodes y book span (Some n) = graph_nodes book n
+
+-- an item's graph: that of a sync, or of a rebuild, which no script asks for, has a node for each unit of a stripe, and three
+abbrev pub item_nodes : Shape → List Named → Asked → ℕ
+item_nodes y book (Writes first count bytes graph) = run_nodes y book (record { first = first; count = count }) graph
+item_nodes y book (Reads first count graph) = run_nodes y book (record { first = first; count = count }) graph
+item_nodes y book (Syncs stripe) = y.width + 3
+item_nodes y book (Fails column) = 0
+item_nodes y book Other = y.width + 3
+
+-- ---- events
+
+-- An item is begun and its stripes are taken, and each node is fired and ends, once and then once more for each device that may fail meanwhile. That is counted a little too high.
+abbrev pub item_bound : ℕ → ℕ → ℕ
+item_bound devices nodes = (2 * nodes + 4) * (1 + devices)
+
+abbrev pub row_sum : Shape → List Named → ℕ → List Asked → ℕ
+row_sum y book devices items = sum_by (λ i. item_bound devices (item_nodes y book i)) items
+
+-- the sum over the items of all clients, for so many devices, columns and spares
+unfoldable pub trace_sum : Shape → List Named → ℕ → List (List Asked) → ℕ
+trace_sum y book devices clients = sum_by (row_sum y book devices) clients

@@ -1,0 +1,35 @@
+-- What is promised of a script and of graphs that were read, in the words of the core that serves them.
+use Rattle.std.specs.Prelude.{◌≡◌, ◌≤◌, ℕ, List, length, map, Vec}
+use Rattle.std.specs.declared.alloc.Global.{Global}
+use Rattle.graph_mean.specs.Graph.{Held}
+use Rattle.graph_text.specs.Format.{Named}
+use Rattle.graph_text.specs.FormatForm.{AreGraphs}
+use Rattle.eng_world.specs.declared.item.Item.{Item}
+use Rattle.eng_parts.specs.Laid.{items_before, sectors_before}
+use Rattle.eng_events.specs.Opened.{FitThePool}
+use Rattle.eng_events.specs.Steps.{graphs_of}
+use Rattle.raid_script.specs.Asked.{Asked, AreFew, seen}
+use Rattle.raid_script.specs.Replies as replies
+
+-- what the clients' items ask for
+abbrev pub asked_of : List (Vec Item Global) → List (List Asked)
+asked_of given = map (λ items. map seen items.items) given
+
+-- at most 16 clients, 65,536 items, and 262,144 sectors that are read, as a core counts them
+pub record HasRoomFor (given : List (Vec Item Global)) : Type 0 where
+  pub clients : length given ≤ 16
+  pub items : items_before given 16 ≤ 65536
+  pub sectors : sectors_before given 16 ≤ 262144
+
+-- a script within its limits is one that a core has room for
+abbrev pub FewItemsHaveRoom : Type 0
+FewItemsHaveRoom = (given : List (Vec Item Global)) → AreFew (asked_of given) → HasRoomFor given
+
+-- the sectors of the clients before this one are counted alike where replies are printed and where a core lays them out
+abbrev pub SectorsAreCountedAlike : Type 0
+SectorsAreCountedAlike = (given : List (Vec Item Global)) (c : ℕ) → replies.sectors_before given c ≡ sectors_before given c
+
+-- the graphs of a file, without their names, each fit the pool of a core
+abbrev pub FileGraphsFitThePool : Type 0
+FileGraphsFitThePool = (book : List Named) (graphs : List Held) → AreGraphs book → map (λ g. g.drawn) graphs ≡ map (λ g. g.graph) book
+    → FitThePool (graphs_of graphs)

@@ -1,0 +1,30 @@
+-- That what a trace is judged to have room for has room in a core's trace.
+use Rattle.std.specs.Prelude.{◌≡◌, ◌≤◌, ℕ, List, length, map, All, Vec}
+use Rattle.std.specs.declared.alloc.Global.{Global}
+use Rattle.lay_core.specs.Layout.{Shape}
+use Rattle.lay_core.specs.declared.layout.Layout.{Ghosts as LayoutGhosts}
+use Rattle.graph_mean.specs.Graph.{Held}
+use Rattle.graph_text.specs.Format.{Named}
+use Rattle.eng_world.specs.declared.item.Item.{Item}
+use Rattle.eng_parts.specs.declared.setup.Setup.{Setup}
+use Rattle.eng_array.specs.Fitting as core
+use Rattle.raid_script.specs.Asked.{IsAsked}
+use Rattle.top_bound.specs.Bound.{trace_sum}
+use Rattle.top_bound.specs.Laws.{asked_of}
+
+-- the items are a script's, of at most 16 clients, for so many columns, and the graphs are the book's, without their names
+pub record IsScriptOf (columns : ℕ) (book : List Named) (graphs : List Held) (given : List (Vec Item Global)) : Type 0 where
+  pub clients : length given ≤ 16
+  pub asked : All (All (IsAsked columns (length book))) (asked_of given)
+  pub graphs_are : map (λ g. g.drawn) graphs ≡ map (λ g. g.graph) book
+
+-- the sum by which a trace is judged is the one that a core counts
+abbrev pub TraceIsCountedAlike : Type 0
+TraceIsCountedAlike = (y : Shape) (book : List Named) (graphs : List Held) (devices columns : ℕ) (given : List (Vec Item Global)) → IsScriptOf columns book graphs given
+    → trace_sum y book devices (asked_of given) ≡ core.trace_sum y graphs devices given
+
+-- a setup of such items and graphs, over at least as many devices as columns, has room in its trace for what is judged to fit
+abbrev pub WhatFitsHasRoom : {L D : Type 0} → LayoutGhosts L → Setup L D → Type 0
+WhatFitsHasRoom lay setup = (book : List Named) (devices columns : ℕ) → length setup.columns.items ≡ (lay.shape setup.layout).columns → (lay.shape setup.layout).columns ≤ devices
+    → IsScriptOf columns book setup.graphs.items setup.clients.items
+    → trace_sum (lay.shape setup.layout) book devices (asked_of setup.clients.items) ≤ 1048576 → core.FitsTrace lay setup

@@ -1,0 +1,53 @@
+//! What the end of a run leaves of the array's contents. These functions do nothing: what they
+//! ensure is so of every layout and all columns.
+ghost use Rattle.std.specs.Prelude.{◌≡◌, ◌≤◌, ℕ, List, map, true, count_by};
+ghost use Rattle.lay_core.specs.Layout.{Shape, Blocks};
+ghost use Rattle.eng_cols.specs.declared.column.Column.{Column};
+ghost use Rattle.eng_cols.specs.Cols.{ColumnState, column_of, is_set_filling, is_set_spread};
+ghost use Rattle.eng_cols.specs.Seats.{is_available, seat};
+ghost use Rattle.eng_cols.specs.Lost.{NotLost};
+ghost use Rattle.eng_cols.specs.Contents.{Contents, Agrees, AnyStripe};
+ghost use Rattle.eng_cols.specs.Deaths.{Dies};
+ghost use Rattle.top_close.specs.Closes.{ClosesAs};
+ghost use Rattle.top_close.specs.Dying.{AnyCause, OnlyDie, HoldSame};
+ghost use Rattle.top_close.specs.Ended.{states_of};
+
+/// Columns that die, however many at once, bring no unit back and move none; so what agreed before
+/// still agrees, and an array that isn't lost after their deaths wasn't lost before. Nor do they
+/// make a column filling or spread.
+pub fn deaths_bring_no_unit_back()
+    ensures units { (y : Shape) (old new : List ColumnState) (s i : ℕ) → OnlyDie old new →
+        is_available y new s i ≡ true →
+        (is_available y old s i ≡ true) × (seat y new s i ≡ seat y old s i) }
+    ensures agrees { (y : Shape) (contents : Contents) (old new : List ColumnState)
+        (blocks : Blocks) → OnlyDie old new →
+        Agrees y contents old blocks AnyStripe → Agrees y contents new blocks AnyStripe }
+    ensures lost { (y : Shape) (old new : List ColumnState) → OnlyDie old new →
+        NotLost y new → NotLost y old }
+    ensures columns { (y : Shape) (old new : List Column) →
+        Dies AnyCause old new → OnlyDie (states_of y old) (states_of y new) }
+    ensures filling { (old new : List Column) → Dies AnyCause old new →
+        count_by is_set_filling new ≤ count_by is_set_filling old }
+    ensures spread { (old new : List Column) → Dies AnyCause old new →
+        count_by is_set_spread new ≤ count_by is_set_spread old }
+{}
+
+/// Whether contents agree with blocks goes by what the devices of the columns hold.
+pub fn agreement_goes_by_the_devices_in_use()
+    ensures { (y : Shape) (old new : Contents) (cols : List ColumnState)
+        (blocks : Blocks) → HoldSame cols old new →
+        Agrees y old cols blocks AnyStripe → Agrees y new cols blocks AnyStripe }
+{}
+
+/// Columns that were being rebuilt are judged as the run ends: what agreed before still agrees.
+/// Where none was, the columns stay as they were.
+pub fn columns_close_without_harm()
+    ensures agrees { (y : Shape) (contents : Contents) (cols : List ColumnState)
+        (kept : List Column) (blocks : Blocks) → ClosesAs y cols kept →
+        Agrees y contents cols blocks AnyStripe →
+        Agrees y contents (states_of y kept) blocks AnyStripe }
+    ensures plain { (y : Shape) (cols : List ColumnState) →
+        count_by is_set_filling (map column_of cols) ≡ 0 →
+        count_by is_set_spread (map column_of cols) ≡ 0 →
+        ClosesAs y cols (map column_of cols) }
+{}
