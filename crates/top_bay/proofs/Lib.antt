@@ -1,0 +1,5 @@
+pub mod Homes
+mod Meant
+mod Empty
+mod Asking
+mod Lending

@@ -1,0 +1,99 @@
+-- What a command asks for, or which refusal comes first, by its words and by what the bay has.
+use Rattle.std.specs.Prelude.{ℕ, Bool, true, false, List, [], ◌∷◌, ◌++◌, Option, Some, None, Result, Ok, Err, if◌then◌else◌, is_some, option_and_then, option_map}
+use Rattle.raid_text.specs.Text.{Text}
+use Rattle.graph_text.specs.Format.{Named, graphs_of}
+use Rattle.raid_conf.specs.Format.{conf_of}
+use Rattle.raid_conf.specs.declared.conf.Conf.{Conf}
+use Rattle.raid_script.specs.Format.{script_of}
+use Rattle.raid_script.specs.Asked.{Asked as Item}
+use Rattle.top_words.specs.Asked.{Action, Command, Io, Sweep, Show, Init, Check, Rewrite, Print, Fail, ShowLabel, Label, Rebuild, beside_of, command_of}
+use Rattle.top_status.specs.declared.status.Status.{Status}
+use Rattle.top_status.specs.declared.status.Status.TheVariants as status
+use Rattle.top_status.specs.Refusals.{Refused, ◌then◌, only, text_in}
+use Rattle.top_bay.specs.Told.{Told}
+
+-- What words and texts ask for: the command, the configuration, the graphs of the file, and the items of the script by client. Without a file there are no graphs, without a script no clients.
+pub record Asked : Type 0 where
+  pub command : Command
+  pub conf : Conf
+  pub book : List Named
+  pub clients : List (List Item)
+
+-- a value, or the status of a fault in its place
+abbrev pub or_status : {A F : Type 0} → (F → Status) → Result A F → Result A Refused
+or_status status_of (Ok x) = Ok x
+or_status status_of (Err fault) = Err (only (status_of fault))
+
+-- clients are served: the actions that this program has
+abbrev pub serves_clients : Action → Bool
+serves_clients (Io beside workers) = true
+serves_clients (Sweep seed clients ops workers) = true
+serves_clients (Rebuild in_place comp beside workers) = false
+serves_clients Show = false
+serves_clients Init = false
+serves_clients Check = false
+serves_clients Rewrite = false
+serves_clients Print = false
+serves_clients (Fail comp) = false
+serves_clients (ShowLabel comp) = false
+serves_clients (Label serial) = false
+
+-- the command, where this program has its action
+abbrev pub served_command : Command → Result Command Refused
+served_command c = if serves_clients c.action then Ok c else Err (only (status.Usage 0))
+
+-- the command that the words are
+unfoldable pub command_in : List Text → Result Command Refused
+command_in words = or_status (λ case. status.Usage case) (command_of words) then served_command
+
+-- the configuration of this name
+unfoldable pub conf_in : (Text → Option Text) → Text → Result Conf Refused
+conf_in texts name = text_in texts name then λ text. or_status (λ at. status.Conf at.line at.code) (conf_of text)
+
+-- the graphs of the file of this name, none where no file is named
+unfoldable pub book_in : (Text → Option Text) → Option Text → Result (List Named) Refused
+book_in texts None = Ok []
+book_in texts (Some name) = text_in texts name then λ text. or_status (λ at. status.GraphText at.line at.code) (graphs_of text)
+
+-- the items by client of the script of this name, beside these graphs and for so many columns; no clients where no script is named
+unfoldable pub script_in : (Text → Option Text) → Option Text → List Named → ℕ → Result (List (List Item)) Refused
+script_in texts None book columns = Ok []
+script_in texts (Some name) book columns = text_in texts name then λ text. or_status (λ at. status.Script at.line at.code) (script_of book columns text)
+
+-- the names of the file of graphs and of the script that go with an action
+abbrev pub graphs_name : Action → Option Text
+graphs_name action = option_and_then (λ beside. beside.graphs) (beside_of action)
+
+abbrev pub script_name : Action → Option Text
+script_name action = option_map (λ beside. beside.script) (beside_of action)
+
+-- the names of the columns' disks, then those of the spares; one that is absent has the empty name
+abbrev pub names_of : Conf → List Text
+names_of conf = conf.disks ++ conf.spare_names
+
+-- a device that isn't absent is at home
+abbrev pub is_at_home : {D : Type 0} → (Text → Option D) → Text → Bool
+is_at_home home [] = true
+is_at_home home (b ∷ name) = is_some (home (b ∷ name))
+
+-- the device of a name is at home, or is refused
+abbrev pub device_in : {D : Type 0} → (Text → Option D) → Text → Result (Unit {0}) Refused
+device_in home name = if is_at_home home name then Ok tt else Err (only (status.NoFile name))
+
+-- all devices of these names are at home, or the first that isn't is refused
+unfoldable pub devices_in : {D : Type 0} → (Text → Option D) → List Text → Result (Unit {0}) Refused
+devices_in home [] = Ok tt
+devices_in home (name ∷ names) = device_in home name then λ there. devices_in home names
+
+-- what words and texts ask for, or the first refusal: the words, the configuration, the file of graphs, the script
+unfoldable pub texts_in : (Text → Option Text) → List Text → Result Asked Refused
+texts_in texts words =
+    command_in words then λ command.
+    conf_in texts command.conf then λ conf.
+    book_in texts (graphs_name command.action) then λ book.
+    script_in texts (script_name command.action) book conf.columns then λ clients.
+    Ok (record { command = command; conf = conf; book = book; clients = clients })
+
+-- and of a bay: behind all texts come the devices, those of the columns before the spares
+unfoldable pub asked_in : {D : Type 0} → Told D → List Text → Result Asked Refused
+asked_in b words = texts_in b.texts words then λ asked. devices_in b.home (names_of asked.conf) then λ there. Ok asked

@@ -1,0 +1,145 @@
+//! What a command asks for.
+ghost use Rattle.std.specs.Prelude.{◌≡◌, ◌≤◌, ℕ, List, Ok, Err, length, vec_len, IfOk, IfErr, OnErr, IsErrOf, MatchResult};
+ghost use Rattle.blk_disk.specs.Disk.{Rose};
+ghost use Rattle.top_words.specs.Asked.{command_of};
+ghost use Rattle.top_words.specs.Views.{action_seen, command_seen, text_of};
+ghost use Rattle.top_bay.specs.Answers.{IsEarly, IsOrMemory, Opens, RefusedAs};
+ghost use Rattle.top_bay.specs.Asked.{asked_in, graphs_name, names_of, script_name, texts_in};
+ghost use Rattle.top_bay.specs.Lent.{AreOut, IsLent};
+ghost use Rattle.top_bay.specs.Told.{IsRead, Told};
+ghost use Rattle.top_bay.specs.Views.{IsWithin, asked_seen};
+
+use crate::devices::take_all;
+use crate::opening::{open_book, open_conf, open_script, open_words};
+use eng_world::Item;
+use graph_text::Book;
+use raid_bay::{Bay, Name};
+use raid_conf::Conf;
+use std::alloc::Global;
+use top_status::Status;
+use top_words::{Action, Command};
+
+/// What the words ask for, and what the texts that they name say.
+#[derive(Drop)]
+pub struct Asked<'a> {
+    /// The command that the words are.
+    pub command: Command<'a>,
+    /// The configuration of the array.
+    pub conf: Conf,
+    /// The graphs of the file; none where no file is named.
+    pub book: Book,
+    /// The items of each client of the script; no clients where no script is named.
+    pub clients: Vec<Vec<Item>>,
+}
+
+/// What is asked for, and the devices of the configuration: those of the columns' disks, and then the spares; None where a
+/// disk is absent.
+pub struct Taken<'a, D> {
+    pub asked: Asked<'a>,
+    pub devices: Vec<Option<D>>,
+}
+
+// The name of the file of graphs.
+fn graphs_name<'a>(action: Action<'a>) -> Option<&'a str>
+    ensures { text_of result ≡ graphs_name (action_seen action.entry) }
+{
+    match action.beside() {
+        Some(beside) => beside.graphs,
+        None => None,
+    }
+}
+
+// The name of the script.
+fn script_name<'a>(action: Action<'a>) -> Option<&'a str>
+    ensures { text_of result ≡ script_name (action_seen action.entry) }
+{
+    match action.beside() {
+        Some(beside) => Some(beside.script),
+        None => None,
+    }
+}
+
+// Reads words and texts.
+#[tactic(auto, unfolding(crate::specs::Asked::texts_in))]
+fn read_texts<'a, B: Bay>(
+    alloc: Global,
+    words: &'a [Name],
+    bay: &mut B,
+) -> Result<Asked<'a>, Status>
+    ensures answer { B.tells → Opens asked_seen result (texts_in (B.text_of bay.old) words.entry.now) }
+    ensures command { IfOk result (λ a. command_of words.entry.now ≡ Ok (command_seen a.command)) }
+    ensures usage { (i : ℕ) → command_of words.entry.now ≡ Err i →
+        MatchResult result (λ _. ⊥) (IsOrMemory (Status.Usage i)) }
+    ensures within { IfOk result (λ a. IsWithin (asked_seen a)) }
+    ensures kind { IfErr result IsEarly }
+    ensures cause { IsErrOf result Status.BayFault → Rose (B.faults bay.old) (B.faults bay.new) }
+    ensures read { IsRead B.tells (B.text_of bay.old) (B.text_of bay.new)
+        (B.home bay.old) (B.home bay.new) (B.faults bay.old) (B.faults bay.new) }
+{
+    let command = match open_words(alloc, words) {
+        Ok(command) => command,
+        Err(status) => return Err(status),
+    };
+    let conf = match open_conf(alloc, command.conf, bay) {
+        Ok(conf) => conf,
+        Err(status) => return Err(status),
+    };
+    let book = match open_book(alloc, graphs_name(command.action), bay) {
+        Ok(book) => book,
+        Err(status) => return Err(status),
+    };
+    let script = script_name(command.action);
+    let clients = match open_script(alloc, script, &book, conf.columns, bay) {
+        Ok(clients) => clients,
+        Err(status) => return Err(status),
+    };
+    Ok(Asked {
+        command,
+        conf,
+        book,
+        clients,
+    })
+}
+
+/// What the words ask for, by the texts of the bay, and the devices of the configuration, which the bay has then lent.
+///
+/// Refused are, in this order: the words; the configuration, where there is no text of its name, or it is longer than
+/// 16,777,216 bytes, or not in its form; in the same way the file of graphs, and the script; and the first device that isn't
+/// there, the columns' disks before the spares. Where it is refused, the bay has all that it had. `BayFault` comes only where
+/// the bay's count of faults rose, and want of memory at any point.
+#[tactic(auto, unfolding(crate::specs::Asked::asked_in))]
+pub fn ask<'a, B: Bay>(
+    alloc: Global,
+    words: &'a [Name],
+    bay: &mut B,
+) -> Result<Taken<'a, B::D>, Status>
+    ensures answer { B.tells → Opens (λ t. asked_seen t.asked) result (asked_in
+        (record {
+          tells = B.tells;
+          rose = Rose (B.faults bay.old) (B.faults bay.new);
+          texts = B.text_of bay.old;
+          home = B.home bay.old;
+          after = B.home bay.new;
+        }) words.entry.now) }
+    ensures command { IfOk result (λ t. command_of words.entry.now ≡ Ok (command_seen t.asked.command)) }
+    ensures usage { (i : ℕ) → command_of words.entry.now ≡ Err i →
+        MatchResult result (λ _. ⊥) (IsOrMemory (Status.Usage i)) }
+    ensures within { IfOk result (λ t. IsWithin (asked_seen t.asked)) }
+    ensures many { IfOk result (λ t. vec_len t.devices ≡ length (names_of t.asked.conf)) }
+    ensures lent { IfOk result (λ t. B.tells →
+        IsLent (B.home bay.old) (B.home bay.new) (names_of t.asked.conf) t.devices.items) }
+    ensures out { IfOk result (λ t. AreOut (B.is_out bay.new) (names_of t.asked.conf) t.devices.items) }
+    ensures same { OnErr result (B.tells → (n : List ℕ) → B.home bay.new n ≡ B.home bay.old n) }
+    ensures kind { IfErr result IsEarly }
+    ensures later { B.faults bay.old ≤ B.faults bay.new }
+    ensures cause { IsErrOf result Status.BayFault → Rose (B.faults bay.old) (B.faults bay.new) }
+{
+    let asked = match read_texts(alloc, words, bay) {
+        Ok(asked) => asked,
+        Err(status) => return Err(status),
+    };
+    match take_all(alloc, bay, &asked.conf) {
+        Ok(devices) => Ok(Taken { asked, devices }),
+        Err(status) => Err(status),
+    }
+}

@@ -1,0 +1,104 @@
+//! The devices that a bay lends and takes back.
+ghost use Rattle.std.specs.Prelude.{◌≡◌, ◌≢◌, ◌⊎◌, ◌↔◌, ◌≤◌, ◌<◌, ℕ, List, Some, IsSome, [], length, vec_len, slice_get, IfOk, IfErr, OnOk, OnErr, IsErrOf};
+ghost use Rattle.blk_disk.specs.Disk.{Rose};
+ghost use Rattle.blk_disk.specs.Devices.{at_home, device_at};
+ghost use Rattle.raid_conf.specs.Form.{IsConf};
+ghost use Rattle.top_bay.specs.Answers.{IsEarly, Opens, RefusedAs};
+ghost use Rattle.top_bay.specs.Asked.{device_in, devices_in, names_of};
+ghost use Rattle.top_bay.specs.Lent.{AreBack, AreOut, IsLent, IsMeant};
+
+use crate::names::{count, name_at};
+use crate::texts::no_file;
+use raid_bay::{Bay, TakeFault};
+use raid_conf::Conf;
+use std::alloc::Global;
+use top_status::Status;
+
+// Puts a device back under its name; none under an empty one.
+fn put_one<B: Bay>(bay: &mut B, name: &str, device: Option<B::D>)
+    requires there { IsSome device → name.now ≡ [] → ⊥ }
+    requires out { IsSome device → B.is_out bay.old name.now }
+    ensures back { B.tells → IsSome device → B.home bay.new name.now ≡ device }
+    ensures homes { B.tells → (n : List ℕ) → (IsSome device → n ≡ name.now → ⊥) → B.home bay.new n ≡ B.home bay.old n }
+    ensures out { (n : List ℕ) → (n ≡ name.now → ⊥) → B.is_out bay.old n → B.is_out bay.new n }
+    ensures faults { B.faults bay.new ≡ B.faults bay.old }
+{
+    match device {
+        Some(device) => bay.put(name, device),
+        None => {}
+    }
+}
+
+/// Puts devices back under the names of a configuration, from the first on. It takes no memory and can't fail.
+pub fn put_all<B: Bay>(bay: &mut B, conf: &Conf, mut devices: Vec<Option<B::D>>)
+    requires conf { IsConf conf.now }
+    requires many { vec_len devices ≤ length (names_of conf.now) }
+    requires out { AreOut (B.is_out bay.old) (names_of conf.now) devices.items }
+    ensures back { B.tells → AreBack (B.home bay.old) (B.home bay.new) (names_of conf.now) devices.items }
+    ensures faults { B.faults bay.new ≡ B.faults bay.old }
+{
+    while let Some(device) = devices.pop() {
+        put_one(bay, name_at(conf, devices.len() as u32), device);
+    }
+    devices.destroy_empty();
+}
+
+// The device of a name; none of an empty one.
+fn take_one<B: Bay>(alloc: Global, bay: &mut B, name: &str) -> Result<Option<B::D>, Status>
+    ensures answer { B.tells → Opens (λ _. tt) result (device_in (B.home bay.old) name.now) }
+    ensures ok { IfOk result (λ device. B.tells → device ≡ at_home (B.home bay.old) (Some name.now)) }
+    ensures there { IfOk result (λ device. IsSome device ↔ (name.now ≡ [] → ⊥)) }
+    ensures is_out { OnOk result ((name.now ≡ [] → ⊥) → B.is_out bay.new name.now) }
+    ensures homes { B.tells → (n : List ℕ) → (n ≢ name.now) ⊎ (n ≡ []) → B.home bay.new n ≡ B.home bay.old n }
+    ensures same { OnErr result (B.tells → (n : List ℕ) → B.home bay.new n ≡ B.home bay.old n) }
+    ensures kind { IfErr result IsEarly }
+    ensures out { (n : List ℕ) → B.is_out bay.old n → B.is_out bay.new n }
+    ensures later { B.faults bay.old ≤ B.faults bay.new }
+    ensures cause { IsErrOf result Status.BayFault → Rose (B.faults bay.old) (B.faults bay.new) }
+{
+    if name.is_empty() {
+        return Ok(None);
+    }
+    match bay.take(alloc, name) {
+        Ok(device) => Ok(Some(device)),
+        Err(TakeFault::Missing) => Err(no_file(alloc, name)),
+        Err(TakeFault::Fault) => Err(Status::BayFault),
+        Err(TakeFault::Memory) => Err(Status::Memory),
+    }
+}
+
+/// Takes all devices of a configuration, or leaves the bay as it was.
+pub(crate) fn take_all<B: Bay>(
+    alloc: Global,
+    bay: &mut B,
+    conf: &Conf,
+) -> Result<Vec<Option<B::D>>, Status>
+    requires { IsConf conf.now }
+    ensures answer { B.tells → Opens (λ _. tt) result (devices_in (B.home bay.old) (names_of conf.now)) }
+    ensures many { IfOk result (λ v. vec_len v ≡ length (names_of conf.now)) }
+    ensures lent { IfOk result (λ v. B.tells → IsLent (B.home bay.old) (B.home bay.new) (names_of conf.now) v.items) }
+    ensures out { IfOk result (λ v. AreOut (B.is_out bay.new) (names_of conf.now) v.items) }
+    ensures same { OnErr result (B.tells → (n : List ℕ) → B.home bay.new n ≡ B.home bay.old n) }
+    ensures kind { IfErr result IsEarly }
+    ensures later { B.faults bay.old ≤ B.faults bay.new }
+    ensures cause { IsErrOf result Status.BayFault → Rose (B.faults bay.old) (B.faults bay.new) }
+{
+    let count = count(conf);
+    let mut devices = match Vec::with_capacity(alloc, count as usize) {
+        Ok(devices) => devices,
+        Err(_) => return Err(Status::Memory),
+    };
+    for k in 0..count {
+        match take_one(alloc, bay, name_at(conf, k)) {
+            Ok(device) => match devices.push(device) {
+                Ok(()) => {}
+                Err(_) => unreachable!(),
+            },
+            Err(status) => {
+                put_all(bay, conf, devices);
+                return Err(status);
+            }
+        }
+    }
+    Ok(devices)
+}

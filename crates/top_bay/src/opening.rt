@@ -1,0 +1,145 @@
+//! The words and texts of a command, opened and read.
+ghost use Rattle.std.specs.Prelude.{◌≡◌, ℕ, List, [], Ok, length, map, All, IfOk, IfErr, IsErrOf};
+ghost use Rattle.blk_disk.specs.Disk.{Rose};
+ghost use Rattle.graph_text.specs.FormatForm.{AreGraphs};
+ghost use Rattle.raid_conf.specs.Form.{IsConf};
+ghost use Rattle.raid_script.specs.Asked.{AreFew, IsAsked, seen};
+ghost use Rattle.top_words.specs.Asked.{IsInRange, command_of};
+ghost use Rattle.top_words.specs.Views.{action_seen, command_seen, text_of};
+ghost use Rattle.top_bay.specs.Answers.{IsEarly, IsUsage, Opens};
+ghost use Rattle.top_bay.specs.Asked.{book_in, command_in, conf_in, script_in, serves_clients};
+ghost use Rattle.top_bay.specs.Told.{IsRead};
+
+use crate::texts::open_text;
+use eng_world::Item;
+use graph_text::{Book, BookFault, read_graphs};
+use raid_bay::{Bay, Name};
+use raid_conf::{Conf, ConfFault, read_conf};
+use raid_script::{ScriptFault, read_script};
+use std::alloc::Global;
+use top_status::Status;
+use top_words::{Action, Command, WordsFault, read_words};
+
+// Whether it is one of the actions that this program has.
+fn serves_clients(command: Command) -> bool
+    ensures { result ≡ serves_clients (command_seen command.entry).action }
+{
+    match command.action {
+        Action::Io { .. } | Action::Sweep { .. } => true,
+        _ => false,
+    }
+}
+
+/// The command that the words are.
+#[tactic(auto, unfolding(crate::specs::Asked::command_in))]
+pub(crate) fn open_words<'a>(alloc: Global, words: &'a [Name]) -> Result<Command<'a>, Status>
+    ensures answer { Opens command_seen result (command_in words.entry.now) }
+    ensures command { IfOk result (λ c. command_of words.entry.now ≡ Ok (command_seen c)) }
+    ensures range { IfOk result (λ c. IsInRange (action_seen c.action)) }
+    ensures kind { IfErr result IsUsage }
+{
+    let command = match read_words(alloc, words) {
+        Ok(command) => command,
+        Err(WordsFault::Usage(case)) => return Err(Status::Usage(case)),
+        Err(WordsFault::Memory) => return Err(Status::Memory),
+    };
+    if serves_clients(command) {
+        Ok(command)
+    } else {
+        Err(Status::Usage(0))
+    }
+}
+
+/// The configuration of that name.
+#[tactic(auto, unfolding(crate::specs::Asked::conf_in))]
+pub(crate) fn open_conf<B: Bay>(alloc: Global, name: &str, bay: &mut B) -> Result<Conf, Status>
+    ensures answer { B.tells → Opens (λ conf. conf) result (conf_in (B.text_of bay.old) name.now) }
+    ensures conf { IfOk result IsConf }
+    ensures kind { IfErr result IsEarly }
+    ensures cause { IsErrOf result Status.BayFault → Rose (B.faults bay.old) (B.faults bay.new) }
+    ensures read { IsRead B.tells (B.text_of bay.old) (B.text_of bay.new)
+        (B.home bay.old) (B.home bay.new) (B.faults bay.old) (B.faults bay.new) }
+{
+    let text = match open_text(alloc, name, bay) {
+        Ok(text) => text,
+        Err(status) => return Err(status),
+    };
+    match read_conf(alloc, &text) {
+        Ok(conf) => Ok(conf),
+        Err(ConfFault::At { line, code }) => Err(Status::Conf(line, code)),
+        Err(ConfFault::Memory) => Err(Status::Memory),
+    }
+}
+
+// No graphs.
+fn no_graphs(alloc: Global) -> Result<Book, Status>
+    ensures none { IfOk result (λ book. book ≡ []) }
+    ensures graphs { IfOk result AreGraphs }
+    ensures memory { IfErr result (λ status. status ≡ Status.Memory) }
+{
+    match read_graphs(alloc, b"".as_slice()) {
+        Ok(book) => Ok(book),
+        Err(_) => Err(Status::Memory),
+    }
+}
+
+/// The graphs of the file of that name; none where no file is named.
+#[tactic(auto, unfolding(crate::specs::Asked::book_in))]
+pub(crate) fn open_book<B: Bay>(
+    alloc: Global,
+    name: Option<&str>,
+    bay: &mut B,
+) -> Result<Book, Status>
+    ensures answer { B.tells → Opens (λ book. book) result (book_in (B.text_of bay.old) (text_of name.entry)) }
+    ensures graphs { IfOk result AreGraphs }
+    ensures kind { IfErr result IsEarly }
+    ensures cause { IsErrOf result Status.BayFault → Rose (B.faults bay.old) (B.faults bay.new) }
+    ensures read { IsRead B.tells (B.text_of bay.old) (B.text_of bay.new)
+        (B.home bay.old) (B.home bay.new) (B.faults bay.old) (B.faults bay.new) }
+{
+    let Some(name) = name else {
+        return no_graphs(alloc);
+    };
+    let text = match open_text(alloc, name, bay) {
+        Ok(text) => text,
+        Err(status) => return Err(status),
+    };
+    match read_graphs(alloc, &text) {
+        Ok(book) => Ok(book),
+        Err(BookFault::At { line, code }) => Err(Status::GraphText(line, code)),
+        Err(BookFault::Memory) => Err(Status::Memory),
+    }
+}
+
+/// The items by client of the script of that name; no clients where no script is named.
+#[tactic(auto, unfolding(crate::specs::Asked::script_in))]
+pub(crate) fn open_script<B: Bay>(
+    alloc: Global,
+    name: Option<&str>,
+    book: &Book,
+    columns: u32,
+    bay: &mut B,
+) -> Result<Vec<Vec<Item>>, Status>
+    ensures answer { B.tells → Opens (λ clients. map (λ items. map seen items.items) clients.items) result
+        (script_in (B.text_of bay.old) (text_of name.entry) book.now columns) }
+    ensures asked { IfOk result (λ clients.
+        All (All (IsAsked columns (length book.now))) (map (λ items. map seen items.items) clients.items)) }
+    ensures few { IfOk result (λ clients. AreFew (map (λ items. map seen items.items) clients.items)) }
+    ensures kind { IfErr result IsEarly }
+    ensures cause { IsErrOf result Status.BayFault → Rose (B.faults bay.old) (B.faults bay.new) }
+    ensures read { IsRead B.tells (B.text_of bay.old) (B.text_of bay.new)
+        (B.home bay.old) (B.home bay.new) (B.faults bay.old) (B.faults bay.new) }
+{
+    let Some(name) = name else {
+        return Ok(Vec::new(alloc));
+    };
+    let text = match open_text(alloc, name, bay) {
+        Ok(text) => text,
+        Err(status) => return Err(status),
+    };
+    match read_script(alloc, &text, book, columns) {
+        Ok(script) => Ok(script.clients()),
+        Err(ScriptFault::At { line, code }) => Err(Status::Script(line, code)),
+        Err(ScriptFault::Memory) => Err(Status::Memory),
+    }
+}
