@@ -1,0 +1,39 @@
+-- All that is said of a run.
+use Rattle.std.proofs.Common.{◌≡◌, List, length, Option, sym, ◌∙◌, subst}
+use Rattle.blk_disk.specs.declared.disk.Disk.{Ghosts as DiskGhosts}
+use Rattle.lay_core.specs.declared.layout.Layout.{Ghosts as LayoutGhosts}
+use Rattle.eng_events.specs.Opened.{IsSetup}
+use Rattle.eng_parts.specs.declared.setup.Setup.{Setup}
+use Rattle.eng_parts.specs.declared.setup.Closed.{Closed}
+use Rattle.raid_script.specs.Replies.{StandFor}
+use Rattle.top_serve.specs.Setups.{IsFew, graphs_in}
+use Rattle.top_serve.specs.Served as served
+use Rattle.top_run.specs.Work.{Service}
+use Rattle.top_run.specs.Works.{work_of}
+use Rattle.top_run.specs.Ends.{IsEnded}
+use Rattle.top_run.specs.Ran.{Rests, Tells, Ran}
+use Rattle.top_run.proofs.FromServed.{opens-from, rests-from, tells-from, stands-from}
+use Rattle.top_run.proofs.Finishing.{finishes}
+use Rattle.top_run.proofs.Meaning.{means}
+use Rattle.top_run.proofs.Causing.{causes}
+
+module _ {L D : Type 0} (lay : LayoutGhosts L) (disk : DiskGhosts D) (setup : Setup L D) (closed : Closed L D) (given : IsSetup lay disk setup) (few : IsFew setup) (s : served.IsServed lay disk setup closed) (v : Service) (back : List (Option D)) (e : IsEnded lay closed disk v back) where
+  pub has-run : Ran disk (work_of lay setup) setup.devices.items v back
+  has-run = record {
+    graphs = graphs_in setup;
+    start = s.start;
+    events = s.events;
+    now = s.now;
+    opens = opens-from lay disk setup closed few.clients s v.ending;
+    rests = subst (λ u. Rests disk (work_of lay setup) setup.devices.items u (graphs_in setup) s.start s.events s.now) (sym e.told) (rests-from lay disk setup closed few.clients s v.ending);
+    tells = subst (λ u. Tells disk (work_of lay setup) setup.devices.items u s.events s.now) (sym e.told) (tells-from lay disk setup closed few.clients s v.ending);
+    means = means lay disk setup closed given s v back e;
+    ends = finishes lay disk setup closed given s v back e;
+    causes = causes lay disk setup closed given s v back e;
+  }
+
+  pub stands : StandFor v.clients v.replies v.sectors
+  stands = subst (λ (u : Service). StandFor u.clients u.replies u.sectors) (sym e.told) (stands-from lay disk setup closed few.clients s v.ending)
+
+  pub as-many : length back ≡ length setup.devices.items
+  as-many = e.settled.frame.count ∙ s.leaves.frame.count

@@ -1,0 +1,202 @@
+-- What was served is a run of what was asked: its opening, its rest, what it tells and what it means.
+use Rattle.std.proofs.Common.{◌≡◌, inl, inr, ℕ, zero, suc, ◌<◌, ◌≤◌, ◌+◌, ◌*◌, List, [], ◌∷◌, length, map, take, drop, get_or, Bool, true, false, Option, Some, None, refl, sym, ◌∙◌, ap, arith}
+use Rattle.std.specs.Prelude.{Vec, slice_get, slice_index_or, sum_by}
+use Rattle.std.specs.declared.alloc.Global.{Global}
+use Rattle.std.proofs.lemmas.Bool.{cases_lt}
+use Rattle.std.proofs.lemmas.List.{get_or-take, get_or-drop, take_all}
+use Rattle.std.proofs.lemmas.Option.{slice_get_past, slice_get_within, slice_get-get_or}
+use Rattle.blk_plain.specs.declared.op.Op.TheVariants as op
+use Rattle.blk_disk.specs.declared.disk.Disk.{Ghosts as DiskGhosts}
+use Rattle.blk_disk.specs.Disk.{sector_at}
+use Rattle.lay_core.specs.declared.layout.Layout.{Ghosts as LayoutGhosts}
+use Rattle.graph_mean.specs.Graph.{Held, View}
+use Rattle.eng_world.specs.declared.item.Item.{Item}
+use Rattle.eng_world.specs.declared.item.Item.TheVariants as item
+use Rattle.eng_world.specs.declared.item.Reply.{Reply}
+use Rattle.eng_world.specs.declared.item.Reply.TheVariants as reply
+use Rattle.eng_world.specs.declared.item.Traced.{Traced}
+use Rattle.eng_rest.specs.Left.{below}
+use Rattle.eng_parts.specs.declared.region.Region.{Region}
+use Rattle.eng_parts.specs.declared.setup.Setup.{Setup}
+use Rattle.eng_parts.specs.declared.setup.Closed.{Closed}
+use Rattle.eng_parts.specs.Desk.{no_graph}
+use Rattle.eng_parts.specs.Given.{items_in, items_at}
+use Rattle.eng_parts.specs.Handed.{region_at}
+use Rattle.eng_parts.specs.Laid as laid
+use Rattle.eng_parts.specs.Replied.{replies_in}
+use Rattle.raid_script.specs.Asked.{seen}
+use Rattle.raid_script.specs.Replies as told
+use Rattle.top_bound.proofs.Below.{below-get, below-same}
+use Rattle.top_bound.proofs.Limits.{sum-same, sectors-alike}
+use Rattle.top_serve.specs.Setups.{graphs_in}
+use Rattle.top_serve.specs.Served as served
+use Rattle.top_run.specs.Work.{Work, Ending, Service}
+use Rattle.top_run.specs.Works.{work_of, service_of}
+use Rattle.top_run.specs.Ran.{AreGraphsOf, trace_of, told_byte, Opens, Rests, Tells}
+
+-- ## Clients
+
+abbrev Clients : Type 0
+Clients = List (Vec Item Global)
+
+-- what a client asks, among all
+asked-at : (given : Clients) (c : ℕ) → map seen (items_at given c) ≡ slice_index_or (map (λ (items : Vec Item Global). map seen items.items) given) c []
+asked-at [] c = refl
+asked-at (items ∷ given) zero = refl
+asked-at (items ∷ given) (suc c) = asked-at given c
+
+-- clients with the same items ask the same
+asked-same : (a b : Clients) → length a ≡ length b → ((c : ℕ) → items_at a c ≡ items_at b c) → map (λ (items : Vec Item Global). map seen items.items) a ≡ map (λ (items : Vec Item Global). map seen items.items) b
+asked-same [] [] count same = refl
+asked-same [] (y ∷ b) count same = absurd (omega (arith, count))
+asked-same (x ∷ a) [] count same = absurd (omega (arith, count))
+asked-same (x ∷ a) (y ∷ b) count same =
+    let rest = asked-same a b (omega (arith, count)) (λ c. same (suc c)) in
+    ap (λ l. map seen l ∷ map (λ (items : Vec Item Global). map seen items.items) a) (same zero) ∙ ap (λ l. map seen y.items ∷ l) rest
+
+items-alike : (o : Option (Vec Item Global)) → told.items_in o ≡ items_in o
+items-alike None = refl
+items-alike (Some items) = refl
+
+replies-alike : (o : Option (Vec Reply Global)) → told.replies_in o ≡ replies_in o
+replies-alike None = refl
+replies-alike (Some replies) = refl
+
+trace-alike : (b : Bool) (events : List Traced) → served.trace_of b events ≡ trace_of b events
+trace-alike true events = refl
+trace-alike false events = refl
+
+-- the graph of this number
+drawn-at : (held : List Held) (n : ℕ) (graph : View) → slice_get (map (λ (g : Held). g.drawn) held) n ≡ Some graph → (slice_index_or held n no_graph).drawn ≡ graph
+drawn-at [] n graph is = let z : None ≡ Some graph = is in absurd (let u : ⊥ = cc in u)
+drawn-at (g ∷ held) zero graph is = let z : Some g.drawn ≡ Some graph = is in cc
+drawn-at (g ∷ held) (suc n) graph is = drawn-at held n graph is
+
+-- ## Sectors
+
+-- the sectors before a client go by what each client asks
+before-same : (a b : Clients) → ((c : ℕ) → items_at a c ≡ items_at b c) → (c : ℕ) → laid.sectors_before a c ≡ laid.sectors_before b c
+before-same a b same c = below-same (laid.row_sectors a) (laid.row_sectors b) c (λ k. ap (λ (items : List Item). below (laid.sectors_at items) (length items)) (same k))
+
+item-alike : (i : Item) → told.item_sectors i ≡ laid.item_sectors i
+item-alike (item.Run (op.Write span pattern) file) = refl
+item-alike (item.Run (op.Read span) file) = refl
+item-alike (item.Run (op.Rebuild stripe) file) = refl
+item-alike (item.Run (op.Sync stripe) file) = refl
+item-alike (item.Fail column) = refl
+
+items-before : (items : List Item) (i : ℕ) → told.row_sectors (take i items) ≡ below (laid.sectors_at items) i
+items-before items i = sum-same told.item_sectors laid.item_sectors (take i items) item-alike ∙ sym (below-get laid.sectors_in refl items i)
+
+item-count : (items : List Item) (i : ℕ) → i < length items → told.item_sectors (slice_index_or items i told.no_item) ≡ laid.sectors_at items i
+item-count items i within = item-alike (slice_index_or items i told.no_item) ∙ ap laid.sectors_in (sym (slice_get-get_or items i told.no_item within))
+
+-- a byte of a sector
+sector-byte : (bytes : List ℕ) (n k : ℕ) → k < 512 → get_or (sector_at bytes n) k 0 ≡ get_or bytes (512 * n + k) 0
+unfolding sector_at
+sector-byte bytes n k kb = get_or-take 512 (drop (512 * n) bytes) k 0 kb ∙ get_or-drop (512 * n) bytes k 0
+
+-- and one of an item's, behind those of the clients and items before it
+item-byte : (bytes : List ℕ) (items : List Item) (before i count j : ℕ) → j < 512 * count
+    → get_or (told.item_bytes items (drop before bytes) i count) j 0 ≡ get_or bytes (before + (512 * told.row_sectors (take i items) + j)) 0
+item-byte bytes items before i count j within =
+    get_or-take (512 * count) (drop (512 * told.row_sectors (take i items)) (drop before bytes)) j 0 within
+    ∙ (get_or-drop (512 * told.row_sectors (take i items)) (drop before bytes) j 0
+    ∙ get_or-drop before bytes (512 * told.row_sectors (take i items) + j) 0)
+
+module _ {L D : Type 0} (lay : LayoutGhosts L) (disk : DiskGhosts D) (setup : Setup L D) (closed : Closed L D) (few : length setup.clients.items ≤ 16) (s : served.IsServed lay disk setup closed) (ending : Ending) where
+  abbrev a : Work
+  a = work_of lay setup
+
+  abbrev service : Service
+  service = service_of closed ending
+
+  pub opens-from : Opens disk a setup.devices.items s.start
+  opens-from = record {
+    opening = s.opens.opening;
+    columns = s.opens.columns;
+    items = λ c. ap (map seen) (s.opens.items c) ∙ asked-at setup.clients.items c;
+    failed = s.opens.failed;
+    contents = s.opens.contents;
+    calls = s.opens.calls;
+  }
+
+  pub graphs-from : AreGraphsOf a.graphs (graphs_in setup)
+  graphs-from = record {
+    file = λ n graph is. drawn-at setup.graphs.items n graph is;
+    drawn = λ t missing. refl;
+  }
+
+  pub rests-from : Rests disk a setup.devices.items service (graphs_in setup) s.start s.events s.now
+  rests-from = record {
+    graphs_are = graphs-from;
+    own = s.rests.own;
+    run = s.rests.run;
+    replied = s.rests.replied;
+    out = s.rests.out;
+  }
+
+  told-items : (c : ℕ) → told.items_at closed.clients.items c ≡ items_at setup.clients.items c
+  told-items c = items-alike (slice_get closed.clients.items c) ∙ s.tells.items c
+
+  -- a client with a reply is one of sixteen, and the reply is to an item
+  is-client : (c i : ℕ) (r : Reply) → slice_get (s.now.clients c).replies i ≡ Some r → (c < 16) × (i < length (items_at setup.clients.items c))
+  is-client c i r is = (elim (cases_lt c 16) [ inl lt ↦ lt | inr past ↦ absurd (none past) ], among)
+    where
+      among : i < length (items_at setup.clients.items c)
+      among =
+          let within = slice_get_within (s.now.clients c).replies i r is in
+          let all = s.rests.replied c in
+          let same = ap (λ (l : List Item). length l) (s.rests.items c) in
+          omega (arith, within, all, same)
+
+      none : 16 ≤ c → ⊥
+      none past =
+          let e = ap (λ (l : List Item). length l) (ap items_in (slice_get_past setup.clients.items c (omega (arith, few, past)))) in
+          let n = among in
+          omega (arith, e, n)
+
+  byte-from : disk.tells → (c i b k : ℕ) → slice_get (s.now.clients c).replies i ≡ Some reply.Data → b < told.item_sectors (slice_index_or (told.items_at service.clients c) i told.no_item) → k < 512 → (s.now.clients c).handed i b k ≡ told_byte service c i b k
+  byte-from tells c i b k is within kb =
+      let here = is-client c i reply.Data is in
+      let items : List Item = items_at setup.clients.items c in
+      let row = (s.hands.rows c here.0).each i here.1 in
+      let first : (region_at (served.handed_in closed) c i).first ≡ laid.sectors_before setup.clients.items c + below (laid.sectors_at items) i = ap (λ (r : Region). r.first) row in
+      let count : (region_at (served.handed_in closed) c i).count ≡ laid.sectors_at items i = ap (λ (r : Region). r.count) row in
+      let asked : told.item_sectors (slice_index_or (told.items_at closed.clients.items c) i told.no_item) ≡ laid.sectors_at items i =
+      ap (λ (l : List Item). told.item_sectors (slice_index_or l i told.no_item)) (told-items c) ∙ item-count items i here.1 in
+      let clients : told.sectors_before closed.clients.items c ≡ laid.sectors_before setup.clients.items c =
+      sectors-alike closed.clients.items c ∙ before-same closed.clients.items setup.clients.items s.tells.items c in
+      let behind : told.row_sectors (take i (told.items_at closed.clients.items c)) ≡ below (laid.sectors_at items) i =
+      ap (λ (l : List Item). told.row_sectors (take i l)) (told-items c) ∙ items-before items i in
+      let place : 512 * ((region_at (served.handed_in closed) c i).first + b) + k ≡ 512 * told.sectors_before closed.clients.items c + (512 * told.row_sectors (take i (told.items_at closed.clients.items c)) + (512 * b + k)) = omega (arith, first, clients, behind) in
+      s.hands.handed tells c i b k is (omega (arith, within, asked, count)) kb
+      ∙ (sector-byte closed.sectors.items ((region_at (served.handed_in closed) c i).first + b) k kb
+      ∙ (ap (λ n. get_or closed.sectors.items n 0) place
+      ∙ sym (item-byte closed.sectors.items (told.items_at closed.clients.items c) (512 * told.sectors_before closed.clients.items c) i (told.item_sectors (slice_index_or (told.items_at closed.clients.items c) i told.no_item)) (512 * b + k) (omega (arith, within, kb)))))
+
+  pub tells-from : Tells disk a setup.devices.items service s.events s.now
+  tells-from = record {
+    asked = asked-same closed.clients.items setup.clients.items s.tells.clients s.tells.items;
+    items = λ c. told-items c ∙ sym (s.rests.items c);
+    rows = s.tells.rows ∙ sym s.tells.clients;
+    replies = λ c. replies-alike (slice_get closed.replies.items c) ∙ s.tells.replies c;
+    history = s.tells.history;
+    trace = s.tells.trace ∙ trace-alike setup.trace s.events;
+    handed = byte-from;
+  }
+
+  -- ## What a printer asks
+
+  pub stands-from : told.StandFor service.clients service.replies service.sectors
+  stands-from = record {
+    clients_answered = let e = s.tells.rows in let f = s.tells.clients in omega (arith, e, f);
+    items_answered = λ c lt. ap (λ (l : List Reply). length l) (tells-from.replies c) ∙ (s.rests.replied c ∙ ap (λ (l : List Item). length l) (sym (tells-from.items c)));
+    enough =
+        let count = s.tells.clients in
+        let all : take 16 closed.clients.items ≡ closed.clients.items = take_all 16 closed.clients.items (omega (arith, few, count)) in
+        let alike : told.sectors_before closed.clients.items 16 ≡ laid.sectors_before setup.clients.items 16 = sectors-alike closed.clients.items 16 ∙ before-same closed.clients.items setup.clients.items s.tells.items 16 in
+        let whole : told.sectors_before closed.clients.items 16 ≡ sum_by (λ (row : Vec Item Global). told.row_sectors row.items) closed.clients.items = ap (λ (l : List (Vec Item Global)). sum_by (λ (row : Vec Item Global). told.row_sectors row.items) l) all in
+        let room = s.hands.enough in
+        omega (arith, alike, whole, room);
+  }

@@ -1,0 +1,7 @@
+mod Settled
+mod Columns
+mod FromServed
+mod Finishing
+mod Meaning
+mod Causing
+mod All

@@ -1,0 +1,21 @@
+use Rattle.std.proofs.Common.{◌≡◌, length, refl, sym, ap, subst, arith}
+use Rattle.top_run.specs.Work.{Service}
+use Rattle.top_run.specs.Ends.{IsEnded}
+use Rattle.top_run.proofs.Settled.{lent-back, is-ended}
+use Rattle.top_run.proofs.ending.ended.Goals as goal
+
+pub returns : goal.returns
+returns g c =
+    let devices = c.args.closed.devices in
+    let new = c.end_unlabelled.new.devices in
+    let a : length new ≡ devices.len = omega (arith, c.end_unlabelled.auto.devices, ap length c.as_mut_slice.ensures.value, c.as_mut_slice.ensures.len) in
+    let v : Service = record {
+      clients = c.args.closed.clients.items;
+      replies = c.args.closed.replies.items;
+      sectors = c.args.closed.sectors.items;
+      history = c.args.closed.history.items;
+      trace = c.args.closed.trace.items;
+      ending = record { columns = c.end_unlabelled.new.ending.columns.items; lost = c.end_unlabelled.new.ending.lost };
+    } in
+    subst (λ back. IsEnded g.L.Layout c.args.closed g.D.Disk v back) (sym (lent-back devices.items new devices.len a))
+    (is-ended g.L.Layout c.args.closed g.D.Disk v c.as_mut_slice.result.now new refl c.as_mut_slice.ensures.value c.end_unlabelled.ensures.settled c.end_unlabelled.ensures.last c.end_unlabelled.ensures.lost)

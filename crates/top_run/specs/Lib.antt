@@ -1,0 +1,4 @@
+pub mod Work
+pub mod Works
+pub mod Ran
+pub mod Ends

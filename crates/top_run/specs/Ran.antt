@@ -1,0 +1,160 @@
+-- What a run of clients is, and what it leaves.
+use Rattle.std.specs.Prelude.{◌≡◌, ◌⊎◌, ◌<◌, ◌≤◌, ◌+◌, ◌*◌, ℕ, List, [], ◌++◌, length, Bool, true, false, Option, Some, None, All, map, drop, reverse, slice_get, slice_index, slice_index_or}
+use Rattle.blk_plain.specs.declared.op.Op.{Op}
+use Rattle.blk_plain.specs.declared.op.OpId.{OpId}
+use Rattle.blk_disk.specs.declared.disk.Call.{Call}
+use Rattle.blk_disk.specs.declared.disk.Disk.{Ghosts}
+use Rattle.blk_disk.specs.Devices.{size_of, contents_of, calls_of, RisesOn, Changes}
+use Rattle.lay_core.specs.Layout.{Shape}
+use Rattle.graph_lib.specs.Library.{library}
+use Rattle.graph_mean.specs.Task.{Aim, Missing}
+use Rattle.graph_mean.specs.Graph.{View}
+use Rattle.eng_cols.specs.declared.column.Column.{Column}
+use Rattle.eng_cols.specs.declared.spot.Loss.{Loss}
+use Rattle.eng_cols.specs.Cols.{ColumnState, HasDevice}
+use Rattle.eng_cols.specs.Contents.{Agrees, AnyStripe, InSync}
+use Rattle.eng_cols.specs.Deaths.{Dies}
+use Rattle.eng_cols.specs.Lost.{IsLost, NotLost}
+use Rattle.eng_world.specs.declared.item.Item.TheVariants as item
+use Rattle.eng_world.specs.declared.item.Reply.TheVariants as reply
+use Rattle.eng_world.specs.declared.item.Traced.{Traced}
+use Rattle.eng_world.specs.Planning.{Graphs}
+use Rattle.eng_world.specs.Plain.{replay}
+use Rattle.eng_world.specs.World.{World}
+use Rattle.eng_world.specs.Step.{IsOpening, Run}
+use Rattle.eng_world.specs.Legal.{AreOps, ReplyOf, RepliesFit}
+use Rattle.eng_world.specs.Invariant.{IsTold, AllReplied}
+use Rattle.eng_world.specs.Causes.{ItemAt, HaveCauses, IsLossOf}
+use Rattle.eng_world.specs.Rows.{IsInRows}
+use Rattle.eng_rest.specs.Left.{IsOwn}
+use Rattle.eng_events.specs.Opened.{states_of}
+use Rattle.eng_events.specs.Shows.{AreTold}
+use Rattle.eng_array.specs.Tickets.{AllOf}
+use Rattle.raid_script.specs.Asked.{seen}
+use Rattle.raid_script.specs.Replies.{item_bytes, item_sectors, items_at, no_item, replies_at, sectors_before}
+use Rattle.top_close.specs.Calls.{IsSettle, EndsSettled}
+use Rattle.top_run.specs.Work.{Work, Service}
+
+-- ## Words of a run
+
+-- the graphs that operations may have: those of the file, by number, and the library's, in which a rebuild without target has its unit counted as there
+pub record AreGraphsOf (views : List View) (graphs : Graphs) : Type 0 where
+  pub file : (n : ℕ) (graph : View) → slice_get views n ≡ Some graph → graphs.file n ≡ graph
+  pub drawn : (t : Aim) (missing : Missing) → graphs.library t missing ≡ library t missing true
+
+-- the events of a run, the newest first, as a trace has them, if it is kept
+abbrev pub trace_of : Bool → List Traced → List Traced
+trace_of true events = reverse events
+trace_of false events = []
+
+-- byte k of block b of what item i of client c is handed, by what is printed
+abbrev pub told_byte : Service → ℕ → ℕ → ℕ → ℕ → ℕ
+told_byte s c i b k = slice_index (item_bytes (items_at s.clients c) (drop (512 * sectors_before s.clients c) s.sectors) i (item_sectors (slice_index_or (items_at s.clients c) i no_item))) (512 * b + k)
+
+-- an item asks that the column fail, and was replied ok
+pub record WasFailed (now : World) (c : ℕ) : Type 0 where
+  pub id : OpId
+  pub asked : ItemAt now id (item.Fail c)
+  pub replied : ReplyOf now id reply.Okay
+
+-- what the array was lost by in the run, and else by its columns in the end; if it was
+abbrev pub IsLossAtEnd : Shape → World → List ColumnState → Option Loss → Type 0
+IsLossAtEnd y now cols None = NotLost y cols
+IsLossAtEnd y now cols (Some loss) = ((now.lost ≡ Some loss) × IsLossOf y now loss) ⊎ ((now.lost ≡ None) × IsLost y cols loss)
+
+-- the columns as the array is opened: each stripe of a spread one is done
+abbrev pub states_in : Work → List ColumnState
+states_in a = states_of a.layout a.columns
+
+module _ {D : Type 0} (g : Ghosts D) (a : Work) (taken : List (Option D)) where
+  -- the check units of the array fit its data, by what its devices hold as they are taken
+  abbrev pub WasInSync : Type 0
+  WasInSync = InSync a.layout (contents_of g taken) (states_in a)
+
+  -- ## The run
+
+  -- An opening of what is asked: its columns and items; no device has failed; devices hold and tell what they did as they were taken, and the blocks are what they decode to. What a device holds is said where devices of this type tell it, and its calls where it tells them.
+  pub record Opens (w : World) : Type 0 where
+    pub opening : IsOpening a.layout w
+    pub columns : w.columns ≡ states_in a
+    pub items : (c : ℕ) → map seen (w.clients c).items ≡ slice_index_or a.clients c []
+    pub failed : (d : ℕ) → w.failed d ≡ false
+    pub contents : g.tells → (d n k : ℕ) → k < 512 → w.contents d n k ≡ contents_of g taken d n k
+    pub calls : (d : ℕ) → AreTold g (calls_of g taken d) (w.calls d)
+
+  module _ (s : Service) where
+    -- The clients' own events, the newest first, lead to rest: each item has its reply, and no job is out.
+    pub record Rests (graphs : Graphs) (start : World) (events : List Traced) (now : World) : Type 0 where
+      pub graphs_are : AreGraphsOf a.graphs graphs
+      pub own : AllOf IsOwn events
+      pub run : Run a.layout graphs start events now
+      pub replied : AllReplied now
+      pub out : now.out ≡ 0
+
+    -- What is told of it: the items that were asked, the replies, the history and the events, and what reads hand out, where devices tell what they hold.
+    pub record Tells (events : List Traced) (now : World) : Type 0 where
+      pub asked : map (λ items. map seen items.items) s.clients ≡ a.clients
+      pub items : (c : ℕ) → items_at s.clients c ≡ (now.clients c).items
+      pub rows : length s.replies ≡ length s.clients
+      pub replies : (c : ℕ) → replies_at s.replies c ≡ (now.clients c).replies
+      pub history : s.history ≡ now.history
+      pub trace : s.trace ≡ trace_of a.trace events
+      pub handed : g.tells → (c i b k : ℕ) → slice_get (now.clients c).replies i ≡ Some reply.Data → b < item_sectors (slice_index_or (items_at s.clients c) i no_item) → k < 512 → (now.clients c).handed i b k ≡ told_byte s c i b k
+
+    module _ (back : List (Option D)) where
+      -- ## What it means
+
+      -- The history is legal over the blocks of the opening. Where the array was in sync and devices tell what they hold, each data reply is what the blocks held at its place; and where the array isn't lost, the units that are left on the devices as they are put back, by the columns in the end, encode what the history makes of those blocks.
+      pub record Means (start now : World) : Type 0 where
+        pub legal : IsTold start.blocks now
+        pub fits : g.tells → WasInSync → RepliesFit start.blocks now
+        pub agrees : g.tells → WasInSync → s.ending.lost ≡ None → (ops : List Op) × AreOps now now.history ops
+            × Agrees a.layout (contents_of g back) (states_of a.layout s.ending.columns) (replay start.blocks ops) AnyStripe
+
+      -- ## How it ends
+
+      -- the sector may have changed: it is one of the array's rows, on a device that was in a column; or the device has no such sector
+      abbrev pub MayChange : ℕ → ℕ → Type 0
+      MayChange d n = (((c : ℕ) × HasDevice (states_in a) c d) × IsInRows a.layout n) ⊎ (size_of g taken d ≤ n)
+
+      -- the device of the column had its count of faults rise
+      abbrev pub RisesAt : ℕ → Type 0
+      RisesAt c = (d : ℕ) × HasDevice (states_in a) c d × RisesOn g taken back d
+
+      -- The columns are those of the run's end, but for some that died as their devices were settled; and the loss is the run's, or that of the columns in the end. Devices hold what they do at the run's end, and have changed nowhere else; of the calls that they tell those behind the run's are settles; and each device of a column in the end has been settled last.
+      pub record Finishes (now : World) : Type 0 where
+        pub kept : List Column
+        pub columns : now.columns ≡ states_of a.layout kept
+        pub dies : Dies RisesAt kept s.ending.columns
+        pub lost : IsLossAtEnd a.layout now (states_of a.layout s.ending.columns) s.ending.lost
+        pub contents : g.tells → (d n k : ℕ) → k < 512 → contents_of g back d n k ≡ now.contents d n k
+        pub calls : (d : ℕ) (told : List Call) → calls_of g back d ≡ Some told → (settles : List Call) × (told ≡ now.calls d ++ settles) × All IsSettle settles
+        pub settled : (c d : ℕ) → HasDevice (states_of a.layout s.ending.columns) c d → EndsSettled (calls_of g back d)
+        pub frame : Changes g MayChange taken back
+
+      -- ## Causes
+
+      -- its count of faults rose, or an item was replied ok by which a column failed that had it
+      abbrev pub IsFailedBy : World → ℕ → Type 0
+      IsFailedBy now d = RisesOn g taken back d ⊎ ((c : ℕ) × HasDevice (states_in a) c d × WasFailed now c)
+
+      -- Each reply has its cause. Each column in the end is what it was as the array was opened, or is dead since an item was replied ok by which it failed, or its device's count of faults rose; and each device that failed in the run failed for one of these.
+      pub record Causes (graphs : Graphs) (start : World) (events : List Traced) (now : World) : Type 0 where
+        pub replies : HaveCauses a.layout graphs start events now
+        pub dies : Dies (λ c. WasFailed now c ⊎ RisesAt c) a.columns s.ending.columns
+        pub failed : (d : ℕ) → now.failed d ≡ true → IsFailedBy now d
+
+      -- ## All of it
+
+      -- A run of what is asked, over the devices as they were taken, that tells this and leaves the devices as they are put back: there are graphs, worlds and events such that all of this holds.
+      pub record Ran : Type 0 where
+        pub graphs : Graphs
+        pub start : World
+        pub events : List Traced
+        pub now : World
+        pub opens : Opens start
+        pub rests : Rests graphs start events now
+        pub tells : Tells events now
+        pub means : Means start now
+        pub ends : Finishes now
+        pub causes : Causes graphs start events now

@@ -1,0 +1,34 @@
+-- What clients ask of an array, and what is told of it.
+use Rattle.std.specs.Prelude.{ℕ, List, Bool, Option, Vec}
+use Rattle.std.specs.declared.alloc.Global.{Global}
+use Rattle.blk_plain.specs.declared.op.OpId.{OpId}
+use Rattle.lay_core.specs.Layout.{Shape}
+use Rattle.graph_mean.specs.Graph.{View}
+use Rattle.eng_cols.specs.declared.column.Column.{Column}
+use Rattle.eng_cols.specs.declared.spot.Loss.{Loss}
+use Rattle.eng_world.specs.declared.item.Item.{Item as AnyItem}
+use Rattle.eng_world.specs.declared.item.Reply.{Reply}
+use Rattle.eng_world.specs.declared.item.Traced.{Traced}
+use Rattle.raid_script.specs.Asked.{Asked as Item}
+
+-- The layout, the columns as the array is opened, what each client asks for, the graphs of the file, and whether a trace is kept.
+pub record Work : Type 0 where
+  pub layout : Shape
+  pub columns : List Column
+  pub clients : List (List Item)
+  pub graphs : List View
+  pub trace : Bool
+
+-- The columns in the end, and what the array was lost by, if it was.
+pub record Ending : Type 0 where
+  pub columns : List Column
+  pub lost : Option Loss
+
+-- What a run tells: of each client its items and their replies, the sectors of those that are data, the history, the trace where it is kept, and how it ended.
+pub record Service : Type 0 where
+  pub clients : List (Vec AnyItem Global)
+  pub replies : List (Vec Reply Global)
+  pub sectors : List ℕ
+  pub history : List OpId
+  pub trace : List Traced
+  pub ending : Ending

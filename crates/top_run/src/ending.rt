@@ -1,0 +1,46 @@
+//! What was served is ended.
+ghost use Rattle.eng_cols.specs.Cols.{IsFor};
+ghost use Rattle.top_run.specs.Works.{service_seen};
+ghost use Rattle.top_run.specs.Ends.{MayEnd, IsEnded};
+
+use crate::service::Service;
+use blk_disk::Disk;
+use eng_array::Closed;
+use eng_cols::Cols;
+use lay_core::Layout;
+use top_close::{Ending, end_unlabelled};
+
+/// Settles the devices in use, and tells of the run with its end.
+pub(crate) fn ended<L: Layout + Drop, D: Disk + Drop>(
+    closed: Closed<L, D>,
+    mut judge: Cols,
+) -> (Service, Vec<Option<D>>)
+    requires closed { MayEnd L.Layout closed }
+    requires judge { IsFor (L.shape closed.layout) judge }
+    ensures { IsEnded L.Layout closed D.Disk (service_seen result.0) result.1.items }
+{
+    let Closed {
+        layout,
+        mut devices,
+        columns,
+        clients,
+        replies,
+        history,
+        trace,
+        lost,
+        sectors,
+        ..
+    } = closed;
+    let mut ending = Ending { columns, lost };
+    end_unlabelled(&layout, devices.as_mut_slice(), &mut ending, &mut judge);
+    let service = Service {
+        clients,
+        replies,
+        sectors,
+        history,
+        trace,
+        columns: ending.columns,
+        lost: ending.lost,
+    };
+    (service, devices)
+}

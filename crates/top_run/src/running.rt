@@ -1,0 +1,63 @@
+//! Clients are served, and the run is ended.
+ghost use Rattle.std.specs.Prelude.{◌≡◌, ◌≤◌, IfOk, IfErr, IfSome, length};
+ghost use Rattle.eng_cols.specs.Cols.{IsFor};
+ghost use Rattle.eng_events.specs.Opened.{IsSetup};
+ghost use Rattle.eng_array.specs.Fitting.{FitsTrace};
+ghost use Rattle.raid_script.specs.Replies.{StandFor};
+ghost use Rattle.top_serve.specs.Setups.{IsFew, IsNotLost, IsRefusal};
+ghost use Rattle.top_run.specs.Works.{work_of, service_seen};
+ghost use Rattle.top_run.specs.Ran.{Ran};
+
+use crate::ending::ended;
+use crate::service::Service;
+use blk_disk::Disk;
+use eng_array::Setup;
+use eng_cols::Cols;
+use lay_core::Layout;
+use std::alloc::Global;
+use std::sync::Wait;
+use std::thread::Threads;
+use top_close::deaths_bring_no_unit_back;
+use top_serve::{Refused, ServeFault, serve};
+
+// The room for the columns of the layout, by which their loss is judged in the end.
+fn judge_for<L: Layout>(alloc: Global, layout: &L) -> Option<Cols>
+    ensures { IfSome result (IsFor (L.shape layout.now)) }
+{
+    Cols::with_room(alloc, layout.columns(), layout.stripes()).ok()
+}
+
+/// Serves the setup's clients until each item has its reply and no job is out, with so many workers, and ends the run:
+/// each device in use is settled, and a column whose device fails that is dead.
+///
+/// All memory that the run itself takes is taken first. Refused are an array that is lost by its columns, and want of
+/// that memory; the setup then comes back as it was.
+pub fn run_clients<L: Layout + Drop + Send, D: Disk + Drop + Send, R: Threads + Wait + Sync>(
+    rt: &R,
+    alloc: Global,
+    setup: Setup<L, D>,
+    workers: u32,
+) -> Result<(Service, Vec<Option<D>>), Refused<L, D>>
+    requires workers { workers ≤ 16 }
+    requires setup { IsSetup L.Layout D.Disk setup }
+    requires few { IsFew setup }
+    requires trace { FitsTrace L.Layout setup }
+    ensures kept { IfOk result (λ r. IsNotLost L.Layout setup) }
+    ensures ran { IfOk result (λ r. Ran D.Disk (work_of L.Layout setup) setup.devices.items (service_seen r.0) r.1.items) }
+    ensures stands { IfOk result (λ r. StandFor r.0.clients.items r.0.replies.items r.0.sectors.items) }
+    ensures many { IfOk result (λ r. length r.1.items ≡ length setup.devices.items) }
+    ensures fault { IfErr result (λ refused. IsRefusal L.Layout setup refused.fault) }
+    ensures back { IfErr result (λ refused. refused.setup ≡ setup) }
+{
+    let Some(judge) = judge_for(alloc, &setup.layout) else {
+        let fault = ServeFault::Memory;
+        return Err(Refused { fault, setup });
+    };
+    match serve(rt, alloc, setup, workers) {
+        Ok(closed) => {
+            deaths_bring_no_unit_back();
+            Ok(ended(closed, judge))
+        }
+        Err(refused) => Err(refused),
+    }
+}

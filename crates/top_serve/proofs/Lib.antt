@@ -1,0 +1,14 @@
+pub mod Columns
+pub mod Begun
+pub mod Died
+pub mod Meaning
+pub mod Devices
+pub mod Between
+pub mod Enough
+pub mod Framed
+pub mod Begins
+pub mod Hands
+pub mod Leaving
+pub mod Causing
+pub mod All
+pub mod TestSetups

@@ -1,0 +1,145 @@
+-- What becomes of what was handed in, once it is served: a run of events from an opening to rest, and what is handed back.
+use Rattle.std.specs.Prelude.{◌≡◌, ◌<◌, ◌≤◌, ◌*◌, ◌⊎◌, ℕ, List, [], length, Bool, true, false, Option, Some, None, slice_get, slice_index_or, map, reverse}
+use Rattle.blk_plain.specs.declared.op.Op.{Op}
+use Rattle.blk_plain.specs.declared.op.OpId.{OpId}
+use Rattle.blk_disk.specs.declared.disk.Disk.{Ghosts as DiskGhosts}
+use Rattle.blk_disk.specs.Devices.{size_of, contents_of, calls_of, RisesOn, Changes}
+use Rattle.lay_core.specs.Layout.{Shape}
+use Rattle.lay_core.specs.declared.layout.Layout.{Ghosts as LayoutGhosts}
+use Rattle.eng_cols.specs.declared.spot.Loss.{Loss}
+use Rattle.eng_cols.specs.Cols.{column_of, HasDevice}
+use Rattle.eng_cols.specs.Contents.{Agrees, AnyStripe}
+use Rattle.eng_cols.specs.Deaths.{Dies}
+use Rattle.eng_cols.specs.Lost.{NotLost}
+use Rattle.eng_world.specs.declared.item.Item.TheVariants as item
+use Rattle.eng_world.specs.declared.item.Reply.TheVariants as reply
+use Rattle.eng_world.specs.declared.item.Traced.{Traced}
+use Rattle.eng_world.specs.World.{World}
+use Rattle.eng_world.specs.Plain.{replay}
+use Rattle.eng_world.specs.Step.{IsOpening, Run}
+use Rattle.eng_world.specs.Legal.{AreOps, ReplyOf, RepliesFit}
+use Rattle.eng_world.specs.Invariant.{IsTold, AllReplied}
+use Rattle.eng_world.specs.Causes.{ItemAt, HaveCauses, IsLossOf}
+use Rattle.eng_world.specs.Rows.{IsInRows}
+use Rattle.eng_rest.specs.Left.{IsOwn}
+use Rattle.eng_parts.specs.declared.setup.Setup.{Setup}
+use Rattle.eng_parts.specs.declared.setup.Closed.{Closed}
+use Rattle.eng_parts.specs.Given.{items_at}
+use Rattle.eng_parts.specs.Handed.{Handout, region_at, handed_byte}
+use Rattle.eng_parts.specs.Laid.{sectors_before, IsRow}
+use Rattle.eng_parts.specs.Replied.{replies_at}
+use Rattle.eng_events.specs.Opened.{states_of}
+use Rattle.eng_events.specs.Shows.{AreTold}
+use Rattle.eng_array.specs.Tickets.{AllOf}
+use Rattle.top_serve.specs.Setups.{shape_in, states_in, graphs_in, WasInSync}
+
+-- the events of a run, the newest first, as a trace has them, if it is kept
+abbrev pub trace_of : Bool → List Traced → List Traced
+trace_of true events = reverse events
+trace_of false events = []
+
+-- an item asks that the column fail, and was replied ok
+pub record WasFailed (now : World) (c : ℕ) : Type 0 where
+  pub id : OpId
+  pub asked : ItemAt now id (item.Fail c)
+  pub replied : ReplyOf now id reply.Okay
+
+-- not lost by the columns as they are now; or lost by columns of which each dead one is dead still
+abbrev pub IsLossIn : Shape → World → Option Loss → Type 0
+IsLossIn y now None = NotLost y now.columns
+IsLossIn y now (Some loss) = IsLossOf y now loss
+
+-- what reads handed out, with the region of each item
+abbrev pub handed_in : {L D : Type 0} → Closed L D → Handout
+handed_in closed = record { bytes = closed.sectors.items; regions = closed.regions.items }
+
+module _ {L D : Type 0} (lay : LayoutGhosts L) (disk : DiskGhosts D) (setup : Setup L D) where
+  -- ## The run
+
+  -- An opening of what was handed in: its columns and items; no device has failed, all 2,048 buffers are free, and devices hold and tell what they did. What a device holds is said where devices of this type tell it, and its calls where it tells them.
+  pub record Opens (w : World) : Type 0 where
+    pub opening : IsOpening (shape_in lay setup) w
+    pub columns : w.columns ≡ states_in lay setup
+    pub items : (c : ℕ) → (w.clients c).items ≡ items_at setup.clients.items c
+    pub failed : (d : ℕ) → w.failed d ≡ false
+    pub free : w.free ≡ 2048
+    pub contents : disk.tells → (d n k : ℕ) → k < 512 → w.contents d n k ≡ contents_of disk setup.devices.items d n k
+    pub calls : (d : ℕ) → AreTold disk (calls_of disk setup.devices.items d) (w.calls d)
+
+  -- The events, the newest first, are the clients' own, and lead to rest: each item has its reply, and no job is out. No items have come or gone.
+  pub record Rests (start : World) (events : List Traced) (now : World) : Type 0 where
+    pub own : AllOf IsOwn events
+    pub run : Run (shape_in lay setup) (graphs_in setup) start events now
+    pub items : (c : ℕ) → (now.clients c).items ≡ items_at setup.clients.items c
+    pub replied : AllReplied now
+    pub out : now.out ≡ 0
+
+  -- The history is legal over the blocks of the opening. Where the array was in sync and devices tell what they hold, each data reply is what the blocks held at its place.
+  pub record Means (start now : World) : Type 0 where
+    pub legal : IsTold start.blocks now
+    pub fits : disk.tells → WasInSync lay disk setup → RepliesFit start.blocks now
+
+  -- ## What is handed back
+
+  module _ (closed : Closed L D) where
+    -- layout and items as they were handed in; columns, replies, history, loss and trace are the run's
+    pub record Tells (events : List Traced) (now : World) : Type 0 where
+      pub layout : closed.layout ≡ setup.layout
+      pub columns : closed.columns.items ≡ map column_of now.columns
+      pub states : now.columns ≡ states_of (shape_in lay setup) closed.columns.items
+      pub clients : length closed.clients.items ≡ length setup.clients.items
+      pub items : (c : ℕ) → items_at closed.clients.items c ≡ items_at setup.clients.items c
+      pub rows : length closed.replies.items ≡ length setup.clients.items
+      pub replies : (c : ℕ) → replies_at closed.replies.items c ≡ (now.clients c).replies
+      pub history : closed.history.items ≡ now.history
+      pub lost : closed.lost ≡ now.lost
+      pub trace : closed.trace.items ≡ trace_of setup.trace events
+
+    -- The regions lie one behind the other, one for each item, as long as its read, and there are bytes for all of them; and data replies hand out what is there, which is said where devices tell what they hold.
+    pub record HandsOut (now : World) : Type 0 where
+      pub rows : (c : ℕ) → c < 16 → IsRow (items_at setup.clients.items c) (sectors_before setup.clients.items c) (length (items_at setup.clients.items c)) (slice_index_or closed.regions.items c [])
+      pub enough : 512 * sectors_before setup.clients.items 16 ≤ length closed.sectors.items
+      pub handed : disk.tells → (c i b k : ℕ) → slice_get (now.clients c).replies i ≡ Some reply.Data → b < (region_at (handed_in closed) c i).count → k < 512 → (now.clients c).handed i b k ≡ handed_byte (handed_in closed) c i b k
+
+    -- the sector may have changed: it is one of the array's rows, on a device that was in a column; or the device has no such sector
+    abbrev pub MayChange : ℕ → ℕ → Type 0
+    MayChange d n = (((c : ℕ) × HasDevice (states_in lay setup) c d) × IsInRows (shape_in lay setup) n) ⊎ (size_of disk setup.devices.items d ≤ n)
+
+    -- Devices hold and tell what they do in the run's last world, and have changed nowhere else. Where the array was in sync and isn't lost, the units that are left on them encode what the history makes of the opening's blocks.
+    pub record Leaves (start now : World) : Type 0 where
+      pub contents : disk.tells → (d n k : ℕ) → k < 512 → now.contents d n k ≡ contents_of disk closed.devices.items d n k
+      pub calls : (d : ℕ) → AreTold disk (calls_of disk closed.devices.items d) (now.calls d)
+      pub frame : Changes disk MayChange setup.devices.items closed.devices.items
+      pub agrees : disk.tells → WasInSync lay disk setup → closed.lost ≡ None → (ops : List Op) × AreOps now now.history ops
+          × Agrees (shape_in lay setup) (contents_of disk closed.devices.items) now.columns (replay start.blocks ops) AnyStripe
+
+    -- ## Causes
+
+    -- its count of faults rose, or an item was replied ok by which a column failed that had it
+    abbrev pub IsFailedBy : World → ℕ → Type 0
+    IsFailedBy now d = RisesOn disk setup.devices.items closed.devices.items d ⊎ ((c : ℕ) × HasDevice (states_in lay setup) c d × WasFailed now c)
+
+    -- the count of its device rose, or an item was replied ok by which it failed
+    abbrev pub IsDeadBy : World → ℕ → Type 0
+    IsDeadBy now c = WasFailed now c ⊎ ((d : ℕ) × HasDevice (states_in lay setup) c d × RisesOn disk setup.devices.items closed.devices.items d)
+
+    -- Each reply has its cause. Each column is what it was or is dead for a cause; each failed device has failed by something; and the loss is that of the columns as it came.
+    pub record Causes (start : World) (events : List Traced) (now : World) : Type 0 where
+      pub replies : HaveCauses (shape_in lay setup) (graphs_in setup) start events now
+      pub dies : Dies (IsDeadBy now) setup.columns.items closed.columns.items
+      pub failed : (d : ℕ) → now.failed d ≡ true → IsFailedBy now d
+      pub loss : IsLossIn (shape_in lay setup) now closed.lost
+
+    -- ## All of it
+
+    pub record IsServed : Type 0 where
+      pub start : World
+      pub events : List Traced
+      pub now : World
+      pub opens : Opens start
+      pub rests : Rests start events now
+      pub means : Means start now
+      pub tells : Tells events now
+      pub hands : HandsOut now
+      pub leaves : Leaves start now
+      pub causes : Causes start events now

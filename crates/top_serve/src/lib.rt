@@ -1,0 +1,17 @@
+//! A run of items over an array, from its opening to rest.
+//!
+//! [`serve`] opens a core over a setup, lets a crew of workers at it, drains what they leave, and closes it. What comes
+//! of it is one record over what was handed in and what is handed back: a run of events of the clients alone leads from
+//! an opening to a world in which every item has its reply and no job is out, and all that is handed back is that
+//! world's.
+#![tactic(auto)]
+
+mod opening;
+mod refused;
+mod serving;
+
+pub use refused::{Refused, ServeFault};
+pub use serving::serve;
+
+#[cfg(test)]
+mod tests;

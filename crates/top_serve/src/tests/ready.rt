@@ -1,0 +1,68 @@
+//! Setups over two columns.
+ghost use Rattle.std.specs.Prelude.{◌≡◌, ◌≤◌, [], ◌∷◌, IfOk, All, Some, length};
+ghost use Rattle.eng_crew.specs.Trial.{AreSmall};
+ghost use Rattle.top_serve.specs.Trials.{IsReady};
+
+use blk_disk::{Disk, MemDisk};
+use eng_array::{Column, Item, Setup};
+use lay_core::Layout;
+use lay_plain::Raid5;
+use std::alloc::{AllocError, Global};
+use std::test::Fail;
+
+// The two devices, by number.
+fn pair(alloc: Global, first: MemDisk, second: MemDisk) -> Result<Vec<Option<MemDisk>>, AllocError>
+    ensures { IfOk result (λ devices. devices.items ≡ Some first ∷ Some second ∷ []) }
+{
+    let mut devices = Vec::with_capacity(alloc, 2)?;
+    devices.push_reserved(Some(first));
+    devices.push_reserved(Some(second));
+    Ok(devices)
+}
+
+// Level 5 over two columns of 64 rows, with units of one sector, that live on these devices. No trace is kept.
+pub fn ready(
+    alloc: Global,
+    first: MemDisk,
+    second: MemDisk,
+    clients: Vec<Vec<Item>>,
+) -> Result<Setup<Raid5, MemDisk>, Fail>
+    requires first { 128 ≤ ⟦<MemDisk as Disk>⟧.size first }
+    requires second { 128 ≤ ⟦<MemDisk as Disk>⟧.size second }
+    requires few { length clients.items ≤ 16 }
+    requires small { All AreSmall clients.items }
+    ensures { IfOk result (IsReady ⟦<Raid5 as Layout>⟧ ⟦<MemDisk as Disk>⟧) }
+{
+    let Ok(layout) = Raid5::new(2, 1, 64) else {
+        return Err(Fail::from("no layout"));
+    };
+    let columns = vec![in alloc; Column::Live { device: 0 }, Column::Live { device: 1 }]?;
+    let devices = pair(alloc, first, second)?;
+    Ok(Setup {
+        layout,
+        devices,
+        columns,
+        clients,
+        graphs: Vec::new(alloc),
+        trace: false,
+    })
+}
+
+// The same of which both columns are dead, without clients.
+pub fn lost(alloc: Global, first: MemDisk, second: MemDisk) -> Result<Setup<Raid5, MemDisk>, Fail>
+    ensures { IfOk result (IsReady ⟦<Raid5 as Layout>⟧ ⟦<MemDisk as Disk>⟧) }
+{
+    let Ok(layout) = Raid5::new(2, 1, 64) else {
+        return Err(Fail::from("no layout"));
+    };
+    let columns = vec![in alloc; Column::Dead, Column::Dead]?;
+    let devices = pair(alloc, first, second)?;
+    Ok(Setup {
+        layout,
+        devices,
+        columns,
+        clients: Vec::new(alloc),
+        graphs: Vec::new(alloc),
+        trace: false,
+    })
+}
