@@ -4,31 +4,34 @@ set -eu
 top=$(cd "$(dirname "$0")" && pwd)
 program=$top/crates/raidctl/out/raidctl
 
+folder=$(mktemp -d "${TMPDIR:-/tmp}/raidctl.XXXXXX")
+cd "$folder"
+printf '0 write 0 1 a5\n0 read 0 1\n' > script
+
+# A new array of three components of zeros in this folder, each named with this in front.
+array() {
+    printf 'START array\n1 3 0\nSTART disks\n%sd0\n%sd1\n%sd2\nSTART layout\n1 1 1 5\n' "$1" "$1" "$1" > conf
+    for disk in d0 d1 d2; do
+        head -c 65536 /dev/zero > "$disk"
+    done
+}
+
+# rt builds a program as it runs it, here on an array of its own.
 build() {
-    echo "raidctl isn't built yet. It is proved first, crate by crate, which takes some minutes."
-    log=$(mktemp)
+    echo "raidctl isn't built yet. It is proved first, crate by crate, which takes some 15 to 30 minutes."
+    array "$folder/"
     # Each line of the check that names a function names its crate too: show each crate once.
-    if ! (cd "$top/crates/raidctl" && rt run -- conf --io script 2>&1) | tee "$log" |
-        awk '/^(fn|crate) [a-z0-9_]+/ { split($2, part, ":"); if (!(part[1] in seen)) { seen[part[1]] = 1; print "proving " part[1] } fflush() }'; then
-        :
-    fi
+    (cd "$top/crates/raidctl" && rt run -- "$folder/conf" --io "$folder/script" 2>&1) | tee "$folder/log" |
+        awk '/^(fn|crate) [a-z0-9_]+/ { split($2, part, ":"); if (!(part[1] in seen)) { seen[part[1]] = 1; print "proving " part[1] } fflush() }' || true
     if [ ! -x "$program" ]; then
         echo "raidctl could not be built; what the prover said:" >&2
-        tail -n 20 "$log" >&2
+        tail -n 20 "$folder/log" >&2
         exit 1
     fi
-    rm -f "$log"
 }
 
 [ -x "$program" ] || build
-
-folder=$(mktemp -d "${TMPDIR:-/tmp}/raidctl.XXXXXX")
-cd "$folder"
-printf 'START array\n1 3 0\nSTART disks\nd0\nd1\nd2\nSTART layout\n1 1 1 5\n' > conf
-printf '0 write 0 1 a5\n0 read 0 1\n' > script
-for disk in d0 d1 d2; do
-    head -c 65536 /dev/zero > "$disk"
-done
+array ''
 
 echo "in $folder:"
 echo '$ raidctl conf --io script'
