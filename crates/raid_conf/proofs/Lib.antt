@@ -11,3 +11,6 @@ pub mod ReadLines
 pub mod ReadConf
 pub mod TableLaws
 pub mod Sent
+pub mod PrintedLines
+pub mod ShortTexts
+pub mod CanonicalText
