@@ -1,5 +1,5 @@
 -- A run of clients that are apart, over the blocks that the devices held.
-use Rattle.std.proofs.Common.{◌≡◌, ◌∙◌, ap, refl, subst, ℕ, ◌+◌, ◌≤◌, List, length, take, Option, Some, None, arith}
+use Rattle.std.proofs.Common.{◌≡◌, ◌∙◌, ap, sym, refl, subst, ℕ, ◌+◌, ◌<◌, ◌≤◌, List, length, min, take, Option, Some, None, arith}
 use Rattle.std.specs.Prelude.{slice_get}
 use Rattle.blk_plain.specs.declared.op.Op.{Op}
 use Rattle.blk_plain.specs.declared.op.Op.TheVariants.{Write, Read, Rebuild, Sync}
@@ -11,7 +11,9 @@ use Rattle.eng_cols.specs.Cols.{ColumnState}
 use Rattle.eng_cols.specs.Contents.{decode}
 use Rattle.eng_world.specs.declared.item.Item.TheVariants as item
 use Rattle.eng_events.specs.Opened.{states_of}
-use Rattle.raid_script.specs.Drawn.{AreApart, IsOwn}
+use Rattle.raid_script.specs.Drawn.{AreApart, IsOwn, drawn, share}
+use Rattle.raid_script.proofs.DrawnShares.{drawn_apart}
+use Rattle.raid_script.specs.Asked.{Asked}
 use Rattle.raid_script.specs.Replies.{items_at}
 use Rattle.raid_script.specs.Summary.{all_sum}
 use Rattle.top_sweep.proofs.OneAfterAnother.{replay_same}
@@ -73,3 +75,13 @@ module _ {D : Type 0} (g : Ghosts D) (a : Work) (taken back : List (Option D)) (
         sums.summary g a taken s back r count ops wide blocks given within none tells sync
         ∙ ap (λ (sum : ℕ). turn_text (length a.clients) turn sum) (replies-on (blocks_in a.layout) turn r.start.blocks held (start-held tells) all-in-range);
   }
+
+-- so too where they are drawn
+pub swept-by-seed : {D : Type 0} (g : Ghosts D) (a : Work) (taken back : List (Option D)) (s : Service) (r : Ran g a taken s back) (seed clients ops : ℕ)
+    → 0 < clients → 0 < blocks_in a.layout → a.clients ≡ drawn seed clients ops (blocks_in a.layout) → s.ending.lost ≡ None
+    → SweptInTurn g a taken s back (decode a.layout (contents_of g taken) (states_in a))
+swept-by-seed g a taken back s r seed clients ops some any are none =
+    let n = blocks_in a.layout in
+    let given = drawn_apart seed clients ops n some any in
+    swept-over-held g a taken back s r (min clients n) ops (share clients n) n
+    (subst (λ (rows : List (List Asked)). AreApart (min clients n) ops (share clients n) n rows) (sym are) given) (let z : n ≤ n = omega arith in z) none
