@@ -5,3 +5,13 @@ mod Finishing
 mod Meaning
 mod Causing
 mod All
+mod InTurnOps
+mod InTurnSums
+mod InTurnLost
+mod InTurnReplies
+mod InTurnApart
+mod InTurnMeans
+mod InTurnSummary
+mod InTurnSame
+mod InTurnHeld
+mod InTurn

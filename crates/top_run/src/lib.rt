@@ -6,8 +6,10 @@
 #![tactic(auto)]
 
 mod ending;
+mod in_turn;
 mod running;
 mod service;
 
+pub use in_turn::a_sweep_comes_client_after_client;
 pub use running::run_clients;
 pub use service::Service;

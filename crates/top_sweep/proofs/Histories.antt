@@ -5,7 +5,7 @@ use Rattle.std.proofs.lemmas.Bool.{cases_order, le-leb, lt-ltb}
 use Rattle.std.specs.Cmp.Derive.{both_true}
 use Rattle.std.proofs.lemmas.Bool.Decides.{eqb_tells}
 use Rattle.std.proofs.lemmas.List.{take_all}
-use Rattle.std.proofs.lemmas.Option.{slice_get_within, slice_get_past, slice_get_cases}
+use Rattle.std.proofs.lemmas.Option.{slice_get_within, slice_get_cases}
 use Rattle.blk_plain.specs.declared.op.Op.{Op}
 use Rattle.blk_plain.specs.declared.op.Op.TheVariants.{Read}
 use Rattle.blk_plain.specs.declared.op.OpId.{OpId}
@@ -148,7 +148,7 @@ block_is_its_clients w start own owner ops apart legal are b k =
     replay_in_turn w own owner apart w.history ops are c 0 got.0 got.0 turn (omega arith) start start b k refl refl
     ∙ ap (λ (l : List Op). replay start l b k) (take_all got.0 (own c) long)
 
-in_span : (span : Span) (j : ℕ) → j < span.count → is_in span (span.first + j) ≡ true
+pub in_span : (span : Span) (j : ℕ) → j < span.count → is_in span (span.first + j) ≡ true
 in_span span j lt = both_true (le-leb span.first (span.first + j) (omega arith)) (lt-ltb (span.first + j) (span.first + span.count) (omega arith))
 
 -- and a read hands out what its own client's earlier operations make
