@@ -9,3 +9,6 @@ pub mod FormText
 pub mod FormConf
 pub mod ReadLines
 pub mod ReadConf
+pub mod PrintedLines
+pub mod ShortTexts
+pub mod CanonicalText

@@ -6,4 +6,5 @@ pub mod Format
 pub mod Form
 pub mod Answers
 pub mod Laws
+pub mod Printing
 pub mod Layouts

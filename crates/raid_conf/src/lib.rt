@@ -32,10 +32,12 @@ mod laws;
 mod layouts;
 mod lines;
 mod make;
+mod memory;
 mod name_lines;
 mod names;
 mod numbers;
 mod plain;
+mod print;
 mod reader;
 mod role;
 mod sections;
@@ -45,10 +47,12 @@ pub use any_fault::AnyFault;
 pub use conf::Conf;
 pub use fault::ConfFault;
 pub use given::Given;
-pub use laws::{conf_is_of_the_form, conf_is_read};
+pub use laws::{conf_is_of_the_form, conf_is_read, conf_text_is_printed_again, conf_text_is_read};
 pub use layouts::AnyLayout;
+pub use memory::Memory;
 pub use names::Names;
 pub use numbers::Numbers;
+pub use print::print_conf;
 pub use reader::read_conf;
 
 #[cfg(test)]

@@ -1,4 +1,5 @@
-//! What texts are read as, why they are not, and the layouts that they describe.
+//! What texts are read as, why they are not, what is printed, and the layouts that they describe.
 mod making;
+mod printing;
 mod reading;
 mod refusing;
