@@ -1,9 +1,10 @@
 #!/usr/bin/env bash
 # How many operations a second the program makes on real files, beside cat and cp of as many bytes in
-# the same run; and the ratio of its times for 60,000 and for 10,000 operations, also beyond the time of
-# a script without operations. The ratio is near 6 where the time grows with the operations.
+# the same run: with no worker, one and four, for one client and for eight; the ratio of its times for
+# 60,000 and for 10,000 operations, also beyond the time of a script without operations, which is near
+# 6 where the time grows with the operations; and 128 MiB of writes of whole stripes.
 #
-# An array of level 5 on five columns of 64 rows with units of 32 sectors: small, so that the first
+# The array is of level 5 on five columns of 64 rows with units of 32 sectors: small, so that the first
 # touch of each of its pages is a small part of 10,000 operations. Each operation is a write or a read
 # of eight sectors, in turn, at blocks that a fixed generator spreads over the array. The scripts take
 # turns, and each time is the least of its rounds.
@@ -15,25 +16,30 @@ program=$top/crates/raidctl/out/raidctl
 stripes=64
 unit=32
 count=8
-rounds=9
+rounds=${ROUNDS:-9}
 
 folder=$(mktemp -d "${TMPDIR:-/tmp}/raidctl.XXXXXX")
 trap 'rm -rf "$folder"' EXIT
 cd "$folder"
-printf 'START array\n1 5 0\nSTART disks\nd0\nd1\nd2\nd3\nd4\nSTART layout\n%s 1 1 5\n' "$unit" > conf
-for disk in d0 d1 d2 d3 d4; do
-    head -c $((512 * (64 + unit * stripes))) /dev/zero > "$disk"
-done
 
-# So many operations. The span begins at any block from which it fits.
+# A configuration of five components with units of so many sectors, and images of so many stripes.
+array() {
+    printf 'START array\n1 5 0\nSTART disks\n%sd0\n%sd1\n%sd2\n%sd3\n%sd4\nSTART layout\n%s 1 1 5\n' "$1" "$1" "$1" "$1" "$1" "$2" > "$1conf"
+    for disk in d0 d1 d2 d3 d4; do
+        head -c $((512 * (64 + $2 * $3))) /dev/zero > "$1$disk"
+    done
+}
+
+# So many operations of so many clients in turn. The span begins at any block from which it fits.
 script() {
-    awk -v operations="$1" -v blocks=$((stripes * 4 * unit)) -v count="$count" 'BEGIN {
+    awk -v operations="$1" -v clients="$2" -v blocks=$((stripes * 4 * unit)) -v count="$count" 'BEGIN {
         state = 1
         for (i = 0; i < operations; i++) {
             state = (state * 16807) % 2147483647
             first = state % (blocks - count + 1)
-            if (i % 2 == 0) printf "0 write %d %d %02x\n", first, count, i % 256
-            else printf "0 read %d %d\n", first, count
+            client = int(i / 2) % clients
+            if (i % 2 == 0) printf "%d write %d %d %02x\n", client, first, count, i % 256
+            else printf "%d read %d %d\n", client, first, count
         }
     }'
 }
@@ -50,30 +56,63 @@ timed() {
     if [ -z "${least[$name]:-}" ] || [ $((end - begin)) -lt "${least[$name]}" ]; then least[$name]=$((end - begin)); fi
 }
 
+# The same of a run of the program, which has to end well.
+run() {
+    local name=$1
+    shift
+    timed "$name" "$program" "$@"
+    tail -n 1 out | grep -qx 'status ok'
+}
+
+array '' "$unit" "$stripes"
 for operations in 0 1000 10000 60000; do
-    script "$operations" > "script$operations"
+    script "$operations" 1 > "script1.$operations"
+    script "$operations" 8 > "script8.$operations"
     head -c $((operations * count * 512)) /dev/urandom > "plain$operations"
 done
+
+# 128 MiB in writes of one stripe of units of 128 sectors: four data units each.
+array wide 128 512
+awk 'BEGIN { for (s = 0; s < 512; s++) printf "0 write %d 512 %02x\n", s * 512, s % 256 }' > whole
+head -c $((512 * 512 * 512)) /dev/urandom > plain
+
 for _ in $(seq "$rounds"); do
     for operations in 0 1000 10000 60000; do
-        timed "run$operations" "$program" conf --io "script$operations"
-        tail -n 1 out | grep -qx 'status ok'
+        for workers in 0 1 4; do
+            for clients in 1 8; do
+                run "run$operations.$workers.$clients" conf --io "script$clients.$operations" -w "$workers"
+            done
+        done
         timed "cat$operations" cat "plain$operations"
         timed "cp$operations" cp "plain$operations" copy
     done
+    for workers in 0 4; do
+        run "whole.$workers" wideconf --io whole -w "$workers"
+    done
+    timed "cpwhole" cp plain copy
 done
 
-printf '%10s %10s %12s %10s %10s %10s\n' operations seconds operations/s MiB/s 'cat MiB/s' 'cp MiB/s'
+printf '%10s %8s %8s %12s %10s %10s %10s\n' operations workers clients operations/s MiB/s 'cat MiB/s' 'cp MiB/s'
 for operations in 1000 10000 60000; do
-    awk -v operations="$operations" -v bytes=$((operations * count * 512)) -v run="${least[run$operations]}" \
-        -v cat="${least[cat$operations]}" -v cp="${least[cp$operations]}" 'BEGIN {
-        mib = bytes / 1048576
-        printf "%10d %10.3f %12.0f %10.1f %10.1f %10.1f\n", operations, run / 1e9,
-            operations / run * 1e9, mib / run * 1e9, mib / cat * 1e9, mib / cp * 1e9
+    for workers in 0 1 4; do
+        for clients in 1 8; do
+            awk -v operations="$operations" -v workers="$workers" -v clients="$clients" -v bytes=$((operations * count * 512)) \
+                -v run="${least[run$operations.$workers.$clients]}" -v cat="${least[cat$operations]}" -v cp="${least[cp$operations]}" 'BEGIN {
+                mib = bytes / 1048576
+                printf "%10d %8d %8d %12.0f %10.1f %10.1f %10.1f\n", operations, workers, clients,
+                    operations / run * 1e9, mib / run * 1e9, mib / cat * 1e9, mib / cp * 1e9
+            }'
+        done
+    done
+done
+for workers in 0 1 4; do
+    awk -v workers="$workers" -v most="${least[run60000.$workers.1]}" -v some="${least[run10000.$workers.1]}" -v none="${least[run0.$workers.1]}" 'BEGIN {
+        printf "%d workers: time for 60000 operations / time for 10000: %.2f, each beyond the time without operations: %.2f\n",
+            workers, most / some, (most - none) / (some - none)
     }'
 done
-awk -v most="${least[run60000]}" -v some="${least[run10000]}" -v none="${least[run0]}" 'BEGIN {
-    printf "seconds without operations: %.6f\n", none / 1e9
-    printf "time for 60000 operations / time for 10000: %.2f\n", most / some
-    printf "the same, each beyond the time without operations: %.2f\n", (most - none) / (some - none)
-}'
+for workers in 0 4; do
+    awk -v workers="$workers" -v run="${least[whole.$workers]}" -v cp="${least[cpwhole]}" 'BEGIN {
+        printf "128 MiB of whole stripes, %d workers: %.1f MiB/s, cp %.1f MiB/s\n", workers, 128 / run * 1e9, 128 / cp * 1e9
+    }'
+done
