@@ -1,4 +1,5 @@
 pub mod Work
 pub mod Works
 pub mod Ran
+pub mod Outliving
 pub mod Ends
