@@ -41,4 +41,5 @@ module _ {L D : Type 0} (lay : LayoutGhosts L) (disk : DiskGhosts D) (setup : Se
         (dies-more (served.IsDeadBy lay disk setup closed s.now) Why setup.columns.items closed.columns.items dead-by s.causes.dies)
         (dies-more Rises Why closed.columns.items v.ending.columns (λ c rose. inr rose) (ending-dies lay disk setup closed given s v back e));
     failed = λ d is. failed-by d (s.causes.failed d is);
+    bad = λ later before id node split. let went = s.causes.bad later before id node split in (went.0, went.1, failed-by went.0 went.2);
   }

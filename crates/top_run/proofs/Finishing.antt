@@ -9,7 +9,6 @@ use Rattle.lay_core.specs.Layout.{Shape}
 use Rattle.lay_core.specs.declared.layout.Layout.{Ghosts as LayoutGhosts}
 use Rattle.eng_cols.specs.declared.spot.Loss.{Loss}
 use Rattle.eng_cols.specs.Cols.{ColumnState, Dead, Filling, HasDevice}
-use Rattle.eng_world.specs.Causes.{IsLossOf}
 use Rattle.eng_world.specs.World.{World}
 use Rattle.eng_events.specs.Opened.{IsSetup, states_of}
 use Rattle.eng_events.specs.Shows.{AreTold}
@@ -19,6 +18,7 @@ use Rattle.top_close.specs.Calls.{IsSettle, SettlesOn}
 use Rattle.top_close.specs.Ended as ended
 use Rattle.top_close.specs.Settled.{IsLiveOn}
 use Rattle.top_close.proofs.DyingLaws.{columns_die}
+use Rattle.top_serve.specs.Caused.{WasLostBy}
 use Rattle.top_serve.specs.Served as served
 use Rattle.top_run.specs.Work.{Service}
 use Rattle.top_run.specs.Works.{work_of}
@@ -32,7 +32,7 @@ loss-at-end y now (Some loss) None columns is why h = let z : None ≡ Some loss
 loss-at-end y now (Some loss) (Some other) columns is why h =
     let z : Some other ≡ Some loss = h in
     let same : loss ≡ other = cc in
-    inl (is ∙ sym h, subst (λ l. IsLossOf y now l) same why)
+    inl (is ∙ sym h, subst (λ l. WasLostBy y now l) same why)
 loss-at-end y now None None columns is why h = h
 loss-at-end y now None (Some loss) columns is why h = inr (is, h)
 

@@ -4,6 +4,7 @@ mod FromServed
 mod Finishing
 mod Meaning
 mod Causing
+mod Outlived
 mod All
 mod InTurnOps
 mod InTurnSums

@@ -2,4 +2,5 @@ pub mod Work
 pub mod Works
 pub mod Ran
 pub mod InTurn
+pub mod Outliving
 pub mod Ends

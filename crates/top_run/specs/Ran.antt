@@ -1,5 +1,5 @@
 -- What a run of clients is, and what it leaves.
-use Rattle.std.specs.Prelude.{◌≡◌, ◌⊎◌, ◌<◌, ◌≤◌, ◌+◌, ◌*◌, ℕ, List, [], ◌++◌, length, Bool, true, false, Option, Some, None, All, map, drop, reverse, slice_get, slice_index, slice_index_or}
+use Rattle.std.specs.Prelude.{◌≡◌, ◌⊎◌, ◌<◌, ◌≤◌, ◌+◌, ◌*◌, ℕ, List, [], ◌∷◌, ◌++◌, length, Bool, true, false, Option, Some, None, All, map, drop, reverse, slice_get, slice_index, slice_index_or}
 use Rattle.blk_plain.specs.declared.op.Op.{Op}
 use Rattle.blk_plain.specs.declared.op.OpId.{OpId}
 use Rattle.blk_disk.specs.declared.disk.Call.{Call}
@@ -18,13 +18,14 @@ use Rattle.eng_cols.specs.Lost.{IsLost, NotLost}
 use Rattle.eng_world.specs.declared.item.Item.TheVariants as item
 use Rattle.eng_world.specs.declared.item.Reply.TheVariants as reply
 use Rattle.eng_world.specs.declared.item.Traced.{Traced}
+use Rattle.eng_world.specs.declared.item.Traced.TheVariants as event
 use Rattle.eng_world.specs.Planning.{Graphs}
 use Rattle.eng_world.specs.Plain.{replay}
 use Rattle.eng_world.specs.World.{World}
 use Rattle.eng_world.specs.Step.{IsOpening, Run}
 use Rattle.eng_world.specs.Legal.{AreOps, ReplyOf, RepliesFit}
 use Rattle.eng_world.specs.Invariant.{IsTold, AllReplied}
-use Rattle.eng_world.specs.Causes.{ItemAt, HaveCauses, IsLossOf}
+use Rattle.eng_world.specs.Causes.{ItemAt, HaveCauses}
 use Rattle.eng_world.specs.Rows.{IsInRows}
 use Rattle.eng_rest.specs.Left.{IsOwn}
 use Rattle.eng_events.specs.Opened.{states_of}
@@ -32,6 +33,7 @@ use Rattle.eng_events.specs.Shows.{AreTold}
 use Rattle.eng_array.specs.Tickets.{AllOf}
 use Rattle.raid_script.specs.Asked.{seen}
 use Rattle.raid_script.specs.Replies.{item_bytes, item_sectors, items_at, no_item, replies_at, sectors_before}
+use Rattle.top_serve.specs.Caused.{WentBadOn, WasLostBy}
 use Rattle.top_close.specs.Calls.{IsSettle, EndsSettled}
 use Rattle.top_run.specs.Work.{Work, Service}
 
@@ -57,10 +59,10 @@ pub record WasFailed (now : World) (c : ℕ) : Type 0 where
   pub asked : ItemAt now id (item.Fail c)
   pub replied : ReplyOf now id reply.Okay
 
--- what the array was lost by in the run, and else by its columns in the end; if it was
+-- what the array was lost by in the run, by columns that have only died since, and else by its columns in the end; if it was
 abbrev pub IsLossAtEnd : Shape → World → List ColumnState → Option Loss → Type 0
 IsLossAtEnd y now cols None = NotLost y cols
-IsLossAtEnd y now cols (Some loss) = ((now.lost ≡ Some loss) × IsLossOf y now loss) ⊎ ((now.lost ≡ None) × IsLost y cols loss)
+IsLossAtEnd y now cols (Some loss) = ((now.lost ≡ Some loss) × WasLostBy y now loss) ⊎ ((now.lost ≡ None) × IsLost y cols loss)
 
 -- the columns as the array is opened: each stripe of a spread one is done
 abbrev pub states_in : Work → List ColumnState
@@ -138,11 +140,12 @@ module _ {D : Type 0} (g : Ghosts D) (a : Work) (taken : List (Option D)) where
       abbrev pub IsFailedBy : World → ℕ → Type 0
       IsFailedBy now d = RisesOn g taken back d ⊎ ((c : ℕ) × HasDevice (states_in a) c d × WasFailed now c)
 
-      -- Each reply has its cause. Each column in the end is what it was as the array was opened, or is dead since an item was replied ok by which it failed, or its device's count of faults rose; and each device that failed in the run failed for one of these.
+      -- Each reply has its cause. Each column in the end is what it was as the array was opened, or is dead since an item was replied ok by which it failed, or its device's count of faults rose; and each device that failed in the run failed for one of these, as each did on which a node went bad.
       pub record Causes (graphs : Graphs) (start : World) (events : List Traced) (now : World) : Type 0 where
         pub replies : HaveCauses a.layout graphs start events now
         pub dies : Dies (λ c. WasFailed now c ⊎ RisesAt c) a.columns s.ending.columns
         pub failed : (d : ℕ) → now.failed d ≡ true → IsFailedBy now d
+        pub bad : (later before : List Traced) (id : OpId) (node : ℕ) → events ≡ later ++ event.Bad id node ∷ before → (d : ℕ) × WentBadOn a.layout graphs start before id node later now d × IsFailedBy now d
 
       -- ## All of it
 

@@ -11,5 +11,10 @@ mod running;
 mod service;
 
 pub use in_turn::a_sweep_comes_client_after_client;
+mod outliving;
+mod running;
+mod service;
+
+pub use outliving::{what_is_not_lost_is_answered, what_is_outlived_is_not_lost};
 pub use running::run_clients;
 pub use service::Service;

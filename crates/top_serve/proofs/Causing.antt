@@ -1,8 +1,8 @@
 -- The causes of replies, of dead columns, of failed devices and of a loss.
-use Rattle.std.proofs.Common.{◌≡◌, ◌⊎◌, inl, inr, ℕ, List, length, true, Option, option_map, Some, None, slice_get, refl, sym, ◌∙◌, ap, subst}
-use Rattle.std.specs.Prelude.{map}
+use Rattle.std.proofs.Common.{◌≡◌, ◌⊎◌, inl, inr, ℕ, List, [], ◌∷◌, ◌++◌, length, true, Option, option_map, Some, None, slice_get, refl, sym, ◌∙◌, ap, subst}
 use Rattle.std.proofs.lemmas.List.{length-map}
 use Rattle.std.proofs.lemmas.Option.{slice_get-map}
+use Rattle.blk_plain.specs.declared.op.OpId.{OpId}
 use Rattle.blk_disk.specs.declared.disk.Disk.{Ghosts as DiskGhosts}
 use Rattle.lay_core.specs.Layout.{Shape}
 use Rattle.lay_core.specs.declared.layout.Layout.{Ghosts as LayoutGhosts}
@@ -11,8 +11,9 @@ use Rattle.eng_cols.specs.declared.column.Column.{Column}
 use Rattle.eng_cols.specs.declared.column.Column.TheVariants as set
 use Rattle.eng_cols.specs.Cols.{ColumnState, Dead, HasDevice, column_of, state_set}
 use Rattle.eng_cols.specs.Deaths.{Dies}
+use Rattle.eng_world.specs.declared.item.Traced.{Traced}
 use Rattle.eng_world.specs.declared.item.Traced.TheVariants as event
-use Rattle.eng_world.specs.World.{World}
+use Rattle.eng_world.specs.Step.{Run}
 use Rattle.eng_world.proofs.Answered.{run-causes}
 use Rattle.eng_parts.specs.declared.setup.Setup.{Setup}
 use Rattle.eng_parts.specs.declared.setup.Closed.{Closed}
@@ -20,13 +21,17 @@ use Rattle.eng_events.specs.declared.array.Array.{Array}
 use Rattle.eng_array.specs.Blamed.{IsBlamed, rose, asked, outside}
 use Rattle.eng_array.proofs.ChainBlames.{blamed-in}
 use Rattle.top_serve.specs.Setups.{shape_in, states_in, graphs_in}
+use Rattle.top_serve.specs.Caused.{WentBadOn}
 use Rattle.top_serve.specs.Served.{WasFailed, IsLossIn, IsFailedBy, IsDeadBy, Causes}
+use Rattle.top_serve.proofs.BadNodes.{went-bad}
 use Rattle.top_serve.proofs.Begins.{first-failed}
 use Rattle.top_serve.proofs.Between.{Course}
+use Rattle.top_serve.proofs.Columns.{AreOwn, own-rest}
 use Rattle.top_serve.proofs.Died.{DiedBy, was_dead, was_asked, device_failed, died-by, own-had}
 use Rattle.top_serve.proofs.Framed.{rises}
 use Rattle.top_serve.proofs.Hands.{keeps, columns-back}
-use Rattle.top_serve.proofs.Meaning.{loss-of, keeps-all}
+use Rattle.top_serve.proofs.Losing.{lost-by}
+use Rattle.top_serve.proofs.Meaning.{keeps-all}
 
 -- a column that is set is what it is set to
 column-set : (n : ℕ) (o : Option Column) → option_map column_of (option_map (state_set n) o) ≡ o
@@ -35,6 +40,11 @@ column-set n (Some (set.Live device)) = refl
 column-set n (Some set.Dead) = refl
 column-set n (Some (set.Filling device)) = refl
 column-set n (Some set.Spread) = refl
+
+-- events behind these are own, if all are
+own-behind : (later : List Traced) (e : Traced) (before : List Traced) → AreOwn (later ++ e ∷ before) → AreOwn before
+own-behind [] e before own = own-rest e before own
+own-behind (x ∷ later) e before own = own-behind later e before (own-rest x (later ++ e ∷ before) own)
 
 module _ {L D : Type 0} (lay : LayoutGhosts L) (disk : DiskGhosts D) (setup : Setup L D) (first last : Array L D) (closed : Closed L D) (p : Course lay disk setup first last closed) where
   -- ## Devices
@@ -49,6 +59,13 @@ module _ {L D : Type 0} (lay : LayoutGhosts L) (disk : DiskGhosts D) (setup : Se
       by (rose up) = inl (rises lay disk setup first last closed p d up)
       by (asked id c has it reply had) = inr (c, had-device c d (own-had p.start p.events p.own c d had), record { id = id; asked = it; replied = reply })
       by (outside c has had) = absurd (p.own (event.Fail c) has)
+
+  bad : (later before : List Traced) (id : OpId) (node : ℕ) → p.events ≡ later ++ event.Bad id node ∷ before → (d : ℕ) × WentBadOn (shape_in lay setup) (graphs_in setup) p.start before id node later p.now d × IsFailedBy lay disk setup closed p.now d
+  bad later before id node split =
+      let own = subst AreOwn split p.own in
+      let run = subst (λ (events : List Traced). Run (shape_in lay setup) (graphs_in setup) p.start events p.now) split p.run in
+      let went = went-bad (shape_in lay setup) (graphs_in setup) p.layout p.promises p.start p.opening before (own-behind later (event.Bad id node) before own) id node later p.now run in
+      (went.0, went.1, failed went.0 went.2)
 
   -- ## Columns
 
@@ -97,12 +114,13 @@ module _ {L D : Type 0} (lay : LayoutGhosts L) (disk : DiskGhosts D) (setup : Se
     where
       by : (o : Option Loss) → p.now.lost ≡ o → IsLossIn (shape_in lay setup) p.now o
       by None is = keeps-all (shape_in lay setup) (graphs_in setup) p.layout p.promises p.start p.opening p.events p.now p.run is
-      by (Some l) is = loss-of (shape_in lay setup) (graphs_in setup) p.layout p.promises p.start p.opening p.events p.now p.run l is
+      by (Some l) is = lost-by (shape_in lay setup) (graphs_in setup) p.start p.events p.now p.opening p.run l is
 
   pub causes : Causes lay disk setup closed p.start p.events p.now
   causes = record {
     replies = run-causes (shape_in lay setup) (graphs_in setup) p.start p.layout p.promises p.opening p.events p.now p.run;
     dies = dies;
     failed = failed;
+    bad = bad;
     loss = loss;
   }

@@ -1,6 +1,6 @@
 -- By what a column has died in a run of the clients' own events: an item, or a device of it that has failed.
 use Rattle.std.proofs.Common.{◌≡◌, ◌⊎◌, inl, inr, ℕ, List, [], ◌∷◌, Bool, true, false, Option, Some, None, slice_get, slice_set, refl, sym, ◌∙◌, ap, subst}
-use Rattle.std.specs.Prelude.{Contains, ◌||◌}
+use Rattle.std.specs.Prelude.{◌||◌}
 use Rattle.std.proofs.lemmas.Bool.{cases_eq, cases_Bool, cond-true, cond-false, eq-eqb}
 use Rattle.blk_plain.specs.declared.op.Op.{Op}
 use Rattle.blk_plain.specs.declared.op.Op.TheVariants as op
@@ -35,15 +35,15 @@ use Rattle.top_serve.proofs.Begun.{begun-failed}
 abbrev Has : ℕ → Option ColumnState → Type 0
 Has d o = (o ≡ Some (Live d)) ⊎ ((done : List Bool) × (o ≡ Some (Filling d done)))
 
-or-right : (a b : Bool) → b ≡ true → (a || b) ≡ true
+pub or-right : (a b : Bool) → b ≡ true → (a || b) ≡ true
 or-right true b h = refl
 or-right false b h = h
 
-has-is : (o : Option ColumnState) (d : ℕ) → Has d o → is_device_of o d ≡ true
+pub has-is : (o : Option ColumnState) (d : ℕ) → Has d o → is_device_of o d ≡ true
 has-is o d (inl h) = ap (λ z. is_device_of z d) h ∙ eq-eqb d d refl
 has-is o d (inr h) = ap (λ z. is_device_of z d) h.1 ∙ eq-eqb d d refl
 
-dead-none : {A : Type 0} (o : Option ColumnState) (d : ℕ) → o ≡ Some Dead → Has d o → A
+pub dead-none : {A : Type 0} (o : Option ColumnState) (d : ℕ) → o ≡ Some Dead → Has d o → A
 dead-none o d dead (inl h) = let z : Some Dead ≡ Some (Live d) = sym dead ∙ h in absurd (let u : ⊥ = cc in u)
 dead-none o d dead (inr h) = let z : Some Dead ≡ Some (Filling d h.0) = sym dead ∙ h.1 in absurd (let u : ⊥ = cc in u)
 

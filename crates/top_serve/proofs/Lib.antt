@@ -2,6 +2,8 @@ pub mod Columns
 pub mod Begun
 pub mod Died
 pub mod Meaning
+pub mod Losing
+pub mod BadNodes
 pub mod Devices
 pub mod Between
 pub mod Enough

@@ -1,5 +1,5 @@
 -- What the world in which a run comes to rest means: of its blocks, its history and its columns.
-use Rattle.std.proofs.Common.{◌≡◌, ◌≢◌, inl, inr, ℕ, ◌<◌, ◌≤◌, ◌+◌, ◌*◌, List, length, true, Option, Some, None, slice_get, refl, sym, ◌∙◌, ap, subst, arith}
+use Rattle.std.proofs.Common.{◌≡◌, ℕ, ◌<◌, List, length, Option, Some, None, refl, sym, ◌∙◌, arith}
 use Rattle.std.proofs.lemmas.Option.{slice_get_within}
 use Rattle.blk_plain.specs.declared.op.Op.{Op}
 use Rattle.lay_core.specs.Layout.{Shape, IsLayout, Blocks}
@@ -16,9 +16,7 @@ use Rattle.eng_world.specs.Plain.{replay}
 use Rattle.eng_world.specs.Planning.{Graphs, Promises}
 use Rattle.eng_world.specs.Step.{IsOpening, Run}
 use Rattle.eng_world.specs.Legal.{AreOps, RepliesFit}
-use Rattle.eng_world.specs.Invariant.{IsIdle, IsTold, AllReplied, Invariant, Reached}
-use Rattle.eng_world.specs.Causes.{IsLossOf}
-use Rattle.eng_world.proofs.Abandoned.{run-loss}
+use Rattle.eng_world.specs.Invariant.{IsTold, AllReplied, Invariant, Reached}
 use Rattle.eng_world.proofs.Promised.{not-lost, encodes, reached-told, reached-fit, reached-replied}
 use Rattle.eng_world.proofs.Reaching.{reaches}
 
@@ -51,10 +49,7 @@ module _ (y : Shape) (graphs : Graphs) (layout : IsLayout y) (promises : Promise
   pub lost-replied : (loss : Loss) → now.lost ≡ Some loss → AllReplied now
   lost-replied loss is = reached-replied y (InSync y start.contents start.columns) start.blocks now loss reached is
 
-  pub loss-of : (loss : Loss) → now.lost ≡ Some loss → IsLossOf y now loss
-  loss-of loss is = run-loss y graphs start events now opening run loss is
-
-  invariant : now.lost ≡ None → Invariant y (InSync y start.contents start.columns) start.blocks now
+  pub invariant : now.lost ≡ None → Invariant y (InSync y start.contents start.columns) start.blocks now
   invariant none = not-lost y (InSync y start.contents start.columns) start.blocks now reached none
 
   pub keeps-all : now.lost ≡ None → NotLost y now.columns

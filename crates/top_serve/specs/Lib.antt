@@ -1,3 +1,4 @@
 pub mod Setups
+pub mod Caused
 pub mod Served
 pub mod Trials

@@ -1,5 +1,5 @@
 -- What becomes of what was handed in, once it is served: a run of events from an opening to rest, and what is handed back.
-use Rattle.std.specs.Prelude.{◌≡◌, ◌<◌, ◌≤◌, ◌*◌, ◌⊎◌, ℕ, List, [], length, Bool, true, false, Option, Some, None, slice_get, slice_index_or, map, reverse}
+use Rattle.std.specs.Prelude.{◌≡◌, ◌<◌, ◌≤◌, ◌*◌, ◌⊎◌, ◌++◌, ℕ, List, [], ◌∷◌, length, Bool, true, false, Option, Some, None, slice_get, slice_index_or, map, reverse}
 use Rattle.blk_plain.specs.declared.op.Op.{Op}
 use Rattle.blk_plain.specs.declared.op.OpId.{OpId}
 use Rattle.blk_disk.specs.declared.disk.Disk.{Ghosts as DiskGhosts}
@@ -14,12 +14,13 @@ use Rattle.eng_cols.specs.Lost.{NotLost}
 use Rattle.eng_world.specs.declared.item.Item.TheVariants as item
 use Rattle.eng_world.specs.declared.item.Reply.TheVariants as reply
 use Rattle.eng_world.specs.declared.item.Traced.{Traced}
+use Rattle.eng_world.specs.declared.item.Traced.TheVariants as event
 use Rattle.eng_world.specs.World.{World}
 use Rattle.eng_world.specs.Plain.{replay}
 use Rattle.eng_world.specs.Step.{IsOpening, Run}
 use Rattle.eng_world.specs.Legal.{AreOps, ReplyOf, RepliesFit}
 use Rattle.eng_world.specs.Invariant.{IsTold, AllReplied}
-use Rattle.eng_world.specs.Causes.{ItemAt, HaveCauses, IsLossOf}
+use Rattle.eng_world.specs.Causes.{ItemAt, HaveCauses}
 use Rattle.eng_world.specs.Rows.{IsInRows}
 use Rattle.eng_rest.specs.Left.{IsOwn}
 use Rattle.eng_parts.specs.declared.setup.Setup.{Setup}
@@ -32,6 +33,7 @@ use Rattle.eng_events.specs.Opened.{states_of}
 use Rattle.eng_events.specs.Shows.{AreTold}
 use Rattle.eng_array.specs.Tickets.{AllOf}
 use Rattle.top_serve.specs.Setups.{shape_in, states_in, graphs_in, WasInSync}
+use Rattle.top_serve.specs.Caused.{WentBadOn, WasLostBy}
 
 -- the events of a run, the newest first, as a trace has them, if it is kept
 abbrev pub trace_of : Bool → List Traced → List Traced
@@ -44,10 +46,10 @@ pub record WasFailed (now : World) (c : ℕ) : Type 0 where
   pub asked : ItemAt now id (item.Fail c)
   pub replied : ReplyOf now id reply.Okay
 
--- not lost by the columns as they are now; or lost by columns of which each dead one is dead still
+-- not lost by the columns as they are now; or lost by columns that have only died since
 abbrev pub IsLossIn : Shape → World → Option Loss → Type 0
 IsLossIn y now None = NotLost y now.columns
-IsLossIn y now (Some loss) = IsLossOf y now loss
+IsLossIn y now (Some loss) = WasLostBy y now loss
 
 -- what reads handed out, with the region of each item
 abbrev pub handed_in : {L D : Type 0} → Closed L D → Handout
@@ -123,11 +125,12 @@ module _ {L D : Type 0} (lay : LayoutGhosts L) (disk : DiskGhosts D) (setup : Se
     abbrev pub IsDeadBy : World → ℕ → Type 0
     IsDeadBy now c = WasFailed now c ⊎ ((d : ℕ) × HasDevice (states_in lay setup) c d × RisesOn disk setup.devices.items closed.devices.items d)
 
-    -- Each reply has its cause. Each column is what it was or is dead for a cause; each failed device has failed by something; and the loss is that of the columns as it came.
+    -- Each reply has its cause. Each column is what it was or is dead for a cause; each failed device has failed by something; so has each device on which a node went bad; and the loss is that of the columns as it came.
     pub record Causes (start : World) (events : List Traced) (now : World) : Type 0 where
       pub replies : HaveCauses (shape_in lay setup) (graphs_in setup) start events now
       pub dies : Dies (IsDeadBy now) setup.columns.items closed.columns.items
       pub failed : (d : ℕ) → now.failed d ≡ true → IsFailedBy now d
+      pub bad : (later before : List Traced) (id : OpId) (node : ℕ) → events ≡ later ++ event.Bad id node ∷ before → (d : ℕ) × WentBadOn (shape_in lay setup) (graphs_in setup) start before id node later now d × IsFailedBy now d
       pub loss : IsLossIn (shape_in lay setup) now closed.lost
 
     -- ## All of it

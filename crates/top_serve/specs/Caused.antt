@@ -1,0 +1,36 @@
+-- What the bad nodes of a run, and its loss, come from.
+use Rattle.std.specs.Prelude.{◌≡◌, ◌⊎◌, ◌++◌, ℕ, List, [], ◌∷◌, length, Some, slice_get}
+use Rattle.blk_plain.specs.declared.op.OpId.{OpId}
+use Rattle.lay_core.specs.Layout.{Shape}
+use Rattle.graph_mean.specs.Graph.{kind_at}
+use Rattle.graph_mean.specs.Steps.{IsCall}
+use Rattle.eng_cols.specs.declared.spot.Spot.{Spot}
+use Rattle.eng_cols.specs.declared.spot.Loss.{Loss}
+use Rattle.eng_cols.specs.Cols.{ColumnState, Dead, HasDevice}
+use Rattle.eng_cols.specs.Lost.{IsLost}
+use Rattle.eng_world.specs.declared.item.Traced.{Traced}
+use Rattle.eng_world.specs.declared.item.Traced.TheVariants as event
+use Rattle.eng_world.specs.World.{Running, World, RunsAs}
+use Rattle.eng_world.specs.Planning.{Graphs}
+use Rattle.eng_world.specs.Step.{Run}
+
+-- Between these events of a run and those behind them a node went bad. It was a read or a write of the item's operation, which ran, and it was out on this device, which its column had as the array was opened.
+pub record WentBadOn (y : Shape) (graphs : Graphs) (opening : World) (before : List Traced) (id : OpId) (node : ℕ) (later : List Traced) (now : World) (d : ℕ) : Type 0 where
+  pub world : World
+  pub reached : Run y graphs opening before world
+  pub leads : Run y graphs world (later ++ event.Bad id node ∷ []) now
+  pub was : Running
+  pub runs : RunsAs world id.client was
+  pub index : was.plan.index ≡ id.index
+  pub call : IsCall (kind_at was.plan.graph node)
+  pub at : Spot
+  pub fired : was.fired_at node ≡ Some at
+  pub device : at.device ≡ d
+  pub column : HasDevice opening.columns at.column d
+
+-- The array was lost by these columns, of which each has stayed what it was, or is dead.
+pub record WasLostBy (y : Shape) (now : World) (loss : Loss) : Type 0 where
+  pub columns : List ColumnState
+  pub is_lost : IsLost y columns loss
+  pub count : length now.columns ≡ length columns
+  pub each : (c : ℕ) → (slice_get now.columns c ≡ slice_get columns c) ⊎ (slice_get now.columns c ≡ Some Dead)
