@@ -7,14 +7,11 @@
 
 mod ending;
 mod in_turn;
-mod running;
-mod service;
-
-pub use in_turn::a_sweep_comes_client_after_client;
 mod outliving;
 mod running;
 mod service;
 
+pub use in_turn::a_sweep_comes_client_after_client;
 pub use outliving::{what_is_not_lost_is_answered, what_is_outlived_is_not_lost};
 pub use running::run_clients;
 pub use service::Service;
