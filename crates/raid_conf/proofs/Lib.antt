@@ -9,3 +9,5 @@ pub mod FormText
 pub mod FormConf
 pub mod ReadLines
 pub mod ReadConf
+pub mod TableLaws
+pub mod Sent

@@ -40,6 +40,7 @@ mod reader;
 mod role;
 mod sections;
 mod steps;
+mod tables;
 
 pub use any_fault::AnyFault;
 pub use conf::Conf;
@@ -50,6 +51,7 @@ pub use layouts::AnyLayout;
 pub use names::Names;
 pub use numbers::Numbers;
 pub use reader::read_conf;
+pub use tables::{table_rows, table_stripes};
 
 #[cfg(test)]
 mod tests;

@@ -16,7 +16,7 @@ use std::alloc::Global;
 
 // The layout of a level that stands on no block design.
 #[tactic(auto, unfolding(crate::specs::Layouts::plain_of))]
-fn plain_of(level: u8) -> Plain
+pub(crate) fn plain_of(level: u8) -> Plain
     ensures { result ≡ plain_of level }
 {
     match level {
