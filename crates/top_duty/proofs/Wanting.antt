@@ -1,0 +1,152 @@
+-- What is wanted, by how far the array was made ready.
+use Rattle.std.specs.Prelude.{◌≡◌, ◌⊎◌, ◌&&◌, ℕ, true, false, List, length, nat_lt, Option, Some, None, Result, Ok, Err}
+use Rattle.std.proofs.Common.{refl, sym, ap, subst, inl, inr, ◌∙◌}
+use Rattle.lay_core.specs.Layout.{Shape, blocks_in}
+use Rattle.eng_cols.specs.declared.column.Column.{Column}
+use Rattle.eng_cols.specs.declared.spot.Loss.{Loss}
+use Rattle.graph_text.specs.Format.{Named}
+use Rattle.raid_conf.specs.Layouts.{shape_of}
+use Rattle.raid_script.specs.Asked.{Asked as Item}
+use Rattle.top_bound.specs.Bound.{trace_sum}
+use Rattle.top_words.specs.Asked.{Action, Io, Sweep, Show, Init, Check, Rewrite, Print, Fail, ShowLabel, Label, Rebuild}
+use Rattle.top_bay.specs.Asked.{Asked, names_of}
+use Rattle.top_open.specs.Opening.{Opened, opened_in}
+use Rattle.top_open.specs.declared.fault.OpenFault.{OpenFault}
+use Rattle.top_open.specs.declared.fault.OpenFault.TheVariants as fault
+use Rattle.top_status.specs.declared.status.Status.{Status}
+use Rattle.top_status.specs.declared.status.Status.TheVariants as status
+use Rattle.top_status.specs.Refusals.{Refused, only}
+use Rattle.top_duty.specs.Duty.{Admitted, IsWanted, LossIs, WantsMemory, admitted_by, admitted_with, beside_dead, clients_by, is_past, is_past_bound, layout_of, states_in, traces}
+use Rattle.top_duty.specs.Opening.{no_labels, opened_by, plan_of, present_of, status_of, unread}
+use Rattle.top_duty.specs.Views.{IsRefusal, RefusedAfter, RefusedIf}
+
+ok_same : {A E : Type 0} (r : Result A E) (x z : A) → r ≡ Ok x → r ≡ Ok z → x ≡ z
+ok_same r x z one two = cc (one, two)
+
+-- what was refused before is wanted so
+pub wanted_err : (w : Result Admitted Refused) (r : Refused) → w ≡ Err r → IsWanted w (Err r)
+wanted_err w r e = record {
+  loss = None;
+  is_loss = λ a h. cc (e, h);
+  is = rw e refl;
+}
+
+-- what is admitted is refused for a loss, or for its trace, or isn't
+pub wanted_lost : (w : Result Admitted Refused) (a : Admitted) (loss : Loss) → w ≡ Ok a → LossIs (layout_of a) (states_in a) (Some loss) → IsWanted w (Err (beside_dead a (status.Lost loss.first loss.second loss.stripe)))
+wanted_lost w a loss e h = record {
+  loss = Some loss;
+  is_loss = λ b here. subst (λ (x : Admitted). LossIs (layout_of x) (states_in x) (Some loss)) (ok_same w a b e here) h;
+  is = rw e refl;
+}
+
+pub wanted_past : (w : Result Admitted Refused) (a : Admitted) → w ≡ Ok a → LossIs (layout_of a) (states_in a) None → is_past_bound a ≡ true → IsWanted w (Err (beside_dead a (status.Script 0 8)))
+wanted_past w a e h past = record {
+  loss = None;
+  is_loss = λ b here. subst (λ (x : Admitted). LossIs (layout_of x) (states_in x) None) (ok_same w a b e here) h;
+  is = rw (e, past) refl;
+}
+
+pub wanted_ok : (w : Result Admitted Refused) (a : Admitted) → w ≡ Ok a → LossIs (layout_of a) (states_in a) None → is_past_bound a ≡ false → IsWanted w (Ok a)
+wanted_ok w a e h past = record {
+  loss = None;
+  is_loss = λ b here. subst (λ (x : Admitted). LossIs (layout_of x) (states_in x) None) (ok_same w a b e here) h;
+  is = rw (e, past) refl;
+}
+
+-- what isn't run is refused as is wanted, or memory was
+pub refused_after : (w : Result Admitted Refused) (a : Admitted) (s : Status) → w ≡ Ok a → RefusedAfter a s → IsWanted w (Err (beside_dead a s)) ⊎ WantsMemory w (beside_dead a s)
+refused_after w a (status.Lost first second stripe) e h = inl (wanted_lost w a (record { first = first; second = second; stripe = stripe }) e h)
+refused_after w a (status.Script line code) e h =
+    inl (subst (λ (l : ℕ). IsWanted w (Err (beside_dead a (status.Script l code)))) (sym h.2)
+    (subst (λ (k : ℕ). IsWanted w (Err (beside_dead a (status.Script 0 k)))) (sym h.3) (wanted_past w a e h.0 h.1)))
+refused_after w a status.Memory e h = inr (inr (a, e, refl))
+refused_after w a status.Ok e h = absurd h
+refused_after w a (status.Usage i) e h = absurd h
+refused_after w a (status.Conf l c) e h = absurd h
+refused_after w a (status.GraphText l c) e h = absurd h
+refused_after w a status.BayFault e h = absurd h
+refused_after w a (status.NoFile n) e h = absurd h
+refused_after w a status.SinkFault e h = absurd h
+refused_after w a (status.Label a1 b c d) e h = absurd h
+refused_after w a (status.Small a1 b c) e h = absurd h
+refused_after w a (status.NotInSync n) e h = absurd h
+refused_after w a status.NoSpare e h = absurd h
+refused_after w a (status.LongText n) e h = absurd h
+
+-- a trace is kept of a script's items alone
+past_same : (y : Shape) (book : List Named) (n : ℕ) (action : Action) (scripted : List (List Item)) (blocks : ℕ)
+    → (traces action && nat_lt 1048576 (trace_sum y book n (clients_by action scripted blocks))) ≡ (traces action && nat_lt 1048576 (trace_sum y book n scripted))
+unfolding clients_by
+past_same y book n (Io beside workers) scripted blocks = refl
+past_same y book n (Sweep seed clients ops workers) scripted blocks = refl
+past_same y book n Show scripted blocks = refl
+past_same y book n Init scripted blocks = refl
+past_same y book n Check scripted blocks = refl
+past_same y book n Rewrite scripted blocks = refl
+past_same y book n Print scripted blocks = refl
+past_same y book n (Fail comp) scripted blocks = refl
+past_same y book n (ShowLabel comp) scripted blocks = refl
+past_same y book n (Label serial) scripted blocks = refl
+past_same y book n (Rebuild in_place comp beside workers) scripted blocks = refl
+
+pub past_is : (k : Asked) (o : Opened) → is_past_bound (admitted_with k o) ≡ is_past (shape_of k.conf o.rows) k k.clients
+past_is k o = past_same (shape_of k.conf o.rows) k.book (length (names_of k.conf)) k.command.action k.clients (blocks_in (shape_of k.conf o.rows))
+
+-- why what is asked isn't run is why what is admitted isn't
+pub after_if : (k : Asked) (o : Opened) (s : Status) → RefusedIf (shape_of k.conf o.rows) k o.columns (Some s) → RefusedAfter (admitted_with k o) s
+after_if k o (status.Lost first second stripe) h = h
+after_if k o (status.Script line code) h = (h.0, past_is k o ∙ h.1, h.2, h.3)
+after_if k o status.Memory h = tt
+after_if k o status.Ok h = absurd h
+after_if k o (status.Usage i) h = absurd h
+after_if k o (status.Conf l c) h = absurd h
+after_if k o (status.GraphText l c) h = absurd h
+after_if k o status.BayFault h = absurd h
+after_if k o (status.NoFile n) h = absurd h
+after_if k o status.SinkFault h = absurd h
+after_if k o (status.Label a1 b c d) h = absurd h
+after_if k o (status.Small a1 b c) h = absurd h
+after_if k o (status.NotInSync n) h = absurd h
+after_if k o status.NoSpare h = absurd h
+after_if k o (status.LongText n) h = absurd h
+
+-- the same of a layout and columns that are those
+pub if_same : (y z : Shape) (k : Asked) (columns cols : List Column) (r : Option Status) → y ≡ z → columns ≡ cols → RefusedIf y k columns r → RefusedIf z k cols r
+if_same y z k columns cols r one two h = subst (λ (x : Shape). RefusedIf x k cols r) one (subst (λ (l : List Column). RefusedIf y k l r) two h)
+
+pub kind_after : (a : Admitted) (s : Status) → RefusedAfter a s → IsRefusal ⊥ s
+kind_after a (status.Lost first second stripe) h = tt
+kind_after a (status.Script line code) h = tt
+kind_after a status.Memory h = tt
+kind_after a status.Ok h = absurd h
+kind_after a (status.Usage i) h = absurd h
+kind_after a (status.Conf l c) h = absurd h
+kind_after a (status.GraphText l c) h = absurd h
+kind_after a status.BayFault h = absurd h
+kind_after a (status.NoFile n) h = absurd h
+kind_after a status.SinkFault h = absurd h
+kind_after a (status.Label a1 b c d) h = absurd h
+kind_after a (status.Small a1 b c) h = absurd h
+kind_after a (status.NotInSync n) h = absurd h
+kind_after a status.NoSpare h = absurd h
+kind_after a (status.LongText n) h = absurd h
+
+-- by how the array was opened
+pub admitted_is : (k : Asked) (sizes : List ℕ) (o : Opened) → opened_by k.conf sizes ≡ Ok o → admitted_by k sizes ≡ Ok (admitted_with k o)
+unfolding admitted_by
+admitted_is k sizes o e = rw e refl
+
+pub opened_is : (k : Asked) (sizes : List ℕ) (o : Opened) → opened_in no_labels (plan_of k.conf) (present_of k.conf) sizes (unread k.conf) ≡ Ok o → opened_by k.conf sizes ≡ Ok o
+unfolding opened_by
+opened_is k sizes o e = rw e refl
+
+pub refused_opening : (k : Asked) (sizes : List ℕ) (f : OpenFault) → (f ≡ fault.Memory) ⊎ (opened_in no_labels (plan_of k.conf) (present_of k.conf) sizes (unread k.conf) ≡ Err f)
+    → IsWanted (admitted_by k sizes) (Err (only (status_of f))) ⊎ WantsMemory (admitted_by k sizes) (only (status_of f))
+unfolding admitted_by opened_by
+refused_opening k sizes f (inl memory) = inr (inl (ap (λ (x : OpenFault). only (status_of x)) memory))
+refused_opening k sizes f (inr e) = inl (wanted_err (admitted_by k sizes) (only (status_of f)) (rw e refl))
+
+pub kind_fault : (f : OpenFault) → IsRefusal ⊥ (status_of f)
+kind_fault (fault.Label a b c d) = tt
+kind_fault (fault.Small a b c) = tt
+kind_fault fault.Memory = tt

@@ -1,0 +1,7 @@
+use Rattle.std.proofs.Common.{subst, sym}
+use Rattle.top_open.specs.Plan.{IsPlan}
+use Rattle.top_duty.proofs.Tables.{plan_is}
+use Rattle.top_duty.proofs.opening.open.Goals as goal
+
+pub open_array-requires-clause-plan : goal.open_array-requires-clause-plan
+open_array-requires-clause-plan g c = subst (λ p. IsPlan p) (sym c.plan_of.ensures) (plan_is c.args.conf.now c.requires)
