@@ -4,7 +4,7 @@ mod FromServed
 mod Finishing
 mod Meaning
 mod Causing
-mod Outlived
+pub mod Outlived
 mod All
 mod InTurnOps
 mod InTurnSums
@@ -14,5 +14,5 @@ mod InTurnApart
 mod InTurnMeans
 mod InTurnSummary
 mod InTurnSame
-mod InTurnHeld
+pub mod InTurnHeld
 mod InTurn
