@@ -1,0 +1,6 @@
+mod CallLaws
+mod Devices
+mod PassLaws
+mod SeatLaws
+mod RoundLaws
+mod Fitting

@@ -1,0 +1,40 @@
+use Rattle.std.proofs.Common.{◌∙◌, ap, arith, refl}
+use Rattle.eng_cols.specs.Lost.{NotLost}
+use Rattle.eng_cols.proofs.DeathLaws.{dies-then}
+use Rattle.raid_label.specs.declared.label.Label.{Label}
+use Rattle.top_close.specs.Dying.{AnyCause}
+use Rattle.top_close.specs.Ended.{states_of}
+use Rattle.top_rounds.specs.Labels.{with_round}
+use Rattle.top_rounds.specs.Passes.{IsFirstInUse, LosesDevice}
+use Rattle.top_rounds.proofs.RoundLaws.{any_death, can-after, lost_clean, round_again, rounds_are, rounds_lost}
+use Rattle.top_rounds.proofs.rounds.rounds_of_kept.Goals as goal
+
+pub last_round-requires-clause-array : goal.last_round-requires-clause-array
+last_round-requires-clause-array g c =
+    let t = c.if-try_rounds.ensures.tried refl in
+    can-after g.D.Disk (LosesDevice g.D.Disk c.args.columns.now c.args.devices.now c.try_rounds.new.devices) (IsFirstInUse c.args.columns.now) c.args.columns.now c.try_rounds.new.columns c.args.devices.now c.try_rounds.new.devices t.dies t.frame c.requires.array
+
+pub loss_of-requires-clause-filling : goal.loss_of-requires-clause-filling
+loss_of-requires-clause-filling g c =
+    let t = c.if-try_rounds.ensures.tried refl in
+    let dies = dies-then AnyCause c.args.columns.now c.try_rounds.new.columns c.last_round.new.columns (any_death _ _ _ t.dies) (any_death _ _ _ c.last_round.ensures.pass.dies) in
+    omega (arith, c.deaths_bring_no_unit_back.ensures.filling c.args.columns.now c.last_round.new.columns dies, c.requires.filling)
+
+pub returns-clause-label : goal.returns-clause-label
+returns-clause-label g c =
+    let y = g.L.Layout.shape c.args.layout.now in
+    let die = c.deaths_bring_no_unit_back.ensures.columns y c.try_rounds.new.columns c.last_round.new.columns (any_death _ _ _ c.last_round.ensures.pass.dies) in
+    let lost : NotLost y (states_of y c.last_round.new.columns) → ⊥ = λ kept. c.if-try_rounds.ensures.lost refl (c.deaths_bring_no_unit_back.ensures.lost y (states_of y c.try_rounds.new.columns) (states_of y c.last_round.new.columns) die kept) in
+    round_again c.args.label.now c.try_rounds.new.label c.last_round.new.label c.args.label.now.clean _ 0 _ c.if-try_rounds.ensures.label c.last_round.ensures.label
+    ∙ ap (λ k. with_round c.args.label.now c.last_round.new.label.counter k c.last_round.new.label.seats) (lost_clean y (states_of y c.last_round.new.columns) c.loss_of.result c.args.label.now.clean c.loss_of.ensures.lost lost)
+
+pub returns-clause-rounds : goal.returns-clause-rounds
+returns-clause-rounds g c =
+    let y = g.L.Layout.shape c.args.layout.now in
+    let t = c.if-try_rounds.ensures.tried refl in
+    let die = c.deaths_bring_no_unit_back.ensures.columns y c.try_rounds.new.columns c.last_round.new.columns (any_death _ _ _ c.last_round.ensures.pass.dies) in
+    let lost : NotLost y (states_of y c.last_round.new.columns) → ⊥ = λ kept. c.if-try_rounds.ensures.lost refl (c.deaths_bring_no_unit_back.ensures.lost y (states_of y c.try_rounds.new.columns) (states_of y c.last_round.new.columns) die kept) in
+    let is = c.last_round.ensures.label in
+    rounds_lost g.D.Disk y (states_of y c.last_round.new.columns) c.loss_of.result c.args.label.now c.last_round.new.label c.args.columns.now c.try_rounds.new.columns c.last_round.new.columns c.args.devices.now c.last_round.new.devices c.loss_of.ensures.lost lost
+    (rounds_are g.D.Disk c.args.label.now c.try_rounds.new.label c.last_round.new.label c.args.columns.now c.try_rounds.new.columns c.last_round.new.columns c.args.devices.now c.try_rounds.new.devices c.last_round.new.devices t _ c.last_round.ensures.pass
+    refl (ap (λ (l : Label). l.counter) is) (ap (λ (l : Label). l.seats) is))

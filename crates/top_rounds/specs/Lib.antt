@@ -1,0 +1,5 @@
+pub mod Calls
+pub mod Labels
+pub mod Passes
+pub mod Rounds
+pub mod Samples

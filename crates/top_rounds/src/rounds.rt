@@ -1,0 +1,159 @@
+//! Rounds, one behind the other.
+ghost use Rattle.std.specs.Prelude.{◌≡◌, ◌<◌, ◌≤◌, ◌+◌, ◌^◌, ℕ, length, count_by, true, false, None};
+ghost use Rattle.eng_cols.specs.Cols.{IsFor, is_set_filling, is_set_spread};
+ghost use Rattle.eng_cols.specs.Lost.{NotLost};
+ghost use Rattle.raid_label.specs.Bytes.{IsHeld};
+ghost use Rattle.top_close.specs.Ended.{IsLossOf, states_of};
+ghost use Rattle.top_rounds.specs.Labels.{with_round};
+ghost use Rattle.top_rounds.specs.Passes.{CanBeLabelled};
+ghost use Rattle.top_rounds.specs.Rounds.{AreRounds, HaveRounds, HaveTried, clean_in_end};
+
+use crate::pass::{last_round, try_round};
+use blk_disk::Disk;
+use eng_cols::{Cols, Column, Loss};
+use lay_core::Layout;
+use raid_label::Label;
+use top_close::{Ending, deaths_bring_no_unit_back};
+
+// By what an array is lost that has these columns.
+fn loss_of<L: Layout>(layout: &L, columns: &[Column], judge: &mut Cols) -> Option<Loss>
+    requires columns { length columns.now ≡ (L.shape layout.now).columns }
+    requires filling { count_by is_set_filling columns.now ≡ 0 }
+    requires spread { count_by is_set_spread columns.now ≤ 1 }
+    requires judge { IsFor (L.shape layout.now) judge.old }
+    ensures lost { IsLossOf (L.shape layout.now) None
+        (states_of (L.shape layout.now) columns.now) result }
+    ensures judge { IsFor (L.shape layout.now) judge.new }
+{
+    judge.set(layout, columns);
+    judge.lost(layout)
+}
+
+// Whether an array is lost that has these columns.
+fn is_lost<L: Layout>(layout: &L, columns: &[Column], judge: &mut Cols) -> bool
+    requires columns { length columns.now ≡ (L.shape layout.now).columns }
+    requires filling { count_by is_set_filling columns.now ≡ 0 }
+    requires spread { count_by is_set_spread columns.now ≤ 1 }
+    requires judge { IsFor (L.shape layout.now) judge.old }
+    ensures lost { result ≡ true → NotLost (L.shape layout.now)
+        (states_of (L.shape layout.now) columns.now) → ⊥ }
+    ensures kept { result ≡ false → NotLost (L.shape layout.now)
+        (states_of (L.shape layout.now) columns.now) }
+    ensures judge { IsFor (L.shape layout.now) judge.new }
+{
+    match loss_of(layout, columns, judge) {
+        Some(_) => true,
+        None => false,
+    }
+}
+
+// Tries rounds while the array isn't lost, until none of the writes of one fails. Says whether it
+// came to that.
+fn try_rounds<L: Layout, D: Disk>(
+    layout: &L,
+    devices: &mut [Option<D>],
+    columns: &mut [Column],
+    label: &mut Label,
+    judge: &mut Cols,
+) -> bool
+    requires array { CanBeLabelled D.Disk columns.old devices.old }
+    requires held { IsHeld label.old }
+    requires counter { label.old.counter + 33 < 2 ^ 32 }
+    requires columns { length columns.old ≡ (L.shape layout.now).columns }
+    requires filling { count_by is_set_filling columns.old ≡ 0 }
+    requires spread { count_by is_set_spread columns.old ≤ 1 }
+    requires judge { IsFor (L.shape layout.now) judge.old }
+    ensures label { label.new
+        ≡ with_round label.old label.new.counter label.old.clean label.new.seats }
+    ensures whole { result ≡ true → AreRounds D.Disk label.old label.new
+        columns.old columns.new columns.new devices.old devices.new }
+    ensures kept { result ≡ true → NotLost (L.shape layout.now)
+        (states_of (L.shape layout.now) columns.new) }
+    ensures tried { result ≡ false → HaveTried D.Disk label.old label.new
+        columns.old columns.new devices.old devices.new }
+    ensures lost { result ≡ false → NotLost (L.shape layout.now)
+        (states_of (L.shape layout.now) columns.new) → ⊥ }
+    ensures judge { IsFor (L.shape layout.now) judge.new }
+{
+    deaths_bring_no_unit_back();
+    while !is_lost(layout, columns, judge) {
+        if try_round(devices, columns, label) {
+            return true;
+        }
+    }
+    false
+}
+
+// The rounds of an array that a run didn't lose, and by what it is lost in the end.
+fn rounds_of_kept<L: Layout, D: Disk>(
+    layout: &L,
+    devices: &mut [Option<D>],
+    columns: &mut [Column],
+    label: &mut Label,
+    judge: &mut Cols,
+) -> Option<Loss>
+    requires array { CanBeLabelled D.Disk columns.old devices.old }
+    requires held { IsHeld label.old }
+    requires counter { label.old.counter + 33 < 2 ^ 32 }
+    requires columns { length columns.old ≡ (L.shape layout.now).columns }
+    requires filling { count_by is_set_filling columns.old ≡ 0 }
+    requires spread { count_by is_set_spread columns.old ≤ 1 }
+    requires judge { IsFor (L.shape layout.now) judge.old }
+    ensures label { label.new
+        ≡ with_round label.old label.new.counter (clean_in_end result label.old.clean) label.new.seats }
+    ensures rounds { HaveRounds D.Disk result label.old label.new
+        columns.old columns.new devices.old devices.new }
+    ensures lost { IsLossOf (L.shape layout.now) None
+        (states_of (L.shape layout.now) columns.new) result }
+    ensures judge { IsFor (L.shape layout.now) judge.new }
+{
+    deaths_bring_no_unit_back();
+    if try_rounds(layout, devices, columns, label, judge) {
+        return None;
+    }
+    last_round(devices, columns, label);
+    loss_of(layout, columns, judge)
+}
+
+/// Writes the labels of an array in rounds: a round is tried until none of its writes fails. Where
+/// the array is lost, by what it was lost before or by its columns, one last round is written in
+/// place of a further one, which isn't clean and whose failed writes are passed over.
+///
+/// `label` is the label that was written last, or that the newest device had, with the clean field
+/// that the rounds are to have; then it is the label of the last round, whose column has no part.
+/// Each round raises its counter by 1, and but for the first, and the last one of a lost array, each
+/// comes of another device whose write failed.
+///
+/// An array that is lost as it is opened is to be left as it is: this isn't called for it.
+///
+/// `judge` may hold any columns, as many as the layout has. An array is lost in the end by what it
+/// was lost before, or else by the columns that it then has. No memory is taken.
+pub fn round<L: Layout, D: Disk>(
+    layout: &L,
+    devices: &mut [Option<D>],
+    ending: &mut Ending,
+    label: &mut Label,
+    judge: &mut Cols,
+)
+    requires array { CanBeLabelled D.Disk ending.old.columns.items devices.old }
+    requires held { IsHeld label.old }
+    requires counter { label.old.counter + 33 < 2 ^ 32 }
+    requires columns { length ending.old.columns.items ≡ (L.shape layout.now).columns }
+    requires filling { count_by is_set_filling ending.old.columns.items ≡ 0 }
+    requires spread { count_by is_set_spread ending.old.columns.items ≤ 1 }
+    requires judge { IsFor (L.shape layout.now) judge.old }
+    ensures label { label.new ≡ with_round label.old label.new.counter
+        (clean_in_end ending.new.lost label.old.clean) label.new.seats }
+    ensures rounds { HaveRounds D.Disk ending.new.lost label.old label.new
+        ending.old.columns.items ending.new.columns.items devices.old devices.new }
+    ensures lost { IsLossOf (L.shape layout.now) ending.old.lost
+        (states_of (L.shape layout.now) ending.new.columns.items) ending.new.lost }
+    ensures judge { IsFor (L.shape layout.now) judge.new }
+{
+    let columns = ending.columns.as_mut_slice();
+    if ending.lost.is_some() {
+        last_round(devices, columns, label);
+    } else {
+        ending.lost = rounds_of_kept(layout, devices, columns, label, judge);
+    }
+}
