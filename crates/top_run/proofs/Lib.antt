@@ -4,4 +4,5 @@ mod FromServed
 mod Finishing
 mod Meaning
 mod Causing
+mod Outlived
 mod All

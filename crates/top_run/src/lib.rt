@@ -6,8 +6,10 @@
 #![tactic(auto)]
 
 mod ending;
+mod outliving;
 mod running;
 mod service;
 
+pub use outliving::{what_is_not_lost_is_answered, what_is_outlived_is_not_lost};
 pub use running::run_clients;
 pub use service::Service;

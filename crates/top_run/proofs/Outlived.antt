@@ -1,0 +1,219 @@
+-- A run that the array outlives isn't lost, and in one that isn't lost each item has the reply that it ought to.
+use Rattle.std.proofs.Common.{◌≡◌, ◌⊎◌, inl, inr, ℕ, List, map, Bool, Option, Some, None, option_map, slice_get, refl, sym, ◌∙◌, ap, subst, arith}
+use Rattle.std.specs.Prelude.{Contains, Vec}
+use Rattle.std.specs.declared.alloc.Global.{Global}
+use Rattle.std.proofs.lemmas.Option.{slice_get-map, slice_get_within, get_or_from_slice_get}
+use Rattle.blk_plain.specs.declared.op.Op.{Op}
+use Rattle.blk_plain.specs.declared.op.Op.TheVariants as op
+use Rattle.blk_plain.specs.declared.op.OpId.{OpId}
+use Rattle.blk_disk.specs.declared.disk.Disk.{Ghosts}
+use Rattle.lay_core.specs.Layout.{Shape}
+use Rattle.eng_cols.specs.declared.column.Column.{Column}
+use Rattle.eng_cols.specs.declared.column.Column.TheVariants as set
+use Rattle.eng_cols.specs.declared.spot.Loss.{Loss}
+use Rattle.eng_cols.specs.Cols.{ColumnState, Live, Dead, Filling, Spread, HasDevice, all_done, none_done, state_set}
+use Rattle.eng_cols.specs.Deaths.{Dies}
+use Rattle.eng_cols.specs.Lost.{NotLost}
+use Rattle.eng_cols.proofs.DeathLaws.{dies-more}
+use Rattle.eng_cols.proofs.Losing.{lost-excludes}
+use Rattle.eng_world.specs.declared.item.Item.{Item as AnyItem}
+use Rattle.eng_world.specs.declared.item.Item.TheVariants as item
+use Rattle.eng_world.specs.declared.item.Reply.{Reply}
+use Rattle.eng_world.specs.declared.item.Reply.TheVariants as reply
+use Rattle.eng_world.specs.declared.item.Traced.TheVariants as event
+use Rattle.eng_world.specs.World.{IsRead}
+use Rattle.eng_world.specs.Legal.{StandsAt}
+use Rattle.eng_world.specs.Causes.{ItemAt, WasSpread, IsGone, IsCause}
+use Rattle.eng_world.proofs.Caused.{some-get}
+use Rattle.eng_events.specs.Opened.{states_of}
+use Rattle.raid_script.specs.Asked.{seen, Fails}
+use Rattle.raid_script.specs.Replies.{items_in, items_at}
+use Rattle.top_close.proofs.DyingLaws.{lost_no_less, columns_die}
+use Rattle.top_serve.specs.Caused.{WasLostBy}
+use Rattle.top_serve.proofs.Between.{all-own}
+use Rattle.top_serve.proofs.Losing.{lost-by}
+use Rattle.top_run.specs.Work.{Work, Service}
+use Rattle.top_run.specs.Ran.{WasFailed, IsLossAtEnd, RisesAt, IsFailedBy, states_in, Ran}
+use Rattle.top_run.specs.Outliving.{HasFail, done_reply, MayDie, Outlives, HasFaulted, IsAnswered, IsReplyTo, AllAnswered}
+
+-- ## Lists and columns
+
+at-place : {A : Type 0} (l : List A) (k : ℕ) (x : A) → slice_get l k ≡ Some x → Contains l x
+at-place l k x is = (k, slice_get_within l k x is, get_or_from_slice_get l k x x is)
+
+dead-back : (n : ℕ) (o : Option Column) → option_map (state_set n) o ≡ Some Dead → o ≡ Some set.Dead
+dead-back n None h = let z : None ≡ Some Dead = h in absurd (let u : ⊥ = cc in u)
+dead-back n (Some (set.Live d)) h = let z : Some (Live d) ≡ Some Dead = h in absurd (let u : ⊥ = cc in u)
+dead-back n (Some set.Dead) h = refl
+dead-back n (Some (set.Filling d)) h = let z : Some (Filling d (none_done n)) ≡ Some Dead = h in absurd (let u : ⊥ = cc in u)
+dead-back n (Some set.Spread) h = let z : Some (Spread (all_done n)) ≡ Some Dead = h in absurd (let u : ⊥ = cc in u)
+
+spread-back : (n : ℕ) (o : Option Column) (done : List Bool) → option_map (state_set n) o ≡ Some (Spread done) → o ≡ Some set.Spread
+spread-back n None done h = let z : None ≡ Some (Spread done) = h in absurd (let u : ⊥ = cc in u)
+spread-back n (Some (set.Live d)) done h = let z : Some (Live d) ≡ Some (Spread done) = h in absurd (let u : ⊥ = cc in u)
+spread-back n (Some set.Dead) done h = let z : Some Dead ≡ Some (Spread done) = h in absurd (let u : ⊥ = cc in u)
+spread-back n (Some (set.Filling d)) done h = let z : Some (Filling d (none_done n)) ≡ Some (Spread done) = h in absurd (let u : ⊥ = cc in u)
+spread-back n (Some set.Spread) done h = refl
+
+-- a spread column has no device
+spread-none : {A : Type 0} (cols : List ColumnState) (c d : ℕ) (done : List Bool) → slice_get cols c ≡ Some (Spread done) → HasDevice cols c d → A
+spread-none cols c d done is (inl h) = let z : Some (Spread done) ≡ Some (Live d) = sym is ∙ h in absurd (let u : ⊥ = cc in u)
+spread-none cols c d done is (inr h) = let z : Some (Spread done) ≡ Some (Filling d h.0) = sym is ∙ h.1 in absurd (let u : ⊥ = cc in u)
+
+done-by : (o : Op) → (IsRead (Some o) → ⊥) → reply.Done ≡ done_reply o
+done-by (op.Write span pattern) h = refl
+done-by (op.Read span) h = absurd (h tt)
+done-by (op.Rebuild stripe) h = refl
+done-by (op.Sync stripe) h = refl
+
+module _ {D : Type 0} (g : Ghosts D) (a : Work) (taken back : List (Option D)) (s : Service) (ran : Ran g a taken s back) where
+  abbrev y : Shape
+  y = a.layout
+
+  abbrev last : List ColumnState
+  last = states_of y s.ending.columns
+
+  -- ## Deaths
+
+  -- an item by which a column failed is one that was asked
+  asked-fail : (c : ℕ) → WasFailed ran.now c → HasFail a c
+  asked-fail c w = by (slice_get s.clients w.id.client) refl
+    where
+      at : slice_get (items_at s.clients w.id.client) w.id.index ≡ Some (item.Fail c)
+      at = ap (λ (l : List AnyItem). slice_get l w.id.index) (ran.tells.items w.id.client) ∙ w.asked
+
+      by : (o : Option (Vec AnyItem Global)) → slice_get s.clients w.id.client ≡ o → HasFail a c
+      by None is = let z : None ≡ Some (item.Fail c) = ap (λ (o : Option (Vec AnyItem Global)). slice_get (items_in o) w.id.index) (sym is) ∙ at in absurd (let u : ⊥ = cc in u)
+      by (Some row) is =
+          let here : slice_get row.items w.id.index ≡ Some (item.Fail c) = ap (λ (o : Option (Vec AnyItem Global)). slice_get (items_in o) w.id.index) (sym is) ∙ at in
+          record {
+            row = map seen row.items;
+            client =
+                at-place a.clients w.id.client (map seen row.items)
+                (ap (λ l. slice_get l w.id.client) (sym ran.tells.asked)
+                ∙ (slice_get-map (λ (items : Vec AnyItem Global). map seen items.items) s.clients w.id.client
+                ∙ ap (option_map (λ (items : Vec AnyItem Global). map seen items.items)) is));
+            fails = at-place (map seen row.items) w.id.index (Fails c) (slice_get-map seen row.items w.id.index ∙ ap (option_map seen) here);
+          }
+
+  may-die : (c : ℕ) → WasFailed ran.now c ⊎ RisesAt g a taken s back c → MayDie g a taken back c
+  may-die c (inl w) = inl (asked-fail c w)
+  may-die c (inr rose) = inr rose
+
+  died-so : Dies (MayDie g a taken back) a.columns s.ending.columns
+  died-so = dies-more (λ c. WasFailed ran.now c ⊎ RisesAt g a taken s back c) (MayDie g a taken back) a.columns s.ending.columns may-die ran.causes.dies
+
+  -- ## The loss
+
+  -- what was lost in the run is lost in the end
+  lost-still : (loss : Loss) → WasLostBy y ran.now loss → NotLost y last → ⊥
+  lost-still loss was kept =
+      let ended : NotLost y (states_of y ran.ends.kept) = lost_no_less y (states_of y ran.ends.kept) last (columns_die (RisesAt g a taken s back) y ran.ends.kept s.ending.columns ran.ends.dies) kept in
+      let now : NotLost y ran.now.columns = subst (NotLost y) (sym ran.ends.columns) ended in
+      lost-excludes y was.columns loss was.is_lost (lost_no_less y was.columns ran.now.columns (record { count = was.count; each = was.each }) now)
+
+  pub outlived : Outlives g a taken back → s.ending.lost ≡ None
+  outlived outlives = by s.ending.lost refl ran.ends.lost
+    where
+      kept : NotLost y last
+      kept = outlives s.ending.columns died-so
+
+      by : (o : Option Loss) → s.ending.lost ≡ o → IsLossAtEnd y ran.now last o → s.ending.lost ≡ None
+      by None is h = is
+      by (Some loss) is (inl h) = absurd (lost-still loss h.1 kept)
+      by (Some loss) is (inr h) = absurd (lost-excludes y last loss h.1 kept)
+
+  -- so a run that isn't lost in the end was never lost
+  never-lost : s.ending.lost ≡ None → (loss : Loss) → ran.now.lost ≡ Some loss → ⊥
+  never-lost none loss is = lost-still loss (lost-by y ran.graphs ran.start ran.events ran.now ran.opens.opening ran.rests.run loss is) (subst (λ o. IsLossAtEnd y ran.now last o) none ran.ends.lost)
+
+  -- ## Devices that failed
+
+  dead-in-end : (c : ℕ) → slice_get ran.now.columns c ≡ Some Dead → slice_get s.ending.columns c ≡ Some set.Dead
+  dead-in-end c dead =
+      let kept : slice_get ran.ends.kept c ≡ Some set.Dead =
+      dead-back y.stripes (slice_get ran.ends.kept c) (sym (slice_get-map (state_set y.stripes) ran.ends.kept c) ∙ (ap (λ (l : List ColumnState). slice_get l c) (sym ran.ends.columns) ∙ dead)) in
+      elim (ran.ends.dies.each c) [ inl same ↦ same ∙ kept | inr died ↦ died.0 ]
+
+  was-spread : (c : ℕ) → WasSpread ran.start ran.events c → slice_get a.columns c ≡ Some set.Spread
+  was-spread c (inl h) =
+      spread-back y.stripes (slice_get a.columns c) h.0 (sym (slice_get-map (state_set y.stripes) a.columns c) ∙ (ap (λ (l : List ColumnState). slice_get l c) (sym ran.opens.columns) ∙ h.1))
+  was-spread c (inr h) = absurd (all-own ran.events ran.rests.own (event.Spread c) h)
+
+  -- a spread column that has died did by an item
+  spread-failed : (c : ℕ) → slice_get a.columns c ≡ Some set.Spread → slice_get s.ending.columns c ≡ Some set.Dead → HasFail a c
+  spread-failed c was dead = elim (died-so.each c) [
+    | inl same ↦ let z : Some set.Dead ≡ Some set.Spread = sym dead ∙ (same ∙ was) in absurd (let u : ⊥ = cc in u)
+    | inr died ↦ elim died.1 [
+      | inl asked ↦ asked
+      | inr rose ↦ spread-none (states_in a) c rose.0 (all_done y.stripes) (slice_get-map (state_set y.stripes) a.columns c ∙ ap (option_map (state_set y.stripes)) was) rose.1
+    ]
+  ]
+
+  faulted : (d : ℕ) → IsGone ran.start ran.events ran.now d → HasFaulted g a taken back d
+  faulted d (inl failed) = by (ran.causes.failed d failed)
+    where
+      by : IsFailedBy g a taken s back ran.now d → HasFaulted g a taken back d
+      by (inl rose) = inl rose
+      by (inr why) = inr (inl (why.0, why.1, asked-fail why.0 why.2))
+  faulted d (inr gone) = let was = was-spread d gone.0 in inr (inr (was, spread-failed d was (dead-in-end d gone.1)))
+
+  -- ## Replies
+
+  stands : (id : OpId) → (n : ℕ) × StandsAt ran.now.history n id → (n : ℕ) × StandsAt s.history n id
+  stands id h = (h.0, ap (λ (l : List OpId). slice_get l h.0) ran.tells.history ∙ h.1)
+
+  done : (id : OpId) (o : Op) (graph : Option ℕ) (told : Reply) → (n : ℕ) × StandsAt ran.now.history n id → told ≡ done_reply o → IsAnswered g a taken back s ran id o graph told
+  done id o None told h is = (stands id h, is)
+  done id o (Some graph) told h is = inl (stands id h, is)
+
+  module _ (none : s.ending.lost ≡ None) where
+    -- a reply that has its cause is the one that its item ought to have
+    reply-to : (id : OpId) (told : Reply) (asked : AnyItem) → IsCause y ran.graphs ran.start ran.events ran.now id told asked → IsReplyTo g a taken back s ran id asked told
+    reply-to id reply.Data asked h = subst (λ (x : AnyItem). IsReplyTo g a taken back s ran id x reply.Data) (sym h.2) (record {
+      out = λ out. absurd (h.3.0 out);
+      long = λ within long. absurd (h.3.1 long);
+      reached = λ reach. done id (op.Read h.0) h.1 reply.Data h.4 refl;
+    })
+    reply-to id reply.Done asked h = subst (λ (x : AnyItem). IsReplyTo g a taken back s ran id x reply.Done) (sym h.2) (record {
+      out = λ out. absurd (h.4.0 out);
+      long = λ within long. absurd (h.4.1 long);
+      reached = λ reach. done id h.0 h.1 reply.Done h.5 (done-by h.0 h.3);
+    })
+    reply-to id reply.Okay asked h = subst (λ (x : AnyItem). IsReplyTo g a taken back s ran id x reply.Okay) (sym h.1) (refl, dead-in-end h.0 h.2)
+    reply-to id (reply.Undone d) asked h = subst (λ (x : AnyItem). IsReplyTo g a taken back s ran id x (reply.Undone d)) (sym h.2) (record {
+      out = λ out. absurd (h.3.0 out);
+      long = λ within long. absurd (h.3.1 long);
+      reached = λ reach. inr (inr (d, refl, faulted d h.5, λ n at. h.4 (n, ap (λ (l : List OpId). slice_get l n) (sym ran.tells.history) ∙ at)));
+    })
+    reply-to id reply.Range asked h = subst (λ (x : AnyItem). IsReplyTo g a taken back s ran id x reply.Range) (sym h.2) (record {
+      out = λ out. refl;
+      long = λ within long. absurd (within h.3);
+      reached = λ reach. absurd (reach.0 h.3);
+    })
+    reply-to id reply.Long asked h = subst (λ (x : AnyItem). IsReplyTo g a taken back s ran id x reply.Long) (sym h.2) (record {
+      out = λ out. absurd (h.3 out);
+      long = λ within long. refl;
+      reached = λ reach. absurd (reach.1 h.4);
+    })
+    reply-to id (reply.Refused cause) asked h = subst (λ (x : AnyItem). IsReplyTo g a taken back s ran id x (reply.Refused cause)) (sym h.2) (record {
+      out = λ out. absurd (h.3.0 out);
+      long = λ within long. absurd (h.3.1 long);
+      reached = λ reach. inr (inl (cause, refl, h.4));
+    })
+    reply-to id reply.Lost asked h = absurd (never-lost none h.0 h.1)
+
+    not-lost : (id : OpId) (told : Reply) (asked : AnyItem) → IsCause y ran.graphs ran.start ran.events ran.now id told asked → told ≡ reply.Lost → ⊥
+    not-lost id told asked h is = let lost = subst (λ r. IsCause y ran.graphs ran.start ran.events ran.now id r asked) is h in never-lost none lost.0 lost.1
+
+    pub answered : AllAnswered g a taken back s ran
+    answered id asked is =
+        let item : ItemAt ran.now id asked = ap (λ (l : List AnyItem). slice_get l id.index) (sym (ran.tells.items id.client)) ∙ is in
+        let within = slice_get_within (ran.now.clients id.client).items id.index asked item in
+        let all = ran.rests.replied id.client in
+        let got = some-get (ran.now.clients id.client).replies id.index (omega (arith, within, all)) in
+        let why = ran.causes.replies id got.0 got.1 in
+        let both : Some why.0 ≡ Some asked = sym why.1 ∙ item in
+        let same : why.0 ≡ asked = cc in
+        let cause = subst (λ (x : AnyItem). IsCause y ran.graphs ran.start ran.events ran.now id got.0 x) same why.2 in
+        (got.0, ap (λ (l : List Reply). slice_get l id.index) (ran.tells.replies id.client) ∙ got.1, not-lost id got.0 asked cause, reply-to id got.0 asked cause)
