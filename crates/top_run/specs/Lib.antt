@@ -4,3 +4,4 @@ pub mod Ran
 pub mod InTurn
 pub mod Outliving
 pub mod Ends
+pub mod Outliving
