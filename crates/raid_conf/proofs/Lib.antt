@@ -10,4 +10,5 @@ pub mod FormConf
 pub mod ReadLines
 pub mod ReadConf
 pub mod TableLaws
+pub mod Making
 pub mod Sent
