@@ -10,6 +10,7 @@ pub mod FormConf
 pub mod ReadLines
 pub mod ReadConf
 pub mod TableLaws
+pub mod Making
 pub mod Sent
 pub mod PrintedLines
 pub mod ShortTexts

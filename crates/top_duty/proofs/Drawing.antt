@@ -1,7 +1,7 @@
 -- Items that are drawn are few, and may be asked.
-use Rattle.std.specs.Prelude.{◌≡◌, ◌+◌, ◌*◌, ◌<◌, ◌≤◌, ◌^◌, ℕ, List, [], length, get_or, sum_by, All, Option, None, Some, slice_get}
+use Rattle.std.specs.Prelude.{◌≡◌, ◌<◌, ◌≤◌, ◌^◌, ℕ, List, length, get_or, sum_by, All, Option, None}
 use Rattle.std.specs.Option.{ForSome}
-use Rattle.std.proofs.Common.{arith, refl, sym, ap, subst, ◌∙◌}
+use Rattle.std.proofs.Common.{arith}
 use Rattle.std.proofs.lemmas.List.Sums.{sum_by-le}
 use Rattle.std.proofs.lemmas.Option.{slice_get-get_or}
 use Rattle.raid_script.specs.Asked.{Asked, Writes, Reads, Syncs, Fails, Other, AreFew, IsAsked, read_sectors}

@@ -20,7 +20,8 @@ use blk_disk::Disk;
 use eng_cols::Column;
 use eng_world::Item;
 use lay_core::{Layout, blocks};
-use raid_conf::{AnyLayout, Conf};
+use lay_design::designs_have_no_fault;
+use raid_conf::{AnyFault, AnyLayout, Conf};
 use std::alloc::Global;
 use top_bay::Asked;
 use top_bound::trace_fits;
@@ -38,15 +39,28 @@ pub struct Ready {
     pub drawn: Vec<Vec<Item>>,
 }
 
-// The layout over so many rows.
+// The status of a fault, which is want of memory.
+fn memory_of(fault: AnyFault) -> Status
+    requires { fault ≡ AnyFault.Memory }
+    ensures { result ≡ Status.Memory }
+{
+    match fault {
+        AnyFault::Memory => Status::Memory,
+        AnyFault::Make(_) | AnyFault::Design(_) | AnyFault::Table(_) => unreachable!(),
+    }
+}
+
+// The layout over so many rows, which are those of whole tables: so there may be want of memory alone.
 fn layout_of(alloc: Global, conf: &Conf, rows: u32) -> Result<AnyLayout, Status>
-    requires { IsConf conf.now }
+    requires conf { IsConf conf.now }
+    requires rows { AreRows conf.now rows }
     ensures shape { IfOk result (λ layout. ⟦<AnyLayout as Layout>⟧.shape layout ≡ shape_of conf.now rows) }
     ensures memory { IfErr result (λ status. status ≡ Status.Memory) }
 {
+    designs_have_no_fault();
     match AnyLayout::make(alloc, conf, rows) {
         Ok(layout) => Ok(layout),
-        Err(_) => Err(Status::Memory),
+        Err(fault) => Err(memory_of(fault)),
     }
 }
 
@@ -89,6 +103,7 @@ fn make(
     opened: &Opened,
 ) -> Result<(AnyLayout, Vec<Vec<Item>>), Status>
     requires asked { IsWithin (asked_seen asked.now) }
+    requires rows { AreRows asked.now.conf opened.now.rows }
     requires columns { length opened.now.columns.items ≡ asked.now.conf.columns }
     requires filling { count_by is_set_filling opened.now.columns.items ≡ 0 }
     requires spread { count_by is_set_spread opened.now.columns.items ≡ 0 }

@@ -9,6 +9,9 @@ use Rattle.top_duty.proofs.Opens.{none_filling, none_spread, opened_count, opene
 use Rattle.top_duty.proofs.Wanting.{admitted_is, opened_is, refused_after}
 use Rattle.top_duty.proofs.preparing.prepare.Goals as goal
 
+pub make-requires-clause-rows : goal.make-requires-clause-rows
+make-requires-clause-rows g c = opened_rows c.args.asked.now.conf (sizes_of g.D.Disk.size c.args.devices.now) (opened_seen c.in-Ok.opened) c.requires.conf c.in-Ok.ensures
+
 pub make-requires-clause-columns : goal.make-requires-clause-columns
 make-requires-clause-columns g c = opened_count c.args.asked.now.conf (sizes_of g.D.Disk.size c.args.devices.now) (opened_seen c.in-Ok.opened) c.requires.conf c.in-Ok.ensures
 
