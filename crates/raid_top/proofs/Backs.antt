@@ -35,6 +35,7 @@ back_are_named {D} mid after names ds many there back = record { count = many; e
     none_is : (x : Option D) → (IsSome x → ⊥) → x ≡ None
     none_is None h = refl
     none_is (Some x) h = absurd (h refl)
+
     inside : (d : ℕ) → d < length ds → (o : Option Text) → slice_get names d ≡ o → device_at ds d ≡ at_home after o
     inside d lt None e = let some : slice_get names d ≡ Some (get_or names d []) = slice_get-get_or names d [] (omega (arith, lt, many)) in cc (some, e)
     inside d lt (Some []) e = none_is (device_at ds d) (λ some. (there d [] lt e).0 some refl)

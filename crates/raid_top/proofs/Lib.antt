@@ -5,3 +5,4 @@ mod Wanted
 mod Works
 mod Acting
 mod Endings
+mod Completing

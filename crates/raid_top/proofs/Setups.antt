@@ -169,7 +169,7 @@ module _ {L D : Type 0} (lay : LayoutGhosts L) (disk : Ghosts D) (setup : Setup 
       let entries : length setup.columns.items ≡ k.conf.columns = ap (λ (l : List Column). length l) columns ∙ opened_count k.conf (sizes_of disk.size setup.devices.items) o conf opens in
       let need : 64 + o.rows * k.conf.unit ≡ 64 + y.rows * y.unit_sectors = ap (λ (n : ℕ). 64 + n * k.conf.unit) (sym rows) ∙ ap (λ (n : ℕ). 64 + y.rows * n) (sym unit) in
       let own = subst (λ (l : List Column). AreOwn disk setup.devices.items (64 + y.rows * y.unit_sectors) l) (sym columns)
-          (subst (λ (n : ℕ). AreOwn disk setup.devices.items n o.columns) need (own_columns disk k.conf setup.devices.items o conf opens)) in
+      (subst (λ (n : ℕ). AreOwn disk setup.devices.items n o.columns) need (own_columns disk k.conf setup.devices.items o conf opens)) in
       let names : length (names_of k.conf) ≡ k.conf.columns + k.conf.spares = length-append k.conf.disks k.conf.spare_names ∙ (ap (λ (n : ℕ). n + length k.conf.spare_names) conf.disk_count ∙ ap (λ (n : ℕ). k.conf.columns + n) conf.spare_count) in
       record {
         opens = is_setup k.conf.columns k.book same entries

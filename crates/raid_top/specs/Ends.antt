@@ -1,26 +1,25 @@
 -- How a call of the program ends: its outcome with all that is so then, its output and its status.
-use Rattle.std.specs.Prelude.{◌≡◌, ◌⊎◌, ℕ, List, ◌++◌, take, Option, Ok, Contains}
-use Rattle.blk_disk.specs.Devices.{AreNamed, RisesOn}
+use Rattle.std.specs.Prelude.{◌≡◌, ◌⊎◌, ℕ, List, ◌++◌, take, Option, None, Ok, Contains}
+use Rattle.blk_disk.specs.Devices.{AreNamed, contents_of}
 use Rattle.blk_disk.specs.declared.disk.Disk.{Ghosts}
-use Rattle.eng_cols.specs.declared.column.Column.{Column}
-use Rattle.eng_cols.specs.Cols.{HasDevice}
-use Rattle.eng_cols.specs.Deaths.{Dies}
-use Rattle.eng_cols.specs.Lost.{NotLost}
+use Rattle.eng_cols.specs.Contents.{decode}
 use Rattle.raid_text.specs.Text.{Text}
-use Rattle.raid_script.specs.Asked.{Asked as Item, Fails}
 use Rattle.top_bay.specs.Told.{Told}
 use Rattle.top_bay.specs.Asked.{names_of}
 use Rattle.top_status.specs.declared.status.Status.{Status}
 use Rattle.top_status.specs.declared.status.Status.TheVariants as status
-use Rattle.top_words.specs.Asked.{Action, command_of}
-use Rattle.top_duty.specs.Duty.{Admitted, IsWanted, admitted_in, columns_of, layout_of, states_in, states_of}
+use Rattle.top_words.specs.Asked.{Action, Sweep, command_of}
+use Rattle.top_duty.specs.Duty.{Admitted, IsWanted, admitted_in, layout_of, states_in}
+use Rattle.top_run.specs.InTurn.{SweptInTurn}
+use Rattle.top_run.specs.Outliving.{AllAnswered, Outlives}
 use Rattle.top_run.specs.Work.{Service}
 use Rattle.raid_top.specs.Outcome.{Outcome, Ran as Runs, Refuses, outcome_text, status_of}
 use Rattle.raid_top.specs.Refused.{IsRefused}
 use Rattle.raid_top.specs.Ran.{Ran}
+use Rattle.raid_top.specs.Works.{work_of}
 
 module _ {D : Type 0} (g : Ghosts D) (b : Told D) (words : List Text) where
-  -- The clients were served. There are what was asked, and the devices of its names as they were taken and as they are put back; what speaks of names and texts holds where the bay tells them.
+  -- The clients were served. There are what was asked, and the devices of its names as they were taken and as they are put back; what speaks of names and texts holds where the bay tells them. Where the array isn't lost, each item has the reply that it ought to have, and clients that were drawn leave, and are replied, what they would one after another.
   pub record Acted (action : Action) (s : Service) : Type 0 where
     pub admitted : Admitted
     pub taken : List (Option D)
@@ -32,6 +31,9 @@ module _ {D : Type 0} (g : Ghosts D) (b : Told D) (words : List Text) where
     pub after : b.tells → AreNamed b.after (names_of admitted.asked.conf) back
     pub others : b.tells → (n : Text) → (Contains (names_of admitted.asked.conf) n → ⊥) → b.after n ≡ b.home n
     pub ran : Ran g admitted taken s back
+    pub answered : s.ending.lost ≡ None → AllAnswered g (work_of admitted) taken back s ran
+    pub in_turn : (seed clients ops workers : ℕ) → action ≡ Sweep seed clients ops workers → s.ending.lost ≡ None
+        → SweptInTurn g (work_of admitted) taken s back (decode (layout_of admitted) (contents_of g taken) (states_in admitted))
 
   -- what is so of an outcome
   abbrev pub Acts : Outcome → Type 0
@@ -60,20 +62,8 @@ pub record Answers {D : Type 0} (g : Ghosts D) (b : Told D) (words : List Text) 
 
 -- ## Completeness
 
--- an item asks that the column fail
-pub record HasFail (a : Admitted) (c : ℕ) : Type 0 where
-  pub row : List Item
-  pub client : Contains a.clients row
-  pub fails : Contains row (Fails c)
-
--- The array outlives the call: it isn't lost though each column be dead that an item asks to fail, or of which the device's count of faults rose.
-abbrev pub Outlives : {D : Type 0} → Ghosts D → Admitted → (taken back : List (Option D)) → Type 0
-Outlives g a taken back = (cols : List Column)
-    → Dies (λ c. HasFail a c ⊎ ((d : ℕ) × HasDevice (states_in a) c d × RisesOn g taken back d)) (columns_of a) cols
-    → NotLost (layout_of a) (states_of (layout_of a) cols)
-
--- All that is asked for is right, and the array outlives the call.
+-- All that is asked for is right, and the array outlives the call: it isn't lost, whichever columns be dead of which an item asks that they fail, or whose device's count of faults rose.
 pub record IsRight {D : Type 0} (g : Ghosts D) (b : Told D) (words : List Text) : Type 0 where
   pub admitted : Admitted
   pub wanted : IsWanted (admitted_in g.size b words) (Ok admitted)
-  pub outlives : (taken back : List (Option D)) → AreNamed b.home (names_of admitted.asked.conf) taken → AreNamed b.after (names_of admitted.asked.conf) back → Outlives g admitted taken back
+  pub outlives : (taken back : List (Option D)) → AreNamed b.home (names_of admitted.asked.conf) taken → AreNamed b.after (names_of admitted.asked.conf) back → Outlives g (work_of admitted) taken back

@@ -95,21 +95,21 @@ where
     B::D: Send + Drop,
     ensures acted { IfOk result (λ e. Acted B.D.Disk
         (record {
-            tells = B.tells;
-            rose = Rose (B.faults bay.old) (B.faults bay.new);
-            texts = B.text_of bay.old;
-            home = B.home bay.old;
-            after = B.home bay.new
+          tells = B.tells;
+          rose = Rose (B.faults bay.old) (B.faults bay.new);
+          texts = B.text_of bay.old;
+          home = B.home bay.old;
+          after = B.home bay.new;
         }) words.entry.now (action_seen e.action) (service_seen e.service)) }
     ensures stands { IfOk result (λ e. StandFor e.service.clients.items e.service.replies.items e.service.sectors.items) }
     ensures few { IfOk result (λ e. length e.service.clients.items ≤ 16) }
     ensures refused { IfErr result (IsRefused B.D.size
         (record {
-            tells = B.tells;
-            rose = Rose (B.faults bay.old) (B.faults bay.new);
-            texts = B.text_of bay.old;
-            home = B.home bay.old;
-            after = B.home bay.new
+          tells = B.tells;
+          rose = Rose (B.faults bay.old) (B.faults bay.new);
+          texts = B.text_of bay.old;
+          home = B.home bay.old;
+          after = B.home bay.new;
         }) words.entry.now) }
     ensures later { B.faults bay.old ≤ B.faults bay.new }
 {

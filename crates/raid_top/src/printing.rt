@@ -45,11 +45,7 @@ fn put_sweep<K: Sink>(service: &Service, out: &mut K) -> Result<(), Failed>
 }
 
 // Prints what a run tells, but for its end.
-fn put_service<K: Sink>(
-    action: Action<'_>,
-    service: &Service,
-    out: &mut K,
-) -> Result<(), Failed>
+fn put_service<K: Sink>(action: Action<'_>, service: &Service, out: &mut K) -> Result<(), Failed>
     requires few { length service.now.clients.items ≤ 16 }
     requires stand { StandFor service.now.clients.items service.now.replies.items service.now.sectors.items }
     ensures output { K.tells → Puts (is_ok result) (K.output out.old)

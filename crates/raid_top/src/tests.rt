@@ -44,11 +44,7 @@ fn text(alloc: Global, name: &str, text: &str) -> Result<(Name, Vec<u8>), Fail> 
 
 // A bay with a configuration `r5`, a script `s1` and a file of graphs `g1`, and components d0 to d4 of 128 sectors, which
 // fail their calls of these numbers.
-fn bay_of(
-    alloc: Global,
-    texts: [&str; 3],
-    fails: [&[u32]; 5],
-) -> Result<MemBay<MemDisk>, Fail> {
+fn bay_of(alloc: Global, texts: [&str; 3], fails: [&[u32]; 5]) -> Result<MemBay<MemDisk>, Fail> {
     let texts = vec![in alloc;
         text(alloc, "r5", texts[0])?,
         text(alloc, "s1", texts[1])?,

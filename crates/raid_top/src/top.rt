@@ -40,13 +40,22 @@ where
     B::D: Send + Drop,
     ensures answer { Answers B.D.Disk
         (record {
-            tells = B.tells;
-            rose = Rose (B.faults bay.old) (B.faults bay.new);
-            texts = B.text_of bay.old;
-            home = B.home bay.old;
-            after = B.home bay.new
+          tells = B.tells;
+          rose = Rose (B.faults bay.old) (B.faults bay.new);
+          texts = B.text_of bay.old;
+          home = B.home bay.old;
+          after = B.home bay.new;
         }) words.now K.tells (Rose (K.faults out.old) (K.faults out.new)) result
         (K.output out.old) (K.output out.new) }
+    ensures complete { B.tells → IsRight B.D.Disk
+        (record {
+          tells = B.tells;
+          rose = Rose (B.faults bay.old) (B.faults bay.new);
+          texts = B.text_of bay.old;
+          home = B.home bay.old;
+          after = B.home bay.new;
+        }) words.now → ¬ Rose (B.faults bay.old) (B.faults bay.new) → ¬ Rose (K.faults out.old) (K.faults out.new) →
+        (result ≡ Status.Ok) ⊎ (result ≡ Status.Memory) }
     ensures bay_later { B.faults bay.old ≤ B.faults bay.new }
     ensures sink_later { K.faults out.old ≤ K.faults out.new }
 {

@@ -4,4 +4,3 @@ pub mod Ran
 pub mod InTurn
 pub mod Outliving
 pub mod Ends
-pub mod Outliving

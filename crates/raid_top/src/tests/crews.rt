@@ -43,6 +43,9 @@ fn two_workers_write_at_the_same_time(rt: HostRuntime) -> Result<(), Fail> {
     let mut bay = MemBay::new(alloc, texts, disks, Vec::new(alloc));
     let (number, lines) = answer(&rt, alloc, &mut bay, &["r5", "--io", "s1", "-w", "2"])?;
     assert_eq!(rt; number, 0);
-    assert_eq!(rt; lines.as_slice(), b"reply 0.0 done\ncommit 0.0\nstatus ok\n".as_slice());
+    assert_eq!(rt;
+        lines.as_slice(),
+        b"reply 0.0 done\ncommit 0.0\nstatus ok\n".as_slice()
+    );
     Ok(())
 }

@@ -44,7 +44,10 @@ fn an_operation_is_planned_anew(rt: HostRuntime) -> Result<(), Fail> {
     let words = ["r5", "--io", "s1", "-w", "0", "--trace"];
     let (number, lines) = answer(&rt, alloc, &mut bay, &words)?;
     assert_eq!(rt; number, 0);
-    assert_eq!(rt; lines.as_slice(), b"reply 0.0 done\ncommit 0.0\nbegin 0.0\ntake 0.0\nfire 0.0 0\nbad 0.0 0\nback 0.0\nfire 0.0 0\ngood 0.0 0\nfire 0.0 1\ngood 0.0 1\nfire 0.0 2\ngood 0.0 2\nfire 0.0 3\ngood 0.0 3\nfire 0.0 4\ngood 0.0 4\nfire 0.0 5\ngood 0.0 5\nfire 0.0 6\ngood 0.0 6\ndead 1\nstatus ok\n".as_slice());
+    assert_eq!(rt;
+        lines.as_slice(),
+        b"reply 0.0 done\ncommit 0.0\nbegin 0.0\ntake 0.0\nfire 0.0 0\nbad 0.0 0\nback 0.0\nfire 0.0 0\ngood 0.0 0\nfire 0.0 1\ngood 0.0 1\nfire 0.0 2\ngood 0.0 2\nfire 0.0 3\ngood 0.0 3\nfire 0.0 4\ngood 0.0 4\nfire 0.0 5\ngood 0.0 5\nfire 0.0 6\ngood 0.0 6\ndead 1\nstatus ok\n".as_slice()
+    );
     holds(&rt, &bay, "d0", 64, &[0xa5]);
     holds(&rt, &bay, "d2", 64, &[0xa5]);
     Ok(())
@@ -58,7 +61,10 @@ fn an_absent_component_is_done_without(rt: HostRuntime) -> Result<(), Fail> {
     let mut bay = sound_bay(alloc, conf, "0 write 1 1 a5\n0 read 1 1\n")?;
     let (number, lines) = answer(&rt, alloc, &mut bay, &WORDS)?;
     assert_eq!(rt; number, 0);
-    assert_eq!(rt; lines.as_slice(), b"reply 0.0 done\nreply 0.1 data\nblock 1 1 a5\ncommit 0.0\ncommit 0.1\ndead 1\nstatus ok\n".as_slice());
+    assert_eq!(rt;
+        lines.as_slice(),
+        b"reply 0.0 done\nreply 0.1 data\nblock 1 1 a5\ncommit 0.0\ncommit 0.1\ndead 1\nstatus ok\n".as_slice()
+    );
     holds(&rt, &bay, "d0", 64, &[]);
     holds(&rt, &bay, "d2", 64, &[0xa5]);
     Ok(())
@@ -73,12 +79,18 @@ fn an_array_without_two_columns_is_lost(rt: HostRuntime) -> Result<(), Fail> {
     let mut bay = sound_bay(alloc, CONF, script)?;
     let (number, lines) = answer(&rt, alloc, &mut bay, &WORDS)?;
     assert_eq!(rt; number, 8);
-    assert_eq!(rt; lines.as_slice(), b"reply 0.0 ok\nreply 0.1 done\nreply 0.2 ok\nreply 0.3 lost\ncommit 0.1\ndead 1\ndead 2\nstatus lost 1 2 0\n".as_slice());
+    assert_eq!(rt;
+        lines.as_slice(),
+        b"reply 0.0 ok\nreply 0.1 done\nreply 0.2 ok\nreply 0.3 lost\ncommit 0.1\ndead 1\ndead 2\nstatus lost 1 2 0\n".as_slice()
+    );
     let conf = "START array\n1 3 0\nSTART disks\nabsent\nd1\nabsent\nSTART layout\n1 1 1 5\n";
     let mut bay = sound_bay(alloc, conf, SCRIPT)?;
     let (number, lines) = answer(&rt, alloc, &mut bay, &WORDS)?;
     assert_eq!(rt; number, 8);
-    assert_eq!(rt; lines.as_slice(), b"dead 0\ndead 2\nstatus lost 0 2 0\n".as_slice());
+    assert_eq!(rt;
+        lines.as_slice(),
+        b"dead 0\ndead 2\nstatus lost 0 2 0\n".as_slice()
+    );
     holds(&rt, &bay, "d1", 64, &[]);
     Ok(())
 }

@@ -4,7 +4,9 @@ use super::*;
 // The write of block 0 by a read of unit 1, with these lines of nodes 1 and 3.
 fn graph(alloc: Global, sum: &str, write: &str) -> Result<String, Fail> {
     let mut text = String::new(alloc);
-    text.push_str("graph large\nbuffer 0 stripe 0 from 0 count 1 new 0\nbuffer 1 stripe 0 from 0 count 1\nbuffer 2 stripe 0 from 0 count 1\nnode 0 read 1 1\n")?;
+    text.push_str(
+        "graph large\nbuffer 0 stripe 0 from 0 count 1 new 0\nbuffer 1 stripe 0 from 0 count 1\nbuffer 2 stripe 0 from 0 count 1\nnode 0 read 1 1\n",
+    )?;
     text.push_str(sum)?;
     text.push_str("node 2 commit after 0 1\n")?;
     text.push_str(write)?;
@@ -61,11 +63,18 @@ fn an_operation_by_a_graph_of_the_file_is_undone(rt: HostRuntime) -> Result<(), 
     )?;
     let mut bay = bay_of(
         alloc,
-        [CONF, "0 use large write 0 1 a5\n0 read 0 1\n", graphs.as_str()],
+        [
+            CONF,
+            "0 use large write 0 1 a5\n0 read 0 1\n",
+            graphs.as_str(),
+        ],
         [&[], &[0], &[], &[], &[]],
     )?;
     let (number, lines) = answer(&rt, alloc, &mut bay, &WORDS)?;
     assert_eq!(rt; number, 0);
-    assert_eq!(rt; lines.as_slice(), b"reply 0.0 undone 1\nreply 0.1 data\nblock 0 1 00\ncommit 0.1\ndead 1\nstatus ok\n".as_slice());
+    assert_eq!(rt;
+        lines.as_slice(),
+        b"reply 0.0 undone 1\nreply 0.1 data\nblock 0 1 00\ncommit 0.1\ndead 1\nstatus ok\n".as_slice()
+    );
     Ok(())
 }

@@ -35,7 +35,19 @@ fn words_are_refused(rt: HostRuntime) -> Result<(), Fail> {
         (&[], "status usage 0\n"),
         (&["r5", "-s"], "status usage 0\n"),
         (&["r5"], "status usage 1\n"),
-        (&["r5", "--sweep", "1", "--clients", "1", "--ops", "1", "--trace"], "status usage 2\n"),
+        (
+            &[
+                "r5",
+                "--sweep",
+                "1",
+                "--clients",
+                "1",
+                "--ops",
+                "1",
+                "--trace",
+            ],
+            "status usage 2\n",
+        ),
         (&["r5", "--io", "s1", "-w", "17"], "status usage 3\n"),
     ];
     for (words, lines) in commands {
@@ -60,9 +72,21 @@ fn what_is_refused_changes_nothing(rt: HostRuntime) -> Result<(), Fail> {
         ([CONF, SCRIPT, ""], 128, &[1], 5, "status bay\n"),
         ([CONF, SCRIPT, ""], 64, &[], 10, "status small 1 64 65\n"),
         ([second, SCRIPT, ""], 128, &[], 2, "status conf 8 9\n"),
-        ([CONF, "0 write 0 0 a5\n", ""], 128, &[], 3, "status script 1 2\n"),
+        (
+            [CONF, "0 write 0 0 a5\n", ""],
+            128,
+            &[],
+            3,
+            "status script 1 2\n",
+        ),
         ([CONF, SCRIPT, skipped], 128, &[], 4, "status graph 2 3\n"),
-        ([CONF, "0 use g read 0 1\n", ""], 64, &[], 3, "status script 1 6\n"),
+        (
+            [CONF, "0 use g read 0 1\n", ""],
+            64,
+            &[],
+            3,
+            "status script 1 6\n",
+        ),
     ];
     let words = ["r5", "--io", "s1", "--graphs", "g1"];
     for (texts, sectors, fails, exit, lines) in tables {
@@ -83,7 +107,10 @@ fn the_smallest_component_bounds_the_rows(rt: HostRuntime) -> Result<(), Fail> {
     let mut bay = small_bay(alloc, [CONF, script, ""], 65, &[])?;
     let (number, lines) = answer(&rt, alloc, &mut bay, &WORDS)?;
     assert_eq!(rt; number, 0);
-    assert_eq!(rt; lines.as_slice(), b"reply 0.0 done\nreply 0.1 refused R1\ncommit 0.0\nstatus ok\n".as_slice());
+    assert_eq!(rt;
+        lines.as_slice(),
+        b"reply 0.0 done\nreply 0.1 refused R1\ncommit 0.0\nstatus ok\n".as_slice()
+    );
     Ok(())
 }
 

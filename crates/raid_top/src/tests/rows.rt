@@ -2,6 +2,7 @@
 use super::*;
 
 const READ: u8 = Call::READ;
+
 const WRITE: u8 = Call::WRITE;
 
 #[test]
@@ -10,7 +11,10 @@ fn what_was_written_is_read(rt: HostRuntime) -> Result<(), Fail> {
     let mut bay = sound_bay(alloc, CONF, SCRIPT)?;
     let (number, lines) = answer(&rt, alloc, &mut bay, &WORDS)?;
     assert_eq!(rt; number, 0);
-    assert_eq!(rt; lines.as_slice(), b"reply 0.0 done\nreply 0.1 data\nblock 0 1 a5\ncommit 0.0\ncommit 0.1\nstatus ok\n".as_slice());
+    assert_eq!(rt;
+        lines.as_slice(),
+        b"reply 0.0 done\nreply 0.1 data\nblock 0 1 a5\ncommit 0.0\ncommit 0.1\nstatus ok\n".as_slice()
+    );
     holds(&rt, &bay, "d0", 64, &[0xa5]);
     holds(&rt, &bay, "d1", 64, &[]);
     holds(&rt, &bay, "d2", 64, &[0xa5]);
@@ -59,7 +63,10 @@ fn a_trace_has_each_event(rt: HostRuntime) -> Result<(), Fail> {
     let words = ["r5", "--io", "s1", "-w", "0", "--trace"];
     let (number, lines) = answer(&rt, alloc, &mut bay, &words)?;
     assert_eq!(rt; number, 0);
-    assert_eq!(rt; lines.as_slice(), b"reply 0.0 done\ncommit 0.0\nbegin 0.0\ntake 0.0\nfire 0.0 0\ngood 0.0 0\nfire 0.0 1\ngood 0.0 1\nfire 0.0 2\ngood 0.0 2\nfire 0.0 3\ngood 0.0 3\nfire 0.0 4\ngood 0.0 4\nfire 0.0 5\ngood 0.0 5\nfire 0.0 6\ngood 0.0 6\nfire 0.0 7\ngood 0.0 7\nstatus ok\n".as_slice());
+    assert_eq!(rt;
+        lines.as_slice(),
+        b"reply 0.0 done\ncommit 0.0\nbegin 0.0\ntake 0.0\nfire 0.0 0\ngood 0.0 0\nfire 0.0 1\ngood 0.0 1\nfire 0.0 2\ngood 0.0 2\nfire 0.0 3\ngood 0.0 3\nfire 0.0 4\ngood 0.0 4\nfire 0.0 5\ngood 0.0 5\nfire 0.0 6\ngood 0.0 6\nfire 0.0 7\ngood 0.0 7\nstatus ok\n".as_slice()
+    );
     for name in ["d0", "d1", "d2", "d3"] {
         holds(&rt, &bay, name, 64, &[0x3c]);
     }
@@ -99,13 +106,31 @@ fn units_of_four_sectors_are_written_in_three_pieces(rt: HostRuntime) -> Result<
     let mut bay = sound_bay(alloc, conf, "0 write 1 6 77\n")?;
     let (number, lines) = answer(&rt, alloc, &mut bay, &WORDS)?;
     assert_eq!(rt; number, 0);
-    assert_eq!(rt; lines.as_slice(), b"reply 0.0 done\ncommit 0.0\nstatus ok\n".as_slice());
+    assert_eq!(rt;
+        lines.as_slice(),
+        b"reply 0.0 done\ncommit 0.0\nstatus ok\n".as_slice()
+    );
     holds(&rt, &bay, "d0", 65, &[0x77, 0x77, 0x77]);
     holds(&rt, &bay, "d1", 64, &[0x77, 0x77, 0x77]);
     holds(&rt, &bay, "d2", 64, &[0x77, 0, 0, 0x77]);
-    tells(&rt, &bay, "d0", &[(READ, 64, 1), (WRITE, 65, 2), (WRITE, 67, 1)]);
-    tells(&rt, &bay, "d1", &[(READ, 67, 1), (WRITE, 64, 1), (WRITE, 65, 2)]);
-    tells(&rt, &bay, "d2", &[(WRITE, 64, 1), (WRITE, 65, 2), (WRITE, 67, 1)]);
+    tells(
+        &rt,
+        &bay,
+        "d0",
+        &[(READ, 64, 1), (WRITE, 65, 2), (WRITE, 67, 1)],
+    );
+    tells(
+        &rt,
+        &bay,
+        "d1",
+        &[(READ, 67, 1), (WRITE, 64, 1), (WRITE, 65, 2)],
+    );
+    tells(
+        &rt,
+        &bay,
+        "d2",
+        &[(WRITE, 64, 1), (WRITE, 65, 2), (WRITE, 67, 1)],
+    );
     Ok(())
 }
 
@@ -117,9 +142,32 @@ fn a_sweep_is_summed_up(rt: HostRuntime) -> Result<(), Fail> {
     let words = ["r5", "--sweep", "1", "--clients", "2", "--ops", "0"];
     let (number, lines) = answer(&rt, alloc, &mut bay, &words)?;
     assert_eq!(rt; number, 0);
-    assert_eq!(rt; lines.as_slice(), b"sweep clients 2 operations 0\nwritten 0 read 0 sum 0\nstatus ok\n".as_slice());
-    let alone = ["r5", "--sweep", "1", "--clients", "2", "--ops", "1000", "-w", "0"];
-    let beside = ["r5", "--sweep", "1", "--clients", "2", "--ops", "1000", "-w", "4"];
+    assert_eq!(rt;
+        lines.as_slice(),
+        b"sweep clients 2 operations 0\nwritten 0 read 0 sum 0\nstatus ok\n".as_slice()
+    );
+    let alone = [
+        "r5",
+        "--sweep",
+        "1",
+        "--clients",
+        "2",
+        "--ops",
+        "1000",
+        "-w",
+        "0",
+    ];
+    let beside = [
+        "r5",
+        "--sweep",
+        "1",
+        "--clients",
+        "2",
+        "--ops",
+        "1000",
+        "-w",
+        "4",
+    ];
     let mut one = sound_bay(alloc, CONF, "")?;
     let mut other = sound_bay(alloc, CONF, "")?;
     let (number, lines) = answer(&rt, alloc, &mut one, &alone)?;

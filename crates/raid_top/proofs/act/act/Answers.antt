@@ -2,8 +2,8 @@ use Rattle.std.proofs.Common.{arith, ◌≡◌, ap, sym, subst, ◌∙◌, lengt
 use Rattle.std.specs.Prelude.{◌≤◌, ℕ, List, All, Ok}
 use Rattle.std.proofs.lemmas.Result.{IfOk-weaker}
 use Rattle.blk_disk.specs.Disk.{Rose}
-use Rattle.lay_core.specs.Layout.{blocks_in}
-use Rattle.raid_conf.specs.Layouts.{shape_of}
+use Rattle.lay_core.specs.Layout.{IsLayout, blocks_in}
+use Rattle.raid_conf.specs.Layouts.{shape_lawful, shape_of}
 use Rattle.raid_conf.specs.contracts.layouts.AnyLayoutLayout.TheImpl as any
 use Rattle.raid_script.specs.Asked.{AreFew, IsAsked}
 use Rattle.top_bay.specs.Asked.{names_of}
@@ -79,6 +79,7 @@ returns-in-Ok-clause-acted g c =
     (ap (λ v. v.items) made.columns)
     (made.clients (blocks_in (shape_of k.conf o.rows)) e.drawn)
     made.graphs made.trace)
+    e.within (subst (λ y. IsLayout y) e.shape (shape_lawful a.ready.layout))
     (subst (λ conf. IsServed g.B.D.Disk B.tells mid after (names_of conf) (run_works.work_of any.ghosts setup) setup.devices.items (service_seen x.service)) made.conf served)))
 
 pub returns-in-Ok-clause-few : goal.returns-in-Ok-clause-few
