@@ -1,5 +1,8 @@
-mod Names
-mod Refused
-mod Homes
-mod Replays
+mod OwnColumns
+mod Setups
+mod Backs
+mod Wanted
+mod Works
+mod Acting
 mod Endings
+mod Completing

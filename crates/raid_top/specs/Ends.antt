@@ -1,97 +1,51 @@
--- How a run ends: each status with its cause, and what it prints.
-use Rattle.std.specs.Prelude.{◌≡◌, ◌⊎◌, ℕ, List, ◌++◌, take, Option, Some, None, Result, Ok, Err}
-use Rattle.blk_disk.specs.Disk.{Rose}
+-- How a call of the program ends: its outcome with all that is so then, its output and its status.
+use Rattle.std.specs.Prelude.{◌≡◌, ◌⊎◌, ℕ, List, ◌++◌, take, Option, None, Ok, Contains}
+use Rattle.blk_disk.specs.Devices.{AreNamed, contents_of}
 use Rattle.blk_disk.specs.declared.disk.Disk.{Ghosts}
+use Rattle.eng_cols.specs.Contents.{decode}
 use Rattle.raid_text.specs.Text.{Text}
-use Rattle.top_lines.specs.Report.{run_text}
-use Rattle.top_lines.specs.Status.{status_text}
-use Rattle.top_lines.specs.declared.status.Status.{Status}
-use Rattle.top_lines.specs.declared.status.Status.TheVariants as status
-use Rattle.raid_top.specs.Asked.{Refusal, NoFile, LongText, Conf, Script, Small, Asked, asked_in}
-use Rattle.top_texts.specs.Called.{asked_by}
+use Rattle.top_bay.specs.Told.{Told}
+use Rattle.top_bay.specs.Asked.{names_of}
+use Rattle.top_status.specs.declared.status.Status.{Status}
+use Rattle.top_status.specs.declared.status.Status.TheVariants as status
+use Rattle.top_words.specs.Asked.{Action, Sweep, command_of}
+use Rattle.top_duty.specs.Duty.{Admitted, IsWanted, admitted_in, layout_of, states_in}
+use Rattle.top_run.specs.InTurn.{SweptInTurn}
+use Rattle.top_run.specs.Outliving.{AllAnswered, Outlives}
+use Rattle.top_run.specs.Work.{Service}
+use Rattle.raid_top.specs.Outcome.{Outcome, Ran as Runs, Refuses, outcome_text, status_of}
+use Rattle.raid_top.specs.Refused.{IsRefused}
 use Rattle.raid_top.specs.Ran.{Ran}
-use Rattle.raid_top.specs.declared.act.Outcome.{Outcome}
+use Rattle.raid_top.specs.Works.{work_of}
 
--- The status is the first refusal. A fault of the bay, or want of memory, may come in its place.
-abbrev pub RefusedAs : {T : Type 0} → Status → Result T Refusal → Type 0
-RefusedAs status.Ok wanted = ⊥
-RefusedAs (status.Usage case) wanted = ⊥
-RefusedAs (status.Conf line code) wanted = wanted ≡ Err (Conf line code)
-RefusedAs (status.Script line code) wanted = wanted ≡ Err (Script line code)
-RefusedAs status.BayFault wanted = Unit {0}
-RefusedAs (status.NoFile name) wanted = wanted ≡ Err (NoFile name)
-RefusedAs status.SinkFault wanted = ⊥
-RefusedAs (status.Lost first second stripe) wanted = ⊥
-RefusedAs (status.Small column has needs) wanted = wanted ≡ Err (Small column has needs)
-RefusedAs (status.LongText name) wanted = wanted ≡ Err (LongText name)
-RefusedAs status.Memory wanted = Unit {0}
+module _ {D : Type 0} (g : Ghosts D) (b : Told D) (words : List Text) where
+  -- The clients were served. There are what was asked, and the devices of its names as they were taken and as they are put back; what speaks of names and texts holds where the bay tells them. Where the array isn't lost, each item has the reply that it ought to have, and clients that were drawn leave, and are replied, what they would one after another.
+  pub record Acted (action : Action) (s : Service) : Type 0 where
+    pub admitted : Admitted
+    pub taken : List (Option D)
+    pub back : List (Option D)
+    pub words_are : command_of words ≡ Ok admitted.asked.command
+    pub action_is : admitted.asked.command.action ≡ action
+    pub asked : b.tells → IsWanted (admitted_in g.size b words) (Ok admitted)
+    pub before : b.tells → AreNamed b.home (names_of admitted.asked.conf) taken
+    pub after : b.tells → AreNamed b.after (names_of admitted.asked.conf) back
+    pub others : b.tells → (n : Text) → (Contains (names_of admitted.asked.conf) n → ⊥) → b.after n ≡ b.home n
+    pub ran : Ran g admitted taken s back
+    pub answered : s.ending.lost ≡ None → AllAnswered g (work_of admitted) taken back s ran
+    pub in_turn : (seed clients ops workers : ℕ) → action ≡ Sweep seed clients ops workers → s.ending.lost ≡ None
+        → SweptInTurn g (work_of admitted) taken s back (decode (layout_of admitted) (contents_of g taken) (states_in admitted))
 
--- a status by which a command is refused
-abbrev pub IsRefusal : Status → Type 0
-IsRefusal status.Ok = ⊥
-IsRefusal (status.Usage case) = ⊥
-IsRefusal (status.Conf line code) = Unit {0}
-IsRefusal (status.Script line code) = Unit {0}
-IsRefusal status.BayFault = Unit {0}
-IsRefusal (status.NoFile name) = Unit {0}
-IsRefusal status.SinkFault = ⊥
-IsRefusal (status.Lost first second stripe) = ⊥
-IsRefusal (status.Small column has needs) = Unit {0}
-IsRefusal (status.LongText name) = Unit {0}
-IsRefusal status.Memory = Unit {0}
+  -- what is so of an outcome
+  abbrev pub Acts : Outcome → Type 0
+  Acts (Runs action s) = Acted action s
+  Acts (Refuses r) = IsRefused g.size b words r
 
--- the status of a run in which this column was lost first, or none was
-abbrev pub status_of : Option ℕ → Status
-status_of None = status.Ok
-status_of (Some column) = status.Lost column column 0
-
--- The words are no command: nothing was done.
-pub record IsMisused {D : Type 0} (tells : Type 0) (home after : Text → Option D) (words : List Text) (case : ℕ) : Type 0 where
-  pub first : case ≡ 0
-  pub none : asked_by words ≡ None
-  pub same : tells → (n : Text) → after n ≡ home n
-
--- The command was refused before anything was done: all components are back as they were.
-pub record IsRefused {D : Type 0} (g : Ghosts D) (tells : Type 0) (texts : Text → Option Text) (home after : Text → Option D) (words : List Text) (status : Status) : Type 0 where
-  pub conf : Text
-  pub script : Text
-  pub command : asked_by words ≡ Some (conf, script)
-  pub cause : tells → RefusedAs status (asked_in g.size texts home conf script)
-  pub same : tells → (n : Text) → after n ≡ home n
-
--- what a run that ended so prints
-abbrev pub outcome_text : Outcome → Status → List ℕ
-outcome_text o status = run_text o.ops.items o.served.log.replies.items o.served.log.sectors.items o.served.log.history.items o.served.dead status
-
--- The script was run, and its run was printed.
-pub record IsRun {D : Type 0} (g : Ghosts D) (tells : Type 0) (texts : Text → Option Text) (home after : Text → Option D) (words : List Text) (status : Status) (text : List ℕ) : Type 0 where
-  pub conf : Text
-  pub script : Text
-  pub command : asked_by words ≡ Some (conf, script)
-  pub outcome : Outcome
-  pub ran : Ran g tells texts home after conf script outcome
-  pub ended : status ≡ status_of outcome.served.lost
-  pub printed : text ≡ outcome_text outcome status
-
--- The command was refused so, for this cause. `rose` says that the bay's count of faults rose.
-abbrev pub Refuses : {D : Type 0} → Ghosts D → Type 0 → Type 0 → (Text → Option Text) → (Text → Option D) → (Text → Option D) → List Text → Status → Type 0
-Refuses g tells rose texts home after words status.Ok = ⊥
-Refuses g tells rose texts home after words (status.Usage case) = IsMisused tells home after words case
-Refuses g tells rose texts home after words (status.Conf line code) = IsRefused g tells texts home after words (status.Conf line code)
-Refuses g tells rose texts home after words (status.Script line code) = IsRefused g tells texts home after words (status.Script line code)
-Refuses g tells rose texts home after words status.BayFault = rose × IsRefused g tells texts home after words status.BayFault
-Refuses g tells rose texts home after words (status.NoFile name) = IsRefused g tells texts home after words (status.NoFile name)
-Refuses g tells rose texts home after words status.SinkFault = ⊥
-Refuses g tells rose texts home after words (status.Lost first second stripe) = ⊥
-Refuses g tells rose texts home after words (status.Small column has needs) = IsRefused g tells texts home after words (status.Small column has needs)
-Refuses g tells rose texts home after words (status.LongText name) = IsRefused g tells texts home after words (status.LongText name)
-Refuses g tells rose texts home after words status.Memory = IsRefused g tells texts home after words status.Memory
-
--- A run ends so, and this is its output.
-abbrev pub Ends : {D : Type 0} → Ghosts D → Type 0 → Type 0 → (Text → Option Text) → (Text → Option D) → (Text → Option D) → List Text → Status → List ℕ → Type 0
-Ends g tells rose texts home after words status text =
-    IsRun g tells texts home after words status text
-    ⊎ (Refuses g tells rose texts home after words status × (text ≡ status_text status))
+  -- a call ends so, with this status and this output
+  pub record Ends (ending : Status) (printed : List ℕ) : Type 0 where
+    pub outcome : Outcome
+    pub status : ending ≡ status_of outcome
+    pub text : printed ≡ outcome_text outcome
+    pub acts : Acts outcome
 
 -- The answer is the status, and its output was printed whole; or the sink failed, and a front of that output was printed. `rose` says that the sink's count of faults rose.
 abbrev pub Printed : Type 0 → Type 0 → Status → Status → List ℕ → List ℕ → List ℕ → Type 0
@@ -100,16 +54,16 @@ Printed tells rose ending answer text old new =
     ⊎ ((answer ≡ status.SinkFault) × rose × (tells → (n : ℕ) × (new ≡ old ++ take n text)))
 
 -- A call of the program: it ends so, and its output was printed so. The first part speaks of the bay, the last of the sink.
-pub record Answers {D : Type 0} (g : Ghosts D) (tells rose : Type 0) (texts : Text → Option Text) (home after : Text → Option D) (words : List Text) (sink_tells sink_rose : Type 0) (answer : Status) (old new : List ℕ) : Type 0 where
+pub record Answers {D : Type 0} (g : Ghosts D) (b : Told D) (words : List Text) (sink_tells sink_rose : Type 0) (answer : Status) (old new : List ℕ) : Type 0 where
   pub status : Status
   pub text : List ℕ
-  pub ends : Ends g tells rose texts home after words status text
+  pub ends : Ends g b words status text
   pub printed : Printed sink_tells sink_rose status answer text old new
 
--- no component has failed in between
-abbrev pub NoneFailed : {D : Type 0} → (D → ℕ) → (Text → Option D) → (Text → Option D) → Type 0
-NoneFailed {D} faults home after = (n : Text) (d e : D) → home n ≡ Some d → after n ≡ Some e → Rose (faults d) (faults e) → ⊥
+-- ## Completeness
 
--- where the command and all that it names are right
-abbrev pub IsRight : {D : Type 0} → (D → ℕ) → (Text → Option Text) → (Text → Option D) → List Text → Type 0
-IsRight size texts home words = (conf : Text) × (script : Text) × (asked : Asked) × (asked_by words ≡ Some (conf, script)) × (asked_in size texts home conf script ≡ Ok asked)
+-- All that is asked for is right, and the array outlives the call: it isn't lost, whichever columns be dead of which an item asks that they fail, or whose device's count of faults rose.
+pub record IsRight {D : Type 0} (g : Ghosts D) (b : Told D) (words : List Text) : Type 0 where
+  pub admitted : Admitted
+  pub wanted : IsWanted (admitted_in g.size b words) (Ok admitted)
+  pub outlives : (taken back : List (Option D)) → AreNamed b.home (names_of admitted.asked.conf) taken → AreNamed b.after (names_of admitted.asked.conf) back → Outlives g (work_of admitted) taken back

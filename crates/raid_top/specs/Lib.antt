@@ -1,4 +1,6 @@
-pub mod Asked
+pub mod Outcome
+pub mod Works
+pub mod Served
 pub mod Ran
+pub mod Refused
 pub mod Ends
-pub mod Opened

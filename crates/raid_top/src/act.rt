@@ -1,92 +1,120 @@
-//! What a run does, apart from its output.
-ghost use Rattle.std.specs.Prelude.{◌≡◌, ◌≤◌, ◌<◌, ◌^◌, ℕ, List, length, IfOk, IfErr, OnErr, IsErrOf};
+//! What comes of the words.
+ghost use Rattle.std.specs.Prelude.{◌≡◌, ◌≤◌, length, vec_len, IfOk, IfErr, OnErr};
 ghost use Rattle.blk_disk.specs.Disk.{Rose};
-ghost use Rattle.lay_core.specs.Layout.{data_units};
-ghost use Rattle.top_array.specs.Served.{HasRoom};
-ghost use Rattle.raid_top.specs.Asked.{asked_in};
-ghost use Rattle.raid_top.specs.Ends.{IsRefusal, RefusedAs};
-ghost use Rattle.raid_top.specs.Ran.{Ran};
+ghost use Rattle.raid_conf.specs.Form.{IsConf};
+ghost use Rattle.raid_script.specs.Replies.{StandFor};
+ghost use Rattle.top_bay.specs.Asked.{names_of};
+ghost use Rattle.top_bay.specs.Lent.{AreBack, AreOut};
+ghost use Rattle.top_bay.specs.Told.{Told};
+ghost use Rattle.top_run.specs.Works.{service_seen, work_of};
+ghost use Rattle.top_status.specs.Dead.{dead_columns};
+ghost use Rattle.top_words.specs.Asked.{IsInRange};
+ghost use Rattle.top_words.specs.Views.{action_seen};
+ghost use Rattle.raid_top.specs.Ends.{Acted};
+ghost use Rattle.raid_top.specs.Refused.{IsRefused};
+ghost use Rattle.raid_top.specs.Served.{IsServed, MayServe};
 
-use crate::components::{put_all, take_all};
-use crate::opening::{open_conf, open_script};
-use blk_plain::{Memory, Op};
+use crate::setup::{Work, work_of, workers_of};
 use lay_core::Layout;
-use raid_bay::Bay;
+use raid_bay::{Bay, Name};
+use raid_conf::AnyLayout;
 use std::alloc::Global;
-use top_array::{Log, Room, Served, Small, layout_of, serve};
-use top_lines::Status;
+use std::sync::Wait;
+use std::thread::Threads;
+use top_bay::put_all;
+use top_duty::admit;
+use top_run::{Service, run_clients};
+use top_serve::{Refused, ServeFault};
+use top_status::{Refusal, Status};
+use top_words::Action;
 
-/// The operations of a script, and what their service left.
+/// What was run, and what is told of it.
 #[derive(Drop)]
-pub struct Outcome {
-    pub ops: Vec<Op>,
-    pub served: Served,
+pub(crate) struct Ended<'a> {
+    pub action: Action<'a>,
+    pub service: Service,
 }
 
-// The status of a component that has no room for a row.
-fn status_of(small: Small) -> Status
-    requires { small.column < 2 ^ 32 }
-    ensures { result ≡ Status.Small small.column small.has small.needs }
+// The status of what isn't served.
+fn status_of(fault: ServeFault) -> Status
+    ensures { fault ≡ ServeFault.Memory → result ≡ Status.Memory }
 {
-    Status::Small {
-        column: small.column as u32,
-        has: small.has,
-        needs: small.needs,
+    match fault {
+        ServeFault::Lost(loss) => Status::of_loss(Some(loss)),
+        ServeFault::Memory => Status::Memory,
     }
 }
 
-// All memory that the run of the operations takes.
-fn take_room<L: Layout>(alloc: Global, ops: &[Op], layout: &L) -> Result<(Log, Room), Memory>
-    requires few { length ops.now ≤ 65536 }
-    ensures log { IfOk result (λ taken. HasRoom ops.now taken.0) }
-    ensures sectors { IfOk result
-        (λ taken. taken.1.sectors ≡ (L.shape layout.now).unit_sectors) }
-    ensures units { IfOk result (λ taken. taken.1.units ≡ data_units (L.shape layout.now)) }
+// Serves the clients, and puts the devices back.
+fn serve<'a, B: Bay, R: Threads + Wait + Sync>(
+    rt: &R,
+    alloc: Global,
+    work: Work<'a, B::D>,
+    bay: &mut B,
+) -> Result<Ended<'a>, Refusal>
+where
+    B::D: Send + Drop,
+    requires range { IsInRange (action_seen work.action) }
+    requires conf { IsConf work.conf }
+    requires work { MayServe ⟦<AnyLayout as Layout>⟧ B.D.Disk work.setup }
+    requires out { AreOut (B.is_out bay.old) (names_of work.conf) work.setup.devices.items }
+    requires many { vec_len work.setup.devices ≡ length (names_of work.conf) }
+    ensures served { IfOk result (λ e. IsServed B.D.Disk B.tells (B.home bay.old) (B.home bay.new) (names_of work.entry.conf)
+        (work_of ⟦<AnyLayout as Layout>⟧ work.entry.setup) work.entry.setup.devices.items (service_seen e.service)) }
+    ensures stands { IfOk result (λ e. StandFor e.service.clients.items e.service.replies.items e.service.sectors.items) }
+    ensures action { IfOk result (λ e. e.action ≡ work.entry.action) }
+    ensures memory { IfErr result (λ r. r ≡ record { status = Status.Memory; dead = dead_columns work.entry.setup.columns.items }) }
+    ensures same { OnErr result (B.tells → AreBack (B.home bay.old) (B.home bay.new) (names_of work.entry.conf) work.entry.setup.devices.items) }
+    ensures faults { B.faults bay.new ≡ B.faults bay.old }
 {
-    let log = Log::with_room(alloc, ops)?;
-    let room = Room::open(alloc, layout)?;
-    Ok((log, room))
+    let Work {
+        setup,
+        conf,
+        action,
+    } = work;
+    match run_clients(rt, alloc, setup, workers_of(action)) {
+        Ok((service, devices)) => {
+            put_all(bay, &conf, devices);
+            Ok(Ended { action, service })
+        }
+        Err(Refused { fault, setup }) => {
+            put_all(bay, &conf, setup.devices);
+            Err(Refusal::beside(setup.columns, status_of(fault)))
+        }
+    }
 }
 
-/// Runs the script on the array of the configuration, both by name, and puts the components back.
-/// Where it is refused, or memory is wanting, no component has changed and all are back.
-pub fn act<B: Bay>(alloc: Global, conf: &str, script: &str, bay: &mut B) -> Result<Outcome, Status>
-    ensures ran { IfOk result (Ran B.D.Disk B.tells
-        (B.text_of bay.old) (B.home bay.old) (B.home bay.new) conf.now script.now) }
-    ensures refused { IfErr result (λ s. B.tells → RefusedAs s
-        (asked_in B.D.size (B.text_of bay.old) (B.home bay.old) conf.now script.now)) }
-    ensures kind { IfErr result IsRefusal }
-    ensures same { OnErr result (B.tells → (n : List ℕ) → B.home bay.new n ≡ B.home bay.old n) }
+/// Does what the words ask for, and puts the devices back.
+pub(crate) fn act<'a, B: Bay, R: Threads + Wait + Sync>(
+    rt: &R,
+    alloc: Global,
+    words: &'a [Name],
+    bay: &mut B,
+) -> Result<Ended<'a>, Refusal>
+where
+    B::D: Send + Drop,
+    ensures acted { IfOk result (λ e. Acted B.D.Disk
+        (record {
+          tells = B.tells;
+          rose = Rose (B.faults bay.old) (B.faults bay.new);
+          texts = B.text_of bay.old;
+          home = B.home bay.old;
+          after = B.home bay.new;
+        }) words.entry.now (action_seen e.action) (service_seen e.service)) }
+    ensures stands { IfOk result (λ e. StandFor e.service.clients.items e.service.replies.items e.service.sectors.items) }
+    ensures few { IfOk result (λ e. length e.service.clients.items ≤ 16) }
+    ensures refused { IfErr result (IsRefused B.D.size
+        (record {
+          tells = B.tells;
+          rose = Rose (B.faults bay.old) (B.faults bay.new);
+          texts = B.text_of bay.old;
+          home = B.home bay.old;
+          after = B.home bay.new;
+        }) words.entry.now) }
     ensures later { B.faults bay.old ≤ B.faults bay.new }
-    ensures cause { IsErrOf result Status.BayFault → Rose (B.faults bay.old) (B.faults bay.new) }
 {
-    let array = match open_conf(alloc, conf, bay) {
-        Ok(array) => array,
-        Err(status) => return Err(status),
-    };
-    let ops = match open_script(alloc, script, bay) {
-        Ok(ops) => ops,
-        Err(status) => return Err(status),
-    };
-    let mut devices = match take_all(alloc, bay, &array.disks) {
-        Ok(devices) => devices,
-        Err(status) => return Err(status),
-    };
-    let layout = match layout_of(&devices, array.unit_sectors) {
-        Ok(layout) => layout,
-        Err(small) => {
-            put_all(bay, &array.disks, devices);
-            return Err(status_of(small));
-        }
-    };
-    let (log, mut room) = match take_room(alloc, &ops, &layout) {
-        Ok(taken) => taken,
-        Err(_) => {
-            put_all(bay, &array.disks, devices);
-            return Err(Status::Memory);
-        }
-    };
-    let served = serve(&ops, &layout, &mut devices, log, &mut room);
-    put_all(bay, &array.disks, devices);
-    Ok(Outcome { ops, served })
+    match admit(alloc, words, bay) {
+        Ok(admitted) => serve(rt, alloc, work_of(admitted), bay),
+        Err(refusal) => Err(refusal),
+    }
 }

@@ -1,0 +1,45 @@
+-- How a call of the program ends, and what it prints.
+use Rattle.std.specs.Prelude.{ℕ, List, [], ◌++◌, Option, Some, None}
+use Rattle.eng_cols.specs.declared.spot.Loss.{Loss}
+use Rattle.raid_script.specs.Replies.{replies_text}
+use Rattle.raid_script.specs.History.{history_text}
+use Rattle.raid_script.specs.Trace.{trace_text}
+use Rattle.raid_script.specs.Summary.{summary_text}
+use Rattle.top_status.specs.declared.status.Status.{Status}
+use Rattle.top_status.specs.Status.{ending_text, status_of_loss}
+use Rattle.top_status.specs.Refusals.{Refused, refusal_text}
+use Rattle.top_run.specs.Work.{Service}
+use Rattle.top_words.specs.Asked.{Action, Sweep}
+
+-- A script was run, or items that were drawn; or nothing was done.
+pub data Outcome : Type 0 where
+  Ran : (action : Action) (s : Service) → Outcome
+  Refuses : (r : Refused) → Outcome
+
+-- the status, a lost run's too
+abbrev pub status_of : Outcome → Status
+status_of (Ran action s) = status_of_loss s.ending.lost
+status_of (Refuses r) = r.status
+
+-- what is told of a script: replies, history, and the trace where it is kept
+abbrev pub script_text : Service → List ℕ
+script_text s = replies_text s.clients s.replies s.sectors ++ history_text s.history ++ trace_text s.trace
+
+-- what is told of a sweep: its sums, and nothing where the array was lost
+abbrev pub sweep_text : Service → Option Loss → List ℕ
+sweep_text s None = summary_text s.clients s.replies s.sectors
+sweep_text s (Some loss) = []
+
+-- what is told of a run, but for its end
+abbrev pub service_text : Action → Service → List ℕ
+service_text (Sweep seed clients ops workers) s = sweep_text s s.ending.lost
+service_text action s = script_text s
+
+-- all that is printed of a run: what it tells, the columns that are dead in the end, and the status
+abbrev pub ran_text : Action → Service → List ℕ
+ran_text action s = service_text action s ++ ending_text s.ending.columns (status_of_loss s.ending.lost)
+
+-- all that is printed
+abbrev pub outcome_text : Outcome → List ℕ
+outcome_text (Ran action s) = ran_text action s
+outcome_text (Refuses r) = refusal_text r
