@@ -1,9 +1,0 @@
-pub mod Line
-pub mod Repetition
-pub mod Runs
-pub mod Blocks
-pub mod Replies
-pub mod History
-pub mod Dead
-pub mod Status
-pub mod Report

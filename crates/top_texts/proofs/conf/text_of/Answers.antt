@@ -1,5 +1,0 @@
-use Rattle.top_texts.proofs.Names.{IsUtf8-word}
-use Rattle.top_texts.proofs.conf.text_of.Goals as goal
-
-pub unreachable-requires : goal.unreachable-requires
-unreachable-requires c = c.in-Err.ensures.cases.0 (IsUtf8-word c.args.word.now c.requires)
