@@ -12,6 +12,7 @@ use std::thread::Threads;
 mod crews;
 mod faults;
 mod graphs;
+mod levels;
 mod refused;
 mod rows;
 
