@@ -1,0 +1,89 @@
+//! Runs at each level.
+use super::*;
+
+const MIRRORED: &str = "START array\n4 0\nSTART disks\nd0\nd1\nd2\nd3\nSTART layout\n1 1 1 1\n";
+
+const STRIPED: &str = "START array\n2 0\nSTART disks\nd0\nd1\nSTART layout\n1 1 1 0\n";
+
+const CHECKED: &str = "START array\n3 0\nSTART disks\nd0\nd1\nd2\nSTART layout\n1 1 1 4\n";
+
+const CHAINED: &str = "START array\n4 0\nSTART disks\nd0\nd1\nd2\nd3\nSTART layout\n1 1 1 C\n";
+
+const DECLUSTERED: &str =
+    "START array\n5 0\nSTART disks\nd0\nd1\nd2\nd3\nd4\nSTART layout\n1 1 1 T\ncomplete 5 3\n";
+
+const SPARED: &str =
+    "START array\n5 0\nSTART disks\nd0\nd1\nd2\nd3\nd4\nSTART layout\n1 1 1 D\ncomplete 5 3\n";
+
+// Columns that fail under way: one of each mirror; both of one; one without a check unit; two of a chain that aren't next to
+// one another; one of tuples of three.
+#[test]
+fn columns_fail_at_each_level(rt: HostRuntime) -> Result<(), Fail> {
+    let alloc = rt.alloc();
+    for (conf, script, exit, lines) in [
+        (
+            MIRRORED,
+            "0 fail 0\n0 fail 3\n0 write 0 2 5a\n0 read 0 2\n",
+            0,
+            "reply 0.0 ok\nreply 0.1 ok\nreply 0.2 done\nreply 0.3 data\nblock 0 2 5a\ncommit 0.2\ncommit 0.3\ndead 0\ndead 3\nstatus ok\n",
+        ),
+        (
+            MIRRORED,
+            "0 fail 0\n0 fail 1\n0 read 0 1\n",
+            8,
+            "reply 0.0 ok\nreply 0.1 ok\nreply 0.2 lost\ndead 0\ndead 1\nstatus lost 0 1 0\n",
+        ),
+        (
+            STRIPED,
+            "0 fail 1\n0 read 0 1\n",
+            8,
+            "reply 0.0 ok\nreply 0.1 lost\ndead 1\nstatus lost 1 1 0\n",
+        ),
+        (
+            CHAINED,
+            "0 write 0 4 5a\n0 fail 1\n0 fail 3\n0 read 0 4\n",
+            0,
+            "reply 0.0 done\nreply 0.1 ok\nreply 0.2 ok\nreply 0.3 data\nblock 0 4 5a\ncommit 0.0\ncommit 0.3\ndead 1\ndead 3\nstatus ok\n",
+        ),
+        (
+            DECLUSTERED,
+            "0 write 0 16 c3\n0 fail 4\n0 read 0 16\n",
+            0,
+            "reply 0.0 done\nreply 0.1 ok\nreply 0.2 data\nblock 0 16 c3\ncommit 0.0\ncommit 0.2\ndead 4\nstatus ok\n",
+        ),
+        (
+            SPARED,
+            "0 write 0 16 c3\n0 fail 2\n0 read 0 16\n",
+            0,
+            "reply 0.0 done\nreply 0.1 ok\nreply 0.2 data\nblock 0 16 c3\ncommit 0.0\ncommit 0.2\ndead 2\nstatus ok\n",
+        ),
+    ] {
+        let mut bay = sound_bay(alloc, conf, script)?;
+        let (number, printed) = answer(&rt, alloc, &mut bay, &WORDS)?;
+        assert_eq!(rt; number, exit, "{lines}");
+        assert_eq!(rt; printed.as_slice(), lines.as_bytes(), "{lines}");
+    }
+    Ok(())
+}
+
+// Two clients write the two data units of stripe 0, whose check unit is their sum: on the last column at level 4, and on
+// column 0 where the first tuple of the design is 0, 1, 2.
+#[test]
+fn two_clients_share_a_stripe_at_levels_4_and_t(rt: HostRuntime) -> Result<(), Fail> {
+    let alloc = rt.alloc();
+    let script = "0 write 0 1 11\n1 write 1 1 22\n";
+    for (conf, held) in [
+        (CHECKED, [0x11, 0x22, 0x33]),
+        (DECLUSTERED, [0x33, 0x11, 0x22]),
+    ] {
+        let mut bay = sound_bay(alloc, conf, script)?;
+        let words = ["r5", "--io", "s1", "-w", "2"];
+        let (number, printed) = answer(&rt, alloc, &mut bay, &words)?;
+        assert_eq!(rt; number, 0);
+        assert!(rt; printed.starts_with(b"reply 0.0 done\nreply 1.0 done\ncommit "));
+        for (name, byte) in [("d0", held[0]), ("d1", held[1]), ("d2", held[2])] {
+            holds(&rt, &bay, name, 64, &[byte]);
+        }
+    }
+    Ok(())
+}
