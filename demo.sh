@@ -18,7 +18,7 @@ array() {
 
 # rt builds a program as it runs it, here on an array of its own.
 build() {
-    echo "raidctl isn't built yet. It is proved first, crate by crate, which takes some 15 to 30 minutes."
+    echo "raidctl isn't built yet. It is proved first, crate by crate, which takes about an hour."
     array "$folder/"
     # Each line of the check that names a function names its crate too: show each crate once.
     (cd "$top/crates/raidctl" && rt run -- "$folder/conf" --io "$folder/script" 2>&1) | tee "$folder/log" |
