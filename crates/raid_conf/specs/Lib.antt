@@ -8,3 +8,4 @@ pub mod Answers
 pub mod Laws
 pub mod Printing
 pub mod Layouts
+pub mod Parameters

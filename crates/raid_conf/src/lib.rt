@@ -36,6 +36,7 @@ mod memory;
 mod name_lines;
 mod names;
 mod numbers;
+mod parameters;
 mod plain;
 mod print;
 mod reader;
@@ -53,9 +54,10 @@ pub use layouts::AnyLayout;
 pub use memory::Memory;
 pub use names::Names;
 pub use numbers::Numbers;
+pub use parameters::Parameters;
 pub use print::print_conf;
 pub use reader::read_conf;
-pub use tables::{table_rows, table_stripes};
+pub use tables::{design_parameters, table_rows, table_stripes};
 
 #[cfg(test)]
 mod tests;

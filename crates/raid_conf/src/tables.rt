@@ -1,14 +1,17 @@
-//! The least layout of a configuration, of which all others have a multiple.
+//! The least layout of a configuration, of which all others have a multiple, and the numbers of its
+//! block design.
 ghost use Rattle.std.specs.Prelude.{◌≡◌, ◌≤◌, ◌/◌};
 ghost use Rattle.lay_design.specs.Design.{IsDesign};
 ghost use Rattle.lay_design.specs.Families.{choose};
 ghost use Rattle.raid_conf.specs.Designs.{blocks_of};
 ghost use Rattle.raid_conf.specs.Form.{IsConf};
 ghost use Rattle.raid_conf.specs.Layouts.{plain_rows, plain_stripes, table_rows, table_stripes};
+ghost use Rattle.raid_conf.specs.Parameters.{parameters_of};
 
 use crate::conf::Conf;
 use crate::given::Given;
 use crate::make::plain_of;
+use crate::parameters::Parameters;
 use crate::plain::Plain;
 
 // How many tuples of k of n objects there are, which are few.
@@ -61,6 +64,21 @@ fn tuples_of(given: &Given) -> u32
     }
 }
 
+// In how many tuples each two objects stand.
+fn pairs_of(given: &Given) -> u32
+    requires { IsDesign (blocks_of given.now) }
+    ensures { result ≡ (blocks_of given.now).lambda }
+{
+    match given {
+        Given::Listed { lambda, .. } => *lambda,
+        Given::Cyclic { v, base } => {
+            let k = base.as_slice().len() as u32;
+            k * (k - 1) / (*v - 1)
+        }
+        Given::Complete { v, k } => choose(*v - 2, *k - 2),
+    }
+}
+
 // The rows of the least layout that stands on no block design.
 fn plain_rows(plain: Plain) -> u32
     ensures { result ≡ plain_rows plain }
@@ -105,5 +123,27 @@ pub fn table_stripes(conf: &Conf) -> u32
     match &conf.design {
         Some(given) => width_of(given) * tuples_of(given),
         None => plain_stripes(plain_of(conf.level), conf.columns),
+    }
+}
+
+/// The numbers of a configuration's block design; all 0 where its level stands on none.
+#[tactic(auto, using(crate::proofs::TableLaws::is_given_design))]
+pub fn design_parameters(conf: &Conf) -> Parameters
+    requires { IsConf conf.now }
+    ensures { result ≡ parameters_of conf.now.design }
+{
+    match &conf.design {
+        Some(given) => Parameters {
+            b: tuples_of(given),
+            k: width_of(given),
+            r: degree_of(given),
+            lambda: pairs_of(given),
+        },
+        None => Parameters {
+            b: 0,
+            k: 0,
+            r: 0,
+            lambda: 0,
+        },
     }
 }

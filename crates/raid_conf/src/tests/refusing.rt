@@ -213,35 +213,70 @@ fn of_two_faults_the_first_is_judged(rt: HostRuntime) -> Result<(), Fail> {
 const WHOLE: &[u8] =
     b"START array\n1 2 1\nSTART disks\nd0\nd1\nSTART spare\ns0\nSTART layout\n32 1 1 5\nSTART queue\nfifo 100\n";
 
+// Each prefix of it, by its length. A break of a line at the text's end begins no further line.
 #[test]
 fn a_text_cut_short_is_refused_where_it_ends(rt: HostRuntime) {
-    for (end, at) in [
-        // nothing
-        (0, (1, 3)),
-        // `START arra`
-        (10, (1, 3)),
-        // `START array`, and no line behind it
-        (12, (2, 1)),
-        // `1 `
-        (14, (2, 1)),
-        // `1 2`, one column too few for what follows: two spares, and no disks
-        (15, (3, 3)),
+    let mut next = 0;
+    for (first, last, at) in [
+        // nothing: the first section is missing
+        (0, 0, (1, 3)),
+        // `S` to `START `: not a line that begins a section, or a section without a name
+        (1, 6, (1, 1)),
+        // `START a` to `START arra`: no section has this name
+        (7, 10, (1, 3)),
+        // `START array`, and too few words of the array: none, or `1`
+        (11, 14, (2, 1)),
+        // `1 2`, a column and two spares, and `1 2 1`: the disks are missing
+        (15, 18, (3, 3)),
+        // `S` to `START `, where the line of the array stands already
+        (19, 24, (3, 1)),
+        // `START d` to `START disk`
+        (25, 28, (3, 3)),
         // `START disks`, and no name
-        (30, (4, 5)),
-        // `d0`, `d`: the names differ, and the layout is missing
-        (34, (6, 3)),
+        (29, 30, (4, 5)),
+        // `d` and `d0`: one name of two
+        (31, 33, (5, 5)),
+        // `d` and `d1` behind `d0`, which differ from it: the spares are missing
+        (34, 36, (6, 3)),
+        // `S` to `STAR`: a third disk
+        (37, 40, (6, 5)),
+        // `START`
+        (41, 42, (6, 1)),
+        // `START s` to `START spar`
+        (43, 46, (6, 3)),
         // `START spare`, and no name
-        (48, (7, 6)),
-        // `32 1 1 `
-        (71, (9, 1)),
+        (47, 48, (7, 6)),
+        // `s` and `s0`: the layout is missing
+        (49, 51, (8, 3)),
+        // `S` to `STAR`: a second spare
+        (52, 55, (8, 6)),
+        // `START`
+        (56, 57, (8, 1)),
+        // `START l` to `START layou`
+        (58, 62, (8, 3)),
+        // `START layout`, and too few words of the layout: none, to `32 1 1 `
+        (63, 71, (9, 1)),
         // `32 1 1 5`, which ends a configuration
-        (72, (0, 0)),
-        // `fifo `
-        (90, (11, 1)),
-        // the whole
-        (94, (0, 0)),
+        (72, 73, (0, 0)),
+        // `S` to `START `, where the line of the layout stands already
+        (74, 79, (10, 1)),
+        // `START q` to `START queu`
+        (80, 83, (10, 3)),
+        // `START queue`, and no line behind it
+        (84, 85, (11, 1)),
+        // `f` to `fif`: not the queue's word
+        (86, 88, (11, 10)),
+        // `fifo`, and no number
+        (89, 90, (11, 1)),
+        // `fifo 1` to the whole
+        (91, 94, (0, 0)),
     ] {
-        assert!(rt; end <= WHOLE.len());
-        assert_eq!(rt; refusal(&rt, rt.alloc(), &WHOLE[..end]), at);
+        assert!(rt; first == next && last <= WHOLE.len());
+        for end in first..=last {
+            assert!(rt; end <= WHOLE.len());
+            assert_eq!(rt; refusal(&rt, rt.alloc(), &WHOLE[..end]), at, "{end}");
+        }
+        next = last + 1;
     }
+    assert!(rt; next == WHOLE.len() + 1);
 }
