@@ -1,21 +1,23 @@
--- The rows of an array without labels are those of whole tables.
-use Rattle.std.proofs.Common.{◌≡◌, ◌∙◌, ap, sym, subst, ℕ, zero, suc, ◌+◌, ◌-◌, ◌*◌, ◌/◌, ◌<◌, ◌≤◌, Bool, true, false, List, length, min, refl, arith, Option, Some, None}
-use Rattle.std.specs.Prelude.{slice_get, slice_index, take, ◌||◌, if◌then◌else◌, Result, Ok, Err}
-use Rattle.std.specs.List.{list_all}
+-- The rows of an array are those of whole tables.
+use Rattle.std.proofs.Common.{◌≡◌, ◌∙◌, ap, sym, subst, ℕ, zero, suc, ◌-◌, ◌*◌, ◌/◌, ◌<◌, ◌≤◌, Bool, true, false, List, length, min, refl, arith, Option, Some, None}
+use Rattle.std.specs.Prelude.{slice_get, slice_index, ◌&&◌, ◌==◌, ◌%◌, nat_le, if◌then◌else◌, Ok}
 use Rattle.std.proofs.Math.Nat.{le-div_iff_mul-le}
-use Rattle.eng_cols.specs.declared.column.Column.{Column}
+use Rattle.std.proofs.lemmas.Bool.{eqb-true, leb-true}
 use Rattle.eng_cols.specs.declared.column.Column.TheVariants as column
 use Rattle.raid_label.specs.declared.label.Label.{Label}
 use Rattle.top_open.specs.declared.fronts.Front.{Front}
 use Rattle.top_open.specs.declared.fault.OpenFault.{OpenFault}
+use Rattle.top_open.specs.declared.fault.OpenFault.TheVariants as fault
 use Rattle.top_open.specs.declared.plan.Plan.{Plan}
 use Rattle.top_open.specs.declared.plan.Needs.{Needs}
-use Rattle.top_open.specs.Plan.{AreWholeTables, IsPlan, is_present, sectors_for, tables_below, tables_in}
-use Rattle.top_open.specs.Labels.{is_blank, newest_below}
-use Rattle.top_open.specs.Seats.{columns_below, own_disk, read_disk}
-use Rattle.top_open.specs.Opening.{Opened, opened_in, unlabelled_in, labelled_if, unlabelled_refusal, small_in, own_seats}
+use Rattle.top_open.specs.Plan.{AreWholeTables, IsPlan, are_rows, is_present, sectors_for, tables_below, tables_in}
+use Rattle.raid_label.specs.Judged.{fault_in}
+use Rattle.top_open.specs.Labels.{configured, newest_below, refusal_of_option, shape_refusal}
+use Rattle.top_open.specs.Seats.{columns_below, judged_at, own_disk}
+use Rattle.top_open.specs.First.{first_below, or_refusal}
+use Rattle.top_open.specs.Opening.{Opened, opened_in, unlabelled_in, labelled_in, labelled_if, is_unlabelled, unlabelled_refusal, counter_refusal, small_in, seats_in, own_seats}
 use Rattle.top_open.proofs.OwnDevices.{not_refused}
-use Rattle.top_open.proofs.LargeEnough.{columns_below-at, columns_of, no_refusal, rows_of, small_seat}
+use Rattle.top_open.proofs.LargeEnough.{columns_below-at, no_refusal, rows_of, small_seat}
 
 -- there are no more tables than the greatest number of stripes has
 few_stripes : (p : Plan) (present : List Bool) (sizes : List ℕ) (n : ℕ) → tables_below p present sizes n ≤ 1048576 / p.stripes
@@ -65,22 +67,47 @@ of_unlabelled q p present sizes fronts o plan most h =
       are = sym rows;
     }
 
--- an opening without labels is that of an unlabelled array
-plain_opens : (q : Needs) (p : Plan) (present : List Bool) (sizes : List ℕ) (fronts : List Front) (o : Opened) → q.plain ≡ true → opened_in q p present sizes fronts ≡ Ok o → unlabelled_in q p present sizes fronts ≡ Ok o
-unfolding opened_in
-plain_opens q p present sizes fronts o plain h = go q.plain (list_all is_blank (take (length present) fronts)) plain h
+-- rows that a label may name
+rows_are : (p : Plan) (rows : ℕ) → IsPlan p → are_rows p rows ≡ true → AreWholeTables p rows
+unfolding are_rows
+rows_are p rows plan h = go (nat_le p.step rows) (rows % p.step == 0) (nat_le (rows / p.step * p.stripes) 1048576) refl refl refl h
   where
-    go : (b rest : Bool) → b ≡ true → (if b || rest then unlabelled_in q p present sizes fronts else labelled_if q p present sizes fronts (newest_below fronts (length fronts))) ≡ Ok o → unlabelled_in q p present sizes fronts ≡ Ok o
-    go true rest e h = h
-    go false rest e h = cc e
+    go : (a b d : Bool) → nat_le p.step rows ≡ a → (rows % p.step == 0) ≡ b → nat_le (rows / p.step * p.stripes) 1048576 ≡ d → ((a && b) && d) ≡ true → AreWholeTables p rows
+    go false b d x y z e = cc e
+    go true false d x y z e = cc e
+    go true true false x y z e = cc e
+    go true true true x y z e =
+        let least : p.step ≤ rows = leb-true p.step rows x in
+        let whole : rows % p.step ≡ 0 = eqb-true (rows % p.step) 0 y in
+        let few : rows / p.step * p.stripes ≤ 1048576 = leb-true (rows / p.step * p.stripes) 1048576 z in
+        let some : 0 < p.step = plan.step in
+        record {
+          tables = rows / p.step;
+          some = (le-div_iff_mul-le some).1 (omega (arith, least));
+          within = few;
+          are = omega (arith, whole, some);
+        }
 
-pub whole_tables : (q : Needs) (p : Plan) (present : List Bool) (sizes : List ℕ) (fronts : List Front) (o : Opened) → IsPlan p → p.stripes ≤ 1048576 → q.plain ≡ true → opened_in q p present sizes fronts ≡ Ok o → AreWholeTables p o.rows
-whole_tables q p present sizes fronts o plan most plain h = of_unlabelled q p present sizes fronts o plan most (plain_opens q p present sizes fronts o plain h)
+of_labelled : (q : Needs) (p : Plan) (present : List Bool) (sizes : List ℕ) (fronts : List Front) (l : Label) (o : Opened) → IsPlan p → labelled_in q p present sizes fronts l ≡ Ok o → AreWholeTables p o.rows
+unfolding labelled_in shape_refusal rows_of
+of_labelled q p present sizes fronts l o plan h =
+    let n = length present in
+    let sized = not_refused (shape_refusal p n l) _ o h in
+    let made = not_refused (counter_refusal q l) _ o (not_refused (first_below (judged_at q.excused l fronts (seats_in p present l)) n) _ o (not_refused (small_in q.excused q.own sizes (sectors_for p l.rows) (seats_in p present l) n) _ o sized)) in
+    let rows : l.rows ≡ o.rows = ap rows_of made in
+    let none : shape_refusal p n l ≡ None = no_refusal _ _ o h in
+    subst (λ (r : ℕ). AreWholeTables p r) rows (go (refusal_of_option l.column (fault_in (Some l) 1 (configured p n l))) (are_rows p l.rows) refl none)
+  where
+    go : (a : Option OpenFault) (b : Bool) → are_rows p l.rows ≡ b → or_refusal a (if b then None else Some (fault.Label l.column 4 l.rows p.step)) ≡ None → AreWholeTables p l.rows
+    go (Some f) b e none = cc none
+    go None false e none = cc none
+    go None true e none = rows_are p l.rows plan e
 
--- its columns are the disks that are there
-pub plain_columns : (q : Needs) (p : Plan) (present : List Bool) (sizes : List ℕ) (fronts : List Front) (o : Opened) → q.plain ≡ true → opened_in q p present sizes fronts ≡ Ok o → columns_below (read_disk present fronts) (length present) ≡ o.columns
-unfolding unlabelled_in columns_of
-plain_columns q p present sizes fronts o plain h =
-    let sized = not_refused (unlabelled_refusal q) _ o (plain_opens q p present sizes fronts o plain h) in
-    let made = not_refused (small_in None false sizes (sectors_for p p.step) (own_seats present) (length present)) _ o sized in
-    ap columns_of made
+pub whole_tables : (q : Needs) (p : Plan) (present : List Bool) (sizes : List ℕ) (fronts : List Front) (o : Opened) → IsPlan p → p.stripes ≤ 1048576 → opened_in q p present sizes fronts ≡ Ok o → AreWholeTables p o.rows
+unfolding opened_in
+whole_tables q p present sizes fronts o plan most h = go (is_unlabelled q (length present) fronts) (newest_below fronts (length fronts)) h
+  where
+    go : (b : Bool) (l : Option Label) → (if b then unlabelled_in q p present sizes fronts else labelled_if q p present sizes fronts l) ≡ Ok o → AreWholeTables p o.rows
+    go true l h = of_unlabelled q p present sizes fronts o plan most h
+    go false None h = cc
+    go false (Some l) h = of_labelled q p present sizes fronts l o plan h
