@@ -11,7 +11,7 @@ use Rattle.top_status.specs.Refusals.{Refused, ◌then◌, only, text_in}
 use Rattle.top_words.specs.Asked.{Command, command_of}
 use Rattle.top_bay.specs.Told.{Told}
 use Rattle.top_bay.specs.Answers.{IsOrMemory, IsUsage, RefusedAs}
-use Rattle.top_bay.specs.Asked.{Asked, asked_in, book_in, command_in, conf_in, device_in, devices_in, graphs_name, is_at_home, names_of, script_in, script_name, texts_in}
+use Rattle.top_bay.specs.Asked.{Asked, asked_in, book_in, comp_in, command_in, conf_in, device_in, devices_in, graphs_name, is_at_home, names_for, script_in, script_name, texts_in}
 
 -- ## Parts that are refused
 
@@ -70,20 +70,26 @@ script_in-same texts mid None book columns same = refl
 script_in-same texts mid (Some name) book columns same = let here : mid name ≡ texts name = same name in rw here refl
 
 module _ (texts : Text → Option Text) (words : List Text) (command : Command) (conf : Conf) where
-  pub refused_book : (s : Status) → command_in words ≡ Ok command → conf_in texts command.conf ≡ Ok conf
+  pub refused_component : (s : Status) → command_in words ≡ Ok command → conf_in texts command.conf ≡ Ok conf
+      → RefusedAs s (comp_in conf command.action) → RefusedAs s (texts_in texts words)
+  unfolding texts_in
+  refused_component s one two h = rw (one, two) (refused_then s (comp_in conf command.action) _ h)
+
+  pub refused_book : (comp : Option ℕ) (s : Status) → command_in words ≡ Ok command → conf_in texts command.conf ≡ Ok conf → comp_in conf command.action ≡ Ok comp
       → RefusedAs s (book_in texts (graphs_name command.action)) → RefusedAs s (texts_in texts words)
   unfolding texts_in
-  refused_book s one two h = rw (one, two) (refused_then s (book_in texts (graphs_name command.action)) _ h)
+  refused_book comp s one two three h = rw (one, two, three) (refused_then s (book_in texts (graphs_name command.action)) _ h)
 
-  pub refused_script : (book : List Named) (s : Status) → command_in words ≡ Ok command → conf_in texts command.conf ≡ Ok conf → book_in texts (graphs_name command.action) ≡ Ok book
-      → RefusedAs s (script_in texts (script_name command.action) book conf.columns) → RefusedAs s (texts_in texts words)
+  pub refused_script : (comp : Option ℕ) (book : List Named) (s : Status) → command_in words ≡ Ok command → conf_in texts command.conf ≡ Ok conf → comp_in conf command.action ≡ Ok comp
+      → book_in texts (graphs_name command.action) ≡ Ok book → RefusedAs s (script_in texts (script_name command.action) book conf.columns) → RefusedAs s (texts_in texts words)
   unfolding texts_in
-  refused_script book s one two three h = rw (one, two, three) (refused_then s (script_in texts (script_name command.action) book conf.columns) _ h)
+  refused_script comp book s one two three four h = rw (one, two, three, four) (refused_then s (script_in texts (script_name command.action) book conf.columns) _ h)
 
-  pub all_read : (book : List Named) (clients : List (List Item)) → command_in words ≡ Ok command → conf_in texts command.conf ≡ Ok conf → book_in texts (graphs_name command.action) ≡ Ok book
-      → script_in texts (script_name command.action) book conf.columns ≡ Ok clients → texts_in texts words ≡ Ok (record { command = command; conf = conf; book = book; clients = clients })
+  pub all_read : (comp : Option ℕ) (book : List Named) (clients : List (List Item)) → command_in words ≡ Ok command → conf_in texts command.conf ≡ Ok conf → comp_in conf command.action ≡ Ok comp
+      → book_in texts (graphs_name command.action) ≡ Ok book → script_in texts (script_name command.action) book conf.columns ≡ Ok clients
+      → texts_in texts words ≡ Ok (record { command = command; conf = conf; comp = comp; book = book; clients = clients })
   unfolding texts_in
-  all_read book clients one two three four = rw (one, two, three, four) refl
+  all_read comp book clients one two three four five = rw (one, two, three, four, five) refl
 
 -- ## Devices
 
@@ -137,10 +143,10 @@ found home (b ∷ name) e = passed (is_at_home home (b ∷ name)) (status.NoFile
 -- ## All of it
 
 module _ {D : Type 0} (b : Told D) (words : List Text) (asked : Asked) where
-  pub refused_devices : (s : Status) → texts_in b.texts words ≡ Ok asked → RefusedAs s (devices_in b.home (names_of asked.conf)) → RefusedAs s (asked_in b words)
+  pub refused_devices : (s : Status) → texts_in b.texts words ≡ Ok asked → RefusedAs s (devices_in b.home (names_for asked)) → RefusedAs s (asked_in b words)
   unfolding asked_in
-  refused_devices s one h = rw one (refused_then s (devices_in b.home (names_of asked.conf)) _ h)
+  refused_devices s one h = rw one (refused_then s (devices_in b.home (names_for asked)) _ h)
 
-  pub all_asked : texts_in b.texts words ≡ Ok asked → devices_in b.home (names_of asked.conf) ≡ Ok tt → asked_in b words ≡ Ok asked
+  pub all_asked : texts_in b.texts words ≡ Ok asked → devices_in b.home (names_for asked) ≡ Ok tt → asked_in b words ≡ Ok asked
   unfolding asked_in
   all_asked one two = rw (one, two) refl

@@ -1,5 +1,7 @@
 pub mod Homes
-mod Meant
+pub mod NamesBy
+pub mod Meant
 mod Empty
 mod Asking
+mod Places
 mod Lending

@@ -1,5 +1,7 @@
 -- What a command asks for, or which refusal comes first, by its words and by what the bay has.
 use Rattle.std.specs.Prelude.{ℕ, Bool, true, false, List, [], ◌∷◌, ◌++◌, Option, Some, None, Result, Ok, Err, if◌then◌else◌, is_some, option_and_then, option_map}
+use Rattle.std.specs.List.{position}
+use Rattle.std.specs.Str.{bytes_eq}
 use Rattle.raid_text.specs.Text.{Text}
 use Rattle.graph_text.specs.Format.{Named, graphs_of}
 use Rattle.raid_conf.specs.Format.{conf_of}
@@ -9,13 +11,14 @@ use Rattle.raid_script.specs.Asked.{Asked as Item}
 use Rattle.top_words.specs.Asked.{Action, Command, Io, Sweep, Show, Init, Check, Rewrite, Print, Fail, ShowLabel, Label, Rebuild, beside_of, command_of}
 use Rattle.top_status.specs.declared.status.Status.{Status}
 use Rattle.top_status.specs.declared.status.Status.TheVariants as status
-use Rattle.top_status.specs.Refusals.{Refused, ◌then◌, only, text_in}
+use Rattle.top_status.specs.Refusals.{Refused, ◌then◌, only, or_refusal, text_in}
 use Rattle.top_bay.specs.Told.{Told}
 
--- What words and texts ask for: the command, the configuration, the graphs of the file, and the items of the script by client. Without a file there are no graphs, without a script no clients.
+-- What words and texts ask for: the command, the configuration, the place of the component that the command names, the graphs of the file, and the items of the script by client. Without a file there are no graphs, without a script no clients.
 pub record Asked : Type 0 where
   pub command : Command
   pub conf : Conf
+  pub comp : Option ℕ
   pub book : List Named
   pub clients : List (List Item)
 
@@ -24,23 +27,23 @@ abbrev pub or_status : {A F : Type 0} → (F → Status) → Result A F → Resu
 or_status status_of (Ok x) = Ok x
 or_status status_of (Err fault) = Err (only (status_of fault))
 
--- clients are served: the actions that this program has
-abbrev pub serves_clients : Action → Bool
-serves_clients (Io beside workers) = true
-serves_clients (Sweep seed clients ops workers) = true
-serves_clients (Rebuild in_place comp beside workers) = false
-serves_clients Show = false
-serves_clients Init = false
-serves_clients Check = false
-serves_clients Rewrite = false
-serves_clients Print = false
-serves_clients (Fail comp) = false
-serves_clients (ShowLabel comp) = false
-serves_clients (Label serial) = false
+-- the actions that this program has: all but the rebuilding of a column
+abbrev pub has_action : Action → Bool
+has_action (Io beside workers) = true
+has_action (Sweep seed clients ops workers) = true
+has_action (Rebuild in_place comp beside workers) = false
+has_action Show = true
+has_action Init = true
+has_action Check = true
+has_action Rewrite = true
+has_action Print = true
+has_action (Fail comp) = true
+has_action (ShowLabel comp) = true
+has_action (Label serial) = true
 
 -- the command, where this program has its action
 abbrev pub served_command : Command → Result Command Refused
-served_command c = if serves_clients c.action then Ok c else Err (only (status.Usage 0))
+served_command c = if has_action c.action then Ok c else Err (only (status.Usage 0))
 
 -- the command that the words are
 unfoldable pub command_in : List Text → Result Command Refused
@@ -49,6 +52,29 @@ command_in words = or_status (λ case. status.Usage case) (command_of words) the
 -- the configuration of this name
 unfoldable pub conf_in : (Text → Option Text) → Text → Result Conf Refused
 conf_in texts name = text_in texts name then λ text. or_status (λ at. status.Conf at.line at.code) (conf_of text)
+
+-- the names of the columns' disks, then those of the spares; one that is absent has the empty name
+abbrev pub names_of : Conf → List Text
+names_of conf = conf.disks ++ conf.spare_names
+
+-- the place of a component's name, the first; one that stands nowhere is refused, and so is the empty one, which absent disks have
+unfoldable pub component_in : List Text → Text → Result (Option ℕ) Refused
+component_in names [] = Err (only (status.Usage 3))
+component_in names (b ∷ name) = or_refusal (position (λ n. bytes_eq n (b ∷ name)) names) (status.Usage 3) then λ at. Ok (Some at)
+
+-- the place of the component that an action names: a column's for one that is to fail, and a device's for one whose label is shown, the spares behind the columns
+abbrev pub comp_in : Conf → Action → Result (Option ℕ) Refused
+comp_in conf (Fail comp) = component_in conf.disks comp
+comp_in conf (ShowLabel comp) = component_in (names_of conf) comp
+comp_in conf (Io beside workers) = Ok None
+comp_in conf (Sweep seed clients ops workers) = Ok None
+comp_in conf (Rebuild in_place comp beside workers) = Ok None
+comp_in conf Show = Ok None
+comp_in conf Init = Ok None
+comp_in conf Check = Ok None
+comp_in conf Rewrite = Ok None
+comp_in conf Print = Ok None
+comp_in conf (Label serial) = Ok None
 
 -- the graphs of the file of this name, none where no file is named
 unfoldable pub book_in : (Text → Option Text) → Option Text → Result (List Named) Refused
@@ -67,9 +93,23 @@ graphs_name action = option_and_then (λ beside. beside.graphs) (beside_of actio
 abbrev pub script_name : Action → Option Text
 script_name action = option_map (λ beside. beside.script) (beside_of action)
 
--- the names of the columns' disks, then those of the spares; one that is absent has the empty name
-abbrev pub names_of : Conf → List Text
-names_of conf = conf.disks ++ conf.spare_names
+-- the names of the devices that an action goes by: none where the configuration is printed, one where a label is shown
+abbrev pub names_by : Conf → Action → List Text
+names_by conf Print = []
+names_by conf (ShowLabel comp) = comp ∷ []
+names_by conf (Fail comp) = names_of conf
+names_by conf (Io beside workers) = names_of conf
+names_by conf (Sweep seed clients ops workers) = names_of conf
+names_by conf (Rebuild in_place comp beside workers) = names_of conf
+names_by conf Show = names_of conf
+names_by conf Init = names_of conf
+names_by conf Check = names_of conf
+names_by conf Rewrite = names_of conf
+names_by conf (Label serial) = names_of conf
+
+-- the names of the devices that what is asked for goes by
+abbrev pub names_for : Asked → List Text
+names_for a = names_by a.conf a.command.action
 
 -- a device that isn't absent is at home
 abbrev pub is_at_home : {D : Type 0} → (Text → Option D) → Text → Bool
@@ -85,15 +125,16 @@ unfoldable pub devices_in : {D : Type 0} → (Text → Option D) → List Text �
 devices_in home [] = Ok tt
 devices_in home (name ∷ names) = device_in home name then λ there. devices_in home names
 
--- what words and texts ask for, or the first refusal: the words, the configuration, the file of graphs, the script
+-- what words and texts ask for, or the first refusal: the words, the configuration, the component, the file of graphs, the script
 unfoldable pub texts_in : (Text → Option Text) → List Text → Result Asked Refused
 texts_in texts words =
     command_in words then λ command.
     conf_in texts command.conf then λ conf.
+    comp_in conf command.action then λ comp.
     book_in texts (graphs_name command.action) then λ book.
     script_in texts (script_name command.action) book conf.columns then λ clients.
-    Ok (record { command = command; conf = conf; book = book; clients = clients })
+    Ok (record { command = command; conf = conf; comp = comp; book = book; clients = clients })
 
 -- and of a bay: behind all texts come the devices, those of the columns before the spares
 unfoldable pub asked_in : {D : Type 0} → Told D → List Text → Result Asked Refused
-asked_in b words = texts_in b.texts words then λ asked. devices_in b.home (names_of asked.conf) then λ there. Ok asked
+asked_in b words = texts_in b.texts words then λ asked. devices_in b.home (names_for asked) then λ there. Ok asked

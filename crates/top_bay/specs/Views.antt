@@ -1,20 +1,46 @@
 -- What is seen of a command and of what it asks for, without where that lies in memory.
-use Rattle.std.specs.Prelude.{length, map, All}
+use Rattle.std.specs.Prelude.{◌≡◌, ◌<◌, ℕ, true, List, [], length, map, All, Option, Some, None, slice_get}
 use Rattle.graph_text.specs.FormatForm.{AreGraphs}
 use Rattle.raid_conf.specs.Form.{IsConf}
 use Rattle.raid_script.specs.Asked.{AreFew, IsAsked, seen}
-use Rattle.top_words.specs.Asked.{IsInRange}
+use Rattle.raid_conf.specs.declared.conf.Conf.{Conf}
+use Rattle.raid_text.specs.Text.{Text}
+use Rattle.top_words.specs.Asked.{Action, Io, Sweep, Show, Init, Check, Rewrite, Print, Fail, ShowLabel, Label, Rebuild, IsInRange}
 use Rattle.top_words.specs.Views.{command_seen}
-use Rattle.top_bay.specs.Asked.{Asked}
+use Rattle.top_bay.specs.Asked.{Asked, has_action, names_of}
 use Rattle.top_bay.specs.declared.asked.Asked as declared_asked
 
 abbrev pub asked_seen : declared_asked.Asked → Asked
-asked_seen a = record { command = command_seen a.command; conf = a.conf; book = a.book; clients = map (λ items. map seen items.items) a.clients.items }
+asked_seen a = record { command = command_seen a.command; conf = a.conf; comp = a.comp; book = a.book; clients = map (λ items. map seen items.items) a.clients.items }
 
--- What is asked for lies within the limits: of a command, of a configuration, of graphs, and of a script for so many columns beside so many graphs.
+-- a name that isn't empty stands in this place, which is below the count
+pub record IsPlace (names : List Text) (count : ℕ) (name : Text) (comp : Option ℕ) : Type 0 where
+  pub at : ℕ
+  pub is : comp ≡ Some at
+  pub within : at < count
+  pub here : slice_get names at ≡ Some name
+  pub named : name ≡ [] → ⊥
+
+-- the component is known where an action names one: a column's disk, or any device
+abbrev pub IsKnown : Conf → Action → Option ℕ → Type 0
+IsKnown conf (Fail name) comp = IsPlace conf.disks conf.columns name comp
+IsKnown conf (ShowLabel name) comp = IsPlace (names_of conf) (length (names_of conf)) name comp
+IsKnown conf (Io beside workers) comp = comp ≡ None
+IsKnown conf (Sweep seed clients ops workers) comp = comp ≡ None
+IsKnown conf (Rebuild in_place name beside workers) comp = comp ≡ None
+IsKnown conf Show comp = comp ≡ None
+IsKnown conf Init comp = comp ≡ None
+IsKnown conf Check comp = comp ≡ None
+IsKnown conf Rewrite comp = comp ≡ None
+IsKnown conf Print comp = comp ≡ None
+IsKnown conf (Label serial) comp = comp ≡ None
+
+-- What is asked for lies within the limits: of a command that this program has, of a configuration and a component of it, of graphs, and of a script for so many columns beside so many graphs.
 pub record IsWithin (a : Asked) : Type 0 where
+  pub served : has_action a.command.action ≡ true
   pub action : IsInRange a.command.action
   pub conf : IsConf a.conf
+  pub known : IsKnown a.conf a.command.action a.comp
   pub graphs : AreGraphs a.book
   pub asked : All (All (IsAsked a.conf.columns (length a.book))) a.clients
   pub few : AreFew a.clients

@@ -4,11 +4,12 @@ ghost use Rattle.blk_disk.specs.Disk.{Rose};
 ghost use Rattle.top_words.specs.Asked.{command_of};
 ghost use Rattle.top_words.specs.Views.{action_seen, command_seen, text_of};
 ghost use Rattle.top_bay.specs.Answers.{IsEarly, IsOrMemory, Opens, RefusedAs};
-ghost use Rattle.top_bay.specs.Asked.{asked_in, graphs_name, names_of, script_name, texts_in};
+ghost use Rattle.top_bay.specs.Asked.{asked_in, graphs_name, names_for, script_name, texts_in};
 ghost use Rattle.top_bay.specs.Lent.{AreOut, IsLent};
 ghost use Rattle.top_bay.specs.Told.{IsRead, Told};
 ghost use Rattle.top_bay.specs.Views.{IsWithin, asked_seen};
 
+use crate::component::open_component;
 use crate::devices::take_all;
 use crate::opening::{open_book, open_conf, open_script, open_words};
 use eng_world::Item;
@@ -26,14 +27,17 @@ pub struct Asked<'a> {
     pub command: Command<'a>,
     /// The configuration of the array.
     pub conf: Conf,
+    /// The place of the component that the command names: for `-f` that of its column, for `-g` that of its device, the
+    /// spares behind the columns; None for the other actions, which name none.
+    pub comp: Option<u32>,
     /// The graphs of the file; none where no file is named.
     pub book: Book,
     /// The items of each client of the script; no clients where no script is named.
     pub clients: Vec<Vec<Item>>,
 }
 
-/// What is asked for, and the devices of the configuration: those of the columns' disks, and then the spares; None where a
-/// disk is absent.
+/// What is asked for, and the devices that it goes by: for `-g` that of the component alone, for `-G` none, and else those of
+/// the columns' disks, and then the spares; None where a disk is absent.
 pub struct Taken<'a, D> {
     pub asked: Asked<'a>,
     pub devices: Vec<Option<D>>,
@@ -84,6 +88,10 @@ fn read_texts<'a, B: Bay>(
         Ok(conf) => conf,
         Err(status) => return Err(status),
     };
+    let comp = match open_component(&conf, command.action) {
+        Ok(comp) => comp,
+        Err(status) => return Err(status),
+    };
     let book = match open_book(alloc, graphs_name(command.action), bay) {
         Ok(book) => book,
         Err(status) => return Err(status),
@@ -96,16 +104,18 @@ fn read_texts<'a, B: Bay>(
     Ok(Asked {
         command,
         conf,
+        comp,
         book,
         clients,
     })
 }
 
-/// What the words ask for, by the texts of the bay, and the devices of the configuration, which the bay has then lent.
+/// What the words ask for, by the texts of the bay, and the devices that it goes by, which the bay has then lent.
 ///
 /// Refused are, in this order: the words; the configuration, where there is no text of its name, or it is longer than
-/// 16,777,216 bytes, or not in its form; in the same way the file of graphs, and the script; and the first device that isn't
-/// there, the columns' disks before the spares. Where it is refused, the bay has all that it had. `BayFault` comes only where
+/// 16,777,216 bytes, or not in its form; a component of another name than it has (`Usage` 3); in the same way as the
+/// configuration the file of graphs, and the script; and the first device that isn't there, the columns' disks before the
+/// spares. Where it is refused, the bay has all that it had. `BayFault` comes only where
 /// the bay's count of faults rose, and want of memory at any point.
 #[tactic(auto, unfolding(crate::specs::Asked::asked_in))]
 pub fn ask<'a, B: Bay>(
@@ -125,10 +135,10 @@ pub fn ask<'a, B: Bay>(
     ensures usage { (i : ℕ) → command_of words.entry.now ≡ Err i →
         MatchResult result (λ _. ⊥) (IsOrMemory (Status.Usage i)) }
     ensures within { IfOk result (λ t. IsWithin (asked_seen t.asked)) }
-    ensures many { IfOk result (λ t. vec_len t.devices ≡ length (names_of t.asked.conf)) }
+    ensures many { IfOk result (λ t. vec_len t.devices ≡ length (names_for (asked_seen t.asked))) }
     ensures lent { IfOk result (λ t. B.tells →
-        IsLent (B.home bay.old) (B.home bay.new) (names_of t.asked.conf) t.devices.items) }
-    ensures out { IfOk result (λ t. AreOut (B.is_out bay.new) (names_of t.asked.conf) t.devices.items) }
+        IsLent (B.home bay.old) (B.home bay.new) (names_for (asked_seen t.asked)) t.devices.items) }
+    ensures out { IfOk result (λ t. AreOut (B.is_out bay.new) (names_for (asked_seen t.asked)) t.devices.items) }
     ensures same { OnErr result (B.tells → (n : List ℕ) → B.home bay.new n ≡ B.home bay.old n) }
     ensures kind { IfErr result IsEarly }
     ensures later { B.faults bay.old ≤ B.faults bay.new }
@@ -138,7 +148,7 @@ pub fn ask<'a, B: Bay>(
         Ok(asked) => asked,
         Err(status) => return Err(status),
     };
-    match take_all(alloc, bay, &asked.conf) {
+    match take_all(alloc, bay, &asked.conf, asked.command.action) {
         Ok(devices) => Ok(Taken { asked, devices }),
         Err(status) => Err(status),
     }

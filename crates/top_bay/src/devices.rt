@@ -4,15 +4,17 @@ ghost use Rattle.blk_disk.specs.Disk.{Rose};
 ghost use Rattle.blk_disk.specs.Devices.{at_home, device_at};
 ghost use Rattle.raid_conf.specs.Form.{IsConf};
 ghost use Rattle.top_bay.specs.Answers.{IsEarly, Opens, RefusedAs};
-ghost use Rattle.top_bay.specs.Asked.{device_in, devices_in, names_of};
+ghost use Rattle.top_words.specs.Views.{action_seen};
+ghost use Rattle.top_bay.specs.Asked.{device_in, devices_in, names_by};
 ghost use Rattle.top_bay.specs.Lent.{AreBack, AreOut, IsLent, IsMeant};
 
-use crate::names::{count, name_at};
+use crate::names::{count_for, name_for};
 use crate::texts::no_file;
 use raid_bay::{Bay, TakeFault};
 use raid_conf::Conf;
 use std::alloc::Global;
 use top_status::Status;
+use top_words::Action;
 
 // Puts a device back under its name; none under an empty one.
 fn put_one<B: Bay>(bay: &mut B, name: &str, device: Option<B::D>)
@@ -29,16 +31,16 @@ fn put_one<B: Bay>(bay: &mut B, name: &str, device: Option<B::D>)
     }
 }
 
-/// Puts devices back under the names of a configuration, from the first on. It takes no memory and can't fail.
-pub fn put_all<B: Bay>(bay: &mut B, conf: &Conf, mut devices: Vec<Option<B::D>>)
+/// Puts the devices that an action goes by back under their names, from the first on. It takes no memory and can't fail.
+pub fn put_all<B: Bay>(bay: &mut B, conf: &Conf, action: Action<'_>, mut devices: Vec<Option<B::D>>)
     requires conf { IsConf conf.now }
-    requires many { vec_len devices ≤ length (names_of conf.now) }
-    requires out { AreOut (B.is_out bay.old) (names_of conf.now) devices.items }
-    ensures back { B.tells → AreBack (B.home bay.old) (B.home bay.new) (names_of conf.now) devices.items }
+    requires many { vec_len devices ≤ length (names_by conf.now (action_seen action)) }
+    requires out { AreOut (B.is_out bay.old) (names_by conf.now (action_seen action)) devices.items }
+    ensures back { B.tells → AreBack (B.home bay.old) (B.home bay.new) (names_by conf.now (action_seen action.entry)) devices.items }
     ensures faults { B.faults bay.new ≡ B.faults bay.old }
 {
     while let Some(device) = devices.pop() {
-        put_one(bay, name_at(conf, devices.len() as u32), device);
+        put_one(bay, name_for(conf, action, devices.len() as u32), device);
     }
     devices.destroy_empty();
 }
@@ -67,35 +69,36 @@ fn take_one<B: Bay>(alloc: Global, bay: &mut B, name: &str) -> Result<Option<B::
     }
 }
 
-/// Takes all devices of a configuration, or leaves the bay as it was.
+/// Takes the devices that an action goes by, or leaves the bay as it was.
 pub(crate) fn take_all<B: Bay>(
     alloc: Global,
     bay: &mut B,
     conf: &Conf,
+    action: Action<'_>,
 ) -> Result<Vec<Option<B::D>>, Status>
     requires { IsConf conf.now }
-    ensures answer { B.tells → Opens (λ _. tt) result (devices_in (B.home bay.old) (names_of conf.now)) }
-    ensures many { IfOk result (λ v. vec_len v ≡ length (names_of conf.now)) }
-    ensures lent { IfOk result (λ v. B.tells → IsLent (B.home bay.old) (B.home bay.new) (names_of conf.now) v.items) }
-    ensures out { IfOk result (λ v. AreOut (B.is_out bay.new) (names_of conf.now) v.items) }
+    ensures answer { B.tells → Opens (λ _. tt) result (devices_in (B.home bay.old) (names_by conf.now (action_seen action.entry))) }
+    ensures many { IfOk result (λ v. vec_len v ≡ length (names_by conf.now (action_seen action.entry))) }
+    ensures lent { IfOk result (λ v. B.tells → IsLent (B.home bay.old) (B.home bay.new) (names_by conf.now (action_seen action.entry)) v.items) }
+    ensures out { IfOk result (λ v. AreOut (B.is_out bay.new) (names_by conf.now (action_seen action.entry)) v.items) }
     ensures same { OnErr result (B.tells → (n : List ℕ) → B.home bay.new n ≡ B.home bay.old n) }
     ensures kind { IfErr result IsEarly }
     ensures later { B.faults bay.old ≤ B.faults bay.new }
     ensures cause { IsErrOf result Status.BayFault → Rose (B.faults bay.old) (B.faults bay.new) }
 {
-    let count = count(conf);
+    let count = count_for(conf, action);
     let mut devices = match Vec::with_capacity(alloc, count as usize) {
         Ok(devices) => devices,
         Err(_) => return Err(Status::Memory),
     };
     for k in 0..count {
-        match take_one(alloc, bay, name_at(conf, k)) {
+        match take_one(alloc, bay, name_for(conf, action, k)) {
             Ok(device) => match devices.push(device) {
                 Ok(()) => {}
                 Err(_) => unreachable!(),
             },
             Err(status) => {
-                put_all(bay, conf, devices);
+                put_all(bay, conf, action, devices);
                 return Err(status);
             }
         }

@@ -1,5 +1,5 @@
 //! The words and texts of a command, opened and read.
-ghost use Rattle.std.specs.Prelude.{◌≡◌, ℕ, List, [], Ok, length, map, All, IfOk, IfErr, IsErrOf};
+ghost use Rattle.std.specs.Prelude.{◌≡◌, ℕ, true, List, [], Ok, length, map, All, IfOk, IfErr, IsErrOf};
 ghost use Rattle.blk_disk.specs.Disk.{Rose};
 ghost use Rattle.graph_text.specs.FormatForm.{AreGraphs};
 ghost use Rattle.raid_conf.specs.Form.{IsConf};
@@ -7,7 +7,7 @@ ghost use Rattle.raid_script.specs.Asked.{AreFew, IsAsked, seen};
 ghost use Rattle.top_words.specs.Asked.{IsInRange, command_of};
 ghost use Rattle.top_words.specs.Views.{action_seen, command_seen, text_of};
 ghost use Rattle.top_bay.specs.Answers.{IsEarly, IsUsage, Opens};
-ghost use Rattle.top_bay.specs.Asked.{book_in, command_in, conf_in, script_in, serves_clients};
+ghost use Rattle.top_bay.specs.Asked.{book_in, command_in, conf_in, has_action, script_in};
 ghost use Rattle.top_bay.specs.Told.{IsRead};
 
 use crate::texts::open_text;
@@ -21,12 +21,12 @@ use top_status::Status;
 use top_words::{Action, Command, WordsFault, read_words};
 
 // Whether it is one of the actions that this program has.
-fn serves_clients(command: Command) -> bool
-    ensures { result ≡ serves_clients (command_seen command.entry).action }
+fn has_action(command: Command) -> bool
+    ensures { result ≡ has_action (command_seen command.entry).action }
 {
     match command.action {
-        Action::Io { .. } | Action::Sweep { .. } => true,
-        _ => false,
+        Action::Rebuild { .. } => false,
+        _ => true,
     }
 }
 
@@ -36,6 +36,7 @@ pub(crate) fn open_words<'a>(alloc: Global, words: &'a [Name]) -> Result<Command
     ensures answer { Opens command_seen result (command_in words.entry.now) }
     ensures command { IfOk result (λ c. command_of words.entry.now ≡ Ok (command_seen c)) }
     ensures range { IfOk result (λ c. IsInRange (action_seen c.action)) }
+    ensures served { IfOk result (λ c. has_action (action_seen c.action) ≡ true) }
     ensures kind { IfErr result IsUsage }
 {
     let command = match read_words(alloc, words) {
@@ -43,7 +44,7 @@ pub(crate) fn open_words<'a>(alloc: Global, words: &'a [Name]) -> Result<Command
         Err(WordsFault::Usage(case)) => return Err(Status::Usage(case)),
         Err(WordsFault::Memory) => return Err(Status::Memory),
     };
-    if serves_clients(command) {
+    if has_action(command) {
         Ok(command)
     } else {
         Err(Status::Usage(0))

@@ -62,7 +62,7 @@ fn names(alloc: Global, words: &[&str]) -> Result<Vec<Name>, Fail> {
 fn answer(alloc: Global, bay: &mut MemBay<MemDisk>, words: &[Name]) -> Status {
     match ask(alloc, words, bay) {
         Ok(Taken { asked, devices }) => {
-            put_all(bay, &asked.conf, devices);
+            put_all(bay, &asked.conf, asked.command.action, devices);
             Status::Ok
         }
         Err(status) => status,
@@ -91,7 +91,7 @@ fn all_at_home(rt: &impl Abort, bay: &MemBay<MemDisk>) {
 fn refusals_come_in_order(rt: HostRuntime) -> Result<(), Fail> {
     let alloc = rt.alloc();
     let tables: [(&[&str], (u8, u32, u32)); 12] = [
-        (&["conf", "-s"], (1, 0, 0)),
+        (&["conf", "-F", "d0"], (1, 0, 0)),
         (&["no", "--io", "script", "-w", "17"], (1, 3, 0)),
         (&["no", "--io", "no", "--graphs", "no"], (6, 0, 0)),
         (&["no_conf", "--io", "no", "--graphs", "no"], (2, 3, 3)),
@@ -121,6 +121,57 @@ fn refusals_come_in_order(rt: HostRuntime) -> Result<(), Fail> {
 }
 
 #[test]
+fn components_are_judged_in_order(rt: HostRuntime) -> Result<(), Fail> {
+    let alloc = rt.alloc();
+    let tables: [(&[&str], (u8, u32, u32)); 9] = [
+        (&["no", "-f", "d9"], (6, 0, 0)),
+        (&["no_conf", "-f", "d9"], (2, 3, 3)),
+        (&["away", "-f", "d9"], (1, 3, 0)),
+        (&["conf", "-f", "absent"], (1, 3, 0)),
+        (&["conf", "-f", ""], (1, 3, 0)),
+        (&["conf", "-f", "s0"], (1, 3, 0)),
+        (&["conf", "-g", "s1"], (1, 3, 0)),
+        (&["away", "-f", "d0"], (6, 0, 0)),
+        (&["away", "-g", "d1"], (6, 0, 0)),
+    ];
+    for (words, wanted) in tables {
+        let mut bay = bay_of(alloc, &[])?;
+        let words = names(alloc, words)?;
+        let status = answer(alloc, &mut bay, &words);
+        assert_eq!(rt; numbers(&status), wanted);
+        all_at_home(&rt, &bay);
+    }
+    Ok(())
+}
+
+// The component's place and how many devices are taken: of a configuration whose last disk isn't there, too.
+#[test]
+fn devices_are_those_of_the_action(rt: HostRuntime) -> Result<(), Fail> {
+    let alloc = rt.alloc();
+    let tables: [(&[&str], Option<u32>, usize); 7] = [
+        (&["conf", "-f", "d2"], Some(2), 4),
+        (&["conf", "-g", "d2"], Some(2), 1),
+        (&["conf", "-g", "s0"], Some(3), 1),
+        (&["away", "-g", "d0"], Some(0), 1),
+        (&["away", "-G"], None, 0),
+        (&["conf", "-s"], None, 4),
+        (&["conf", "-I", "7"], None, 4),
+    ];
+    for (words, comp, count) in tables {
+        let mut bay = bay_of(alloc, &[])?;
+        let words = names(alloc, words)?;
+        let Ok(Taken { asked, devices }) = ask(alloc, &words, &mut bay) else {
+            return Err("refused".into());
+        };
+        assert_eq!(rt; asked.comp, comp);
+        assert_eq!(rt; devices.len(), count);
+        put_all(&mut bay, &asked.conf, asked.command.action, devices);
+        all_at_home(&rt, &bay);
+    }
+    Ok(())
+}
+
+#[test]
 fn what_is_asked_is_handed_out(rt: HostRuntime) -> Result<(), Fail> {
     let alloc = rt.alloc();
     let mut bay = bay_of(alloc, &[])?;
@@ -138,7 +189,7 @@ fn what_is_asked_is_handed_out(rt: HostRuntime) -> Result<(), Fail> {
         assert_eq!(rt; devices[d].is_some(), *there, "device {d}");
     }
     assert!(rt; bay.disk("d0").is_none());
-    put_all(&mut bay, &asked.conf, devices);
+    put_all(&mut bay, &asked.conf, asked.command.action, devices);
     all_at_home(&rt, &bay);
     Ok(())
 }

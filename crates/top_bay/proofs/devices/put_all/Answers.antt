@@ -4,7 +4,9 @@ use Rattle.std.proofs.lemmas.List.{take-take, get_or-take}
 use Rattle.std.proofs.lemmas.Bool.{cases_order}
 use Rattle.blk_disk.specs.Devices.{device_at}
 use Rattle.blk_disk.proofs.DeviceLaws.{device_at-get}
-use Rattle.top_bay.specs.Asked.{names_of}
+use Rattle.top_words.specs.Views.{action_seen}
+use Rattle.top_bay.specs.Asked.{names_by}
+use Rattle.top_bay.proofs.NamesBy.{differ_by}
 use Rattle.top_bay.proofs.Meant.{other_place, some-eq}
 use Rattle.top_bay.proofs.devices.put_all.Goals as goal
 
@@ -18,18 +20,18 @@ put_one-requires-clause-there g c = λ some.
     let i : ℕ = vec_len c.pop.new.self in
     let was = c.loop-device.devices in
     let all = c.args.devices.items in
-    let at : slice_get (names_of c.args.conf.now) i ≡ Some c.name_at.result.now = ap (λ (k : ℕ). slice_get (names_of c.args.conf.now) k) (sym c.len.ensures) ∙ c.name_at.ensures in
+    let at : slice_get (names_by c.args.conf.now (action_seen c.args.action)) i ≡ Some c.name_for.result.now = ap (λ (k : ℕ). slice_get (names_by c.args.conf.now (action_seen c.args.action)) k) (sym c.len.ensures) ∙ c.name_for.ensures in
     let few : i < vec_len was = omega (arith, c.in-Some.ensures.cases) in
     let last : vec_len was - 1 ≡ i = omega (arith, few, c.in-Some.ensures.cases) in
     let inside : i < length all = omega (arith, few, c.loop-device.invariant.many, c.args.devices.ok.0) in
     let is : c.in-Some.device ≡ device_at all i = popped_is c.in-Some.device all was.items i (vec_len was) few inside (c.in-Some.ensures.value c.in-Some.device (omega (arith, few)) ∙ ap (λ (k : ℕ). Some (get_or was.items k c.in-Some.device)) last) c.loop-device.invariant.items in
-    (c.requires.out.there i c.name_at.result.now inside at).0 (subst (λ o. IsSome o) is some)
+    (c.requires.out.there i c.name_for.result.now inside at).0 (subst (λ o. IsSome o) is some)
 
 pub put_one-requires-clause-out : goal.put_one-requires-clause-out
 put_one-requires-clause-out g c = λ some.
     let i : ℕ = vec_len c.pop.new.self in
-    let at : slice_get (names_of c.args.conf.now) i ≡ Some c.name_at.result.now = ap (λ (k : ℕ). slice_get (names_of c.args.conf.now) k) (sym c.len.ensures) ∙ c.name_at.ensures in
-    c.loop-device.invariant.out i c.name_at.result.now (omega (arith, c.in-Some.ensures.cases)) at (put_one-requires-clause-there g c some)
+    let at : slice_get (names_by c.args.conf.now (action_seen c.args.action)) i ≡ Some c.name_for.result.now = ap (λ (k : ℕ). slice_get (names_by c.args.conf.now (action_seen c.args.action)) k) (sym c.len.ensures) ∙ c.name_for.ensures in
+    c.loop-device.invariant.out i c.name_for.result.now (omega (arith, c.in-Some.ensures.cases)) at (put_one-requires-clause-there g c some)
 
 pub loop-device-preserved : goal.loop-device-preserved
 loop-device-preserved g c =
@@ -37,9 +39,9 @@ loop-device-preserved g c =
     let was = c.loop-device.devices in
     let all = c.args.devices.items in
     let i : ℕ = vec_len c.pop.new.self in
-    let name : List ℕ = c.name_at.result.now in
-    let names = names_of c.args.conf.now in
-    let at : slice_get names i ≡ Some name = ap (λ (k : ℕ). slice_get names k) (sym c.len.ensures) ∙ c.name_at.ensures in
+    let name : List ℕ = c.name_for.result.now in
+    let names = names_by c.args.conf.now (action_seen c.args.action) in
+    let at : slice_get names i ≡ Some name = ap (λ (k : ℕ). slice_get names k) (sym c.len.ensures) ∙ c.name_for.ensures in
     let few : i < vec_len was = omega (arith, c.in-Some.ensures.cases) in
     let last : vec_len was - 1 ≡ i = omega (arith, few, c.in-Some.ensures.cases) in
     let inside : i < length all = omega (arith, few, c.loop-device.invariant.many, c.args.devices.ok.0) in
@@ -49,7 +51,7 @@ loop-device-preserved g c =
       many = omega (arith, few, c.loop-device.invariant.many);
       items = c.in-Some.ensures.rest ∙ (ap (λ (k : ℕ). take k was.items) last ∙ (ap (λ l. take i l) c.loop-device.invariant.items ∙ take-take i (vec_len was) all (omega (arith, few))));
       out = λ d n lt here named. c.put_one.ensures.out n
-          (λ e. other_place names d i n c.requires.conf.differ named lt here (at ∙ ap (λ (t : List ℕ). Some t) (sym e)))
+          (λ e. other_place names d i n (differ_by c.args.conf.now (action_seen c.args.action) c.requires.conf) named lt here (at ∙ ap (λ (t : List ℕ). Some t) (sym e)))
           (c.loop-device.invariant.out d n (omega (arith, lt, few)) here named);
       back = λ told d n low high some here. ⊎_elim
           (λ same.
@@ -59,7 +61,7 @@ loop-device-preserved g c =
           (λ order.
           let past : i < d = ⊎_elim (λ lt. absurd (omega (arith, lt, low))) (λ gt. gt) order in
           let named = (c.requires.out.there d n (omega (arith, high, c.args.devices.ok.0)) here).0 some in
-          c.put_one.ensures.homes told n (λ some2 same. other_place names i d n c.requires.conf.differ named past (at ∙ ap (λ (t : List ℕ). Some t) (sym same)) here)
+          c.put_one.ensures.homes told n (λ some2 same. other_place names i d n (differ_by c.args.conf.now (action_seen c.args.action) c.requires.conf) named past (at ∙ ap (λ (t : List ℕ). Some t) (sym same)) here)
           ∙ c.loop-device.invariant.back told d n (omega (arith, past, c.in-Some.ensures.cases)) high some here)
           (cases_order d i);
       others = λ told n apart. c.put_one.ensures.homes told n

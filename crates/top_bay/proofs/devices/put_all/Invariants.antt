@@ -1,13 +1,14 @@
 use Rattle.std.proofs.Common.{◌≡◌, ◌≤◌, ◌<◌, ℕ, List, [], Some, IsSome, take, vec_len, slice_get}
 use Rattle.blk_disk.specs.Devices.{device_at}
-use Rattle.top_bay.specs.Asked.{names_of}
+use Rattle.top_words.specs.Views.{action_seen}
+use Rattle.top_bay.specs.Asked.{names_by}
 use Rattle.top_bay.specs.Lent.{IsMeant}
 use Rattle.top_bay.proofs.devices.put_all.Given as goal
 
 abbrev pub invariant-loop-device : goal.invariant-loop-device
 invariant-loop-device g l =
     let B = g.B.Bay in
-    let names = names_of l.fn.conf in
+    let names = names_by l.fn.conf (action_seen l.fn.action) in
     let all = l.fn.devices.items in
     record {
       many : vec_len l.devices ≤ vec_len l.fn.devices;

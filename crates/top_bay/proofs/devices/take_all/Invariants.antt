@@ -1,12 +1,13 @@
 use Rattle.std.proofs.Common.{◌≡◌, ◌≤◌, ◌<◌, ℕ, List, Some, true, length, vec_len, vec_capacity, slice_get}
-use Rattle.top_bay.specs.Asked.{is_at_home, names_of}
+use Rattle.top_words.specs.Views.{action_seen}
+use Rattle.top_bay.specs.Asked.{is_at_home, names_by}
 use Rattle.top_bay.specs.Lent.{AreOut, IsLent}
 use Rattle.top_bay.proofs.devices.take_all.Given as goal
 
 abbrev pub invariant-loop-k : goal.invariant-loop-k
 invariant-loop-k g l =
     let B = g.B.Bay in
-    let names = names_of l.fn.conf in
+    let names = names_by l.fn.conf (action_seen l.fn.action) in
     record {
       count : l.count ≡ length names;
       many : vec_len l.devices ≡ l.k;

@@ -1,0 +1,60 @@
+//! The component that a command names.
+ghost use Rattle.std.specs.Prelude.{◌≡◌, ◌≤◌, length, take, IfOk, IfErr};
+ghost use Rattle.std.specs.List.{position};
+ghost use Rattle.std.specs.Str.{bytes_eq};
+ghost use Rattle.raid_conf.specs.Form.{IsConf};
+ghost use Rattle.top_words.specs.Views.{action_seen};
+ghost use Rattle.top_bay.specs.Answers.{IsUsage, Opens};
+ghost use Rattle.top_bay.specs.Asked.{comp_in, component_in, names_of};
+ghost use Rattle.top_bay.specs.Views.{IsKnown};
+
+use crate::names::{count, name_at};
+use raid_conf::Conf;
+use top_status::Status;
+use top_words::Action;
+
+// The first of so many devices that has this name.
+fn place_of(conf: &Conf, count: u32, name: &str) -> Option<u32>
+    requires conf { IsConf conf.now }
+    requires within { count ≤ length (names_of conf.now) }
+    ensures { result ≡ position (λ n. bytes_eq n name.now) (take count (names_of conf.now)) }
+{
+    for k in 0..count {
+        if name_at(conf, k) == name {
+            return Some(k);
+        }
+    }
+    None
+}
+
+// The place of a component among so many devices. One that is absent has no name.
+#[tactic(auto, unfolding(crate::specs::Asked::component_in))]
+fn component(conf: &Conf, count: u32, name: &str) -> Result<Option<u32>, Status>
+    requires conf { IsConf conf.now }
+    requires within { count ≤ length (names_of conf.now) }
+    ensures answer { Opens (λ comp. comp) result (component_in (take count (names_of conf.now)) name.now) }
+    ensures kind { IfErr result IsUsage }
+{
+    if name.is_empty() {
+        return Err(Status::Usage(3));
+    }
+    match place_of(conf, count, name) {
+        Some(place) => Ok(Some(place)),
+        None => Err(Status::Usage(3)),
+    }
+}
+
+/// The place of the component that the action names: for `-f` that of its column, for `-g` that of its device, the spares
+/// behind the columns; none where it names none.
+pub(crate) fn open_component(conf: &Conf, action: Action<'_>) -> Result<Option<u32>, Status>
+    requires { IsConf conf.now }
+    ensures answer { Opens (λ comp. comp) result (comp_in conf.now (action_seen action.entry)) }
+    ensures known { IfOk result (IsKnown conf.now (action_seen action.entry)) }
+    ensures kind { IfErr result IsUsage }
+{
+    match action {
+        Action::Fail { comp } => component(conf, conf.disks.len(), comp),
+        Action::ShowLabel { comp } => component(conf, count(conf), comp),
+        _ => Ok(None),
+    }
+}
