@@ -1,52 +1,98 @@
--- The rows and columns of an array that is opened.
-use Rattle.std.specs.Prelude.{◌≡◌, ◌+◌, ℕ, zero, suc, Bool, true, false, List, [], ◌∷◌, ◌++◌, length, cond, count_by, Ok, slice_get, if◌then◌else◌}
-use Rattle.std.proofs.Common.{refl, sym, ap, ◌∙◌}
-use Rattle.std.proofs.lemmas.List.{length-map}
-use Rattle.std.proofs.lemmas.List.Sums.{fold-append}
-use Rattle.eng_cols.specs.declared.column.Column.{Column}
-use Rattle.eng_cols.specs.declared.column.Column.TheVariants as column
+-- What an array is that is opened, by what is asked.
+use Rattle.std.specs.Prelude.{◌≡◌, ◌+◌, ◌<◌, ◌≤◌, ℕ, List, length, count_by, Some, None, Result, Ok, Err}
+use Rattle.std.specs.Option.{ForSome}
+use Rattle.std.proofs.Common.{arith, refl, ap, ◌∙◌}
+use Rattle.std.proofs.lemmas.List.{length-append, length-map}
 use Rattle.eng_cols.specs.Cols.{is_set_filling, is_set_spread}
 use Rattle.raid_conf.specs.declared.conf.Conf.{Conf}
 use Rattle.raid_conf.specs.Form.{IsConf}
+use Rattle.top_bay.specs.Asked.{Asked, names_by, names_of}
+use Rattle.top_bay.specs.Views.{IsKnown, IsWithin}
+use Rattle.top_open.specs.declared.fault.OpenFault.{OpenFault}
 use Rattle.top_open.specs.declared.fronts.Front.{Front}
 use Rattle.top_open.specs.Opening.{Opened, opened_in}
-use Rattle.top_open.specs.Plan.{is_present}
-use Rattle.top_open.specs.Seats.{columns_below, is_unread, read_disk}
-use Rattle.top_open.proofs.Below.{length-columns_below}
-use Rattle.top_open.proofs.WholeTables.{plain_columns, whole_tables}
-use Rattle.top_duty.specs.Opening.{AreRows, is_named, no_labels, plan_of, present_of, unread}
+use Rattle.top_open.proofs.Columns.{columns_count, few_spread, none_filling}
+use Rattle.top_open.proofs.WholeTables.{whole_tables}
+use Rattle.top_words.specs.Asked.{Action, Io, Sweep, Show, Init, Check, Rewrite, Print, Fail, ShowLabel, Label, Rebuild}
+use Rattle.top_duty.specs.declared.kind.Kind.TheVariants as kind
+use Rattle.top_duty.specs.Opening.{AreRows, is_named, kind_of, needs_for, needs_of, opened_by, or_fault, plan_of, present_of}
 use Rattle.top_duty.proofs.Tables.{plan_is, stripes-most}
 
--- one element more is counted, or isn't
-count_push : {X : Type 0} (p : X → Bool) (xs : List X) (x : X) → count_by p xs ≡ 0 → p x ≡ false → count_by p (xs ++ x ∷ []) ≡ 0
-count_push p xs x h e = fold-append (λ (n : ℕ) y. n + cond (p y) 1 0) 0 xs (x ∷ []) ∙ (ap (λ (n : ℕ). n + cond (p x) 1 0) h ∙ ap (λ (b : Bool). 0 + cond b 1 0) e)
+-- the way back
+no_fault : (r : Result Opened OpenFault) (o : Opened) → or_fault r ≡ Ok o → r ≡ Ok o
+no_fault (Ok x) o h = let same : x ≡ o = cc h in ap (λ (y : Opened). Ok y) same
+no_fault (Err f) o h = cc h
 
--- no column is of this kind
-none_below : (p : Column → Bool) (f : ℕ → Column) (n : ℕ) → ((c : ℕ) → p (f c) ≡ false) → count_by p (columns_below f n) ≡ 0
-unfolding columns_below
-none_below p f zero each = refl
-none_below p f (suc n) each = count_push p (columns_below f n) (f n) (none_below p f n each) (each n)
+pub opens_so : (k : Asked) (sizes : List ℕ) (fronts : List Front) (o : Opened) → opened_by k sizes fronts ≡ Ok o → opened_in (needs_of k) (plan_of k.conf) (present_of k.conf) sizes fronts ≡ Ok o
+unfolding opened_by
+opens_so k sizes fronts o h = no_fault (opened_in (needs_of k) (plan_of k.conf) (present_of k.conf) sizes fronts) o h
 
-disk_is : (p : Column → Bool) (present : List Bool) (fronts : List Front) (c : ℕ) → p column.Dead ≡ false → p (column.Live c) ≡ false → p (read_disk present fronts c) ≡ false
-disk_is p present fronts c dead live = go (is_unread (slice_get fronts c)) (is_present present c)
+pub opened_is : (k : Asked) (sizes : List ℕ) (fronts : List Front) (o : Opened) → opened_in (needs_of k) (plan_of k.conf) (present_of k.conf) sizes fronts ≡ Ok o → opened_by k sizes fronts ≡ Ok o
+unfolding opened_by
+opened_is k sizes fronts o e = rw e refl
+
+pub present_count : (conf : Conf) → IsConf conf → length (present_of conf) ≡ conf.columns
+present_count conf is = length-map conf.disks is_named ∙ is.disk_count
+
+module _ (k : Asked) (sizes : List ℕ) (fronts : List Front) (o : Opened) (is : IsConf k.conf) (opens : opened_in (needs_of k) (plan_of k.conf) (present_of k.conf) sizes fronts ≡ Ok o) where
+  pub opened_rows : AreRows k.conf o.rows
+  opened_rows = whole_tables (needs_of k) (plan_of k.conf) (present_of k.conf) sizes fronts o (plan_is k.conf is) (stripes-most k.conf is) opens
+
+  pub opened_count : length o.columns ≡ k.conf.columns
+  opened_count = columns_count (needs_of k) (plan_of k.conf) (present_of k.conf) sizes fronts o opens ∙ present_count k.conf is
+
+  pub opened_filling : count_by is_set_filling o.columns ≡ 0
+  opened_filling = none_filling (needs_of k) (plan_of k.conf) (present_of k.conf) sizes fronts o opens
+
+  pub opened_spread : count_by is_set_spread o.columns ≤ 1
+  opened_spread = few_spread (needs_of k) (plan_of k.conf) (present_of k.conf) sizes fronts o opens
+
+-- the column that is excused is one of them
+pub dead_within : (k : Asked) → IsWithin k → ForSome (needs_of k).excused (λ c. c < k.conf.columns)
+dead_within k within = go k.command.action within.known
   where
-    go : (a b : Bool) → p (if a then column.Dead else (if b then column.Live c else column.Dead)) ≡ false
-    go true b = dead
-    go false true = live
-    go false false = dead
+    nothing : (c : ℕ) → None ≡ Some c → c < k.conf.columns
+    nothing c e = cc e
 
-module _ (conf : Conf) (sizes : List ℕ) (o : Opened) (is : IsConf conf) (opens : opened_in no_labels (plan_of conf) (present_of conf) sizes (unread conf) ≡ Ok o) where
-  pub opened_rows : AreRows conf o.rows
-  opened_rows = whole_tables no_labels (plan_of conf) (present_of conf) sizes (unread conf) o (plan_is conf is) (stripes-most conf is) refl opens
+    go : (action : Action) → IsKnown k.conf action k.comp → ForSome (needs_for action k.comp).excused (λ c. c < k.conf.columns)
+    go (Fail name) h = λ c e. let same : h.at ≡ c = cc (h.is, e) in omega (arith, same, h.within)
+    go (Io beside workers) h = nothing
+    go (Sweep seed clients ops workers) h = nothing
+    go Show h = nothing
+    go Init h = nothing
+    go Check h = nothing
+    go Rewrite h = nothing
+    go Print h = nothing
+    go (ShowLabel name) h = nothing
+    go (Label serial) h = nothing
+    go (Rebuild in_place name beside workers) h = nothing
 
-  columns_are : columns_below (read_disk (present_of conf) (unread conf)) (length (present_of conf)) ≡ o.columns
-  columns_are = plain_columns no_labels (plan_of conf) (present_of conf) sizes (unread conf) o refl opens
+-- where an array is opened all devices are taken
+names_count : (conf : Conf) → IsConf conf → length (names_of conf) ≡ conf.columns + conf.spares
+names_count conf is = length-append conf.disks conf.spare_names ∙ omega (arith, is.disk_count, is.spare_count)
 
-  pub opened_count : length o.columns ≡ conf.columns
-  opened_count = ap length (sym columns_are) ∙ (length-columns_below (read_disk (present_of conf) (unread conf)) (length (present_of conf)) ∙ (length-map conf.disks is_named ∙ is.disk_count))
+pub array_names : (conf : Conf) (action : Action) → IsConf conf → kind_of action ≡ kind.Array → length (names_by conf action) ≡ conf.columns + conf.spares
+array_names conf (Io beside workers) is e = names_count conf is
+array_names conf (Sweep seed clients ops workers) is e = names_count conf is
+array_names conf Show is e = names_count conf is
+array_names conf Init is e = names_count conf is
+array_names conf Check is e = names_count conf is
+array_names conf Rewrite is e = names_count conf is
+array_names conf Print is e = cc e
+array_names conf (Fail name) is e = names_count conf is
+array_names conf (ShowLabel name) is e = cc e
+array_names conf (Label serial) is e = names_count conf is
+array_names conf (Rebuild in_place name beside workers) is e = names_count conf is
 
-  pub none_filling : count_by is_set_filling o.columns ≡ 0
-  none_filling = ap (λ (l : List Column). count_by is_set_filling l) (sym columns_are) ∙ none_below is_set_filling (read_disk (present_of conf) (unread conf)) (length (present_of conf)) (λ c. disk_is is_set_filling (present_of conf) (unread conf) c refl refl)
-
-  pub none_spread : count_by is_set_spread o.columns ≡ 0
-  none_spread = ap (λ (l : List Column). count_by is_set_spread l) (sym columns_are) ∙ none_below is_set_spread (read_disk (present_of conf) (unread conf)) (length (present_of conf)) (λ c. disk_is is_set_spread (present_of conf) (unread conf) c refl refl)
+pub shown_names : (conf : Conf) (action : Action) → IsConf conf → kind_of action ≡ kind.Shown → length (names_by conf action) ≡ conf.columns + conf.spares
+shown_names conf Show is e = names_count conf is
+shown_names conf (Io beside workers) is e = cc e
+shown_names conf (Sweep seed clients ops workers) is e = cc e
+shown_names conf Init is e = cc e
+shown_names conf Check is e = cc e
+shown_names conf Rewrite is e = cc e
+shown_names conf Print is e = cc e
+shown_names conf (Fail name) is e = cc e
+shown_names conf (ShowLabel name) is e = cc e
+shown_names conf (Label serial) is e = cc e
+shown_names conf (Rebuild in_place name beside workers) is e = cc e

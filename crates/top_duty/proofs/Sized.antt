@@ -1,20 +1,24 @@
--- Sizes and refusals by what a bay has.
-use Rattle.std.specs.Prelude.{◌≡◌, ◌⊎◌, ℕ, suc, List, [], ◌∷◌, length, Option, Some, Ok, Err, slice_get}
+-- Sizes, and refusals by what a bay has.
+use Rattle.std.specs.Prelude.{◌≡◌, ◌⊎◌, ℕ, zero, suc, List, [], ◌∷◌, length, Option, Some, Result, Ok, Err, slice_get, slice_index}
 use Rattle.std.specs.Option.{option_map_or}
 use Rattle.std.proofs.Common.{arith, refl, sym, ap, subst, inl, inr, ◌∙◌}
-use Rattle.blk_disk.specs.Devices.{AreNamed, at_home, device_at}
+use Rattle.blk_disk.specs.Devices.{AreNamed, Changes, at_home, device_at, size_of}
+use Rattle.blk_disk.specs.declared.disk.Disk.{Ghosts}
+use Rattle.blk_disk.proofs.DeviceLaws.{changes_size}
 use Rattle.raid_text.specs.Text.{Text}
 use Rattle.top_bay.specs.Answers.{RefusedAs}
-use Rattle.top_bay.specs.Asked.{Asked, asked_in, names_of}
+use Rattle.top_bay.specs.Asked.{Asked, asked_in, names_for}
 use Rattle.top_bay.specs.Told.{Told}
-use Rattle.top_open.specs.Opening.{Opened}
+use Rattle.top_open.specs.declared.fronts.Front.{Front}
 use Rattle.top_status.specs.declared.status.Status.{Status}
 use Rattle.top_status.specs.declared.status.Status.TheVariants as status
 use Rattle.top_status.specs.Refusals.{Refused, only}
-use Rattle.top_duty.specs.Duty.{IsWanted, WantsMemory, admitted_by, admitted_in, admitted_with}
-use Rattle.top_duty.specs.Opening.{sizes_in, sizes_of}
-use Rattle.top_duty.specs.Views.{IsReady, IsRefusal, RefusedBy}
-use Rattle.top_duty.proofs.Wanting.{admitted_is, wanted_err, wanted_ok}
+use Rattle.top_duty.specs.declared.duty.Duty as declared_duty
+use Rattle.top_duty.specs.Duty.{Duty, IsWanted, WantsMemory, duty_by, duty_in}
+use Rattle.top_duty.specs.Opening.{reads_fronts, sizes_in, sizes_of}
+use Rattle.top_duty.specs.Taken.{Reads, RefusedFor, RefusedOver, WasRead}
+use Rattle.top_duty.specs.Views.{IsDutyOver, IsRefusal, RefusedHere, duty_seen}
+use Rattle.top_duty.proofs.Wanting.{duty_wanted, wanted_err}
 
 -- the sizes of the devices are those of the names
 sizes_from : {D : Type 0} (size : D → ℕ) (home : Text → Option D) (names : List Text) (ds : List (Option D)) → length ds ≡ length names → ((d : ℕ) → device_at ds d ≡ at_home home (slice_get names d)) → sizes_of size ds ≡ sizes_in size home names
@@ -36,43 +40,88 @@ pub asked_same : {D : Type 0} (tells rose now_rose : Type 0) (texts : Text → O
 unfolding asked_in
 asked_same tells rose now_rose texts home after now_after words = refl
 
-module _ {D : Type 0} (size : D → ℕ) (b : Told D) (words : List Text) where
-  -- what was asked, by the sizes of the devices
-  pub admitted_from : (k : Asked) (ds : List (Option D)) → asked_in b words ≡ Ok k → AreNamed b.home (names_of k.conf) ds → admitted_in size b words ≡ admitted_by k (sizes_of size ds)
-  unfolding admitted_in
-  admitted_from k ds e named = let sizes = sym (sizes_are size b.home (names_of k.conf) ds named) in rw e (ap (λ l. admitted_by k l) sizes)
+-- the size of one of these devices
+pub size_at : {D : Type 0} (g : Ghosts D) (ds : List (Option D)) (d : ℕ) → slice_index (sizes_of g.size ds) d ≡ size_of g ds d
+unfolding device_at
+size_at g [] d = refl
+size_at g (x ∷ ds) zero = refl
+size_at g (x ∷ ds) (suc d) = size_at g ds d
 
-  pub admitted_err : (r : Refused) → asked_in b words ≡ Err r → admitted_in size b words ≡ Err r
-  unfolding admitted_in
-  admitted_err r e = rw e refl
+-- the sizes stay
+sizes_by : {D : Type 0} (g : Ghosts D) (old new : List (Option D)) → length new ≡ length old → ((d : ℕ) → size_of g new d ≡ size_of g old d) → sizes_of g.size new ≡ sizes_of g.size old
+unfolding device_at
+sizes_by g [] [] many each = refl
+sizes_by g [] (z ∷ new) many each = absurd (omega (arith, many))
+sizes_by g (x ∷ old) [] many each = absurd (omega (arith, many))
+sizes_by g (x ∷ old) (z ∷ new) many each =
+    let first : option_map_or g.size z 0 ≡ option_map_or g.size x 0 = each 0 in
+    let rest : sizes_of g.size new ≡ sizes_of g.size old = sizes_by g old new (omega (arith, many)) (λ d. each (suc d)) in
+    ap (λ (n : ℕ). n ∷ sizes_of g.size new) first ∙ ap (λ (l : List ℕ). option_map_or g.size x 0 ∷ l) rest
 
-  pub is_wanted : (k : Asked) (ds : List (Option D)) (o : Opened) → asked_in b words ≡ Ok k → AreNamed b.home (names_of k.conf) ds → IsReady k (sizes_of size ds) o → IsWanted (admitted_in size b words) (Ok (admitted_with k o))
-  is_wanted k ds o e named ready = wanted_ok (admitted_in size b words) (admitted_with k o) (admitted_from k ds e named ∙ admitted_is k (sizes_of size ds) o ready.opened) ready.kept ready.bound
+pub sizes_kept : {D : Type 0} (g : Ghosts D) (may : ℕ → ℕ → Type 0) (old new : List (Option D)) → Changes g may old new → sizes_of g.size new ≡ sizes_of g.size old
+sizes_kept g may old new changes = sizes_by g old new changes.count (λ d. changes_size g may old new d changes)
+
+module _ {D : Type 0} (g : Ghosts D) (b : Told D) (words : List Text) where
+  -- what is to be done, by the sizes of the devices
+  duty_from : (k : Asked) (ds : List (Option D)) (fronts : List Front) → asked_in b words ≡ Ok k → AreNamed b.home (names_for k) ds → duty_in g.size b words fronts ≡ duty_by k (sizes_of g.size ds) fronts
+  unfolding duty_in
+  duty_from k ds fronts e named = let sizes = sym (sizes_are g.size b.home (names_for k) ds named) in rw e (ap (λ (l : List ℕ). duty_by k l fronts) sizes)
+
+  duty_err : (r : Refused) (fronts : List Front) → asked_in b words ≡ Err r → duty_in g.size b words fronts ≡ Err r
+  unfolding duty_in
+  duty_err r fronts e = rw e refl
+
+  pub is_wanted : (k : Asked) (taken devices : List (Option D)) (fronts : List Front) (d : declared_duty.Duty) → asked_in b words ≡ Ok k → AreNamed b.home (names_for k) taken
+      → Changes g (λ _ _. ⊥) taken devices → IsDutyOver k (sizes_of g.size devices) fronts d → IsWanted (duty_in g.size b words fronts) (Ok (duty_seen k d))
+  is_wanted k taken devices fronts d e named stays over =
+      let same : duty_by k (sizes_of g.size devices) fronts ≡ duty_in g.size b words fronts = ap (λ (l : List ℕ). duty_by k l fronts) (sizes_kept g (λ _ _. ⊥) taken devices stays) ∙ sym (duty_from k taken fronts e named) in
+      subst (λ (w : Result Duty Refused). IsWanted w (Ok (duty_seen k d))) same (duty_wanted k (sizes_of g.size devices) fronts d over)
 
   -- what was asked is refused
-  pub refused_asking : (s : Status) → (s ≡ status.BayFault → b.rose) → RefusedAs s (asked_in b words) → RefusedBy b.rose (admitted_in size b words) (only s)
+  refused_early : (r : Refused) → asked_in b words ≡ Err r → RefusedFor g b words r
+  refused_early r e = inl (record { fronts = []; wanted = wanted_err (duty_in g.size b words []) r (duty_err r [] e); read = λ k h. cc (e, h) })
+
+  pub refused_asking : (s : Status) → (s ≡ status.BayFault → b.rose) → RefusedAs s (asked_in b words) → RefusedFor g b words (only s)
   refused_asking status.BayFault rose h = inr (inl (refl, rose refl))
   refused_asking status.Memory rose h = inr (inr (inl refl))
-  refused_asking status.Ok rose h = inl (wanted_err (admitted_in size b words) _ (admitted_err _ h))
-  refused_asking (status.Usage i) rose h = inl (wanted_err (admitted_in size b words) _ (admitted_err _ h))
-  refused_asking (status.Conf l c) rose h = inl (wanted_err (admitted_in size b words) _ (admitted_err _ h))
-  refused_asking (status.Script l c) rose h = inl (wanted_err (admitted_in size b words) _ (admitted_err _ h))
-  refused_asking (status.GraphText l c) rose h = inl (wanted_err (admitted_in size b words) _ (admitted_err _ h))
-  refused_asking (status.NoFile n) rose h = inl (wanted_err (admitted_in size b words) _ (admitted_err _ h))
-  refused_asking status.SinkFault rose h = inl (wanted_err (admitted_in size b words) _ (admitted_err _ h))
-  refused_asking (status.Lost f s t) rose h = inl (wanted_err (admitted_in size b words) _ (admitted_err _ h))
-  refused_asking (status.Label f s t u) rose h = inl (wanted_err (admitted_in size b words) _ (admitted_err _ h))
-  refused_asking (status.Small f s t) rose h = inl (wanted_err (admitted_in size b words) _ (admitted_err _ h))
-  refused_asking (status.NotInSync n) rose h = inl (wanted_err (admitted_in size b words) _ (admitted_err _ h))
-  refused_asking status.NoSpare rose h = inl (wanted_err (admitted_in size b words) _ (admitted_err _ h))
-  refused_asking (status.LongText n) rose h = inl (wanted_err (admitted_in size b words) _ (admitted_err _ h))
+  refused_asking status.Ok rose h = refused_early _ h
+  refused_asking (status.Usage i) rose h = refused_early _ h
+  refused_asking (status.Conf l c) rose h = refused_early _ h
+  refused_asking (status.Script l c) rose h = refused_early _ h
+  refused_asking (status.GraphText l c) rose h = refused_early _ h
+  refused_asking (status.NoFile n) rose h = refused_early _ h
+  refused_asking status.SinkFault rose h = refused_early _ h
+  refused_asking (status.Lost f s t) rose h = refused_early _ h
+  refused_asking (status.Label f s t u) rose h = refused_early _ h
+  refused_asking (status.Small f s t) rose h = refused_early _ h
+  refused_asking (status.NotInSync n) rose h = refused_early _ h
+  refused_asking status.NoSpare rose h = refused_early _ h
+  refused_asking (status.LongText n) rose h = refused_early _ h
 
-  -- what was asked isn't made ready
-  pub refused_preparing : (k : Asked) (ds : List (Option D)) (r : Refused) → asked_in b words ≡ Ok k → AreNamed b.home (names_of k.conf) ds
-      → IsWanted (admitted_by k (sizes_of size ds)) (Err r) ⊎ WantsMemory (admitted_by k (sizes_of size ds)) r → RefusedBy b.rose (admitted_in size b words) r
-  refused_preparing k ds r e named h =
-      let same = sym (admitted_from k ds e named) in
-      elim h [ inl w ↦ inl (subst (λ x. IsWanted x (Err r)) same w) | inr m ↦ inr (inr (subst (λ x. WantsMemory x r) same m)) ]
+  -- what was asked isn't done
+  pub refused_judging : (k : Asked) (taken devices : List (Option D)) (r : Refused) → asked_in b words ≡ Ok k → AreNamed b.home (names_for k) taken → AreNamed b.after (names_for k) devices
+      → Changes g (λ _ _. ⊥) taken devices → RefusedOver g k taken devices r → RefusedFor g b words r
+  refused_judging k taken devices r e before after stays (inl memory) = inr (inr (inl memory))
+  refused_judging k taken devices r e before after stays (inr h) = go h.wanted
+    where
+      w : Result Duty Refused
+      w = duty_by k (sizes_of g.size devices) h.fronts
+
+      same : w ≡ duty_in g.size b words h.fronts
+      same = ap (λ (l : List ℕ). duty_by k l h.fronts) (sizes_kept g (λ _ _. ⊥) taken devices stays) ∙ sym (duty_from k taken h.fronts e before)
+
+      read : (q : Asked) → asked_in b words ≡ Ok q → WasRead g b q h.fronts
+      read q f = let one : k ≡ q = cc (e, f) in subst (λ (x : Asked). WasRead g b x h.fronts) one (record { taken = taken; back = devices; before = before; after = after; read = h.read })
+
+      go : IsWanted w (Err r) ⊎ WantsMemory w r → RefusedFor g b words r
+      go (inl wanted) = inl (record { fronts = h.fronts; wanted = subst (λ (x : Result Duty Refused). IsWanted x (Err r)) same wanted; read = read })
+      go (inr memory) = inr (inr (inr (record { fronts = h.fronts; wanted = subst (λ (x : Result Duty Refused). WantsMemory x r) same memory; read = read })))
+
+-- what is refused by what was read
+pub refused_over : {D : Type 0} (g : Ghosts D) (k : Asked) (old new : List (Option D)) (fronts : List Front) (r : Refused) → Reads g (reads_fronts k.command.action) old new fronts
+    → RefusedHere (duty_by k (sizes_of g.size new) fronts) r → RefusedOver g k old new r
+refused_over g k old new fronts r read (inl h) = inr (record { fronts = fronts; read = read; wanted = h })
+refused_over g k old new fronts r read (inr memory) = inl memory
 
 -- a refusal of this kind is one whether the bay failed or not
 pub any_kind : (rose : Type 0) (s : Status) → IsRefusal ⊥ s → IsRefusal rose s

@@ -10,56 +10,72 @@ use Rattle.raid_script.specs.Asked.{Asked as Item}
 use Rattle.top_bound.specs.Bound.{trace_sum}
 use Rattle.top_words.specs.Asked.{Action, Io, Sweep, Show, Init, Check, Rewrite, Print, Fail, ShowLabel, Label, Rebuild}
 use Rattle.top_bay.specs.Asked.{Asked, names_of}
-use Rattle.top_open.specs.Opening.{Opened, opened_in}
+use Rattle.top_open.specs.declared.fronts.Front.{Front}
+use Rattle.top_open.specs.Opening.{Opened, opened_in, opened_seen}
 use Rattle.top_open.specs.declared.fault.OpenFault.{OpenFault}
 use Rattle.top_open.specs.declared.fault.OpenFault.TheVariants as fault
 use Rattle.top_status.specs.declared.status.Status.{Status}
 use Rattle.top_status.specs.declared.status.Status.TheVariants as status
 use Rattle.top_status.specs.Refusals.{Refused, only}
-use Rattle.top_duty.specs.Duty.{Admitted, IsWanted, LossIs, WantsMemory, admitted_by, admitted_with, beside_dead, clients_by, is_past, is_past_bound, layout_of, states_in, traces}
-use Rattle.top_duty.specs.Opening.{no_labels, opened_by, plan_of, present_of, status_of, unread}
-use Rattle.top_duty.specs.Views.{IsRefusal, RefusedAfter, RefusedIf}
+use Rattle.top_duty.specs.declared.duty.Duty as declared_duty
+use Rattle.top_duty.specs.declared.duty.Duty.TheVariants as duty
+use Rattle.top_duty.specs.declared.kind.Kind.{Kind}
+use Rattle.top_duty.specs.declared.kind.Kind.TheVariants as kind
+use Rattle.top_duty.specs.Duty.{Admitted, Duty, OnArray, Shows, OneLabel, PrintConf, IsWanted, LossIs, WantsMemory, admitted_with, beside_dead, clients_by, columns_of, duty_by, duty_for, is_past, is_past_bound, judged_states, layout_of, lost_by, traces, with_dead}
+use Rattle.top_duty.specs.Opening.{kind_of, needs_of, opened_by, plan_of, present_of, status_of}
+use Rattle.top_duty.specs.Views.{IsDutyOver, IsReady, IsRefusal, RefusedAfter, RefusedHere, RefusedIf, dead_beside, duty_seen}
 
-ok_same : {A E : Type 0} (r : Result A E) (x z : A) → r ≡ Ok x → r ≡ Ok z → x ≡ z
-ok_same r x z one two = cc (one, two)
+ok_same : (r : Result Duty Refused) (a b : Admitted) → r ≡ Ok (OnArray a) → r ≡ Ok (OnArray b) → a ≡ b
+ok_same r a b one two = cc (one, two)
 
 -- what was refused before is wanted so
-pub wanted_err : (w : Result Admitted Refused) (r : Refused) → w ≡ Err r → IsWanted w (Err r)
+pub wanted_err : (w : Result Duty Refused) (r : Refused) → w ≡ Err r → IsWanted w (Err r)
 wanted_err w r e = record {
   loss = None;
   is_loss = λ a h. cc (e, h);
   is = rw e refl;
 }
 
--- what is admitted is refused for a loss, or for its trace, or isn't
-pub wanted_lost : (w : Result Admitted Refused) (a : Admitted) (loss : Loss) → w ≡ Ok a → LossIs (layout_of a) (states_in a) (Some loss) → IsWanted w (Err (beside_dead a (status.Lost loss.first loss.second loss.stripe)))
+-- an array is refused for a loss, or for its trace, or isn't
+pub wanted_lost : (w : Result Duty Refused) (a : Admitted) (loss : Loss) → w ≡ Ok (OnArray a) → LossIs (layout_of a) (judged_states a) (Some loss) → IsWanted w (Err (lost_by a loss))
 wanted_lost w a loss e h = record {
   loss = Some loss;
-  is_loss = λ b here. subst (λ (x : Admitted). LossIs (layout_of x) (states_in x) (Some loss)) (ok_same w a b e here) h;
+  is_loss = λ b here. subst (λ (x : Admitted). LossIs (layout_of x) (judged_states x) (Some loss)) (ok_same w a b e here) h;
   is = rw e refl;
 }
 
-pub wanted_past : (w : Result Admitted Refused) (a : Admitted) → w ≡ Ok a → LossIs (layout_of a) (states_in a) None → is_past_bound a ≡ true → IsWanted w (Err (beside_dead a (status.Script 0 8)))
+pub wanted_past : (w : Result Duty Refused) (a : Admitted) → w ≡ Ok (OnArray a) → LossIs (layout_of a) (judged_states a) None → is_past_bound a ≡ true → IsWanted w (Err (beside_dead a (status.Script 0 8)))
 wanted_past w a e h past = record {
   loss = None;
-  is_loss = λ b here. subst (λ (x : Admitted). LossIs (layout_of x) (states_in x) None) (ok_same w a b e here) h;
+  is_loss = λ b here. subst (λ (x : Admitted). LossIs (layout_of x) (judged_states x) None) (ok_same w a b e here) h;
   is = rw (e, past) refl;
 }
 
-pub wanted_ok : (w : Result Admitted Refused) (a : Admitted) → w ≡ Ok a → LossIs (layout_of a) (states_in a) None → is_past_bound a ≡ false → IsWanted w (Ok a)
+pub wanted_ok : (w : Result Duty Refused) (a : Admitted) → w ≡ Ok (OnArray a) → LossIs (layout_of a) (judged_states a) None → is_past_bound a ≡ false → IsWanted w (Ok (OnArray a))
 wanted_ok w a e h past = record {
   loss = None;
-  is_loss = λ b here. subst (λ (x : Admitted). LossIs (layout_of x) (states_in x) None) (ok_same w a b e here) h;
+  is_loss = λ b here. subst (λ (x : Admitted). LossIs (layout_of x) (judged_states x) None) (ok_same w a b e here) h;
   is = rw (e, past) refl;
 }
 
--- what isn't run is refused as is wanted, or memory was
-pub refused_after : (w : Result Admitted Refused) (a : Admitted) (s : Status) → w ≡ Ok a → RefusedAfter a s → IsWanted w (Err (beside_dead a s)) ⊎ WantsMemory w (beside_dead a s)
+-- what isn't judged is wanted as it is
+wanted_shown : (w : Result Duty Refused) (k : Asked) (o : Opened) → w ≡ Ok (Shows k o) → IsWanted w (Ok (Shows k o))
+wanted_shown w k o e = record { loss = None; is_loss = λ a h. cc (e, h); is = rw e refl }
+
+wanted_label : (w : Result Duty Refused) (k : Asked) → w ≡ Ok (OneLabel k) → IsWanted w (Ok (OneLabel k))
+wanted_label w k e = record { loss = None; is_loss = λ a h. cc (e, h); is = rw e refl }
+
+wanted_conf : (w : Result Duty Refused) (k : Asked) → w ≡ Ok (PrintConf k) → IsWanted w (Ok (PrintConf k))
+wanted_conf w k e = record { loss = None; is_loss = λ a h. cc (e, h); is = rw e refl }
+
+-- what nothing is done with is refused as is wanted, or memory was wanted
+pub refused_after : (w : Result Duty Refused) (a : Admitted) (s : Status) → w ≡ Ok (OnArray a) → RefusedAfter a s
+    → (let r : Refused = record { status = s; dead = dead_beside (needs_of a.asked).excused (columns_of a) s } in IsWanted w (Err r) ⊎ WantsMemory w r)
 refused_after w a (status.Lost first second stripe) e h = inl (wanted_lost w a (record { first = first; second = second; stripe = stripe }) e h)
 refused_after w a (status.Script line code) e h =
     inl (subst (λ (l : ℕ). IsWanted w (Err (beside_dead a (status.Script l code)))) (sym h.2)
-    (subst (λ (k : ℕ). IsWanted w (Err (beside_dead a (status.Script 0 k)))) (sym h.3) (wanted_past w a e h.0 h.1)))
-refused_after w a status.Memory e h = inr (inr (a, e, refl))
+    (subst (λ (c : ℕ). IsWanted w (Err (beside_dead a (status.Script 0 c)))) (sym h.3) (wanted_past w a e h.0 h.1)))
+refused_after w a status.Memory e h = inr (a, e, refl)
 refused_after w a status.Ok e h = absurd h
 refused_after w a (status.Usage i) e h = absurd h
 refused_after w a (status.Conf l c) e h = absurd h
@@ -93,7 +109,7 @@ pub past_is : (k : Asked) (o : Opened) → is_past_bound (admitted_with k o) ≡
 past_is k o = past_same (shape_of k.conf o.rows) k.book (length (names_of k.conf)) k.command.action k.clients (blocks_in (shape_of k.conf o.rows))
 
 -- why what is asked isn't run is why what is admitted isn't
-pub after_if : (k : Asked) (o : Opened) (s : Status) → RefusedIf (shape_of k.conf o.rows) k o.columns (Some s) → RefusedAfter (admitted_with k o) s
+pub after_if : (k : Asked) (o : Opened) (s : Status) → RefusedIf (shape_of k.conf o.rows) k (with_dead (needs_of k).excused o.columns) (Some s) → RefusedAfter (admitted_with k o) s
 after_if k o (status.Lost first second stripe) h = h
 after_if k o (status.Script line code) h = (h.0, past_is k o ∙ h.1, h.2, h.3)
 after_if k o status.Memory h = tt
@@ -131,22 +147,48 @@ kind_after a (status.NotInSync n) h = absurd h
 kind_after a status.NoSpare h = absurd h
 kind_after a (status.LongText n) h = absurd h
 
--- by how the array was opened
-pub admitted_is : (k : Asked) (sizes : List ℕ) (o : Opened) → opened_by k.conf sizes ≡ Ok o → admitted_by k sizes ≡ Ok (admitted_with k o)
-unfolding admitted_by
-admitted_is k sizes o e = rw e refl
+-- ## By how the array was opened
 
-pub opened_is : (k : Asked) (sizes : List ℕ) (o : Opened) → opened_in no_labels (plan_of k.conf) (present_of k.conf) sizes (unread k.conf) ≡ Ok o → opened_by k.conf sizes ≡ Ok o
+pub array_is : (k : Asked) (sizes : List ℕ) (fronts : List Front) (o : Opened) → opened_by k sizes fronts ≡ Ok o → duty_for kind.Array k sizes fronts ≡ Ok (OnArray (admitted_with k o))
+array_is k sizes fronts o e = rw e refl
+
+-- an array is refused as it is opened, or memory was wanted
+pub refused_opening : (k : Asked) (sizes : List ℕ) (fronts : List Front) (f : OpenFault) → (f ≡ fault.Memory) ⊎ (opened_in (needs_of k) (plan_of k.conf) (present_of k.conf) sizes fronts ≡ Err f)
+    → RefusedHere (duty_for kind.Array k sizes fronts) (only (status_of f))
 unfolding opened_by
-opened_is k sizes o e = rw e refl
+refused_opening k sizes fronts f (inl memory) = inr (ap (λ (x : OpenFault). only (status_of x)) memory)
+refused_opening k sizes fronts f (inr e) = inl (inl (wanted_err (duty_for kind.Array k sizes fronts) (only (status_of f)) (rw e refl)))
 
-pub refused_opening : (k : Asked) (sizes : List ℕ) (f : OpenFault) → (f ≡ fault.Memory) ⊎ (opened_in no_labels (plan_of k.conf) (present_of k.conf) sizes (unread k.conf) ≡ Err f)
-    → IsWanted (admitted_by k sizes) (Err (only (status_of f))) ⊎ WantsMemory (admitted_by k sizes) (only (status_of f))
-unfolding admitted_by opened_by
-refused_opening k sizes f (inl memory) = inr (inl (ap (λ (x : OpenFault). only (status_of x)) memory))
-refused_opening k sizes f (inr e) = inl (wanted_err (admitted_by k sizes) (only (status_of f)) (rw e refl))
+pub refused_showing : (k : Asked) (sizes : List ℕ) (fronts : List Front) (f : OpenFault) → (f ≡ fault.Memory) ⊎ (opened_in (needs_of k) (plan_of k.conf) (present_of k.conf) sizes fronts ≡ Err f)
+    → RefusedHere (duty_for kind.Shown k sizes fronts) (only (status_of f))
+unfolding opened_by
+refused_showing k sizes fronts f (inl memory) = inr (ap (λ (x : OpenFault). only (status_of x)) memory)
+refused_showing k sizes fronts f (inr e) = inl (inl (wanted_err (duty_for kind.Shown k sizes fronts) (only (status_of f)) (rw e refl)))
 
 pub kind_fault : (f : OpenFault) → IsRefusal ⊥ (status_of f)
 kind_fault (fault.Label a b c d) = tt
 kind_fault (fault.Small a b c) = tt
 kind_fault fault.Memory = tt
+
+-- ## By what is made of the array
+
+duty_is : (k : Asked) (sizes : List ℕ) (fronts : List Front) (x : Kind) → kind_of k.command.action ≡ x → duty_by k sizes fronts ≡ duty_for x k sizes fronts
+unfolding duty_by
+duty_is k sizes fronts x e = ap (λ (y : Kind). duty_for y k sizes fronts) e
+
+pub refused_duty : (k : Asked) (sizes : List ℕ) (fronts : List Front) (x : Kind) (r : Refused) → kind_of k.command.action ≡ x → RefusedHere (duty_for x k sizes fronts) r → RefusedHere (duty_by k sizes fronts) r
+refused_duty k sizes fronts x r e h = subst (λ (w : Result Duty Refused). RefusedHere w r) (sym (duty_is k sizes fronts x e)) h
+
+-- what is to be done is what is wanted
+pub duty_wanted : (k : Asked) (sizes : List ℕ) (fronts : List Front) (d : declared_duty.Duty) → IsDutyOver k sizes fronts d → IsWanted (duty_by k sizes fronts) (Ok (duty_seen k d))
+duty_wanted k sizes fronts (duty.OnArray r) h =
+    let o = opened_seen r.opened in
+    let ready : IsReady k sizes fronts o = h.1.ready in
+    wanted_ok (duty_by k sizes fronts) (admitted_with k o) (duty_is k sizes fronts kind.Array h.0 ∙ array_is k sizes fronts o ready.opened) ready.kept ready.bound
+duty_wanted k sizes fronts (duty.Shows opened) h =
+    wanted_shown (duty_by k sizes fronts) k (opened_seen opened) (duty_is k sizes fronts kind.Shown h.0 ∙ shown h.1)
+  where
+    shown : opened_by k sizes fronts ≡ Ok (opened_seen opened) → duty_for kind.Shown k sizes fronts ≡ Ok (Shows k (opened_seen opened))
+    shown e = rw e refl
+duty_wanted k sizes fronts duty.OneLabel h = wanted_label (duty_by k sizes fronts) k (duty_is k sizes fronts kind.Label h)
+duty_wanted k sizes fronts duty.PrintConf h = wanted_conf (duty_by k sizes fronts) k (duty_is k sizes fronts kind.Conf h)

@@ -1,7 +1,8 @@
--- What is to be done with an array, or which refusal comes first, by words, texts, names and sizes.
-use Rattle.std.specs.Prelude.{◌≡◌, ◌⊎◌, ◌&&◌, ℕ, Bool, false, List, length, map, Option, Some, None, Result, Ok, Err, if◌then◌else◌, nat_lt}
+-- What is to be done, or which refusal comes first: by words, texts, names, sizes, and sector 0 of the devices.
+use Rattle.std.specs.Prelude.{◌≡◌, ◌&&◌, ℕ, Bool, false, List, length, map, Option, Some, None, Result, Ok, Err, if◌then◌else◌, nat_lt, slice_set}
 use Rattle.lay_core.specs.Layout.{Shape, blocks_in}
 use Rattle.eng_cols.specs.declared.column.Column.{Column}
+use Rattle.eng_cols.specs.declared.column.Column.TheVariants as column
 use Rattle.eng_cols.specs.declared.spot.Loss.{Loss}
 use Rattle.eng_cols.specs.Cols.{ColumnState, state_set}
 use Rattle.eng_cols.specs.Lost.{IsLost, NotLost}
@@ -10,15 +11,18 @@ use Rattle.raid_text.specs.Text.{Text}
 use Rattle.raid_script.specs.Asked.{Asked as Item}
 use Rattle.raid_script.specs.Drawn.{drawn}
 use Rattle.top_bay.specs.Told.{Told}
-use Rattle.top_bay.specs.Asked.{Asked, asked_in, names_of}
+use Rattle.top_bay.specs.Asked.{Asked, asked_in, names_for, names_of}
 use Rattle.top_bound.specs.Bound.{trace_sum}
+use Rattle.top_open.specs.declared.fronts.Front.{Front}
 use Rattle.top_open.specs.Opening.{Opened}
 use Rattle.top_status.specs.declared.status.Status.{Status}
 use Rattle.top_status.specs.declared.status.Status.TheVariants as status
 use Rattle.top_status.specs.Dead.{dead_columns}
-use Rattle.top_status.specs.Refusals.{Refused, ◌then◌, only}
+use Rattle.top_status.specs.Refusals.{Refused, ◌then◌}
 use Rattle.top_words.specs.Asked.{Action, Io, Sweep}
-use Rattle.top_duty.specs.Opening.{opened_by, sizes_in}
+use Rattle.top_duty.specs.declared.kind.Kind.{Kind}
+use Rattle.top_duty.specs.declared.kind.Kind.TheVariants as kind
+use Rattle.top_duty.specs.Opening.{kind_of, needs_of, opened_by, sizes_in}
 
 -- ## What is admitted
 
@@ -27,6 +31,20 @@ pub record Admitted : Type 0 where
   pub asked : Asked
   pub opened : Opened
   pub clients : List (List Item)
+
+-- Something is done with an array; or an array is shown; or the label of one device; or the configuration is printed.
+pub data Duty : Type 0 where
+  OnArray : (admitted : Admitted) → Duty
+  Shows : (asked : Asked) (opened : Opened) → Duty
+  OneLabel : (asked : Asked) → Duty
+  PrintConf : (asked : Asked) → Duty
+
+-- what was asked
+abbrev pub asked_of : Duty → Asked
+asked_of (OnArray a) = a.asked
+asked_of (Shows k o) = k
+asked_of (OneLabel k) = k
+asked_of (PrintConf k) = k
 
 -- the layout of the array, and its columns as they are opened
 abbrev pub layout_of : Admitted → Shape
@@ -42,6 +60,18 @@ states_of y columns = map (state_set y.stripes) columns
 abbrev pub states_in : Admitted → List ColumnState
 states_in a = states_of (layout_of a) (columns_of a)
 
+-- the column that the action fails is dead
+abbrev pub with_dead : Option ℕ → List Column → List Column
+with_dead None columns = columns
+with_dead (Some c) columns = slice_set columns c column.Dead
+
+-- the columns as the action makes them, by which it is judged whether the array is lost
+abbrev pub judged_columns : Admitted → List Column
+judged_columns a = with_dead (needs_of a.asked).excused (columns_of a)
+
+abbrev pub judged_states : Admitted → List ColumnState
+judged_states a = states_of (layout_of a) (judged_columns a)
+
 -- the items of the script, or those that are drawn for so many blocks
 unfoldable pub clients_by : Action → List (List Item) → ℕ → List (List Item)
 clients_by (Sweep seed clients ops workers) scripted blocks = drawn seed clients ops blocks
@@ -50,13 +80,20 @@ clients_by action scripted blocks = scripted
 abbrev pub admitted_with : Asked → Opened → Admitted
 admitted_with k o = record { asked = k; opened = o; clients = clients_by k.command.action k.clients (blocks_in (shape_of k.conf o.rows)) }
 
--- the array and the items, by what is asked and the sizes of the devices
-unfoldable pub admitted_by : Asked → List ℕ → Result Admitted Refused
-admitted_by k sizes = opened_by k.conf sizes then λ o. Ok (admitted_with k o)
+-- what is to be done by what is made of the array
+abbrev pub duty_for : Kind → Asked → List ℕ → List Front → Result Duty Refused
+duty_for kind.Array k sizes fronts = opened_by k sizes fronts then λ o. Ok (OnArray (admitted_with k o))
+duty_for kind.Shown k sizes fronts = opened_by k sizes fronts then λ o. Ok (Shows k o)
+duty_for kind.Label k sizes fronts = Ok (OneLabel k)
+duty_for kind.Conf k sizes fronts = Ok (PrintConf k)
 
--- the same, where neither words and texts nor names nor sizes are refused
-unfoldable pub admitted_in : {D : Type 0} → (D → ℕ) → Told D → List Text → Result Admitted Refused
-admitted_in size b words = asked_in b words then λ k. admitted_by k (sizes_in size b.home (names_of k.conf))
+-- the same by what is asked, and by sizes and fronts of the devices
+unfoldable pub duty_by : Asked → List ℕ → List Front → Result Duty Refused
+duty_by k sizes fronts = duty_for (kind_of k.command.action) k sizes fronts
+
+-- the same, where neither words and texts nor names are refused
+unfoldable pub duty_in : {D : Type 0} → (D → ℕ) → Told D → List Text → List Front → Result Duty Refused
+duty_in size b words fronts = asked_in b words then λ k. duty_by k (sizes_in size b.home (names_for k)) fronts
 
 -- ## What is refused though it is admitted
 
@@ -69,10 +106,14 @@ LossIs y cols (Some loss) = IsLost y cols loss
 abbrev pub beside_dead : Admitted → Status → Refused
 beside_dead a s = record { status = s; dead = dead_columns (columns_of a) }
 
+-- that of a lost array prints those that are dead as the action makes them
+abbrev pub lost_by : Admitted → Loss → Refused
+lost_by a loss = record { status = status.Lost loss.first loss.second loss.stripe; dead = dead_columns (judged_columns a) }
+
 -- the array may not be lost
 abbrev pub unless_lost : Admitted → Option Loss → Result Admitted Refused
 unless_lost a None = Ok a
-unless_lost a (Some loss) = Err (beside_dead a (status.Lost loss.first loss.second loss.stripe))
+unless_lost a (Some loss) = Err (lost_by a loss)
 
 -- whether a trace is kept
 abbrev pub traces : Action → Bool
@@ -90,12 +131,19 @@ is_past_bound a = is_past (layout_of a) a.asked a.clients
 abbrev pub unless_past : Admitted → Result Admitted Refused
 unless_past a = if is_past_bound a then Err (beside_dead a (status.Script 0 8)) else Ok a
 
--- What is to be done, or the first refusal: what is admitted, if it isn't lost, and its trace has room.
-pub record IsWanted (admitted wanted : Result Admitted Refused) : Type 0 where
-  pub loss : Option Loss
-  pub is_loss : (a : Admitted) → admitted ≡ Ok a → LossIs (layout_of a) (states_in a) loss
-  pub is : wanted ≡ (admitted then λ a. unless_lost a loss then λ kept. unless_past kept)
+-- an array that something is done with isn't lost, and its trace has room; nothing else is judged
+abbrev pub judged : Duty → Option Loss → Result Duty Refused
+judged (OnArray a) loss = unless_lost a loss then λ kept. unless_past kept then λ bound. Ok (OnArray bound)
+judged (Shows k o) loss = Ok (Shows k o)
+judged (OneLabel k) loss = Ok (OneLabel k)
+judged (PrintConf k) loss = Ok (PrintConf k)
 
--- Memory was wanted: before the array was opened no column is printed dead, and behind it those that are dead as it is opened.
-abbrev pub WantsMemory : Result Admitted Refused → Refused → Type 0
-WantsMemory admitted r = (r ≡ only status.Memory) ⊎ ((a : Admitted) × (admitted ≡ Ok a) × (r ≡ beside_dead a status.Memory))
+-- What is to be done, or the first refusal: the duty, if it is judged so.
+pub record IsWanted (duty wanted : Result Duty Refused) : Type 0 where
+  pub loss : Option Loss
+  pub is_loss : (a : Admitted) → duty ≡ Ok (OnArray a) → LossIs (layout_of a) (judged_states a) loss
+  pub is : wanted ≡ (duty then λ d. judged d loss)
+
+-- Memory was wanted behind the opening: those columns are printed dead that are so as the array is opened.
+abbrev pub WantsMemory : Result Duty Refused → Refused → Type 0
+WantsMemory duty r = (a : Admitted) × (duty ≡ Ok (OnArray a)) × (r ≡ beside_dead a status.Memory)

@@ -1,3 +1,5 @@
 pub mod Opening
 pub mod Duty
+pub mod Taken
+pub mod Fit
 pub mod Views

@@ -1,11 +1,12 @@
--- How an array without labels is opened, by its configuration and the sizes of its devices.
-use Rattle.std.specs.Prelude.{ℕ, Bool, true, false, List, [], ◌∷◌, length, map, replicate, Option, Some, None, Result, Ok, Err}
+-- How an array is opened: by what is asked, by the sizes of its devices, and by their labels.
+use Rattle.std.specs.Prelude.{ℕ, Bool, true, false, List, [], ◌∷◌, map, replicate, Option, Some, None, Result, Ok, Err}
 use Rattle.std.specs.Option.{option_map_or}
 use Rattle.blk_disk.specs.Devices.{at_home}
 use Rattle.raid_conf.specs.declared.conf.Conf.{Conf}
 use Rattle.raid_conf.specs.Layouts.{table_rows, table_stripes}
+use Rattle.raid_conf.specs.Parameters.{parameters_of}
 use Rattle.raid_text.specs.Text.{Text}
-use Rattle.top_bay.specs.Asked.{names_of}
+use Rattle.top_bay.specs.Asked.{Asked}
 use Rattle.top_open.specs.declared.fault.OpenFault.{OpenFault}
 use Rattle.top_open.specs.declared.fault.OpenFault.TheVariants as fault
 use Rattle.top_open.specs.declared.fronts.Front.{Front}
@@ -17,14 +18,80 @@ use Rattle.top_open.specs.Opening.{Opened, opened_in}
 use Rattle.top_status.specs.declared.status.Status.{Status}
 use Rattle.top_status.specs.declared.status.Status.TheVariants as status
 use Rattle.top_status.specs.Refusals.{Refused, only}
+use Rattle.top_words.specs.Asked.{Action, Io, Sweep, Show, Init, Check, Rewrite, Print, Fail, ShowLabel, Label, Rebuild}
+use Rattle.top_duty.specs.declared.kind.Kind.{Kind}
+use Rattle.top_duty.specs.declared.kind.Kind.TheVariants as kind
 
--- no label is read: the array is opened as one without labels
-abbrev pub no_labels : Needs
-no_labels = record { plain = true; labels = false; excused = None; own = false; writes = false }
+-- ## What is asked
 
--- what the configuration says of rows; no label is compared with it
+-- what an action makes of the array of its configuration: it is opened, and something is done with it; it is opened and shown; the label of one device is shown; or the configuration is printed
+abbrev pub kind_of : Action → Kind
+kind_of (Io beside workers) = kind.Array
+kind_of (Sweep seed clients ops workers) = kind.Array
+kind_of Show = kind.Shown
+kind_of Init = kind.Array
+kind_of Check = kind.Array
+kind_of Rewrite = kind.Array
+kind_of Print = kind.Conf
+kind_of (Fail comp) = kind.Array
+kind_of (ShowLabel comp) = kind.Label
+kind_of (Label serial) = kind.Array
+kind_of (Rebuild in_place comp beside workers) = kind.Array
+
+-- sector 0 of the devices is read: not where they get their first labels, nor where only the configuration is printed
+abbrev pub reads_fronts : Action → Bool
+reads_fronts (Io beside workers) = true
+reads_fronts (Sweep seed clients ops workers) = true
+reads_fronts Show = true
+reads_fronts Init = true
+reads_fronts Check = true
+reads_fronts Rewrite = true
+reads_fronts Print = false
+reads_fronts (Fail comp) = true
+reads_fronts (ShowLabel comp) = true
+reads_fronts (Label serial) = false
+reads_fronts (Rebuild in_place comp beside workers) = true
+
+-- the array is only looked at
+abbrev pub looks : Needs
+looks = record { plain = false; labels = false; excused = None; own = false; writes = false }
+
+-- its labels are written, where it has any
+abbrev pub writes : Needs
+writes = record { plain = false; labels = false; excused = None; own = false; writes = true }
+
+-- What an action asks of the opening: a column is failed of a labelled array alone, and its own device is refused for nothing. First labels are written without a look at those that there are.
+abbrev pub needs_for : Action → Option ℕ → Needs
+needs_for (Io beside workers) comp = writes
+needs_for (Sweep seed clients ops workers) comp = writes
+needs_for Show comp = looks
+needs_for Init comp = writes
+needs_for Check comp = looks
+needs_for Rewrite comp = writes
+needs_for Print comp = looks
+needs_for (Fail name) comp = record { plain = false; labels = true; excused = comp; own = false; writes = true }
+needs_for (ShowLabel name) comp = looks
+needs_for (Label serial) comp = record { plain = true; labels = false; excused = None; own = false; writes = false }
+needs_for (Rebuild in_place name beside workers) comp = looks
+
+abbrev pub needs_of : Asked → Needs
+needs_of k = needs_for k.command.action k.comp
+
+-- ## What it takes of the configuration
+
+-- what labels and rows are to be
 abbrev pub plan_of : Conf → Plan
-plan_of conf = record { unit = conf.unit; level = conf.level; b = 0; k = 0; r = 0; lambda = 0; spares = conf.spares; step = table_rows conf; stripes = table_stripes conf }
+plan_of conf = record {
+  unit = conf.unit;
+  level = conf.level;
+  b = (parameters_of conf.design).b;
+  k = (parameters_of conf.design).k;
+  r = (parameters_of conf.design).r;
+  lambda = (parameters_of conf.design).lambda;
+  spares = conf.spares;
+  step = table_rows conf;
+  stripes = table_stripes conf;
+}
 
 -- the name isn't that of an absent disk
 abbrev pub is_named : Text → Bool
@@ -35,6 +102,8 @@ is_named (b ∷ name) = true
 abbrev pub present_of : Conf → List Bool
 present_of conf = map is_named conf.disks
 
+-- ## And of the devices
+
 -- how many sectors these devices have, 0 where there is none
 abbrev pub sizes_of : {D : Type 0} → (D → ℕ) → List (Option D) → List ℕ
 sizes_of size ds = map (λ x. option_map_or size x 0) ds
@@ -43,9 +112,11 @@ sizes_of size ds = map (λ x. option_map_or size x 0) ds
 unfoldable pub sizes_in : {D : Type 0} → (D → ℕ) → (Text → Option D) → List Text → List ℕ
 sizes_in size home names = map (λ name. option_map_or size (at_home home (Some name)) 0) names
 
--- nothing is read of any device
-abbrev pub unread : Conf → List Front
-unread conf = replicate (length (names_of conf)) front.Away
+-- nothing is read of so many devices
+abbrev pub unread : ℕ → List Front
+unread n = replicate n front.Away
+
+-- ## The opening
 
 abbrev pub status_of : OpenFault → Status
 status_of (fault.Label column code found wanted) = status.Label column code found wanted
@@ -56,9 +127,9 @@ abbrev pub or_fault : Result Opened OpenFault → Result Opened Refused
 or_fault (Ok opened) = Ok opened
 or_fault (Err fault) = Err (only (status_of fault))
 
--- rows and columns by the sizes of the devices, or the first component that is too small
-unfoldable pub opened_by : Conf → List ℕ → Result Opened Refused
-opened_by conf sizes = or_fault (opened_in no_labels (plan_of conf) (present_of conf) sizes (unread conf))
+-- rows, columns and the newest label by sizes and fronts of the devices, or why the array is refused
+unfoldable pub opened_by : Asked → List ℕ → List Front → Result Opened Refused
+opened_by k sizes fronts = or_fault (opened_in (needs_of k) (plan_of k.conf) (present_of k.conf) sizes fronts)
 
 -- so many rows are those of whole tables of the configuration
 abbrev pub AreRows : Conf → ℕ → Type 0

@@ -1,42 +1,86 @@
 //! What the words say is asked for, taken and made ready.
-ghost use Rattle.std.specs.Prelude.{◌≡◌, ◌⊎◌, ◌≤◌, ℕ, List, All, Ok, Err, length, vec_len, IfOk, IfErr, OnErr};
+ghost use Rattle.std.specs.Prelude.{◌≡◌, ◌⊎◌, ◌≤◌, ℕ, List, Ok, Err, length, vec_len, IfOk, IfErr, OnErr};
 ghost use Rattle.blk_disk.specs.Disk.{Rose};
-ghost use Rattle.lay_core.specs.Layout.{blocks_in};
-ghost use Rattle.raid_conf.specs.Layouts.{shape_of};
-ghost use Rattle.raid_script.specs.Asked.{AreFew, IsAsked};
+ghost use Rattle.blk_disk.specs.Devices.{Changes, StaysIf};
 ghost use Rattle.top_words.specs.Asked.{command_of};
 ghost use Rattle.top_words.specs.Views.{action_seen, command_seen};
-ghost use Rattle.top_bay.specs.Asked.{names_of};
-ghost use Rattle.top_bay.specs.Lent.{AreOut, IsLent};
+ghost use Rattle.top_bay.specs.Asked.{names_for};
+ghost use Rattle.top_bay.specs.Lent.{AreOut};
 ghost use Rattle.top_bay.specs.Told.{Told};
 ghost use Rattle.top_bay.specs.Views.{IsWithin, asked_seen};
-ghost use Rattle.top_open.specs.Opening.{opened_seen};
 ghost use Rattle.top_status.specs.Refusals.{only};
-ghost use Rattle.top_duty.specs.Duty.{IsWanted, admitted_in, admitted_with};
-ghost use Rattle.top_duty.specs.Opening.{sizes_of};
-ghost use Rattle.top_duty.specs.Views.{IsReady, IsRefusal, RefusedBy, drawn_by, items_seen};
+ghost use Rattle.top_duty.specs.Duty.{IsWanted, duty_in};
+ghost use Rattle.top_duty.specs.Opening.{reads_fronts, sizes_of};
+ghost use Rattle.top_duty.specs.Taken.{IsTaken, Reads, RefusedFor, RefusedOver};
+ghost use Rattle.top_duty.specs.Views.{IsDutyOver, IsFitFor, IsRefusal, duty_seen};
 
-use crate::preparing::{Ready, prepare};
-use lay_core::Layout;
+use crate::duty::Duty;
+use crate::looking::{Seen, look};
+use crate::preparing::prepare;
+use blk_disk::Disk;
 use raid_bay::{Bay, Name};
-use raid_conf::AnyLayout;
 use std::alloc::Global;
 use top_bay::{Asked, Taken, ask, put_all};
+use top_open::Front;
 use top_status::{Refusal, Status};
 
-/// What is asked for, the devices as they were taken, and the array.
+/// What is asked for, the devices as they were looked at, and what is to be done.
 pub struct Admitted<'a, D> {
     /// The command, and what the texts that it names say.
     pub asked: Asked<'a>,
     /// The devices: those of the columns' disks, and then the spares; None where a disk is absent.
     pub devices: Vec<Option<D>>,
-    /// The array.
-    pub ready: Ready,
+    /// How many sectors each device has, 0 where there is none.
+    pub sizes: Vec<u64>,
+    /// Sector 0 of each device; away where the action doesn't ask for it.
+    pub fronts: Vec<Front>,
+    /// What is to be done.
+    pub duty: Duty,
 }
 
-/// What the words ask for, the devices of the configuration, which the bay has then lent, and the array that they make.
+/// What was seen of devices, and what is to be done.
+#[derive(Drop)]
+struct Judged {
+    sizes: Vec<u64>,
+    fronts: Vec<Front>,
+    duty: Duty,
+}
+
+// Looks at the devices, and makes ready what is asked for.
+fn judge<D: Disk>(
+    alloc: Global,
+    asked: &Asked<'_>,
+    devices: &mut [Option<D>],
+) -> Result<Judged, Refusal>
+    requires asked { IsWithin (asked_seen asked.now) }
+    requires many { length devices.old ≡ length (names_for (asked_seen asked.now)) }
+    ensures read { IfOk result (λ j. Reads D.Disk (reads_fronts (action_seen asked.now.command.action)) devices.old devices.new j.fronts.items) }
+    ensures sizes { IfOk result (λ j. j.sizes.items ≡ sizes_of D.size devices.new) }
+    ensures duty { IfOk result (λ j. IsDutyOver (asked_seen asked.now) (sizes_of D.size devices.new) j.fronts.items j.duty) }
+    ensures fit { IfOk result (λ j. IsFitFor D.Disk (asked_seen asked.now) devices.new j.duty) }
+    ensures refused { IfErr result (RefusedOver D.Disk (asked_seen asked.now) devices.old devices.new) }
+    ensures kind { IfErr result (λ r. IsRefusal ⊥ r.status) }
+    ensures stays { Changes D.Disk (λ _ _. ⊥) devices.old devices.new }
+{
+    let Seen { sizes, fronts } = match look(alloc, asked.command.action, devices) {
+        Ok(seen) => seen,
+        Err(_) => return Err(Refusal::only(alloc, Status::Memory)),
+    };
+    match prepare(alloc, asked, &sizes, &fronts) {
+        Ok(duty) => Ok(Judged {
+            sizes,
+            fronts,
+            duty,
+        }),
+        Err(refusal) => Err(refusal),
+    }
+}
+
+/// What the words ask for, the devices that it goes by, which the bay has then lent, and what is to be done.
 ///
-/// It is refused as [`top_bay::ask`] and [`prepare`] say, in this order; the bay then has all that it had.
+/// Refused are, in this order, what [`top_bay::ask`] refuses; labels and sizes that [`top_open::open_array`] refuses; an array
+/// that is lost by its columns, as the action makes them; and a trace that would pass its bound. What is only shown or printed
+/// isn't judged for the last two. Where it is refused, the bay has all devices again, of which nothing but sector 0 was read.
 pub fn admit<'a, B: Bay>(
     alloc: Global,
     words: &'a [Name],
@@ -45,51 +89,62 @@ pub fn admit<'a, B: Bay>(
     ensures command { IfOk result (λ a. command_of words.entry.now ≡ Ok (command_seen a.asked.command)) }
     ensures within { IfOk result (λ a. IsWithin (asked_seen a.asked)) }
     ensures wanted { IfOk result (λ a. B.tells → IsWanted
-        (admitted_in B.D.size
+        (duty_in B.D.size
         (record {
           tells = B.tells;
           rose = Rose (B.faults bay.old) (B.faults bay.new);
           texts = B.text_of bay.old;
           home = B.home bay.old;
           after = B.home bay.new;
-        }) words.entry.now)
-        (Ok (admitted_with (asked_seen a.asked) (opened_seen a.ready.opened)))) }
-    ensures ready { IfOk result (λ a. IsReady (asked_seen a.asked) (sizes_of B.D.size a.devices.items) (opened_seen a.ready.opened)) }
-    ensures shape { IfOk result (λ a. ⟦<AnyLayout as Layout>⟧.shape a.ready.layout ≡ shape_of a.asked.conf a.ready.opened.rows) }
-    ensures drawn { IfOk result (λ a. items_seen a.ready.drawn.items ≡ drawn_by (action_seen a.asked.command.action)
-        (blocks_in (shape_of a.asked.conf a.ready.opened.rows))) }
-    ensures asked { IfOk result (λ a. (columns graphs : ℕ) → All (All (IsAsked columns graphs)) (items_seen a.ready.drawn.items)) }
-    ensures few { IfOk result (λ a. AreFew (items_seen a.ready.drawn.items)) }
-    ensures lent { IfOk result (λ a. B.tells → IsLent (B.home bay.old) (B.home bay.new) (names_of a.asked.conf) a.devices.items) }
-    ensures out { IfOk result (λ a. (vec_len a.devices ≡ length (names_of a.asked.conf))
-        × AreOut (B.is_out bay.new) (names_of a.asked.conf) a.devices.items) }
-    ensures refused { IfErr result (λ r. B.tells → RefusedBy (Rose (B.faults bay.old) (B.faults bay.new))
-        (admitted_in B.D.size
+        }) words.entry.now a.fronts.items)
+        (Ok (duty_seen (asked_seen a.asked) a.duty))) }
+    ensures taken { IfOk result (λ a. IsTaken B.D.Disk
         (record {
           tells = B.tells;
           rose = Rose (B.faults bay.old) (B.faults bay.new);
           texts = B.text_of bay.old;
           home = B.home bay.old;
           after = B.home bay.new;
-        }) words.entry.now) r) }
+        }) (asked_seen a.asked) a.devices.items a.fronts.items) }
+    ensures sizes { IfOk result (λ a. a.sizes.items ≡ sizes_of B.D.size a.devices.items) }
+    ensures duty { IfOk result (λ a. IsDutyOver (asked_seen a.asked) (sizes_of B.D.size a.devices.items) a.fronts.items a.duty) }
+    ensures fit { IfOk result (λ a. IsFitFor B.D.Disk (asked_seen a.asked) a.devices.items a.duty) }
+    ensures out { IfOk result (λ a. (vec_len a.devices ≡ length (names_for (asked_seen a.asked)))
+        × AreOut (B.is_out bay.new) (names_for (asked_seen a.asked)) a.devices.items) }
+    ensures refused { IfErr result (λ r. B.tells → RefusedFor B.D.Disk
+        (record {
+          tells = B.tells;
+          rose = Rose (B.faults bay.old) (B.faults bay.new);
+          texts = B.text_of bay.old;
+          home = B.home bay.old;
+          after = B.home bay.new;
+        }) words.entry.now r) }
     ensures usage { IfErr result (λ r. (i : ℕ) → command_of words.entry.now ≡ Err i →
         (r ≡ only (Status.Usage i)) ⊎ (r ≡ only Status.Memory)) }
     ensures kind { IfErr result (λ r. IsRefusal (Rose (B.faults bay.old) (B.faults bay.new)) r.status) }
-    ensures same { OnErr result (B.tells → (n : List ℕ) → B.home bay.new n ≡ B.home bay.old n) }
+    ensures same { OnErr result (B.tells → (n : List ℕ) → StaysIf B.D.Disk (λ _. ⊥) (B.home bay.old n) (B.home bay.new n)) }
     ensures later { B.faults bay.old ≤ B.faults bay.new }
 {
-    let Taken { asked, devices } = match ask(alloc, words, bay) {
+    let Taken { asked, mut devices } = match ask(alloc, words, bay) {
         Ok(taken) => taken,
         Err(status) => return Err(Refusal::only(alloc, status)),
     };
-    match prepare(alloc, &asked, &devices) {
-        Ok(ready) => Ok(Admitted {
+    match judge(alloc, &asked, devices.as_mut_slice()) {
+        Ok(
+            Judged {
+                sizes,
+                fronts,
+                duty,
+            },
+        ) => Ok(Admitted {
             asked,
             devices,
-            ready,
+            sizes,
+            fronts,
+            duty,
         }),
         Err(refusal) => {
-            put_all(bay, &asked.conf, devices);
+            put_all(bay, &asked.conf, asked.command.action, devices);
             Err(refusal)
         }
     }

@@ -1,9 +1,10 @@
-//! Whether an array may be run.
-ghost use Rattle.std.specs.Prelude.{◌≡◌, ◌≤◌, ◌<◌, length, count_by, IfOk, IfErr};
-ghost use Rattle.eng_cols.specs.Cols.{is_set_filling, is_set_spread};
-ghost use Rattle.top_words.specs.Asked.{beside_of};
+//! Whether something may be done with an array.
+ghost use Rattle.std.specs.Prelude.{◌≡◌, ◌≤◌, ◌<◌, ℕ, length, count_by, IfOk, IfErr};
+ghost use Rattle.std.specs.Option.{ForSome};
+ghost use Rattle.eng_cols.specs.Cols.{IsFor, is_set_filling, is_set_spread};
 ghost use Rattle.top_words.specs.Views.{action_seen};
-ghost use Rattle.top_duty.specs.Duty.{LossIs, states_of, traces};
+ghost use Rattle.top_duty.specs.Duty.{LossIs, states_of, traces, with_dead};
+ghost use Rattle.top_duty.specs.Views.{with_killed};
 
 use eng_cols::{Cols, Column, Loss};
 use lay_core::Layout;
@@ -11,23 +12,46 @@ use std::alloc::Global;
 use top_status::Status;
 use top_words::Action;
 
-/// By what the array is lost as its columns are opened, if it is.
+/// Room for the columns of a layout.
+pub(crate) fn judge_for<L: Layout>(alloc: Global, layout: &L) -> Result<Cols, Status>
+    ensures judge { IfOk result (IsFor (L.shape layout.now)) }
+    ensures memory { IfErr result (λ status. status ≡ Status.Memory) }
+{
+    match Cols::with_room(alloc, layout.columns(), layout.stripes()) {
+        Ok(cols) => Ok(cols),
+        Err(_) => Err(Status::Memory),
+    }
+}
+
+// Makes the column dead, if there is one.
+fn kill_if(judge: &mut Cols, column: Option<u32>)
+    requires { ForSome column (λ c. c < length judge.old.states) }
+    ensures { judge.new ≡ record judge.old { states = with_killed column judge.old.states } }
+{
+    match column {
+        Some(column) => judge.kill(column),
+        None => {}
+    }
+}
+
+/// By what the array is lost that has these columns, of which this one is made dead.
 pub(crate) fn loss_of<L: Layout>(
-    alloc: Global,
+    judge: &mut Cols,
     layout: &L,
     columns: &[Column],
-) -> Result<Option<Loss>, Status>
+    dead: Option<u32>,
+) -> Option<Loss>
+    requires judge { IsFor (L.shape layout.now) judge.old }
     requires columns { length columns.now ≡ (L.shape layout.now).columns }
     requires filling { count_by is_set_filling columns.now ≤ 1 }
     requires spread { count_by is_set_spread columns.now ≤ 1 }
-    ensures loss { IfOk result (LossIs (L.shape layout.now) (states_of (L.shape layout.now) columns.now)) }
-    ensures memory { IfErr result (λ status. status ≡ Status.Memory) }
+    requires dead { ForSome dead (λ c. c < length columns.now) }
+    ensures loss { LossIs (L.shape layout.now) (states_of (L.shape layout.now) (with_dead dead columns.now)) result }
+    ensures judge { IsFor (L.shape layout.now) judge.new }
 {
-    let Ok(mut cols) = Cols::with_room(alloc, layout.columns(), layout.stripes()) else {
-        return Err(Status::Memory);
-    };
-    cols.set(layout, columns);
-    Ok(cols.lost(layout))
+    judge.set(layout, columns);
+    kill_if(judge, dead);
+    judge.lost(layout)
 }
 
 /// Whether a trace is kept.

@@ -1,22 +1,28 @@
 //! What is to be done with an array, before anything of it is written: its opening, its layout, the items of its clients, and
 //! whether it is refused.
 //!
-//! [`admit`] asks for what the words say, sizes the devices, and judges the array. Behind the refusals of `top_bay` come, in
-//! this order, a component that is too small, an array that is lost by its columns, and a trace that would pass its bound.
-//! What is refused is put back.
+//! [`admit`] asks for what the words say, looks at the devices, and judges the array. Behind the refusals of `top_bay` come, in
+//! this order, what the labels and sizes of the devices call for, an array that is lost by its columns, and a trace that would
+//! pass its bound. What is refused is put back.
 #![tactic(auto)]
 
 mod admitting;
 mod clients;
+mod duty;
 mod judge;
+mod kind;
+mod looking;
+mod needs;
 mod opening;
 mod plan;
 mod preparing;
 
 pub use admitting::{Admitted, admit};
 pub use clients::choose;
+pub use duty::{Duty, Ready};
 pub use judge::traces;
-pub use preparing::{Ready, prepare};
+pub use kind::Kind;
+pub use plan::plan_of;
 
 #[cfg(test)]
 mod tests;

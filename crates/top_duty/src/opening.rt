@@ -1,36 +1,37 @@
-//! An array without labels is opened.
-ghost use Rattle.std.specs.Prelude.{◌≡◌, ◌≤◌, length};
+//! An array is opened.
+ghost use Rattle.std.specs.Prelude.{◌≡◌, ◌≤◌, ◌+◌, length};
 ghost use Rattle.raid_conf.specs.Form.{IsConf};
+ghost use Rattle.top_bay.specs.Views.{asked_seen};
 ghost use Rattle.top_open.specs.Opening.{Opens, opened_in};
-ghost use Rattle.top_duty.specs.Opening.{no_labels, plan_of, present_of, sizes_of, status_of, unread};
+ghost use Rattle.top_duty.specs.Opening.{needs_of, plan_of, present_of, status_of};
 
-use crate::plan::{no_labels, plan_of, present_of, sizes_of, unread};
-use blk_disk::Disk;
-use raid_conf::Conf;
+use crate::needs::needs_of;
+use crate::plan::{plan_of, present_of};
 use std::alloc::Global;
-use top_open::{OpenFault, Opened, open_array};
+use top_bay::Asked;
+use top_open::{Front, OpenFault, Opened, open_array};
 use top_status::Status;
 
-/// Rows and columns, by the sizes of the devices.
-pub(crate) fn open<D: Disk>(
+/// Rows, columns and the newest label, by sizes and fronts of the devices.
+pub(crate) fn open(
     alloc: Global,
-    conf: &Conf,
-    devices: &[Option<D>],
+    asked: &Asked<'_>,
+    sizes: &[u64],
+    fronts: &[Front],
 ) -> Result<Opened, OpenFault>
-    requires { IsConf conf.now }
-    ensures { Opens result (opened_in no_labels (plan_of conf.now)
-        (present_of conf.now) (sizes_of D.size devices.now) (unread conf.now)) }
+    requires conf { IsConf asked.now.conf }
+    requires fronts { length fronts.now ≡ asked.now.conf.columns + asked.now.conf.spares }
+    ensures { Opens result (opened_in (needs_of (asked_seen asked.now)) (plan_of asked.now.conf)
+        (present_of asked.now.conf) sizes.now fronts.now) }
 {
-    let present = present_of(alloc, conf)?;
-    let sizes = sizes_of(alloc, devices)?;
-    let fronts = unread(alloc, conf)?;
+    let present = present_of(alloc, &asked.conf)?;
     open_array(
         alloc,
-        &no_labels(),
-        &plan_of(conf),
+        &needs_of(asked),
+        &plan_of(&asked.conf),
         &present,
-        &sizes,
-        &fronts,
+        sizes,
+        fronts,
     )
 }
 

@@ -1,40 +1,27 @@
-//! What is asked of the opening of an array without labels.
+//! What the opening takes of the configuration, and of the sizes of the devices.
 ghost use Rattle.std.specs.Prelude.{◌≡◌, ℕ, length, map, replicate, IfOk};
 ghost use Rattle.std.specs.Option.{option_map_or};
 ghost use Rattle.raid_conf.specs.Form.{IsConf};
-ghost use Rattle.top_bay.specs.Asked.{names_of};
-ghost use Rattle.top_duty.specs.Opening.{is_named, no_labels, plan_of, present_of, sizes_of, unread};
+ghost use Rattle.top_duty.specs.Opening.{is_named, plan_of, present_of, sizes_of, unread};
 
 use blk_disk::Disk;
-use raid_conf::{Conf, table_rows, table_stripes};
+use raid_conf::{Conf, design_parameters, table_rows, table_stripes};
 use std::alloc::{AllocError, Global};
-use top_open::{Front, Needs, Plan};
+use top_open::{Front, Plan};
 
-/// No label is read.
-pub(crate) fn no_labels() -> Needs
-    ensures { result ≡ no_labels }
-{
-    Needs {
-        plain: true,
-        labels: false,
-        excused: None,
-        own: false,
-        writes: false,
-    }
-}
-
-/// What the configuration says of rows.
-pub(crate) fn plan_of(conf: &Conf) -> Plan
+/// What the configuration says of labels and rows.
+pub fn plan_of(conf: &Conf) -> Plan
     requires { IsConf conf.now }
     ensures { result ≡ plan_of conf.now }
 {
+    let design = design_parameters(conf);
     Plan {
         unit: conf.unit,
         level: u32::from(conf.level),
-        b: 0,
-        k: 0,
-        r: 0,
-        lambda: 0,
+        b: design.b,
+        k: design.k,
+        r: design.r,
+        lambda: design.lambda,
         spares: conf.spares,
         step: table_rows(conf),
         stripes: table_stripes(conf),
@@ -83,13 +70,12 @@ pub(crate) fn sizes_of<D: Disk>(
     Ok(sizes)
 }
 
-/// Nothing is read of any device.
-pub(crate) fn unread(alloc: Global, conf: &Conf) -> Result<Vec<Front>, AllocError>
-    requires { IsConf conf.now }
-    ensures { IfOk result (λ fronts. fronts.items ≡ unread conf.now) }
+/// Nothing is read of so many devices.
+pub(crate) fn unread(alloc: Global, count: usize) -> Result<Vec<Front>, AllocError>
+    ensures { IfOk result (λ fronts. fronts.items ≡ unread count) }
 {
     let mut fronts = Vec::new(alloc);
-    for _ in 0..conf.disks.len() + conf.spare_names.len() {
+    for _ in 0..count {
         fronts.push(Front::Away)?;
     }
     Ok(fronts)

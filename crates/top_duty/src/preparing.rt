@@ -1,42 +1,42 @@
 //! What is asked for is made ready, or refused.
-ghost use Rattle.std.specs.Prelude.{◌≡◌, ◌⊎◌, ℕ, false, All, length, count_by, Err, IfOk, IfErr, OnOk};
-ghost use Rattle.eng_cols.specs.Cols.{is_set_filling, is_set_spread};
+ghost use Rattle.std.specs.Prelude.{◌≡◌, ◌⊎◌, ◌≤◌, ◌<◌, ◌*◌, ◌+◌, ℕ, false, All, length, count_by, Ok, Err, IfOk, IfErr, OnOk};
+ghost use Rattle.std.specs.Option.{ForSome};
+ghost use Rattle.eng_cols.specs.Cols.{IsFor, is_set_filling, is_set_spread};
 ghost use Rattle.eng_cols.specs.Lost.{NotLost};
 ghost use Rattle.raid_conf.specs.Form.{IsConf};
-ghost use Rattle.lay_core.specs.Layout.{blocks_in};
 ghost use Rattle.raid_conf.specs.Layouts.{shape_of};
 ghost use Rattle.top_open.specs.Opening.{opened_seen};
+ghost use Rattle.top_bay.specs.Asked.{names_for};
 ghost use Rattle.top_bay.specs.Views.{IsWithin, asked_seen};
-ghost use Rattle.raid_script.specs.Asked.{AreFew, IsAsked};
-ghost use Rattle.top_words.specs.Views.{action_seen};
-ghost use Rattle.top_duty.specs.Duty.{IsWanted, WantsMemory, admitted_by, admitted_with, is_past, is_past_bound, layout_of, states_in};
-ghost use Rattle.top_duty.specs.Opening.{AreRows, sizes_of};
-ghost use Rattle.top_duty.specs.Views.{IsReady, IsRefusal, RefusedAfter, RefusedIf, drawn_by, items_seen};
+ghost use Rattle.top_duty.specs.declared.kind.Kind.TheVariants as kind;
+ghost use Rattle.top_duty.specs.Duty.{admitted_with, duty_by, duty_for, is_past, is_past_bound, judged_states, layout_of, with_dead};
+ghost use Rattle.top_duty.specs.Opening.{AreRows, kind_of, needs_of, opened_by};
+ghost use Rattle.top_duty.specs.Views.{IsDutyOver, IsMade, IsPrepared, IsRefusal, RefusedAfter, RefusedHere, RefusedIf, dead_beside};
 
 use crate::clients::draw;
-use crate::judge::{loss_of, traces};
+use crate::duty::{Duty, Ready};
+use crate::judge::{judge_for, loss_of, traces};
+use crate::kind::{Kind, kind_of};
+use crate::needs::needs_of;
 use crate::opening::{open, status_of};
-use blk_disk::Disk;
-use eng_cols::Column;
+use eng_cols::{Cols, Column};
 use eng_world::Item;
 use lay_core::{Layout, blocks};
 use lay_design::designs_have_no_fault;
 use raid_conf::{AnyFault, AnyLayout, Conf};
+use raid_recon::Room;
 use std::alloc::Global;
 use top_bay::Asked;
 use top_bound::trace_fits;
-use top_open::Opened;
+use top_open::{Front, Opened};
 use top_status::{Refusal, Status};
 
-/// An array that may be run.
-#[derive(Drop)]
-pub struct Ready {
-    /// Rows and columns.
-    pub opened: Opened,
-    /// The layout over so many rows.
-    pub layout: AnyLayout,
-    /// The items that are drawn, of a sweep; else none.
-    pub drawn: Vec<Vec<Item>>,
+/// What an array needs beside its columns.
+struct Parts {
+    layout: AnyLayout,
+    drawn: Vec<Vec<Item>>,
+    judge: Cols,
+    room: Room,
 }
 
 // The status of a fault, which is want of memory.
@@ -76,44 +76,53 @@ fn is_past<L: Layout>(layout: &L, asked: &Asked<'_>) -> bool
     !trace_fits(layout, &asked.book, devices, &asked.clients)
 }
 
-// Why the array may not be run, if it may not.
-fn refusal<L: Layout>(
-    alloc: Global,
-    layout: &L,
-    asked: &Asked<'_>,
-    columns: &[Column],
-) -> Option<Status>
-    requires asked { IsWithin (asked_seen asked.now) }
-    requires columns { length columns.now ≡ (L.shape layout.now).columns }
-    requires filling { count_by is_set_filling columns.now ≡ 0 }
-    requires spread { count_by is_set_spread columns.now ≡ 0 }
-    ensures { RefusedIf (L.shape layout.now) (asked_seen asked.now) columns.now result }
+// Room for two units of so many sectors.
+fn room_for(alloc: Global, unit: u32) -> Result<Room, Status>
+    requires { unit ≤ 128 }
+    ensures room { IfOk result (λ room. room ≡ 1024 * unit) }
+    ensures memory { IfErr result (λ status. status ≡ Status.Memory) }
 {
-    match loss_of(alloc, layout, columns) {
-        Ok(None) => is_past(layout, asked).then_some(Status::Script(0, 8)),
-        Ok(Some(loss)) => Some(Status::of_loss(Some(loss))),
-        Err(status) => Some(status),
+    match Room::open(alloc, 1024 * unit) {
+        Ok(room) => Ok(room),
+        Err(_) => Err(Status::Memory),
     }
 }
 
-// Layout and items of an array that was opened.
-fn make(
-    alloc: Global,
+// Why nothing may be done with the array, if that is so. This column is made dead.
+fn refusal<L: Layout>(
+    judge: &mut Cols,
+    layout: &L,
     asked: &Asked<'_>,
-    opened: &Opened,
-) -> Result<(AnyLayout, Vec<Vec<Item>>), Status>
+    columns: &[Column],
+    dead: Option<u32>,
+) -> Option<Status>
+    requires asked { IsWithin (asked_seen asked.now) }
+    requires judge { IsFor (L.shape layout.now) judge.old }
+    requires columns { length columns.now ≡ (L.shape layout.now).columns }
+    requires filling { count_by is_set_filling columns.now ≤ 1 }
+    requires spread { count_by is_set_spread columns.now ≤ 1 }
+    requires dead { ForSome dead (λ c. c < length columns.now) }
+    ensures refused { RefusedIf (L.shape layout.now) (asked_seen asked.now) (with_dead dead columns.now) result }
+    ensures judge { IsFor (L.shape layout.now) judge.new }
+{
+    match loss_of(judge, layout, columns, dead) {
+        None => is_past(layout, asked).then_some(Status::Script(0, 8)),
+        Some(loss) => Some(Status::of_loss(Some(loss))),
+    }
+}
+
+// What an array needs that was opened.
+fn make(alloc: Global, asked: &Asked<'_>, opened: &Opened) -> Result<Parts, Status>
     requires asked { IsWithin (asked_seen asked.now) }
     requires rows { AreRows asked.now.conf opened.now.rows }
     requires columns { length opened.now.columns.items ≡ asked.now.conf.columns }
-    requires filling { count_by is_set_filling opened.now.columns.items ≡ 0 }
-    requires spread { count_by is_set_spread opened.now.columns.items ≡ 0 }
-    ensures shape { IfOk result (λ made. ⟦<AnyLayout as Layout>⟧.shape made.0 ≡ shape_of asked.now.conf opened.now.rows) }
-    ensures drawn { IfOk result (λ made. items_seen made.1.items ≡ drawn_by (action_seen asked.now.command.action)
-        (blocks_in (shape_of asked.now.conf opened.now.rows))) }
-    ensures asked { IfOk result (λ made. (columns graphs : ℕ) → All (All (IsAsked columns graphs)) (items_seen made.1.items)) }
-    ensures few { IfOk result (λ made. AreFew (items_seen made.1.items)) }
+    requires filling { count_by is_set_filling opened.now.columns.items ≤ 1 }
+    requires spread { count_by is_set_spread opened.now.columns.items ≤ 1 }
+    requires dead { ForSome (needs_of (asked_seen asked.now)).excused (λ c. c < asked.now.conf.columns) }
+    ensures made { IfOk result (λ parts. IsMade (asked_seen asked.now) (opened_seen opened.now)
+        parts.layout parts.drawn.items parts.judge parts.room) }
     ensures kept { OnOk result (NotLost (layout_of (admitted_with (asked_seen asked.now) (opened_seen opened.now)))
-        (states_in (admitted_with (asked_seen asked.now) (opened_seen opened.now)))) }
+        (judged_states (admitted_with (asked_seen asked.now) (opened_seen opened.now)))) }
     ensures bound { OnOk result (is_past_bound (admitted_with (asked_seen asked.now) (opened_seen opened.now)) ≡ false) }
     ensures refused { IfErr result (RefusedAfter (admitted_with (asked_seen asked.now) (opened_seen opened.now))) }
 {
@@ -121,48 +130,135 @@ fn make(
         Ok(layout) => layout,
         Err(status) => return Err(status),
     };
-    match refusal(alloc, &layout, asked, &opened.columns) {
+    let mut judge = match judge_for(alloc, &layout) {
+        Ok(judge) => judge,
+        Err(status) => return Err(status),
+    };
+    let dead = needs_of(asked).excused;
+    match refusal(&mut judge, &layout, asked, &opened.columns, dead) {
         Some(status) => return Err(status),
         None => {}
     }
-    match draw(alloc, asked.command.action, blocks(&layout)) {
-        Ok(drawn) => Ok((layout, drawn)),
+    let drawn = match draw(alloc, asked.command.action, blocks(&layout)) {
+        Ok(drawn) => drawn,
+        Err(status) => return Err(status),
+    };
+    match room_for(alloc, asked.conf.unit) {
+        Ok(room) => Ok(Parts {
+            layout,
+            drawn,
+            judge,
+            room,
+        }),
         Err(status) => Err(status),
     }
 }
 
-/// Makes what is asked for ready to be run over these devices, of which it looks at the sizes alone.
-///
-/// Refused are, in this order, the first component that is too small; an array that is lost by its columns; and a trace that
-/// would pass its bound. Memory may be wanted at any point. Behind the opening the columns that are dead are printed.
-#[tactic(auto, unfolding(crate::specs::Duty::admitted_by, crate::specs::Opening::opened_by))]
-pub fn prepare<D: Disk>(
+// The columns, of which this one is made dead.
+fn with_dead(mut columns: Vec<Column>, dead: Option<u32>) -> Vec<Column>
+    requires { ForSome dead (λ c. c < length columns.items) }
+    ensures { result.items ≡ with_dead dead columns.items }
+{
+    match dead {
+        Some(column) => columns[column as usize] = Column::Dead,
+        None => {}
+    }
+    columns
+}
+
+// A refusal beside the columns that are dead as the array was opened; of a lost array as the action makes them.
+fn refuse(columns: Vec<Column>, dead: Option<u32>, status: Status) -> Refusal
+    requires { ForSome dead (λ c. c < length columns.items) }
+    ensures { result ≡ record { status = status; dead = dead_beside dead columns.items status } }
+{
+    match &status {
+        Status::Lost { .. } => Refusal::beside(with_dead(columns, dead), status),
+        _ => Refusal::beside(columns, status),
+    }
+}
+
+// Opens an array, and makes it ready.
+fn make_ready(
     alloc: Global,
     asked: &Asked<'_>,
-    devices: &[Option<D>],
+    sizes: &[u64],
+    fronts: &[Front],
 ) -> Result<Ready, Refusal>
-    requires { IsWithin (asked_seen asked.now) }
-    ensures ready { IfOk result (λ ready. IsReady (asked_seen asked.now) (sizes_of D.size devices.now) (opened_seen ready.opened)) }
-    ensures shape { IfOk result (λ ready. ⟦<AnyLayout as Layout>⟧.shape ready.layout ≡ shape_of asked.now.conf ready.opened.rows) }
-    ensures rows { IfOk result (λ ready. AreRows asked.now.conf ready.opened.rows) }
-    ensures drawn { IfOk result (λ ready. items_seen ready.drawn.items ≡ drawn_by (action_seen asked.now.command.action)
-        (blocks_in (shape_of asked.now.conf ready.opened.rows))) }
-    ensures asked { IfOk result (λ ready. (columns graphs : ℕ) → All (All (IsAsked columns graphs)) (items_seen ready.drawn.items)) }
-    ensures few { IfOk result (λ ready. AreFew (items_seen ready.drawn.items)) }
-    ensures refused { IfErr result (λ r. IsWanted (admitted_by (asked_seen asked.now) (sizes_of D.size devices.now)) (Err r)
-        ⊎ WantsMemory (admitted_by (asked_seen asked.now) (sizes_of D.size devices.now)) r) }
+    requires asked { IsWithin (asked_seen asked.now) }
+    requires fronts { length fronts.now ≡ asked.now.conf.columns + asked.now.conf.spares }
+    ensures prepared { IfOk result (IsPrepared (asked_seen asked.now) sizes.now fronts.now) }
+    ensures refused { IfErr result (RefusedHere (duty_for kind.Array (asked_seen asked.now) sizes.now fronts.now)) }
     ensures kind { IfErr result (λ r. IsRefusal ⊥ r.status) }
 {
-    let opened = match open(alloc, &asked.conf, devices) {
+    let opened = match open(alloc, asked, sizes, fronts) {
         Ok(opened) => opened,
         Err(fault) => return Err(Refusal::only(alloc, status_of(fault))),
     };
     match make(alloc, asked, &opened) {
-        Ok((layout, drawn)) => Ok(Ready {
+        Ok(
+            Parts {
+                layout,
+                drawn,
+                judge,
+                room,
+            },
+        ) => Ok(Ready {
             opened,
             layout,
             drawn,
+            judge,
+            room,
         }),
-        Err(status) => Err(Refusal::beside(opened.columns, status)),
+        Err(status) => Err(refuse(opened.columns, needs_of(asked).excused, status)),
+    }
+}
+
+// Opens an array that is shown.
+fn make_shown(
+    alloc: Global,
+    asked: &Asked<'_>,
+    sizes: &[u64],
+    fronts: &[Front],
+) -> Result<Opened, Refusal>
+    requires asked { IsWithin (asked_seen asked.now) }
+    requires fronts { length fronts.now ≡ asked.now.conf.columns + asked.now.conf.spares }
+    ensures opened { IfOk result (λ opened. opened_by (asked_seen asked.now) sizes.now fronts.now ≡ Ok (opened_seen opened)) }
+    ensures refused { IfErr result (RefusedHere (duty_for kind.Shown (asked_seen asked.now) sizes.now fronts.now)) }
+    ensures kind { IfErr result (λ r. IsRefusal ⊥ r.status) }
+{
+    match open(alloc, asked, sizes, fronts) {
+        Ok(opened) => Ok(opened),
+        Err(fault) => Err(Refusal::only(alloc, status_of(fault))),
+    }
+}
+
+/// What is to be done, by sizes and fronts of the devices.
+///
+/// An array is opened and made ready; one that is shown is opened. Refused are, in this order, what its labels and sizes call
+/// for; an array that is lost by its columns, as the action makes them; and a trace that would pass its bound. Memory may be
+/// wanted at any point. Behind the opening the columns that are dead are printed.
+pub(crate) fn prepare(
+    alloc: Global,
+    asked: &Asked<'_>,
+    sizes: &[u64],
+    fronts: &[Front],
+) -> Result<Duty, Refusal>
+    requires asked { IsWithin (asked_seen asked.now) }
+    requires fronts { length fronts.now ≡ length (names_for (asked_seen asked.now)) }
+    ensures duty { IfOk result (IsDutyOver (asked_seen asked.now) sizes.now fronts.now) }
+    ensures refused { IfErr result (RefusedHere (duty_by (asked_seen asked.now) sizes.now fronts.now)) }
+    ensures kind { IfErr result (λ r. IsRefusal ⊥ r.status) }
+{
+    match kind_of(asked.command.action) {
+        Kind::Array => match make_ready(alloc, asked, sizes, fronts) {
+            Ok(ready) => Ok(Duty::OnArray(ready)),
+            Err(refusal) => Err(refusal),
+        },
+        Kind::Shown => match make_shown(alloc, asked, sizes, fronts) {
+            Ok(opened) => Ok(Duty::Shows(opened)),
+            Err(refusal) => Err(refusal),
+        },
+        Kind::Label => Ok(Duty::OneLabel),
+        Kind::Conf => Ok(Duty::PrintConf),
     }
 }

@@ -1,11 +1,17 @@
-use Rattle.std.specs.Prelude.{◌<◌, ◌≤◌, ℕ, None, Some, List, length}
-use Rattle.std.proofs.Common.{◌∙◌, ap, subst, sym}
-use Rattle.lay_core.specs.Layout.{Shape}
+use Rattle.std.specs.Prelude.{◌≡◌, ◌<◌, ◌≤◌, ℕ, None, Some, List, Option, length}
+use Rattle.std.proofs.Common.{◌∙◌, ap, arith, subst, sym}
+use Rattle.lay_core.specs.Layout.{Shape, blocks_in}
+use Rattle.eng_cols.specs.Cols.{IsFor}
 use Rattle.eng_cols.specs.declared.column.Column.{Column}
 use Rattle.raid_conf.specs.Layouts.{shape_in, shape_lawful, shape_of}
+use Rattle.raid_conf.proofs.TableLaws.{shape-columns, shape-unit}
 use Rattle.top_bay.specs.Views.{asked_seen}
+use Rattle.top_open.specs.declared.plan.Needs.{Needs}
 use Rattle.top_open.specs.Opening.{opened_seen}
-use Rattle.raid_conf.proofs.TableLaws.{shape-columns}
+use Rattle.top_words.specs.Views.{action_seen}
+use Rattle.top_duty.specs.Duty.{with_dead}
+use Rattle.top_duty.specs.Opening.{needs_of}
+use Rattle.top_duty.specs.Views.{drawn_by}
 use Rattle.top_duty.proofs.Tables.{few_blocks, some_blocks}
 use Rattle.top_duty.proofs.Wanting.{after_if, if_same, past_is}
 use Rattle.top_duty.proofs.preparing.make.Goals as goal
@@ -15,6 +21,12 @@ refusal-requires-clause-columns c =
     ap (λ (l : List Column). length l) c.deref.ensures.value
     ∙ (c.requires.columns ∙ (sym (shape-columns c.args.asked.now.conf c.args.opened.now.rows c.requires.asked.conf) ∙ sym (ap (λ (y : Shape). y.columns) c.in-Ok.ensures.shape)))
 
+pub refusal-requires-clause-dead : goal.refusal-requires-clause-dead
+refusal-requires-clause-dead c = λ i e.
+    let is : (needs_of (asked_seen c.args.asked.now)).excused ≡ Some i = sym (ap (λ (q : Needs). q.excused) c.needs_of-dead.ensures) ∙ e in
+    let lt : i < c.args.asked.now.conf.columns = c.requires.dead i is in
+    omega (arith, lt, c.requires.columns, ap (λ (l : List Column). length l) c.deref.ensures.value)
+
 pub draw-requires-clause-blocks : goal.draw-requires-clause-blocks
 draw-requires-clause-blocks c = subst (λ (n : ℕ). 0 < n) (sym c.blocks-2.ensures) (some_blocks (shape_in c.in-Ok.layout) (shape_lawful c.in-Ok.layout))
 
@@ -23,14 +35,36 @@ draw-requires-clause-most c = subst (λ (n : ℕ). n ≤ 4294967296) (sym c.bloc
 
 pub returns-in-Some-clause-refused : goal.returns-in-Some-clause-refused
 returns-in-Some-clause-refused c =
+    let dead : c.needs_of-dead.result.excused ≡ (needs_of (asked_seen c.args.asked.now)).excused = ap (λ (q : Needs). q.excused) c.needs_of-dead.ensures in
     after_if (asked_seen c.args.asked.now) (opened_seen c.args.opened.now) c.in-Some.status
-    (if_same _ (shape_of c.args.asked.now.conf c.args.opened.now.rows) (asked_seen c.args.asked.now) c.deref.result.now c.args.opened.now.columns.items (Some c.in-Some.status) c.in-Ok.ensures.shape c.deref.ensures.value c.in-Some.ensures)
+    (if_same _ (shape_of c.args.asked.now.conf c.args.opened.now.rows) (asked_seen c.args.asked.now)
+    (with_dead c.needs_of-dead.result.excused c.deref.result.now) (with_dead (needs_of (asked_seen c.args.asked.now)).excused c.args.opened.now.columns.items)
+    (Some c.in-Some.status) c.in-Ok.ensures.shape
+    (ap (λ (e : Option ℕ). with_dead e c.deref.result.now) dead ∙ ap (λ (l : List Column). with_dead (needs_of (asked_seen c.args.asked.now)).excused l) c.deref.ensures.value) c.in-Some.ensures.refused)
 
-pub returns-in-Ok-draw-clause-kept : goal.returns-in-Ok-draw-clause-kept
-returns-in-Ok-draw-clause-kept c =
-    (if_same _ (shape_of c.args.asked.now.conf c.args.opened.now.rows) (asked_seen c.args.asked.now) c.deref.result.now c.args.opened.now.columns.items None c.in-Ok.ensures.shape c.deref.ensures.value c.in-None.ensures).0
+pub returns-in-Ok-room_for-clause-kept : goal.returns-in-Ok-room_for-clause-kept
+returns-in-Ok-room_for-clause-kept c =
+    let dead : c.needs_of-dead.result.excused ≡ (needs_of (asked_seen c.args.asked.now)).excused = ap (λ (q : Needs). q.excused) c.needs_of-dead.ensures in
+    (if_same _ (shape_of c.args.asked.now.conf c.args.opened.now.rows) (asked_seen c.args.asked.now)
+    (with_dead c.needs_of-dead.result.excused c.deref.result.now) (with_dead (needs_of (asked_seen c.args.asked.now)).excused c.args.opened.now.columns.items)
+    None c.in-Ok.ensures.shape
+    (ap (λ (e : Option ℕ). with_dead e c.deref.result.now) dead ∙ ap (λ (l : List Column). with_dead (needs_of (asked_seen c.args.asked.now)).excused l) c.deref.ensures.value) c.in-None.ensures.refused).0
 
-pub returns-in-Ok-draw-clause-bound : goal.returns-in-Ok-draw-clause-bound
-returns-in-Ok-draw-clause-bound c =
+pub returns-in-Ok-room_for-clause-bound : goal.returns-in-Ok-room_for-clause-bound
+returns-in-Ok-room_for-clause-bound c =
+    let dead : c.needs_of-dead.result.excused ≡ (needs_of (asked_seen c.args.asked.now)).excused = ap (λ (q : Needs). q.excused) c.needs_of-dead.ensures in
     past_is (asked_seen c.args.asked.now) (opened_seen c.args.opened.now)
-    ∙ (if_same _ (shape_of c.args.asked.now.conf c.args.opened.now.rows) (asked_seen c.args.asked.now) c.deref.result.now c.args.opened.now.columns.items None c.in-Ok.ensures.shape c.deref.ensures.value c.in-None.ensures).1
+    ∙ (if_same _ (shape_of c.args.asked.now.conf c.args.opened.now.rows) (asked_seen c.args.asked.now)
+    (with_dead c.needs_of-dead.result.excused c.deref.result.now) (with_dead (needs_of (asked_seen c.args.asked.now)).excused c.args.opened.now.columns.items)
+    None c.in-Ok.ensures.shape
+    (ap (λ (e : Option ℕ). with_dead e c.deref.result.now) dead ∙ ap (λ (l : List Column). with_dead (needs_of (asked_seen c.args.asked.now)).excused l) c.deref.ensures.value) c.in-None.ensures.refused).1
+
+pub returns-in-Ok-room_for-clause-made : goal.returns-in-Ok-room_for-clause-made
+returns-in-Ok-room_for-clause-made c = record {
+  shape = c.in-Ok.ensures.shape;
+  drawn = c.in-Ok-draw.ensures.value ∙ ap (λ (n : ℕ). drawn_by (action_seen c.args.asked.now.command.action) n) (c.blocks-2.ensures ∙ ap (λ (y : Shape). blocks_in y) c.in-Ok.ensures.shape);
+  asked = c.in-Ok-draw.ensures.asked;
+  few = c.in-Ok-draw.ensures.few;
+  judge = subst (λ (y : Shape). IsFor y c.refusal.new.judge) c.in-Ok.ensures.shape c.in-None.ensures.judge;
+  room = omega (arith, c.in-Ok-room_for.ensures.room, shape-unit c.args.asked.now.conf c.args.opened.now.rows c.requires.asked.conf);
+}

@@ -1,0 +1,36 @@
+-- By what an array is lost of which a column is made dead.
+use Rattle.std.specs.Prelude.{◌≡◌, ◌<◌, ℕ, zero, suc, List, [], ◌∷◌, length, map, Option, Some, None, MatchOption, slice_set}
+use Rattle.std.specs.Option.{ForSome}
+use Rattle.std.proofs.Common.{refl, sym, ap, subst, ◌∙◌}
+use Rattle.std.proofs.lemmas.List.{length-map}
+use Rattle.lay_core.specs.Layout.{Shape}
+use Rattle.eng_cols.specs.declared.column.Column.{Column}
+use Rattle.eng_cols.specs.declared.column.Column.TheVariants as column
+use Rattle.eng_cols.specs.declared.spot.Loss.{Loss}
+use Rattle.eng_cols.specs.Cols.{ColumnState, Dead, state_set}
+use Rattle.eng_cols.specs.Lost.{IsLost, NotLost}
+use Rattle.top_duty.specs.Duty.{LossIs, states_of, with_dead}
+use Rattle.top_duty.specs.Views.{with_killed}
+
+set_dead : (n : ℕ) (columns : List Column) (c : ℕ) → slice_set (map (state_set n) columns) c Dead ≡ map (state_set n) (slice_set columns c column.Dead)
+set_dead n [] c = refl
+set_dead n (x ∷ columns) zero = refl
+set_dead n (x ∷ columns) (suc c) = ap (λ (l : List ColumnState). state_set n x ∷ l) (set_dead n columns c)
+
+-- a column is made dead before or behind its being set
+killed_dead : (n : ℕ) (dead : Option ℕ) (columns : List Column) → with_killed dead (map (state_set n) columns) ≡ map (state_set n) (with_dead dead columns)
+killed_dead n None columns = refl
+killed_dead n (Some c) columns = set_dead n columns c
+
+-- it is there
+pub dead_there : (n : ℕ) (dead : Option ℕ) (columns : List Column) (states : List ColumnState) → states ≡ map (state_set n) columns → ForSome dead (λ c. c < length columns) → ForSome dead (λ c. c < length states)
+dead_there n dead columns states same h = subst (λ (m : ℕ). ForSome dead (λ c. c < m)) (sym (ap (λ (l : List ColumnState). length l) same ∙ length-map columns (state_set n))) h
+
+-- what is found of the columns as they are set
+pub loss_found : (y : Shape) (dead : Option ℕ) (columns : List Column) (states : List ColumnState) (loss : Option Loss) → states ≡ with_killed dead (map (state_set y.stripes) columns)
+    → MatchOption loss (NotLost y states) (IsLost y states) → LossIs y (states_of y (with_dead dead columns)) loss
+loss_found y dead columns states loss same found = subst (λ (l : List ColumnState). LossIs y l loss) (same ∙ killed_dead y.stripes dead columns) (go loss found)
+  where
+    go : (r : Option Loss) → MatchOption r (NotLost y states) (IsLost y states) → LossIs y states r
+    go None h = h
+    go (Some l) h = h

@@ -1,0 +1,62 @@
+-- The devices that were taken, and how they were looked at before anything was done with them.
+use Rattle.std.specs.Prelude.{◌≡◌, ◌⊎◌, Bool, true, false, List, length, Option, Ok, Err}
+use Rattle.blk_disk.specs.Devices.{AreNamed, Changes}
+use Rattle.blk_disk.specs.declared.disk.Disk.{Ghosts}
+use Rattle.raid_text.specs.Text.{Text}
+use Rattle.top_bay.specs.Asked.{Asked, asked_in, names_for}
+use Rattle.top_bay.specs.Lent.{IsMeant}
+use Rattle.top_bay.specs.Told.{Told}
+use Rattle.top_open.specs.declared.fronts.Front.{Front}
+use Rattle.top_open.specs.Fronts.{AreFronts, AreReadOnce}
+use Rattle.top_status.specs.declared.status.Status.TheVariants as status
+use Rattle.top_status.specs.Refusals.{Refused, only}
+use Rattle.top_duty.specs.Duty.{IsWanted, WantsMemory, duty_by, duty_in}
+use Rattle.top_duty.specs.Opening.{reads_fronts, sizes_of, unread}
+
+-- Sector 0 of each device that has one was read, once, and no sector has changed; or nothing was read.
+abbrev pub Reads : {D : Type 0} → Ghosts D → Bool → List (Option D) → List (Option D) → List Front → Type 0
+Reads g true old new fronts = AreFronts g old new fronts × AreReadOnce g old new fronts × Changes g (λ _ _. ⊥) old new
+Reads g false old new fronts = (new ≡ old) × (fronts ≡ unread (length old))
+
+module _ {D : Type 0} (g : Ghosts D) (b : Told D) where
+  -- The devices of the names that are asked for were taken as they were at home, and looked at, and they are out now. No other was taken.
+  pub record IsTaken (k : Asked) (devices : List (Option D)) (fronts : List Front) : Type 0 where
+    pub taken : List (Option D)
+    pub named : b.tells → AreNamed b.home (names_for k) taken
+    pub others : b.tells → (n : Text) → (IsMeant (names_for k) (length taken) n → ⊥) → b.after n ≡ b.home n
+    pub read : Reads g (reads_fronts k.command.action) taken devices fronts
+
+  -- They were taken and looked at, and they are at home again.
+  pub record WasRead (k : Asked) (fronts : List Front) : Type 0 where
+    pub taken : List (Option D)
+    pub back : List (Option D)
+    pub before : AreNamed b.home (names_for k) taken
+    pub after : AreNamed b.after (names_for k) back
+    pub read : Reads g (reads_fronts k.command.action) taken back fronts
+
+  -- The call is refused as words, texts, names, sizes and labels call for, the labels being those that were read.
+  pub record RefusedAt (words : List Text) (r : Refused) : Type 0 where
+    pub fronts : List Front
+    pub wanted : IsWanted (duty_in g.size b words fronts) (Err r)
+    pub read : (k : Asked) → asked_in b words ≡ Ok k → WasRead k fronts
+
+  -- Memory was wanted behind the opening, the labels being those that were read.
+  pub record MemoryAt (words : List Text) (r : Refused) : Type 0 where
+    pub fronts : List Front
+    pub wanted : WantsMemory (duty_in g.size b words fronts) r
+    pub read : (k : Asked) → asked_in b words ≡ Ok k → WasRead k fronts
+
+  -- why a call is refused: that; or the bay's count of faults rose; or memory was wanted before the opening, or behind it
+  abbrev pub RefusedFor : List Text → Refused → Type 0
+  RefusedFor words r = RefusedAt words r ⊎ (((r ≡ only status.BayFault) × b.rose) ⊎ ((r ≡ only status.Memory) ⊎ MemoryAt words r))
+
+module _ {D : Type 0} (g : Ghosts D) (k : Asked) where
+  -- What was asked is refused over these devices as their labels are read.
+  pub record IsRefusedOver (old new : List (Option D)) (r : Refused) : Type 0 where
+    pub fronts : List Front
+    pub read : Reads g (reads_fronts k.command.action) old new fronts
+    pub wanted : IsWanted (duty_by k (sizes_of g.size new) fronts) (Err r) ⊎ WantsMemory (duty_by k (sizes_of g.size new) fronts) r
+
+  -- that, or memory was wanted before
+  abbrev pub RefusedOver : List (Option D) → List (Option D) → Refused → Type 0
+  RefusedOver old new r = (r ≡ only status.Memory) ⊎ IsRefusedOver old new r
