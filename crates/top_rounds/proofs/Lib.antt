@@ -1,6 +1,6 @@
 mod CallLaws
 mod Devices
-mod PassLaws
+pub mod PassLaws
 mod SeatLaws
-mod RoundLaws
+pub mod RoundLaws
 mod Fitting

@@ -1,10 +1,10 @@
 -- Rounds that follow one another.
-use Rattle.std.proofs.Common.{◌≡◌, ◌≢◌, ◌∙◌, ℕ, suc, ◌+◌, ◌≤◌, true, false, cond, List, [], ◌∷◌, ◌++◌, length, get_or, Option, Some, None, refl, sym, ap, subst, inl, inr, arith, append-nil, take, drop}
+use Rattle.std.proofs.Common.{◌≡◌, ◌≢◌, ◌⊎◌, ◌∙◌, ℕ, suc, ◌+◌, ◌≤◌, true, false, cond, List, [], ◌∷◌, ◌++◌, length, get_or, Option, Some, None, refl, sym, ap, subst, inl, inr, arith, append-nil, take, drop}
 use Rattle.std.specs.Prelude.{All, IsSome, is_some, set, slice_get}
 use Rattle.std.proofs.lemmas.List.{drop_all, length-append, take_all}
 use Rattle.std.proofs.lemmas.List.Elements.{All-from_get_or, All-get_or, All-nil, All-push, All-weaker}
 use Rattle.std.proofs.lemmas.List.Quantifiers.{all_pairs_push}
-use Rattle.std.proofs.lemmas.List.Sums.{sum_by-set}
+use Rattle.std.proofs.lemmas.List.Sums.{sum_by-cons, sum_by-set}
 use Rattle.std.proofs.lemmas.Option.{get_or_from_slice_get, slice_get-get_or, slice_get_within}
 use Rattle.blk_disk.specs.declared.disk.Disk.{Ghosts}
 use Rattle.blk_disk.specs.Devices.{device_at, calls_of, Changes, RisesOn, StaysIf}
@@ -23,7 +23,7 @@ use Rattle.top_close.specs.Ended.{IsLossOf}
 use Rattle.top_close.specs.Settled.{HaveDevices, IsLiveOn, is_live}
 use Rattle.top_rounds.specs.Labels.{IsNumbered, seats_of, with_round}
 use Rattle.top_rounds.specs.Passes.{AreLabelled, CanBeLabelled, EndsByDeath, EndsPass, IsFirstInUse, LosesDevice}
-use Rattle.top_rounds.specs.Rounds.{AreRounds, HaveRounds, HaveTried, IsUncalled, clean_in_end, live_count}
+use Rattle.top_rounds.specs.Rounds.{AreRounds, HaveRounds, HaveTried, IsInUse, IsUncalled, clean_in_end, live_count}
 use Rattle.top_rounds.specs.Calls.{WritesOn}
 use Rattle.top_rounds.proofs.CallLaws.{writes_on-refl, writes_on-then}
 use Rattle.top_rounds.proofs.PassLaws.{live_before, set_here}
@@ -45,6 +45,27 @@ fewer_by_one columns c d live =
     let one : one_if_live (get_or columns c column.Dead) ≡ 1 = ap one_if_live was in
     let all : live_count (set columns c column.Dead) + one_if_live (get_or columns c column.Dead) ≡ live_count columns + one_if_live column.Dead = sum_by-set one_if_live columns c column.Dead column.Dead (slice_get_within columns c _ live) in
     omega (arith, one, all)
+
+one_of : Option Column → ℕ
+one_of x = cond (is_live x) 1 0
+
+-- deaths leave no more columns live
+pub live_less : (cause : ℕ → Type 0) (columns after : List Column) → Dies cause columns after → live_count after ≤ live_count columns
+unfolding one_if_live one_of
+live_less cause columns after dies = go columns after dies.count (λ c. elim (dies.each c) [ inl same ↦ inl same | inr dead ↦ inr dead.0 ])
+  where
+    go : (xs ys : List Column) → length ys ≡ length xs → ((c : ℕ) → (slice_get ys c ≡ slice_get xs c) ⊎ (slice_get ys c ≡ Some column.Dead)) → live_count ys ≤ live_count xs
+    go [] [] count each = omega arith
+    go [] (y ∷ ys) count each = absurd (omega (arith, count))
+    go (x ∷ xs) [] count each = absurd (omega (arith, count))
+    go (x ∷ xs) (y ∷ ys) count each =
+        let rest = go xs ys (omega (arith, count)) (λ c. each (suc c)) in
+        let old = sum_by-cons one_if_live x xs in
+        let new = sum_by-cons one_if_live y ys in
+        elim (each 0) [
+          | inl same ↦ let e : one_if_live y ≡ one_if_live x = ap one_of same in omega (arith, rest, old, new, e)
+          | inr dead ↦ let e : one_if_live y ≡ 0 = ap one_of dead in omega (arith, rest, old, new, e)
+        ]
 
 numbered_after : (cause : ℕ → Type 0) (n : ℕ) (columns mid : List Column) → Dies cause columns mid → All (IsNumbered n) columns → All (IsNumbered n) mid
 numbered_after cause n columns mid dies are = All-from_get_or (IsNumbered n) mid column.Dead (λ i within.
@@ -82,6 +103,7 @@ module _ {D : Type 0} (g : Ghosts D) where
     rises = [];
     counter = omega arith;
     failed = record { apart = λ i j d before within. absurd (omega (arith, within)); rose = All-nil (RisesOn g ds ds) };
+    had = All-nil (IsInUse columns);
     gone = All-nil (λ (d : ℕ). (c : ℕ) → IsLiveOn columns c d → ⊥);
     fewer = omega arith;
     frame = changes-refl g (IsFirstInUse columns) ds;
@@ -120,6 +142,9 @@ module _ {D : Type 0} (g : Ghosts D) where
     rounds_are all counter seats = record {
       rises = tried.rises;
       failed = record { apart = tried.failed.apart; rose = All-weaker (RisesOn g old dev) (RisesOn g old new) rose_before tried.rises tried.failed.rose };
+      had = tried.had;
+      gone = All-weaker (λ (j : ℕ). (c : ℕ) → IsLiveOn mid c j → ⊥) (λ (j : ℕ). (c : ℕ) → IsLiveOn after c j → ⊥) (λ j none c live. none c (live_before (LosesDevice g mid dev new) mid after c j pass.dies live)) tried.rises tried.gone;
+      fewer = omega (arith, tried.fewer, live_less (LosesDevice g mid dev new) mid after pass.dies);
       least = omega (arith, counter, tried.counter);
       most = omega (arith, counter, tried.counter);
       seats = seats;
@@ -148,6 +173,7 @@ module _ {D : Type 0} (g : Ghosts D) where
             apart = all_pairs_push (λ a b. a ≢ b) tried.rises d tried.failed.apart (λ k z within. other (get_or tried.rises k z) (All-get_or (λ (j : ℕ). (c : ℕ) → IsLiveOn mid c j → ⊥) tried.rises k z within tried.gone));
             rose = All-push (RisesOn g old new) tried.rises d (All-weaker (RisesOn g old dev) (RisesOn g old new) rose_before tried.rises tried.failed.rose) (rose_behind d ends.loses.rose);
           };
+          had = All-push (IsInUse columns) tried.rises d tried.had (record { col = ends.col; live = live_before (LosesDevice g columns old dev) columns mid ends.col d tried.dies ends.loses.had });
           gone = All-push (λ (j : ℕ). (c : ℕ) → IsLiveOn after c j → ⊥) tried.rises d (All-weaker (λ (j : ℕ). (c : ℕ) → IsLiveOn mid c j → ⊥) (λ (j : ℕ). (c : ℕ) → IsLiveOn after c j → ⊥) old_gone tried.rises tried.gone) new_gone;
           fewer = omega (arith, tried.fewer, length-append tried.rises (d ∷ []), fewer_by_one mid ends.col d ends.loses.had, ap live_count ends.after_is);
           frame = frame;

@@ -24,17 +24,23 @@ clean_in_end (Some loss) clean = 0
 abbrev pub IsUncalled : {D : Type 0} → List Column → List (Option D) → List (Option D) → Type 0
 IsUncalled columns old new = (d : ℕ) → ((c : ℕ) → IsLiveOn columns c d → ⊥) → device_at new d ≡ device_at old d
 
+-- a live column has this device
+pub record IsInUse (columns : List Column) (d : ℕ) : Type 0 where
+  pub col : ℕ
+  pub live : IsLiveOn columns col d
+
 module _ {D : Type 0} (g : Ghosts D) where
   -- different devices, of each of which the count of faults rose
   pub record HaveFailed (old new : List (Option D)) (rises : List ℕ) : Type 0 where
     pub apart : AllPairs (λ d e. d ≢ e) rises
     pub rose : All (RisesOn g old new) rises
 
-  -- Rounds were tried, and each ended by a failed write: the counter is greater by one for each, and the devices that failed are no column's now.
+  -- Rounds were tried, and each ended by a failed write: the counter is greater by one for each, and the devices that failed were in use and are no column's now.
   pub record HaveTried (label next : Label) (columns mid : List Column) (old new : List (Option D)) : Type 0 where
     pub rises : List ℕ
     pub counter : next.counter ≡ label.counter + length rises
     pub failed : HaveFailed old new rises
+    pub had : All (IsInUse columns) rises
     pub gone : All (λ d. (c : ℕ) → IsLiveOn mid c d → ⊥) rises
     pub fewer : live_count mid + length rises ≤ live_count columns
     pub frame : Changes g (IsFirstInUse columns) old new
@@ -42,10 +48,13 @@ module _ {D : Type 0} (g : Ghosts D) where
     pub dies : Dies (LosesDevice g columns old new) columns mid
     pub told : (d : ℕ) → WritesOn (calls_of g old d) (calls_of g new d)
 
-  -- Rounds were written. The counter is greater by at least 1, and by at most 1 more for each device whose count of faults rose. The last round began with the columns `mid`, and each column that is live in the end has its label.
+  -- Rounds were written. The counter is greater by at least 1, and by at most 1 more for each device that was in use, whose count of faults rose, and that is no column's in the end. The last round began with the columns `mid`, and each column that is live in the end has its label.
   pub record AreRounds (label next : Label) (columns mid after : List Column) (old new : List (Option D)) : Type 0 where
     pub rises : List ℕ
     pub failed : HaveFailed old new rises
+    pub had : All (IsInUse columns) rises
+    pub gone : All (λ d. (c : ℕ) → IsLiveOn after c d → ⊥) rises
+    pub fewer : live_count after + length rises ≤ live_count columns
     pub least : label.counter + 1 ≤ next.counter
     pub most : next.counter ≤ label.counter + 1 + length rises
     pub seats : next.seats ≡ seats_of mid

@@ -1,0 +1,76 @@
+-- The end of an array that is lost, and of one that is settled first.
+use Rattle.std.proofs.Common.{◌≡◌, ◌∙◌, ℕ, ◌≤◌, List, true, false, length, Option, Some, None, refl, sym, ap, arith}
+use Rattle.std.specs.Prelude.{is_some}
+use Rattle.blk_disk.specs.declared.disk.Disk.{Ghosts}
+use Rattle.lay_core.specs.Layout.{Shape}
+use Rattle.eng_cols.specs.declared.column.Column.{Column}
+use Rattle.eng_cols.specs.declared.spot.Loss.{Loss}
+use Rattle.eng_cols.specs.Cols.{ColumnState}
+use Rattle.eng_cols.specs.Deaths.{Dies}
+use Rattle.raid_label.specs.declared.label.Label.{Label}
+use Rattle.raid_label.specs.Bytes.{IsHeld}
+use Rattle.top_close.specs.Ended.{IsLossOf, states_of}
+use Rattle.top_close.specs.Settled.{AreSettled}
+use Rattle.top_close.proofs.DyingLaws.{columns_die, lost_no_less}
+use Rattle.top_rounds.specs.Labels.{with_round}
+use Rattle.top_rounds.specs.Rounds.{AreRounds, HaveRounds, clean_in_end}
+use Rattle.top_acts.specs.Closed.{AreCounted, IsClosed}
+use Rattle.top_acts.proofs.Closes.{behind, counted-none}
+use Rattle.top_acts.proofs.Counted.{counted-then, counted_rounds}
+use Rattle.top_acts.proofs.Settled.{settled}
+use Rattle.top_acts.proofs.Tried.{not_lost}
+
+pub no_loss : {A : Type 0} → false ≡ true → A
+no_loss h = absurd (let u : ⊥ = cc in u)
+
+-- an array that was lost is lost
+pub still_lost : (y : Shape) (cause : ℕ → Type 0) (columns after : List Column) (before lost : Option Loss) → Dies cause columns after → IsLossOf y None (states_of y columns) before → is_some before ≡ true → IsLossOf y None (states_of y after) lost → is_some lost ≡ true
+still_lost y cause columns after before None dies was some is =
+    let none = not_lost y (states_of y columns) before was (lost_no_less y (states_of y columns) (states_of y after) (columns_die cause y columns after dies) is) in
+    let z : false ≡ true = ap is_some (sym none) ∙ some in absurd (let u : ⊥ = cc in u)
+still_lost y cause columns after before (Some loss) dies was some is = refl
+
+-- and one that stays lost by what it was
+pub kept_loss : (y : Shape) (cols : List ColumnState) (before lost : Option Loss) → is_some before ≡ true → IsLossOf y before cols lost → is_some lost ≡ true
+kept_loss y cols None lost some is = no_loss some
+kept_loss y cols (Some loss) lost some is = ap is_some is ∙ refl
+
+pub clean_lost : (lost : Option Loss) (clean : ℕ) → is_some lost ≡ true → clean_in_end lost clean ≡ 0
+clean_lost None clean h = no_loss h
+clean_lost (Some loss) clean h = refl
+
+pub clean_none : (lost : Option Loss) → clean_in_end lost 0 ≡ 0
+clean_none None = refl
+clean_none (Some loss) = refl
+
+-- a label of a round can be held
+pub held_round : (label next : Label) (clean : ℕ) → clean ≤ 1 → next ≡ with_round label next.counter clean next.seats → IsHeld label → IsHeld next
+held_round label next clean few is h = record {
+  version = ap (λ (l : Label). l.version) is ∙ h.version;
+  clean = omega (arith, few, ap (λ (l : Label). l.clean) is);
+}
+
+module _ {D : Type 0} (g : Ghosts D) where
+  -- the rounds began with some columns, lost or not
+  pub rounds_of : (lost : Option Loss) (label next : Label) (columns after : List Column) (old new : List (Option D)) → HaveRounds g lost label next columns after old new → (mid : List Column) × AreRounds g label next columns mid after old new
+  rounds_of None label next columns after old new h = (after, h)
+  rounds_of (Some loss) label next columns after old new h = h
+
+  -- one round of a lost array ends it
+  pub closed_lost : (lost : Option Loss) (label next : Label) (columns mid after : List Column) (old dev new : List (Option D)) → is_some lost ≡ true → AreCounted g 0 label label columns mid old dev → next ≡ with_round label next.counter 0 next.seats → HaveRounds g lost label next mid after dev new → IsClosed g label next columns after old new lost
+  closed_lost None label next columns mid after old dev new some was is h = no_loss some
+  closed_lost (Some loss) label next columns mid after old dev new some was is h =
+      let rounds = h.1 in
+      record {
+        counted = counted-then g 0 label label next columns mid after old dev new was (behind g 1 label next mid after dev new (counted_rounds g label next mid h.0 after dev new rounds)) 1 (omega (arith, was.least, rounds.least)) (omega (arith, was.most, rounds.most));
+        label_is = is;
+        seats = λ e. let z : Some loss ≡ None = e in absurd (let u : ⊥ = cc in u);
+        held = rounds.held;
+        settled = λ e. let z : Some loss ≡ None = e in absurd (let u : ⊥ = cc in u);
+      }
+
+  -- devices were settled, and no round was written
+  pub counted_settled : (label : Label) (columns after : List Column) (old new : List (Option D)) → AreSettled g (length columns) columns after old new → AreCounted g 0 label label columns after old new
+  counted_settled label columns after old new s =
+      let quiet = settled g (length columns) columns after old new s refl in
+      counted-then g 0 label label label columns columns after old old new (counted-none g label columns old) quiet 0 (omega arith) (omega arith)

@@ -1,0 +1,16 @@
+pub mod Backs
+pub mod Begins
+pub mod Checks
+pub mod Closes
+pub mod Columns
+pub mod Counted
+pub mod Ended
+pub mod Fitting
+pub mod Having
+pub mod Later
+pub mod Named
+pub mod Renews
+pub mod Settled
+pub mod Staged
+pub mod Tried
+pub mod Uncalled

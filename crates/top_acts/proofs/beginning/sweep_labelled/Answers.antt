@@ -1,0 +1,29 @@
+use Rattle.std.proofs.Common.{◌∙◌, sym}
+use Rattle.raid_recon.specs.Array.{states_of, Failed}
+use Rattle.raid_recon.specs.Ends.{MayRewrite}
+use Rattle.top_rounds.proofs.RoundLaws.{can-after}
+use Rattle.top_acts.specs.Renewed.{sweep_of}
+use Rattle.top_acts.proofs.Begins.{sweeps_kept, sweeps_lost}
+use Rattle.top_acts.proofs.Tried.{none_of}
+use Rattle.top_acts.proofs.beginning.sweep_labelled.Goals as goal
+
+pub write_lost-requires-clause-array : goal.write_lost-requires-clause-array
+write_lost-requires-clause-array g c =
+    let columns = c.args.ending.now.columns.items in
+    let old = c.args.devices.now in
+    let s = c.sweep_and_judge-count in
+    can-after g.D.Disk (Failed g.D.Disk (states_of (g.L.Layout.shape c.args.layout.now) columns) old s.new.devices) (MayRewrite g.D.Disk (sweep_of c.args.kind) (g.L.Layout.shape c.args.layout.now) columns old) columns s.new.ending.columns.items old s.new.devices
+    s.ensures.swept.dies s.ensures.swept.frame c.requires.can.labels
+
+pub returns-then-is_some-clause-swept : goal.returns-then-is_some-clause-swept
+returns-then-is_some-clause-swept g c =
+    let s = c.sweep_and_judge-count in
+    let w = c.write_lost in
+    sweeps_lost g.D.Disk (g.L.Layout.shape c.args.layout.now) (sweep_of c.args.kind) c.args.label.now w.new.label c.args.ending.now.columns.items s.new.ending.columns.items w.new.ending.columns.items c.args.devices.now s.new.devices w.new.devices w.new.ending.lost s.result
+    (g.met.L.Layout.is_layout c.args.layout.now).checks_most c.requires.can.settable.filling w.ensures.lost s.ensures.swept w.ensures.label w.ensures.rounds
+
+pub returns-else-is_some-clause-swept : goal.returns-else-is_some-clause-swept
+returns-else-is_some-clause-swept g c =
+    let s = c.sweep_and_judge-count in
+    sweeps_kept g.D.Disk (g.L.Layout.shape c.args.layout.now) (sweep_of c.args.kind) c.args.label.now c.args.ending.now.columns.items s.new.ending.columns.items c.args.devices.now s.new.devices s.new.ending.lost s.result
+    (g.met.L.Layout.is_layout c.args.layout.now).checks_most c.requires.can.settable.filling (none_of s.new.ending.lost (sym c.is_some.ensures ∙ c.if-is_some.false)) s.ensures.swept

@@ -1,0 +1,49 @@
+use Rattle.std.proofs.Common.{◌∙◌, ap, refl, arith}
+use Rattle.raid_label.specs.declared.label.Label.{Label}
+use Rattle.top_rounds.specs.Labels.{with_round}
+use Rattle.top_rounds.specs.Passes.{IsFirstInUse, LosesDevice}
+use Rattle.top_rounds.proofs.RoundLaws.{can-after}
+use Rattle.top_acts.proofs.Closes.{broken_again, closed_then, counted-none, few, label_again, still_held}
+use Rattle.top_acts.proofs.Columns.{any_death, settable_after}
+use Rattle.top_acts.proofs.closing.close.Goals as goal
+
+pub loop-init : goal.loop-init
+loop-init g c = record { counted = counted-none g.D.Disk c.args.label.now c.args.ending.now.columns.items c.args.devices.now; same = refl; judge = c.requires.judge }
+
+pub try_close-requires-clause-array : goal.try_close-requires-clause-array
+try_close-requires-clause-array g c =
+    let columns = c.args.ending.now.columns.items in
+    let t = c.loop.invariant.counted in
+    can-after g.D.Disk (LosesDevice g.D.Disk columns c.args.devices.now c.loop.devices) (IsFirstInUse columns) columns c.loop.ending.columns.items c.args.devices.now c.loop.devices t.dies t.frame c.requires.array
+
+pub try_close-requires-clause-columns : goal.try_close-requires-clause-columns
+try_close-requires-clause-columns g c =
+    let old = c.args.ending.now.columns.items in
+    let new = c.loop.ending.columns.items in
+    let dies = any_death (LosesDevice g.D.Disk old c.args.devices.now c.loop.devices) old new c.loop.invariant.counted.dies in
+    settable_after (g.L.Layout.shape c.args.layout.now) old new dies (c.deaths_bring_no_unit_back.ensures.filling old new dies) (c.deaths_bring_no_unit_back.ensures.spread old new dies) c.requires.columns
+
+pub try_close-requires-clause-held : goal.try_close-requires-clause-held
+try_close-requires-clause-held g c = still_held c.args.label.now c.loop.label c.loop.invariant.same c.requires.held
+
+pub try_close-requires-clause-counter : goal.try_close-requires-clause-counter
+try_close-requires-clause-counter g c = omega (arith, few g.D.Disk c.args.label.now c.loop.label c.args.ending.now.columns.items c.loop.ending.columns.items c.args.devices.now c.loop.devices c.loop.invariant.counted c.requires.array.columns_most, c.requires.counter)
+
+pub loop-preserved : goal.loop-preserved
+loop-preserved g c =
+    let b = c.loop-test.ensures.tried in
+    let l = c.loop in
+    let was = c.loop.invariant.counted in
+    record {
+      counted = broken_again g.D.Disk c.args.label.now l.label c.try_close.new.label c.args.ending.now.columns.items l.ending.columns.items c.try_close.new.ending.columns.items c.args.devices.now l.devices c.try_close.new.devices was l.invariant.same b;
+      same = label_again g.D.Disk c.args.label.now l.label c.try_close.new.label c.args.ending.now.columns.items l.ending.columns.items c.try_close.new.ending.columns.items c.args.devices.now l.devices c.try_close.new.devices was l.invariant.same c.args.label.now.clean
+          (b.label_is ∙ ap (λ k. with_round l.label c.try_close.new.label.counter k c.try_close.new.label.seats) (ap (λ (x : Label). x.clean) l.invariant.same));
+      judge = c.loop-test.ensures.judge;
+    }
+
+pub loop-smaller : goal.loop-smaller
+loop-smaller g c = c.loop-test.ensures.tried.fewer
+
+pub returns-clause-closed : goal.returns-clause-closed
+returns-clause-closed g c =
+    closed_then g.D.Disk c.args.label.now c.loop.label c.try_close.new.label c.args.ending.now.columns.items c.loop.ending.columns.items c.try_close.new.ending.columns.items c.args.devices.now c.loop.devices c.try_close.new.devices c.loop.invariant.counted c.loop.invariant.same c.try_close.new.ending.lost c.loop-test.ensures.tried

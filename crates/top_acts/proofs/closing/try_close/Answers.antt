@@ -1,0 +1,57 @@
+use Rattle.std.proofs.Common.{◌≡◌, ◌∙◌, ap, subst, sym, true, false, arith, None}
+use Rattle.std.proofs.lemmas.Bool.{eqb-true, eq-eqb}
+use Rattle.top_close.specs.Ended.{IsLossOf, states_of}
+use Rattle.top_rounds.specs.Labels.{with_round}
+use Rattle.top_rounds.specs.Passes.{IsFirstInUse, LosesDevice}
+use Rattle.top_rounds.specs.Rounds.{HaveRounds, clean_in_end, live_count}
+use Rattle.top_rounds.proofs.RoundLaws.{can-after}
+use Rattle.top_acts.proofs.Closes.{counted-none}
+use Rattle.top_acts.proofs.Counted.{counted_rounds}
+use Rattle.top_acts.proofs.Ended.{clean_lost, closed_lost, rounds_of}
+use Rattle.top_acts.proofs.Tried.{none_of, tried}
+use Rattle.top_acts.proofs.closing.try_close.Goals as goal
+
+pub returns-clause-tried : goal.returns-clause-tried
+returns-clause-tried g c =
+    let y = g.L.Layout.shape c.args.layout.now in
+    let label = c.args.label.now in
+    let next = c.round.new.label in
+    let columns = c.args.ending.now.columns.items in
+    let mid = c.round.new.ending.columns.items in
+    let after = c.end_unlabelled.new.ending.columns.items in
+    let old = c.args.devices.now in
+    let dev = c.round.new.devices in
+    let none : c.round.new.ending.lost ≡ None = none_of c.round.new.ending.lost (sym c.is_some.ensures ∙ c.if-is_some.false) in
+    let rounds = subst (λ o. HaveRounds g.D.Disk o label next columns mid old dev) none c.round.ensures.rounds in
+    let kept = subst (λ o. IsLossOf y None (states_of y mid) o) none c.round.ensures.lost in
+    let is = c.round.ensures.label ∙ ap (λ k. with_round label next.counter k next.seats) (ap (λ o. clean_in_end o label.clean) none) in
+    let can = can-after g.D.Disk (LosesDevice g.D.Disk columns old dev) (IsFirstInUse columns) columns mid old dev rounds.began rounds.frame c.requires.array in
+    tried g.D.Disk y label next columns mid after old dev c.end_unlabelled.new.devices c.end_unlabelled.new.ending.lost rounds is can.have kept
+    (subst (λ o. IsLossOf y o (states_of y after) c.end_unlabelled.new.ending.lost) none c.end_unlabelled.ensures.lost)
+    c.end_unlabelled.ensures.settled c.end_unlabelled.ensures.last _
+    (λ e. omega (arith, eqb-true c.count_live.result c.count_live-live.result e, c.count_live.ensures, c.count_live-live.ensures, ap live_count c.deref.ensures.value, ap live_count c.deref-2.ensures.value))
+    (λ e same.
+    let equal : c.count_live.result ≡ c.count_live-live.result = omega (arith, same, c.count_live.ensures, c.count_live-live.ensures, ap live_count c.deref.ensures.value, ap live_count c.deref-2.ensures.value) in
+    let z : false ≡ true = sym e ∙ eq-eqb c.count_live.result c.count_live-live.result equal in absurd (let u : ⊥ = cc in u))
+
+pub returns-then-is_some-clause-tried : goal.returns-then-is_some-clause-tried
+returns-then-is_some-clause-tried g c =
+    let label = c.args.label.now in
+    let next = c.round.new.label in
+    let lost = c.round.new.ending.lost in
+    let columns = c.args.ending.now.columns.items in
+    let old = c.args.devices.now in
+    let some = sym c.is_some.ensures ∙ c.if-is_some.true in
+    closed_lost g.D.Disk lost label next columns columns c.round.new.ending.columns.items old old c.round.new.devices some (counted-none g.D.Disk label columns old)
+    (c.round.ensures.label ∙ ap (λ k. with_round label next.counter k next.seats) (clean_lost lost label.clean some)) c.round.ensures.rounds
+
+pub end_unlabelled-requires-clause-devices : goal.end_unlabelled-requires-clause-devices
+end_unlabelled-requires-clause-devices g c =
+    let label = c.args.label.now in
+    let columns = c.args.ending.now.columns.items in
+    let mid = c.round.new.ending.columns.items in
+    let old = c.args.devices.now in
+    let dev = c.round.new.devices in
+    let r = rounds_of g.D.Disk c.round.new.ending.lost label c.round.new.label columns mid old dev c.round.ensures.rounds in
+    let counted = counted_rounds g.D.Disk label c.round.new.label columns r.0 mid old dev r.1 in
+    (can-after g.D.Disk (LosesDevice g.D.Disk columns old dev) (IsFirstInUse columns) columns mid old dev counted.dies counted.frame c.requires.array).have

@@ -1,0 +1,25 @@
+use Rattle.raid_recon.specs.Array.{states_of, Failed}
+use Rattle.raid_recon.specs.Ends.{MayRewrite}
+use Rattle.top_acts.specs.Renewed.{sweep_of}
+use Rattle.top_acts.proofs.Backs.{array_after}
+use Rattle.top_acts.proofs.Having.{have_of}
+use Rattle.top_acts.proofs.Renews.{renewed_plain}
+use Rattle.top_acts.proofs.renewing.renew_unlabelled.Goals as goal
+
+pub end_unlabelled-requires-clause-devices : goal.end_unlabelled-requires-clause-devices
+end_unlabelled-requires-clause-devices g c =
+    let y = g.L.Layout.shape c.args.layout.now in
+    let columns = c.args.ending.now.columns.items in
+    let mid = c.sweep_and_judge-count.new.ending.columns.items in
+    let old = c.args.devices.now in
+    let dev = c.sweep_and_judge-count.new.devices in
+    let s = c.sweep_and_judge-count.ensures.swept in
+    have_of g.D.Disk y mid dev (array_after g.D.Disk y (Failed g.D.Disk (states_of y columns) old dev) (MayRewrite g.D.Disk (sweep_of c.args.kind) y columns old) columns mid old dev s.dies s.frame c.requires.array)
+
+pub returns-clause-renewed : goal.returns-clause-renewed
+returns-clause-renewed g c =
+    let y = g.L.Layout.shape c.args.layout.now in
+    let s = c.sweep_and_judge-count in
+    let e = c.end_unlabelled in
+    renewed_plain g.D.Disk c.args.kind y c.args.ending.now.columns.items s.new.ending.columns.items e.new.ending.columns.items c.args.devices.now s.new.devices e.new.devices e.new.ending.lost s.result c.done.result
+    (g.met.L.Layout.is_layout c.args.layout.now).checks_most c.requires.columns.filling c.done.ensures e.ensures.lost s.ensures.swept e.ensures.settled e.ensures.last

@@ -1,0 +1,48 @@
+-- The labels of an array's end.
+use Rattle.std.specs.Prelude.{◌≡◌, ◌≤◌, ◌+◌, ℕ, suc, List, length, Bool, true, false, Option, None, All}
+use Rattle.blk_disk.specs.declared.disk.Disk.{Ghosts}
+use Rattle.blk_disk.specs.Devices.{Changes, calls_of}
+use Rattle.eng_cols.specs.declared.column.Column.{Column}
+use Rattle.eng_cols.specs.declared.spot.Loss.{Loss}
+use Rattle.eng_cols.specs.Deaths.{Dies}
+use Rattle.raid_label.specs.declared.label.Label.{Label}
+use Rattle.top_close.specs.Calls.{EndsSettled}
+use Rattle.top_close.specs.Settled.{IsLiveOn}
+use Rattle.top_rounds.specs.Labels.{seats_of, with_round}
+use Rattle.top_rounds.specs.Passes.{HoldsLabel, IsFirstInUse, LosesDevice}
+use Rattle.top_rounds.specs.Rounds.{HaveFailed, IsInUse, IsUncalled, clean_in_end, live_count}
+use Rattle.top_acts.specs.Stages.{ClosesOn}
+
+module _ {D : Type 0} (g : Ghosts D) where
+  -- Labels were written in rounds: so many, and at most one more for each of some devices that were in use, that failed, and that no column has now. No sector has changed but sector 0 of devices that were in use; a column has died where its device failed, and no other died; the calls are label writes and settles alone, and no other device was called.
+  pub record AreCounted (rounds : ℕ) (label next : Label) (columns after : List Column) (old new : List (Option D)) : Type 0 where
+    pub rises : List ℕ
+    pub failed : HaveFailed g old new rises
+    pub had : All (IsInUse columns) rises
+    pub gone : All (λ d. (c : ℕ) → IsLiveOn after c d → ⊥) rises
+    pub fewer : live_count after + length rises ≤ live_count columns
+    pub least : label.counter + rounds ≤ next.counter
+    pub most : next.counter ≤ label.counter + rounds + length rises
+    pub frame : Changes g (IsFirstInUse columns) old new
+    pub others : IsUncalled columns old new
+    pub dies : Dies (LosesDevice g columns old new) columns after
+    pub told : (d : ℕ) → ClosesOn (calls_of g old d) (calls_of g new d)
+
+  -- One round is named. Each device in use in the end has its label, which isn't clean where the array is lost; else the seats are those of the columns in the end, and each device in use is settled, last of all its calls.
+  pub record IsClosed (label next : Label) (columns after : List Column) (old new : List (Option D)) (lost : Option Loss) : Type 0 where
+    pub counted : AreCounted 1 label next columns after old new
+    pub label_is : next ≡ with_round label next.counter (clean_in_end lost label.clean) next.seats
+    pub seats : lost ≡ None → next.seats ≡ seats_of after
+    pub held : (c d : ℕ) → IsLiveOn after c d → HoldsLabel g new next c d
+    pub settled : lost ≡ None → (c d : ℕ) → IsLiveOn after c d → EndsSettled (calls_of g new d)
+
+  -- A device failed as it was settled, so that no label of before is the last.
+  pub record IsBroken (label next : Label) (columns after : List Column) (old new : List (Option D)) : Type 0 where
+    pub counted : AreCounted 0 label next columns after old new
+    pub label_is : next ≡ with_round label next.counter label.clean next.seats
+    pub fewer : suc (live_count after) ≤ live_count columns
+
+  -- the array was closed, or a device failed as it was settled
+  abbrev pub TriesToClose : Label → Label → List Column → List Column → List (Option D) → List (Option D) → Option Loss → Bool → Type 0
+  TriesToClose label next columns after old new lost true = IsClosed label next columns after old new lost
+  TriesToClose label next columns after old new lost false = IsBroken label next columns after old new

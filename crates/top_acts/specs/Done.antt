@@ -1,0 +1,29 @@
+-- What was done to an array, and its line.
+use Rattle.std.specs.Prelude.{ℕ, zero, suc, List, [], ◌∷◌, Option, Some, None, codes, decimal}
+use Rattle.eng_cols.specs.declared.spot.Loss.{Loss}
+use Rattle.put_line.specs.Line.{line}
+use Rattle.top_acts.specs.declared.done.Done.{Done}
+use Rattle.top_acts.specs.declared.done.Done.TheVariants as done
+
+-- what is said to be done in the end: nothing where the array is lost
+abbrev pub unless_lost : Option Loss → Done → Done
+unless_lost None act = act
+unless_lost (Some loss) act = done.Nothing
+
+-- words and a number
+unfoldable pub number_line : List ℕ → ℕ → List ℕ
+number_line words n = line (words ∷ decimal n ∷ codes "\n" ∷ [])
+
+-- of stripes that were tested
+abbrev pub check_text : ℕ → List ℕ
+check_text zero = codes "parity clean\n"
+check_text (suc n) = []
+
+-- the line of what was done, if it has one
+abbrev pub done_text : Done → List ℕ
+done_text done.Nothing = []
+done_text (done.Init n) = number_line (codes "parity initialised ") n
+done_text (done.Check n) = check_text n
+done_text (done.Rewrite n) = number_line (codes "parity rewritten ") n
+done_text (done.Killed c) = number_line (codes "failed column ") c
+done_text (done.Labelled n) = number_line (codes "labels written ") n

@@ -1,0 +1,11 @@
+pub mod Acts
+pub mod Begun
+pub mod Checked
+pub mod Closed
+pub mod Done
+pub mod Killed
+pub mod Labelled
+pub mod Renewed
+pub mod Samples
+pub mod Stages
+pub mod Sweeping

@@ -1,0 +1,57 @@
+-- The calls of a device: labels, then a sweep, then labels and settles.
+use Rattle.std.specs.Prelude.{◌≡◌, ◌⊎◌, ℕ, List, [], ◌∷◌, ◌++◌, All, Bool, Option, Some, None}
+use Rattle.blk_disk.specs.declared.disk.Call.{Call}
+use Rattle.blk_disk.specs.Disk.{call_of}
+use Rattle.lay_core.specs.Layout.{Shape}
+use Rattle.eng_cols.specs.Cols.{ColumnState}
+use Rattle.raid_recon.specs.declared.kind.Sweep.{Sweep}
+use Rattle.raid_recon.specs.Ends.{AreGoodButLast, IsUnitCall}
+use Rattle.top_close.specs.Calls.{IsSettle}
+use Rattle.top_rounds.specs.Calls.{IsLabelWrite}
+
+-- a write of a label, or a settle
+abbrev pub IsClosing : Call → Type 0
+IsClosing call = IsLabelWrite call ⊎ IsSettle call
+
+-- Where the calls are told now, they were told before, and those that came are label writes and settles alone.
+abbrev pub ClosesOn : Option (List Call) → Option (List Call) → Type 0
+ClosesOn before None = Unit {0}
+ClosesOn None (Some now) = ⊥
+ClosesOn (Some before) (Some now) = (more : List Call) × (now ≡ before ++ more) × All IsClosing more
+
+-- a settle, and label writes and settles behind it
+abbrev pub SettlesFirst : List Call → Type 0
+SettlesFirst calls = (good : Bool) × (more : List Call) × (calls ≡ call_of 2 0 0 good ∷ more) × All IsClosing more
+
+-- Where the calls are told now, they were told before, and those that came are such.
+abbrev pub SettlesFirstOn : Option (List Call) → Option (List Call) → Type 0
+SettlesFirstOn before None = Unit {0}
+SettlesFirstOn None (Some now) = ⊥
+SettlesFirstOn (Some before) (Some now) = (more : List Call) × (now ≡ before ++ more) × SettlesFirst more
+
+-- the calls of a sweep on device d: reads of whole units that stand there, and writes of whole check units, none behind one that failed; none where nothing is swept
+abbrev pub AreSweep : Option Sweep → Shape → List ColumnState → ℕ → List Call → Type 0
+AreSweep None y cols d calls = calls ≡ []
+AreSweep (Some kind) y cols d calls = AreGoodButLast calls × All (IsUnitCall y cols d) calls
+
+-- Where the calls are told now, they were told before, and none came.
+abbrev pub NoCalls : Option (List Call) → Option (List Call) → Type 0
+NoCalls before None = Unit {0}
+NoCalls None (Some now) = ⊥
+NoCalls (Some before) (Some now) = now ≡ before
+
+-- Of device d's calls those that came are such ones at first, then those of the sweep, then such ones.
+pub record AreStaged (first last : List Call → Type 0) (sweep : Option Sweep) (y : Shape) (cols : List ColumnState) (d : ℕ) (before now : List Call) : Type 0 where
+  pub front : List Call
+  pub swept : List Call
+  pub back : List Call
+  pub all : now ≡ before ++ (front ++ (swept ++ back))
+  pub at_first : first front
+  pub sweeps : AreSweep sweep y cols d swept
+  pub at_last : last back
+
+-- the same where the calls are told now; then they were told before
+abbrev pub StagesOn : (first last : List Call → Type 0) (sweep : Option Sweep) (y : Shape) (cols : List ColumnState) (d : ℕ) → Option (List Call) → Option (List Call) → Type 0
+StagesOn first last sweep y cols d before None = Unit {0}
+StagesOn first last sweep y cols d None (Some now) = ⊥
+StagesOn first last sweep y cols d (Some before) (Some now) = AreStaged first last sweep y cols d before now

@@ -1,0 +1,43 @@
+-- A sweep of a whole array, as what it did is said by the columns and contents just before it.
+use Rattle.std.specs.Prelude.{◌≡◌, ◌≤◌, ℕ, List, [], Option, Some, None}
+use Rattle.blk_disk.specs.declared.disk.Disk.{Ghosts}
+use Rattle.blk_disk.specs.Devices.{Changes, calls_of, contents_of}
+use Rattle.lay_core.specs.Layout.{Shape}
+use Rattle.eng_cols.specs.declared.column.Column.{Column}
+use Rattle.eng_cols.specs.declared.spot.Loss.{Loss}
+use Rattle.eng_cols.specs.Contents.{InSync}
+use Rattle.eng_cols.specs.Deaths.{Dies}
+use Rattle.raid_label.specs.declared.label.Label.{Label}
+use Rattle.raid_recon.specs.declared.kind.Sweep.{Sweep}
+use Rattle.raid_recon.specs.Array.{states_of, Failed}
+use Rattle.raid_recon.specs.Ends.{MayRewrite, ChecksHold, IsCounted, CallsUnits}
+use Rattle.top_close.specs.Settled.{IsLiveOn}
+use Rattle.top_rounds.specs.Labels.{with_round}
+use Rattle.top_rounds.specs.Passes.{HoldsLabel}
+use Rattle.top_rounds.specs.Rounds.{clean_in_end}
+use Rattle.top_acts.specs.Begun.{AreLast, CountsRounds, HasSwept, MayBegin, ToldNothing}
+use Rattle.top_acts.specs.Stages.{StagesOn}
+
+module _ {D : Type 0} (g : Ghosts D) (kind : Sweep) (y : Shape) where
+  -- One sweep: which sectors may have changed, whose columns died, what it left, counted and called.
+  pub record DoesSweep (columns after : List Column) (old new : List (Option D)) (n : ℕ) : Type 0 where
+    pub frame : Changes g (MayRewrite g kind y columns old) old new
+    pub dies : Dies (Failed g (states_of y columns) old new) columns after
+    pub in_sync : g.tells → InSync y (contents_of g new) (states_of y after)
+    pub checks : y.checks ≡ 1 → g.tells → ChecksHold g y columns after old new
+    pub counted : y.checks ≡ 1 → IsCounted g kind y columns after old n
+    pub none : y.checks ≡ 0 → (n ≡ 0) × ((after ≡ columns) × (new ≡ old))
+    pub calls : (d : ℕ) → CallsUnits y (states_of y columns) d (calls_of g old d) (calls_of g new d)
+
+  -- The same behind an opening round: where the array is lost by it, one round was written, and else the labels stay as they were.
+  pub record SweepsLabelled (label next : Label) (columns after : List Column) (old new : List (Option D)) (lost : Option Loss) (n : ℕ) : Type 0 where
+    pub rounds : ℕ
+    pub few : rounds ≤ 1
+    pub none : lost ≡ None → rounds ≡ 0
+    pub named : CountsRounds g rounds label next columns after old new
+    pub label_is : next ≡ with_round label next.counter (clean_in_end lost label.clean) next.seats
+    pub held : (c d : ℕ) → IsLiveOn after c d → HoldsLabel g old label c d → HoldsLabel g new next c d
+    pub frame : Changes g (MayBegin g (Some kind) y columns old) old new
+    pub told : (d : ℕ) → StagesOn (λ calls. calls ≡ []) (AreLast lost) (Some kind) y (states_of y columns) d (calls_of g old d) (calls_of g new d)
+    pub uncalled : ToldNothing g columns old new
+    pub swept : HasSwept g kind y columns after old new n

@@ -1,0 +1,46 @@
+//! The stripes are tested.
+ghost use Rattle.std.specs.Prelude.{◌≡◌, ◌≤◌, ◌*◌};
+ghost use Rattle.eng_cols.specs.Cols.{IsFor};
+ghost use Rattle.raid_recon.specs.Array.{IsArray};
+ghost use Rattle.top_acts.specs.Acts.{IsSettable};
+ghost use Rattle.top_acts.specs.Checked.{IsChecked};
+
+use crate::done::Done;
+use crate::judging::loss_of;
+use blk_disk::Disk;
+use eng_cols::Cols;
+use lay_core::Layout;
+use raid_recon::{Room, sweep_check};
+use top_close::{Ending, deaths_bring_no_unit_back};
+
+/// Counts the stripes that aren't in sync, of those that lack no unit. A column is dead whose device
+/// fails a read; then the array may be lost.
+///
+/// No sector changes: no label is written, and nothing is settled. The array isn't lost as it is
+/// opened. `room` has 1,024 bytes for each sector of a unit, and `judge` may hold any columns, as
+/// many as the layout has. No memory is taken.
+pub fn check<L: Layout, D: Disk>(
+    layout: &L,
+    devices: &mut [Option<D>],
+    ending: &mut Ending,
+    room: &mut Room,
+    judge: &mut Cols,
+) -> Done
+    requires array { IsArray D.Disk (L.shape layout.now) ending.old.columns.items devices.old }
+    requires columns { IsSettable (L.shape layout.now) ending.old.columns.items }
+    requires room { 1024 * (L.shape layout.now).unit_sectors ≤ room.old }
+    requires judge { IsFor (L.shape layout.now) judge.old }
+    ensures checked { IsChecked D.Disk (L.shape layout.now) ending.old.columns.items
+        ending.new.columns.items devices.old devices.new ending.new.lost result }
+    ensures room { room.new ≡ room.old }
+    ensures judge { IsFor (L.shape layout.now) judge.new }
+{
+    deaths_bring_no_unit_back();
+    let columns = ending.columns.as_mut_slice();
+    let count = sweep_check(layout, devices, columns, room);
+    ending.lost = loss_of(layout, columns, judge);
+    match ending.lost {
+        Some(_) => Done::Nothing,
+        None => Done::Check(count),
+    }
+}

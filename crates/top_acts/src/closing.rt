@@ -1,0 +1,101 @@
+//! The labels of an array's end: each device in use gets them, and is then settled.
+ghost use Rattle.std.specs.Prelude.{◌≡◌, ◌≤◌, ◌<◌, ◌+◌, ◌^◌, length};
+ghost use Rattle.eng_cols.specs.Cols.{IsFor};
+ghost use Rattle.raid_label.specs.Bytes.{IsHeld};
+ghost use Rattle.top_acts.specs.Acts.{IsSettable};
+ghost use Rattle.top_acts.specs.Closed.{IsClosed, TriesToClose};
+ghost use Rattle.top_close.specs.Ended.{IsLossOf, states_of};
+ghost use Rattle.top_close.specs.Settled.{is_live};
+ghost use Rattle.std.specs.Prelude.{Some, None};
+ghost use Rattle.top_rounds.specs.Passes.{CanBeLabelled};
+ghost use Rattle.top_rounds.specs.Rounds.{live_count};
+
+use blk_disk::Disk;
+use eng_cols::{Cols, Column};
+use lay_core::Layout;
+use raid_label::Label;
+use top_close::{Ending, deaths_bring_no_unit_back, end_unlabelled};
+use top_rounds::round;
+
+fn is_live(column: Column) -> bool
+    ensures { result ≡ is_live (Some column) }
+{
+    match column {
+        Column::Live { .. } => true,
+        Column::Dead | Column::Filling { .. } | Column::Spread => false,
+    }
+}
+
+// How many columns are live.
+fn count_live(columns: &[Column]) -> u32
+    requires { length columns.now ≤ 32 }
+    ensures { result ≡ live_count columns.now }
+{
+    let mut count = 0;
+    for column in columns {
+        if is_live(*column) {
+            count += 1;
+        }
+    }
+    count
+}
+
+// Writes rounds of labels, and then settles each device in use. Says whether that closed the array:
+// none failed as it was settled, or the array was lost before.
+fn try_close<L: Layout, D: Disk>(
+    layout: &L,
+    devices: &mut [Option<D>],
+    ending: &mut Ending,
+    label: &mut Label,
+    judge: &mut Cols,
+) -> bool
+    requires array { CanBeLabelled D.Disk ending.old.columns.items devices.old }
+    requires columns { IsSettable (L.shape layout.now) ending.old.columns.items }
+    requires held { IsHeld label.old }
+    requires counter { label.old.counter + 33 < 2 ^ 32 }
+    requires judge { IsFor (L.shape layout.now) judge.old }
+    ensures tried { TriesToClose D.Disk label.old label.new ending.old.columns.items
+        ending.new.columns.items devices.old devices.new ending.new.lost result }
+    ensures lost { IsLossOf (L.shape layout.now) None
+        (states_of (L.shape layout.now) ending.new.columns.items) ending.new.lost }
+    ensures judge { IsFor (L.shape layout.now) judge.new }
+{
+    deaths_bring_no_unit_back();
+    ending.lost = None;
+    round(layout, devices, ending, label, judge);
+    if ending.lost.is_some() {
+        return true;
+    }
+    let live = count_live(&ending.columns);
+    end_unlabelled(layout, devices, ending, judge);
+    count_live(&ending.columns) == live
+}
+
+/// Ends what is done to a labelled array: rounds of labels are written, and then each device in use
+/// is settled, last of all its calls. Where one fails as it is settled there are rounds again, until
+/// none does or the array is lost; then one last round is written, which isn't clean.
+///
+/// `label` is the label that was written last, or that the newest device had, with the clean field
+/// that the labels are to have. Before this the caller settles each device in use. `judge` may hold
+/// any columns, as many as the layout has. No memory is taken.
+pub fn close<L: Layout, D: Disk>(
+    layout: &L,
+    devices: &mut [Option<D>],
+    ending: &mut Ending,
+    label: &mut Label,
+    judge: &mut Cols,
+)
+    requires array { CanBeLabelled D.Disk ending.old.columns.items devices.old }
+    requires columns { IsSettable (L.shape layout.now) ending.old.columns.items }
+    requires held { IsHeld label.old }
+    requires counter { label.old.counter + 65 < 2 ^ 32 }
+    requires judge { IsFor (L.shape layout.now) judge.old }
+    ensures closed { IsClosed D.Disk label.old label.new ending.old.columns.items
+        ending.new.columns.items devices.old devices.new ending.new.lost }
+    ensures lost { IsLossOf (L.shape layout.now) None
+        (states_of (L.shape layout.now) ending.new.columns.items) ending.new.lost }
+    ensures judge { IsFor (L.shape layout.now) judge.new }
+{
+    deaths_bring_no_unit_back();
+    while !try_close(layout, devices, ending, label, judge) {}
+}

@@ -1,0 +1,119 @@
+//! The end of what was done to a labelled array, lost or not.
+ghost use Rattle.std.specs.Prelude.{◌≡◌, ◌<◌, ◌+◌, ◌^◌, ℕ, true, None, is_some};
+ghost use Rattle.blk_disk.specs.Devices.{calls_of};
+ghost use Rattle.eng_cols.specs.Cols.{IsFor};
+ghost use Rattle.raid_label.specs.Bytes.{IsHeld};
+ghost use Rattle.top_acts.specs.Acts.{IsSettable};
+ghost use Rattle.top_acts.specs.Closed.{IsClosed};
+ghost use Rattle.top_acts.specs.Stages.{SettlesFirstOn};
+ghost use Rattle.top_close.specs.Ended.{IsLossOf, states_of};
+ghost use Rattle.top_close.specs.Settled.{IsLiveOn};
+ghost use Rattle.top_rounds.specs.Labels.{with_round};
+ghost use Rattle.top_rounds.specs.Passes.{CanBeLabelled};
+ghost use Rattle.top_rounds.specs.Rounds.{HaveRounds};
+
+use crate::closing::close;
+use blk_disk::Disk;
+use eng_cols::Cols;
+use lay_core::Layout;
+use raid_label::Label;
+use top_close::{Ending, deaths_bring_no_unit_back, end_unlabelled};
+use top_rounds::round;
+
+/// The one round of an array that is lost by its columns: it isn't clean, and failed writes are
+/// passed over. Then the array is lost by the columns in the end.
+pub(crate) fn write_lost<L: Layout, D: Disk>(
+    layout: &L,
+    devices: &mut [Option<D>],
+    ending: &mut Ending,
+    label: &mut Label,
+    judge: &mut Cols,
+)
+    requires array { CanBeLabelled D.Disk ending.old.columns.items devices.old }
+    requires columns { IsSettable (L.shape layout.now) ending.old.columns.items }
+    requires held { IsHeld label.old }
+    requires counter { label.old.counter + 33 < 2 ^ 32 }
+    requires lost { is_some ending.old.lost ≡ true }
+    requires by { IsLossOf (L.shape layout.now) None
+        (states_of (L.shape layout.now) ending.old.columns.items) ending.old.lost }
+    requires judge { IsFor (L.shape layout.now) judge.old }
+    ensures label { label.new ≡ with_round label.old label.new.counter 0 label.new.seats }
+    ensures rounds { HaveRounds D.Disk ending.new.lost label.old label.new
+        ending.old.columns.items ending.new.columns.items devices.old devices.new }
+    ensures lost { is_some ending.new.lost ≡ true }
+    ensures by { IsLossOf (L.shape layout.now) None
+        (states_of (L.shape layout.now) ending.new.columns.items) ending.new.lost }
+    ensures judge { IsFor (L.shape layout.now) judge.new }
+{
+    deaths_bring_no_unit_back();
+    ending.lost = None;
+    round(layout, devices, ending, label, judge);
+}
+
+// Settles each device in use, and then closes the array, or, where that lost it, writes its one
+// round.
+fn settle_and_end<L: Layout, D: Disk>(
+    layout: &L,
+    devices: &mut [Option<D>],
+    ending: &mut Ending,
+    label: &mut Label,
+    judge: &mut Cols,
+)
+    requires array { CanBeLabelled D.Disk ending.old.columns.items devices.old }
+    requires columns { IsSettable (L.shape layout.now) ending.old.columns.items }
+    requires held { IsHeld label.old }
+    requires counter { label.old.counter + 65 < 2 ^ 32 }
+    requires judge { IsFor (L.shape layout.now) judge.old }
+    ensures closed { IsClosed D.Disk label.old label.new ending.old.columns.items
+        ending.new.columns.items devices.old devices.new ending.new.lost }
+    ensures first { (c d : ℕ) → IsLiveOn ending.old.columns.items c d → SettlesFirstOn
+        (calls_of D.Disk devices.old d) (calls_of D.Disk devices.new d) }
+    ensures lost { IsLossOf (L.shape layout.now) None
+        (states_of (L.shape layout.now) ending.new.columns.items) ending.new.lost }
+    ensures judge { IsFor (L.shape layout.now) judge.new }
+{
+    deaths_bring_no_unit_back();
+    ending.lost = None;
+    end_unlabelled(layout, devices, ending, judge);
+    if ending.lost.is_some() {
+        write_lost(layout, devices, ending, label, judge);
+    } else {
+        close(layout, devices, ending, label, judge);
+    }
+}
+
+/// Ends what was done to a labelled array whose opening round has been written. Each device in use
+/// is settled, and then the array is closed, as [`close`] does it. Where the array is lost, before
+/// this or as it is settled, one round is written in place of that, which isn't clean and whose
+/// failed writes are passed over, and nothing is settled behind it.
+///
+/// `label` is the label that was written last, with the clean field that the closing round is to
+/// have. An array that was lost before stays lost by what it was lost; else it is lost, if it is, by
+/// the columns in the end. `judge` may hold any columns, as many as the layout has. No memory is
+/// taken.
+pub fn end_labelled<L: Layout, D: Disk>(
+    layout: &L,
+    devices: &mut [Option<D>],
+    ending: &mut Ending,
+    label: &mut Label,
+    judge: &mut Cols,
+)
+    requires array { CanBeLabelled D.Disk ending.old.columns.items devices.old }
+    requires columns { IsSettable (L.shape layout.now) ending.old.columns.items }
+    requires held { IsHeld label.old }
+    requires counter { label.old.counter + 65 < 2 ^ 32 }
+    requires judge { IsFor (L.shape layout.now) judge.old }
+    ensures closed { IsClosed D.Disk label.old label.new ending.old.columns.items
+        ending.new.columns.items devices.old devices.new ending.new.lost }
+    ensures first { ending.old.lost ≡ None → (c d : ℕ) → IsLiveOn ending.old.columns.items c d →
+        SettlesFirstOn (calls_of D.Disk devices.old d) (calls_of D.Disk devices.new d) }
+    ensures lost { IsLossOf (L.shape layout.now) ending.old.lost
+        (states_of (L.shape layout.now) ending.new.columns.items) ending.new.lost }
+    ensures judge { IsFor (L.shape layout.now) judge.new }
+{
+    if ending.lost.is_some() {
+        round(layout, devices, ending, label, judge);
+    } else {
+        settle_and_end(layout, devices, ending, label, judge);
+    }
+}

@@ -1,0 +1,20 @@
+//! Whether an array is lost by its columns.
+ghost use Rattle.std.specs.Prelude.{◌≡◌, ◌≤◌, length, count_by};
+ghost use Rattle.eng_cols.specs.Cols.{IsFor, is_set_filling, is_set_spread};
+ghost use Rattle.top_acts.specs.Acts.{IsSettable};
+ghost use Rattle.top_close.specs.Ended.{states_of, IsLossOf};
+
+use eng_cols::{Cols, Column, Loss};
+use lay_core::Layout;
+
+/// By what an array is lost that has these columns.
+pub(crate) fn loss_of<L: Layout>(layout: &L, columns: &[Column], judge: &mut Cols) -> Option<Loss>
+    requires columns { IsSettable (L.shape layout.now) columns.now }
+    requires judge { IsFor (L.shape layout.now) judge.old }
+    ensures lost { IsLossOf (L.shape layout.now) None
+        (states_of (L.shape layout.now) columns.now) result }
+    ensures judge { IsFor (L.shape layout.now) judge.new }
+{
+    judge.set(layout, columns);
+    judge.lost(layout)
+}

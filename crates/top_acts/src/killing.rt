@@ -1,0 +1,80 @@
+//! A labelled array is closed that nothing was written to yet.
+ghost use Rattle.std.specs.Prelude.{◌<◌, ◌+◌, ◌^◌};
+ghost use Rattle.eng_cols.specs.Cols.{IsFor};
+ghost use Rattle.raid_label.specs.Bytes.{IsHeld};
+ghost use Rattle.top_acts.specs.Acts.{IsSettable};
+ghost use Rattle.top_acts.specs.Killed.{EndsAlive, IsKilled};
+ghost use Rattle.std.specs.Prelude.{length};
+ghost use Rattle.std.specs.Prelude.{None};
+ghost use Rattle.top_close.specs.Ended.{IsLossOf, states_of};
+ghost use Rattle.top_rounds.specs.Passes.{CanBeLabelled};
+
+use crate::closing::close;
+use crate::done::Done;
+use blk_disk::Disk;
+use eng_cols::{Cols, Column};
+use lay_core::Layout;
+use raid_label::Label;
+use top_close::{Ending, deaths_bring_no_unit_back, end_unlabelled};
+
+/// Settles each device in use, and then closes a labelled array, or leaves it as it is where that
+/// lost it: no label is written then.
+///
+/// `label` is the newest's. All else is as in [`close`].
+pub fn settle_and_close<L: Layout, D: Disk>(
+    layout: &L,
+    devices: &mut [Option<D>],
+    ending: &mut Ending,
+    label: &mut Label,
+    judge: &mut Cols,
+)
+    requires array { CanBeLabelled D.Disk ending.old.columns.items devices.old }
+    requires columns { IsSettable (L.shape layout.now) ending.old.columns.items }
+    requires held { IsHeld label.old }
+    requires counter { label.old.counter + 65 < 2 ^ 32 }
+    requires judge { IsFor (L.shape layout.now) judge.old }
+    ensures ends { EndsAlive D.Disk label.old label.new ending.old.columns.items
+        ending.new.columns.items devices.old devices.new ending.new.lost }
+    ensures lost { IsLossOf (L.shape layout.now) None
+        (states_of (L.shape layout.now) ending.new.columns.items) ending.new.lost }
+    ensures judge { IsFor (L.shape layout.now) judge.new }
+{
+    deaths_bring_no_unit_back();
+    ending.lost = None;
+    end_unlabelled(layout, devices, ending, judge);
+    if ending.lost.is_none() {
+        close(layout, devices, ending, label, judge);
+    }
+}
+
+/// Fails a column of a labelled array: it is dead, and the labels say so, with the newest's clean
+/// field.
+///
+/// `label` is the newest's. Where the array is lost before any label was written, it is left as it
+/// is. All else is as in [`close`].
+pub fn kill<L: Layout, D: Disk>(
+    layout: &L,
+    devices: &mut [Option<D>],
+    ending: &mut Ending,
+    column: u32,
+    label: &mut Label,
+    judge: &mut Cols,
+) -> Done
+    requires within { column < length ending.old.columns.items }
+    requires array { CanBeLabelled D.Disk ending.old.columns.items devices.old }
+    requires columns { IsSettable (L.shape layout.now) ending.old.columns.items }
+    requires held { IsHeld label.old }
+    requires counter { label.old.counter + 65 < 2 ^ 32 }
+    requires judge { IsFor (L.shape layout.now) judge.old }
+    ensures killed { IsKilled D.Disk (L.shape layout.now) column label.old label.new ending.old.columns.items
+        ending.new.columns.items devices.old devices.new ending.new.lost result }
+    ensures judge { IsFor (L.shape layout.now) judge.new }
+{
+    deaths_bring_no_unit_back();
+    ending.columns[column as usize] = Column::Dead;
+    settle_and_close(layout, devices, ending, label, judge);
+    match ending.lost {
+        Some(_) => Done::Nothing,
+        None => Done::Killed(column),
+    }
+}

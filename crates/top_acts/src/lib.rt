@@ -1,0 +1,31 @@
+//! What is done to an array that has been opened, without a core: its check units are tested or
+//! rewritten, a column is failed, or its devices get their first labels.
+//!
+//! Each of these takes the columns as they were opened, and leaves them as they are in the end. It
+//! tells what was done, and that is nothing exactly where the array is lost.
+#![tactic(auto)]
+
+mod beginning;
+mod checking;
+mod closing;
+mod done;
+mod done_line;
+mod ending;
+mod judging;
+mod killing;
+mod labelling;
+mod renewing;
+mod sweeping;
+#[cfg(test)]
+mod tests;
+
+pub use beginning::begin_labelled;
+pub use checking::check;
+pub use closing::close;
+pub use done::Done;
+pub use done_line::put_done;
+pub use ending::end_labelled;
+pub use killing::{kill, settle_and_close};
+pub use labelling::label;
+pub use renewing::{renew, renew_unlabelled};
+pub use sweeping::Renewal;

@@ -1,0 +1,100 @@
+//! The check units of an array are initialised, or those rewritten that aren't in sync.
+ghost use Rattle.std.specs.Prelude.{◌≡◌, ◌≤◌, ◌<◌, ◌+◌, ◌*◌, ◌^◌};
+ghost use Rattle.eng_cols.specs.Cols.{IsFor};
+ghost use Rattle.raid_label.specs.Bytes.{IsHeld};
+ghost use Rattle.raid_recon.specs.Array.{IsArray};
+ghost use Rattle.top_acts.specs.Acts.{IsSettable};
+ghost use Rattle.top_acts.specs.Begun.{CanAct};
+ghost use Rattle.top_acts.specs.Done.{unless_lost};
+ghost use Rattle.top_acts.specs.Renewed.{IsRenewed, IsRenewedPlain, renewed};
+
+use crate::beginning::begin;
+use crate::done::Done;
+use crate::ending::end_labelled;
+use crate::sweeping::{Renewal, sweep_and_judge};
+use blk_disk::Disk;
+use eng_cols::{Cols, Loss};
+use lay_core::Layout;
+use raid_label::Label;
+use raid_recon::Room;
+use top_close::{Ending, deaths_bring_no_unit_back, end_unlabelled};
+
+// What was done, of so many check units.
+fn done(kind: Renewal, count: u64, lost: Option<Loss>) -> Done
+    ensures { result ≡ unless_lost lost (renewed kind count) }
+{
+    if lost.is_some() {
+        return Done::Nothing;
+    }
+    match kind {
+        Renewal::Init => Done::Init(count),
+        Renewal::Rewrite => Done::Rewrite(count),
+    }
+}
+
+/// Renews the check units of a labelled array: the opening round is written, the stripes are swept,
+/// each device in use is settled, the closing round is written, whose labels are clean, and each is
+/// settled again. A column is dead whose device fails. Where the array is lost on the way, what is
+/// left of that isn't done, but for the one round of a lost array. Tells how many check units were
+/// written.
+///
+/// `label` is the newest's, and in the end the label of the last round. All else is as in
+/// [`begin_labelled`](crate::begin_labelled).
+pub fn renew<L: Layout, D: Disk>(
+    kind: Renewal,
+    layout: &L,
+    devices: &mut [Option<D>],
+    ending: &mut Ending,
+    label: &mut Label,
+    room: &mut Room,
+    judge: &mut Cols,
+) -> Done
+    requires can { CanAct D.Disk (L.shape layout.now) ending.old.columns.items devices.old }
+    requires held { IsHeld label.old }
+    requires counter { label.old.counter + 99 < 2 ^ 32 }
+    requires room { 1024 * (L.shape layout.now).unit_sectors ≤ room.old }
+    requires judge { IsFor (L.shape layout.now) judge.old }
+    ensures renewed { IsRenewed D.Disk kind (L.shape layout.now) label.old label.new
+        ending.old.columns.items ending.new.columns.items devices.old devices.new ending.new.lost result }
+    ensures room { room.new ≡ room.old }
+    ensures judge { IsFor (L.shape layout.now) judge.new }
+{
+    deaths_bring_no_unit_back();
+    let count = begin(Some(kind), layout, devices, ending, label, room, judge);
+    if ending.lost.is_some() {
+        return Done::Nothing;
+    }
+    label.clean = 1;
+    end_labelled(layout, devices, ending, label, judge);
+    done(kind, count, ending.lost)
+}
+
+/// Renews the check units of an array without labels: the stripes are swept, and then each device in
+/// use is settled, whether the array is lost or not. A column is dead whose device fails. Tells how
+/// many check units were written.
+///
+/// The array isn't lost as it is opened. `room` has 1,024 bytes for each sector of a unit, and
+/// `judge` may hold any columns, as many as the layout has. No memory is taken.
+pub fn renew_unlabelled<L: Layout, D: Disk>(
+    kind: Renewal,
+    layout: &L,
+    devices: &mut [Option<D>],
+    ending: &mut Ending,
+    room: &mut Room,
+    judge: &mut Cols,
+) -> Done
+    requires array { IsArray D.Disk (L.shape layout.now) ending.old.columns.items devices.old }
+    requires columns { IsSettable (L.shape layout.now) ending.old.columns.items }
+    requires room { 1024 * (L.shape layout.now).unit_sectors ≤ room.old }
+    requires judge { IsFor (L.shape layout.now) judge.old }
+    ensures renewed { IsRenewedPlain D.Disk kind (L.shape layout.now)
+        ending.old.columns.items ending.new.columns.items devices.old devices.new ending.new.lost result }
+    ensures room { room.new ≡ room.old }
+    ensures judge { IsFor (L.shape layout.now) judge.new }
+{
+    deaths_bring_no_unit_back();
+    let count = sweep_and_judge(kind, layout, devices, ending, room, judge);
+    ending.lost = None;
+    end_unlabelled(layout, devices, ending, judge);
+    done(kind, count, ending.lost)
+}

@@ -1,0 +1,71 @@
+//! The check units of an array are renewed, in one sweep over its stripes.
+ghost use Rattle.std.specs.Prelude.{◌≡◌, ◌≤◌, ◌*◌, None};
+ghost use Rattle.eng_cols.specs.Cols.{IsFor};
+ghost use Rattle.raid_recon.specs.Array.{IsArray};
+ghost use Rattle.top_acts.specs.Acts.{IsSettable};
+ghost use Rattle.top_acts.specs.Renewed.{sweep_of};
+ghost use Rattle.top_acts.specs.Sweeping.{DoesSweep};
+ghost use Rattle.top_close.specs.Ended.{IsLossOf, states_of};
+
+use crate::judging::loss_of;
+use blk_disk::Disk;
+use eng_cols::{Cols, Column};
+use lay_core::Layout;
+use raid_recon::{Room, sweep_init, sweep_sync};
+use top_close::{Ending, deaths_bring_no_unit_back};
+
+/// Which check units are written, of the stripes that lack no unit.
+#[derive(Clone, Copy, Debug, PartialEq, Eq)]
+pub enum Renewal {
+    /// All, whatever they hold.
+    Init,
+    /// Those of stripes that aren't in sync.
+    Rewrite,
+}
+
+// One sweep over the columns' stripes. Says how many check units were written.
+fn sweep<L: Layout, D: Disk>(
+    kind: Renewal,
+    layout: &L,
+    devices: &mut [Option<D>],
+    columns: &mut [Column],
+    room: &mut Room,
+) -> u64
+    requires array { IsArray D.Disk (L.shape layout.now) columns.old devices.old }
+    requires room { 1024 * (L.shape layout.now).unit_sectors ≤ room.old }
+    ensures swept { DoesSweep D.Disk (sweep_of kind) (L.shape layout.now)
+        columns.old columns.new devices.old devices.new result }
+    ensures room { room.new ≡ room.old }
+{
+    match kind {
+        Renewal::Init => sweep_init(layout, devices, columns, room),
+        Renewal::Rewrite => sweep_sync(layout, devices, columns, room),
+    }
+}
+
+/// The same, and by what the array is lost behind it.
+pub(crate) fn sweep_and_judge<L: Layout, D: Disk>(
+    kind: Renewal,
+    layout: &L,
+    devices: &mut [Option<D>],
+    ending: &mut Ending,
+    room: &mut Room,
+    judge: &mut Cols,
+) -> u64
+    requires array { IsArray D.Disk (L.shape layout.now) ending.old.columns.items devices.old }
+    requires columns { IsSettable (L.shape layout.now) ending.old.columns.items }
+    requires room { 1024 * (L.shape layout.now).unit_sectors ≤ room.old }
+    requires judge { IsFor (L.shape layout.now) judge.old }
+    ensures swept { DoesSweep D.Disk (sweep_of kind) (L.shape layout.now)
+        ending.old.columns.items ending.new.columns.items devices.old devices.new result }
+    ensures lost { IsLossOf (L.shape layout.now) None
+        (states_of (L.shape layout.now) ending.new.columns.items) ending.new.lost }
+    ensures room { room.new ≡ room.old }
+    ensures judge { IsFor (L.shape layout.now) judge.new }
+{
+    deaths_bring_no_unit_back();
+    let columns = ending.columns.as_mut_slice();
+    let count = sweep(kind, layout, devices, columns, room);
+    ending.lost = loss_of(layout, columns, judge);
+    count
+}
