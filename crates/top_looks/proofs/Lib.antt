@@ -1,0 +1,3 @@
+mod LinesFrom
+mod ShortNames
+mod OwnOrSpare
