@@ -1,5 +1,5 @@
 -- All that is said of a run.
-use Rattle.std.proofs.Common.{◌≡◌, List, length, Option, sym, ◌∙◌, subst}
+use Rattle.std.proofs.Common.{◌≡◌, List, length, Option, refl, sym, ◌∙◌, subst}
 use Rattle.blk_disk.specs.declared.disk.Disk.{Ghosts as DiskGhosts}
 use Rattle.lay_core.specs.declared.layout.Layout.{Ghosts as LayoutGhosts}
 use Rattle.eng_events.specs.Opened.{IsSetup}
@@ -10,14 +10,18 @@ use Rattle.top_serve.specs.Setups.{IsFew, graphs_in}
 use Rattle.top_serve.specs.Served as served
 use Rattle.top_run.specs.Work.{Service}
 use Rattle.top_run.specs.Works.{work_of}
-use Rattle.top_run.specs.Ends.{IsEnded}
-use Rattle.top_run.specs.Ran.{Rests, Tells, Ran}
+use Rattle.top_run.specs.Ends.{IsEnded, EndsSo}
+use Rattle.top_run.specs.Ran.{Rests, Tells, Ran, Runs}
 use Rattle.top_run.proofs.FromServed.{opens-from, rests-from, tells-from, stands-from}
-use Rattle.top_run.proofs.Finishing.{finishes}
+use Rattle.top_run.proofs.Finishing.{ends-so, finishes}
+use Rattle.top_run.proofs.AtEnd.{columns-end}
 use Rattle.top_run.proofs.Meaning.{means}
 use Rattle.top_run.proofs.Causing.{causes}
 
 module _ {L D : Type 0} (lay : LayoutGhosts L) (disk : DiskGhosts D) (setup : Setup L D) (closed : Closed L D) (given : IsSetup lay disk setup) (few : IsFew setup) (s : served.IsServed lay disk setup closed) (v : Service) (back : List (Option D)) (e : IsEnded lay closed disk v back) where
+  abbrev so : EndsSo lay closed disk v back
+  so = ends-so lay closed disk v back e
+
   pub has-run : Ran disk (work_of lay setup) setup.devices.items v back
   has-run = record {
     graphs = graphs_in setup;
@@ -27,9 +31,9 @@ module _ {L D : Type 0} (lay : LayoutGhosts L) (disk : DiskGhosts D) (setup : Se
     opens = opens-from lay disk setup closed few.clients s v.ending;
     rests = subst (λ u. Rests disk (work_of lay setup) setup.devices.items u (graphs_in setup) s.start s.events s.now) (sym e.told) (rests-from lay disk setup closed few.clients s v.ending);
     tells = subst (λ u. Tells disk (work_of lay setup) setup.devices.items u s.events s.now) (sym e.told) (tells-from lay disk setup closed few.clients s v.ending);
-    means = means lay disk setup closed given s v back e;
+    means = means lay disk setup closed given s v back so;
     ends = finishes lay disk setup closed given s v back e;
-    causes = causes lay disk setup closed given s v back e;
+    causes = causes lay disk setup closed given s v back so;
   }
 
   pub stands : StandFor v.clients v.replies v.sectors
@@ -37,3 +41,27 @@ module _ {L D : Type 0} (lay : LayoutGhosts L) (disk : DiskGhosts D) (setup : Se
 
   pub as-many : length back ≡ length setup.devices.items
   as-many = e.settled.frame.count ∙ s.leaves.frame.count
+
+-- The run of what ended so, whatever its end has called and written into first sectors.
+module _ {L D : Type 0} (lay : LayoutGhosts L) (disk : DiskGhosts D) (setup : Setup L D) (closed : Closed L D) (given : IsSetup lay disk setup) (few : IsFew setup) (s : served.IsServed lay disk setup closed) (v : Service) (back : List (Option D)) (e : EndsSo lay closed disk v back) where
+  pub runs : Runs disk (work_of lay setup) setup.devices.items v back
+  runs = record {
+    graphs = graphs_in setup;
+    start = s.start;
+    events = s.events;
+    now = s.now;
+    opens = opens-from lay disk setup closed few.clients s v.ending;
+    rests = subst (λ u. Rests disk (work_of lay setup) setup.devices.items u (graphs_in setup) s.start s.events s.now) (sym e.told) (rests-from lay disk setup closed few.clients s v.ending);
+    tells = subst (λ u. Tells disk (work_of lay setup) setup.devices.items u s.events s.now) (sym e.told) (tells-from lay disk setup closed few.clients s v.ending);
+    means = means lay disk setup closed given s v back e;
+    ends = columns-end lay disk setup closed given s v back e;
+    causes = causes lay disk setup closed given s v back e;
+  }
+
+  -- its last world is that of what was served
+  pub runs-now : runs.now ≡ s.now
+  unfolding runs
+  runs-now = refl
+
+  pub runs-stand : StandFor v.clients v.replies v.sectors
+  runs-stand = subst (λ (u : Service). StandFor u.clients u.replies u.sectors) (sym e.told) (stands-from lay disk setup closed few.clients s v.ending)

@@ -11,14 +11,14 @@ use Rattle.top_serve.specs.Setups.{graphs_in}
 use Rattle.top_serve.specs.Served as served
 use Rattle.top_run.specs.Work.{Service}
 use Rattle.top_run.specs.Works.{work_of}
-use Rattle.top_run.specs.Ends.{IsEnded}
+use Rattle.top_run.specs.Ends.{EndsSo}
 use Rattle.top_run.specs.Ran.{WasFailed, RisesAt, IsFailedBy, Causes}
 use Rattle.top_run.proofs.Columns.{rise-before, ending-dies}
 
 failed-so : (now : World) (c : ℕ) → served.WasFailed now c → WasFailed now c
 failed-so now c f = record { id = f.id; asked = f.asked; replied = f.replied }
 
-module _ {L D : Type 0} (lay : LayoutGhosts L) (disk : DiskGhosts D) (setup : Setup L D) (closed : Closed L D) (given : IsSetup lay disk setup) (s : served.IsServed lay disk setup closed) (v : Service) (back : List (Option D)) (e : IsEnded lay closed disk v back) where
+module _ {L D : Type 0} (lay : LayoutGhosts L) (disk : DiskGhosts D) (setup : Setup L D) (closed : Closed L D) (given : IsSetup lay disk setup) (s : served.IsServed lay disk setup closed) (v : Service) (back : List (Option D)) (e : EndsSo lay closed disk v back) where
   abbrev Rises : ℕ → Type 0
   Rises = RisesAt disk (work_of lay setup) setup.devices.items v back
 

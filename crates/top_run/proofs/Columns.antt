@@ -20,7 +20,7 @@ use Rattle.top_serve.specs.Served as served
 use Rattle.top_serve.proofs.Columns.{set-states}
 use Rattle.top_run.specs.Work.{Service}
 use Rattle.top_run.specs.Works.{work_of}
-use Rattle.top_run.specs.Ends.{MayEnd, IsEnded}
+use Rattle.top_run.specs.Ends.{MayEnd, EndsSo}
 use Rattle.top_run.specs.Ran.{RisesAt, states_in}
 
 -- ## States
@@ -86,16 +86,16 @@ module _ {L D : Type 0} (lay : LayoutGhosts L) (disk : DiskGhosts D) (setup : Se
 
   -- ## In the end
 
-  module _ (v : Service) (back : List (Option D)) (e : IsEnded lay closed disk v back) where
+  module _ (v : Service) (back : List (Option D)) (e : EndsSo lay closed disk v back) where
     -- a count that rose at the end has risen in all
     pub rise-behind : (d : ℕ) → RisesOn disk closed.devices.items back d → RisesOn disk setup.devices.items back d
     rise-behind d rose = rises-wider disk (served.MayChange lay disk setup closed) (λ _ _. ⊥) setup.devices.items closed.devices.items back back d s.leaves.frame rose (changes-refl disk (λ _ _. ⊥) back)
 
     -- so has one that rose before it
     pub rise-before : (d : ℕ) → RisesOn disk setup.devices.items closed.devices.items d → RisesOn disk setup.devices.items back d
-    rise-before d rose = rises-wider disk (λ _ _. ⊥) (λ _ _. ⊥) setup.devices.items setup.devices.items closed.devices.items back d (changes-refl disk (λ _ _. ⊥) setup.devices.items) rose e.settled.frame
+    rise-before d rose = rises-wider disk (λ _ _. ⊥) (λ d n. n ≡ 0) setup.devices.items setup.devices.items closed.devices.items back d (changes-refl disk (λ _ _. ⊥) setup.devices.items) rose e.frame
 
     pub ending-dies : Dies (RisesAt disk (work_of lay setup) setup.devices.items v back) closed.columns.items v.ending.columns
     ending-dies =
         dies-more (FailsToSettle disk closed.columns.items closed.devices.items back) (RisesAt disk (work_of lay setup) setup.devices.items v back) closed.columns.items v.ending.columns
-        (λ c f. (f.device, had-device c f.device f.had, rise-behind f.device f.rose)) e.settled.dies
+        (λ c f. (f.device, had-device c f.device f.had, rise-behind f.device f.rose)) e.dies

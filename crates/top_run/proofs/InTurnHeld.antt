@@ -18,7 +18,7 @@ use Rattle.raid_script.specs.Replies.{items_at}
 use Rattle.raid_script.specs.Summary.{all_sum}
 use Rattle.top_sweep.proofs.OneAfterAnother.{replay_same}
 use Rattle.top_run.specs.Work.{Work, Service}
-use Rattle.top_run.specs.Ran.{Ran, states_in}
+use Rattle.top_run.specs.Ran.{Ran, Runs, runs_of, states_in}
 use Rattle.top_run.specs.InTurn.{SweptInTurn, asks, place_of, turn_text}
 use Rattle.top_run.proofs.InTurnApart as apart
 use Rattle.top_run.proofs.InTurnMeans as means
@@ -32,7 +32,7 @@ own-within wide blocks client n le (Read span) own = let e = own.0.ends in let w
 own-within wide blocks client n le (Rebuild stripe) own = absurd own
 own-within wide blocks client n le (Sync stripe) own = absurd own
 
-module _ {D : Type 0} (g : Ghosts D) (a : Work) (taken back : List (Option D)) (s : Service) (r : Ran g a taken s back) (count ops wide blocks : ℕ) (given : AreApart count ops wide blocks a.clients) (within : blocks ≤ blocks_in a.layout) (none : s.ending.lost ≡ None) where
+module _ {D : Type 0} (g : Ghosts D) (a : Work) (taken back : List (Option D)) (s : Service) (r : Runs g a taken s back) (count ops wide blocks : ℕ) (given : AreApart count ops wide blocks a.clients) (within : blocks ≤ blocks_in a.layout) (none : s.ending.lost ≡ None) where
   -- the blocks that the devices held
   abbrev held : Blocks
   held = decode a.layout (contents_of g taken) (states_in a)
@@ -57,8 +57,8 @@ module _ {D : Type 0} (g : Ghosts D) (a : Work) (taken back : List (Option D)) (
   abbrev turn : List Op
   turn = turn_of s.clients
 
-  pub swept-over-held : SweptInTurn g a taken s back held
-  swept-over-held = record {
+  pub runs-over-held : SweptInTurn g a taken s back held
+  runs-over-held = record {
     turn = turn;
     asked = means.asked g a taken s back r count ops wide blocks given within none;
     replied = means.replied g a taken s back r count ops wide blocks given within none;
@@ -77,11 +77,22 @@ module _ {D : Type 0} (g : Ghosts D) (a : Work) (taken back : List (Option D)) (
   }
 
 -- so too where they are drawn
+pub runs-by-seed : {D : Type 0} (g : Ghosts D) (a : Work) (taken back : List (Option D)) (s : Service) (r : Runs g a taken s back) (seed clients ops : ℕ)
+    → 0 < clients → 0 < blocks_in a.layout → a.clients ≡ drawn seed clients ops (blocks_in a.layout) → s.ending.lost ≡ None
+    → SweptInTurn g a taken s back (decode a.layout (contents_of g taken) (states_in a))
+runs-by-seed g a taken back s r seed clients ops some any are none =
+    let n = blocks_in a.layout in
+    let given = drawn_apart seed clients ops n some any in
+    runs-over-held g a taken back s r (min clients n) ops (share clients n) n
+    (subst (λ (rows : List (List Asked)). AreApart (min clients n) ops (share clients n) n rows) (sym are) given) (let z : n ≤ n = omega arith in z) none
+
+-- ## Of an array without labels
+
+pub swept-over-held : {D : Type 0} (g : Ghosts D) (a : Work) (taken back : List (Option D)) (s : Service) (r : Ran g a taken s back) (count ops wide blocks : ℕ)
+    → AreApart count ops wide blocks a.clients → blocks ≤ blocks_in a.layout → s.ending.lost ≡ None → SweptInTurn g a taken s back (decode a.layout (contents_of g taken) (states_in a))
+swept-over-held g a taken back s r = runs-over-held g a taken back s (runs_of g a taken s back r)
+
 pub swept-by-seed : {D : Type 0} (g : Ghosts D) (a : Work) (taken back : List (Option D)) (s : Service) (r : Ran g a taken s back) (seed clients ops : ℕ)
     → 0 < clients → 0 < blocks_in a.layout → a.clients ≡ drawn seed clients ops (blocks_in a.layout) → s.ending.lost ≡ None
     → SweptInTurn g a taken s back (decode a.layout (contents_of g taken) (states_in a))
-swept-by-seed g a taken back s r seed clients ops some any are none =
-    let n = blocks_in a.layout in
-    let given = drawn_apart seed clients ops n some any in
-    swept-over-held g a taken back s r (min clients n) ops (share clients n) n
-    (subst (λ (rows : List (List Asked)). AreApart (min clients n) ops (share clients n) n rows) (sym are) given) (let z : n ≤ n = omega arith in z) none
+swept-by-seed g a taken back s r = runs-by-seed g a taken back s (runs_of g a taken s back r)

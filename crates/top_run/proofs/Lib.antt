@@ -1,11 +1,12 @@
-mod Settled
-mod Columns
+pub mod Settled
+pub mod Columns
 mod FromServed
+pub mod AtEnd
 mod Finishing
 mod Meaning
 mod Causing
 pub mod Outlived
-mod All
+pub mod All
 mod InTurnOps
 mod InTurnSums
 mod InTurnLost
@@ -13,6 +14,6 @@ mod InTurnReplies
 mod InTurnApart
 mod InTurnMeans
 mod InTurnSummary
-mod InTurnSame
+pub mod InTurnSame
 pub mod InTurnHeld
-mod InTurn
+pub mod InTurn

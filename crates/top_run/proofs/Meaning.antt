@@ -1,5 +1,5 @@
 -- What a run means, by the devices as they are put back.
-use Rattle.std.proofs.Common.{◌≡◌, List, Option, Some, None, refl, sym, ◌∙◌, subst}
+use Rattle.std.proofs.Common.{◌≡◌, List, Option, Some, None, refl, sym, ◌∙◌, subst, arith}
 use Rattle.blk_plain.specs.declared.op.Op.{Op}
 use Rattle.blk_disk.specs.declared.disk.Disk.{Ghosts as DiskGhosts}
 use Rattle.blk_disk.specs.Devices.{contents_of}
@@ -18,16 +18,16 @@ use Rattle.top_close.proofs.DyingLaws.{columns_die, still_agrees, agrees_by_devi
 use Rattle.top_serve.specs.Served as served
 use Rattle.top_run.specs.Work.{Service}
 use Rattle.top_run.specs.Works.{work_of}
-use Rattle.top_run.specs.Ends.{IsEnded}
+use Rattle.top_run.specs.Ends.{EndsSo}
 use Rattle.top_run.specs.Ran.{WasInSync, Means}
-use Rattle.top_run.proofs.Finishing.{lost-as, same-contents}
+use Rattle.top_run.proofs.AtEnd.{lost-as, same-contents}
 
 -- an array that isn't lost in the end wasn't lost before it
 not-before : (y : Shape) (before lost : Option Loss) (columns : List ColumnState) → ended.IsLossOf y before columns lost → lost ≡ None → before ≡ None
 not-before y None lost columns h none = refl
 not-before y (Some loss) lost columns h none = let z : Some loss ≡ None = sym h ∙ none in absurd (let u : ⊥ = cc in u)
 
-module _ {L D : Type 0} (lay : LayoutGhosts L) (disk : DiskGhosts D) (setup : Setup L D) (closed : Closed L D) (given : IsSetup lay disk setup) (s : served.IsServed lay disk setup closed) (v : Service) (back : List (Option D)) (e : IsEnded lay closed disk v back) where
+module _ {L D : Type 0} (lay : LayoutGhosts L) (disk : DiskGhosts D) (setup : Setup L D) (closed : Closed L D) (given : IsSetup lay disk setup) (s : served.IsServed lay disk setup closed) (v : Service) (back : List (Option D)) (e : EndsSo lay closed disk v back) where
   abbrev y : Shape
   y = lay.shape setup.layout
 
@@ -37,8 +37,8 @@ module _ {L D : Type 0} (lay : LayoutGhosts L) (disk : DiskGhosts D) (setup : Se
       let was = s.leaves.agrees tells sync (not-before y closed.lost v.ending.lost (states_of y v.ending.columns) (lost-as lay disk setup closed given s v back e) none) in
       let blocks = replay s.start.blocks was.0 in
       let kept = subst (λ (cols : List ColumnState). Agrees y (contents_of disk closed.devices.items) cols blocks AnyStripe) s.tells.states was.2 in
-      let dead = still_agrees y (states_of y closed.columns.items) (states_of y v.ending.columns) (columns_die _ y closed.columns.items v.ending.columns e.settled.dies) (contents_of disk closed.devices.items) blocks AnyStripe kept in
-      (was.0, was.1, agrees_by_devices y (contents_of disk closed.devices.items) (contents_of disk back) (states_of y v.ending.columns) blocks AnyStripe (λ c d n k has from. same-contents lay disk setup closed given s v back e tells d n k) dead)
+      let dead = still_agrees y (states_of y closed.columns.items) (states_of y v.ending.columns) (columns_die _ y closed.columns.items v.ending.columns e.dies) (contents_of disk closed.devices.items) blocks AnyStripe kept in
+      (was.0, was.1, agrees_by_devices y (contents_of disk closed.devices.items) (contents_of disk back) (states_of y v.ending.columns) blocks AnyStripe (λ c d n k has from. same-contents lay disk setup closed given s v back e tells d n k (omega (arith, from))) dead)
 
   pub means : Means disk (work_of lay setup) setup.devices.items v back s.start s.now
   means = record { legal = s.means.legal; fits = s.means.fits; agrees = agrees }

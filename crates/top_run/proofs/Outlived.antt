@@ -33,7 +33,7 @@ use Rattle.top_serve.specs.Caused.{WasLostBy}
 use Rattle.top_serve.proofs.Between.{all-own}
 use Rattle.top_serve.proofs.Losing.{lost-by}
 use Rattle.top_run.specs.Work.{Work, Service}
-use Rattle.top_run.specs.Ran.{WasFailed, IsLossAtEnd, RisesAt, IsFailedBy, states_in, Ran}
+use Rattle.top_run.specs.Ran.{WasFailed, IsLossAtEnd, RisesAt, IsFailedBy, states_in, Ran, Runs, runs_of}
 use Rattle.top_run.specs.Outliving.{HasFail, done_reply, MayDie, Outlives, HasFaulted, IsAnswered, IsReplyTo, AllAnswered}
 
 -- ## Lists and columns
@@ -66,7 +66,7 @@ done-by (op.Read span) h = absurd (h tt)
 done-by (op.Rebuild stripe) h = refl
 done-by (op.Sync stripe) h = refl
 
-module _ {D : Type 0} (g : Ghosts D) (a : Work) (taken back : List (Option D)) (s : Service) (ran : Ran g a taken s back) where
+module _ {D : Type 0} (g : Ghosts D) (a : Work) (taken back : List (Option D)) (s : Service) (ran : Runs g a taken s back) where
   abbrev y : Shape
   y = a.layout
 
@@ -112,8 +112,8 @@ module _ {D : Type 0} (g : Ghosts D) (a : Work) (taken back : List (Option D)) (
       let now : NotLost y ran.now.columns = subst (NotLost y) (sym ran.ends.columns) ended in
       lost-excludes y was.columns loss was.is_lost (lost_no_less y was.columns ran.now.columns (record { count = was.count; each = was.each }) now)
 
-  pub outlived : Outlives g a taken back → s.ending.lost ≡ None
-  outlived outlives = by s.ending.lost refl ran.ends.lost
+  pub runs-outlived : Outlives g a taken back → s.ending.lost ≡ None
+  runs-outlived outlives = by s.ending.lost refl ran.ends.lost
     where
       kept : NotLost y last
       kept = outlives s.ending.columns died-so
@@ -206,8 +206,8 @@ module _ {D : Type 0} (g : Ghosts D) (a : Work) (taken back : List (Option D)) (
     not-lost : (id : OpId) (told : Reply) (asked : AnyItem) → IsCause y ran.graphs ran.start ran.events ran.now id told asked → told ≡ reply.Lost → ⊥
     not-lost id told asked h is = let lost = subst (λ r. IsCause y ran.graphs ran.start ran.events ran.now id r asked) is h in never-lost none lost.0 lost.1
 
-    pub answered : AllAnswered g a taken back s ran
-    answered id asked is =
+    pub runs-answered : AllAnswered g a taken back s ran
+    runs-answered id asked is =
         let item : ItemAt ran.now id asked = ap (λ (l : List AnyItem). slice_get l id.index) (sym (ran.tells.items id.client)) ∙ is in
         let within = slice_get_within (ran.now.clients id.client).items id.index asked item in
         let all = ran.rests.replied id.client in
@@ -217,3 +217,11 @@ module _ {D : Type 0} (g : Ghosts D) (a : Work) (taken back : List (Option D)) (
         let same : why.0 ≡ asked = cc in
         let cause = subst (λ (x : AnyItem). IsCause y ran.graphs ran.start ran.events ran.now id got.0 x) same why.2 in
         (got.0, ap (λ (l : List Reply). slice_get l id.index) (ran.tells.replies id.client) ∙ got.1, not-lost id got.0 asked cause, reply-to id got.0 asked cause)
+
+-- ## Of an array without labels
+
+pub outlived : {D : Type 0} (g : Ghosts D) (a : Work) (taken back : List (Option D)) (s : Service) → Ran g a taken s back → Outlives g a taken back → s.ending.lost ≡ None
+outlived g a taken back s ran = runs-outlived g a taken back s (runs_of g a taken s back ran)
+
+pub answered : {D : Type 0} (g : Ghosts D) (a : Work) (taken back : List (Option D)) (s : Service) (ran : Ran g a taken s back) → s.ending.lost ≡ None → AllAnswered g a taken back s (runs_of g a taken s back ran)
+answered g a taken back s ran none = runs-answered g a taken back s (runs_of g a taken s back ran) none

@@ -1,12 +1,13 @@
 -- How what was served comes to its end.
 use Rattle.std.specs.Prelude.{◌≡◌, ◌≤◌, ℕ, List, length, Option, count_by}
 use Rattle.blk_disk.specs.declared.disk.Disk.{Ghosts as DiskGhosts}
-use Rattle.blk_disk.specs.Devices.{calls_of}
+use Rattle.blk_disk.specs.Devices.{Changes, calls_of}
 use Rattle.lay_core.specs.declared.layout.Layout.{Ghosts as LayoutGhosts}
 use Rattle.eng_cols.specs.Cols.{is_set_filling, is_set_spread}
+use Rattle.eng_cols.specs.Deaths.{Dies}
 use Rattle.eng_parts.specs.declared.setup.Closed.{Closed}
 use Rattle.top_close.specs.Calls.{EndsSettled}
-use Rattle.top_close.specs.Settled.{IsLiveOn, HaveDevices, AreSettled}
+use Rattle.top_close.specs.Settled.{IsLiveOn, HaveDevices, FailsToSettle, AreSettled}
 use Rattle.top_close.specs.Ended.{states_of, IsLossOf}
 use Rattle.top_run.specs.Work.{Service}
 use Rattle.top_run.specs.Works.{service_of}
@@ -24,4 +25,11 @@ module _ {L D : Type 0} (lay : LayoutGhosts L) (closed : Closed L D) where
     pub told : s ≡ service_of closed s.ending
     pub settled : AreSettled disk (length closed.columns.items) closed.columns.items s.ending.columns closed.devices.items back
     pub last : (c d : ℕ) → IsLiveOn s.ending.columns c d → EndsSettled (calls_of disk back d)
+    pub lost : IsLossOf (lay.shape closed.layout) closed.lost (states_of (lay.shape closed.layout) s.ending.columns) s.ending.lost
+
+  -- What was served has ended, whatever its end has called and written into first sectors: what is told but for columns and loss is what was handed back; no other sector has changed; a column has died where its device's count of faults rose; and the loss is that of before, or else of the columns in the end.
+  pub record EndsSo (disk : DiskGhosts D) (s : Service) (back : List (Option D)) : Type 0 where
+    pub told : s ≡ service_of closed s.ending
+    pub frame : Changes disk (λ d n. n ≡ 0) closed.devices.items back
+    pub dies : Dies (FailsToSettle disk closed.columns.items closed.devices.items back) closed.columns.items s.ending.columns
     pub lost : IsLossOf (lay.shape closed.layout) closed.lost (states_of (lay.shape closed.layout) s.ending.columns) s.ending.lost

@@ -22,7 +22,7 @@ use Rattle.eng_events.specs.Opened.{states_of}
 use Rattle.raid_script.specs.Asked.{Asked as Item, Fails}
 use Rattle.raid_script.specs.Replies.{items_at, replies_at}
 use Rattle.top_run.specs.Work.{Work, Service}
-use Rattle.top_run.specs.Ran.{states_in, Ran}
+use Rattle.top_run.specs.Ran.{states_in, Runs}
 
 -- ## The array
 
@@ -54,7 +54,7 @@ module _ {D : Type 0} (g : Ghosts D) (a : Work) (taken back : List (Option D)) w
   abbrev pub HasFaulted : ℕ → Type 0
   HasFaulted d = RisesOn g taken back d ⊎ (((c : ℕ) × HasDevice (states_in a) c d × HasFail a c) ⊎ ((slice_get a.columns d ≡ Some column.Spread) × HasFail a d))
 
-  module _ (s : Service) (ran : Ran g a taken s back) where
+  module _ (s : Service) (ran : Runs g a taken s back) where
     -- it stands in the history, and a read is replied its data, any other operation done
     abbrev pub IsDone : OpId → Op → Reply → Type 0
     IsDone id o told = ((n : ℕ) × StandsAt s.history n id) × (told ≡ done_reply o)

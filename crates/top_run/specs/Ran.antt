@@ -161,3 +161,39 @@ module _ {D : Type 0} (g : Ghosts D) (a : Work) (taken : List (Option D)) where
         pub means : Means start now
         pub ends : Finishes now
         pub causes : Causes graphs start events now
+
+      -- ## Whatever the end leaves on devices
+
+      -- what `Finishes` says of the columns and the loss
+      pub record ColumnsEnd (now : World) : Type 0 where
+        pub kept : List Column
+        pub columns : now.columns ≡ states_of a.layout kept
+        pub dies : Dies RisesAt kept s.ending.columns
+        pub lost : IsLossAtEnd a.layout now (states_of a.layout s.ending.columns) s.ending.lost
+
+      -- A run of what is asked, but for what its end calls and leaves on devices.
+      pub record Runs : Type 0 where
+        pub graphs : Graphs
+        pub start : World
+        pub events : List Traced
+        pub now : World
+        pub opens : Opens start
+        pub rests : Rests graphs start events now
+        pub tells : Tells events now
+        pub means : Means start now
+        pub ends : ColumnsEnd now
+        pub causes : Causes graphs start events now
+
+      abbrev pub runs_of : Ran → Runs
+      runs_of r = record {
+        graphs = r.graphs;
+        start = r.start;
+        events = r.events;
+        now = r.now;
+        opens = r.opens;
+        rests = r.rests;
+        tells = r.tells;
+        means = r.means;
+        ends = record { kept = r.ends.kept; columns = r.ends.columns; dies = r.ends.dies; lost = r.ends.lost };
+        causes = r.causes;
+      }

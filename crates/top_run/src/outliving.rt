@@ -1,7 +1,7 @@
 //! What a run comes to that the array outlives. These functions do nothing: what they ensure is so of every run.
 ghost use Rattle.std.specs.Prelude.{◌≡◌, List, Option, None};
 ghost use Rattle.top_run.specs.Work.{Work, Service};
-ghost use Rattle.top_run.specs.Ran.{Ran};
+ghost use Rattle.top_run.specs.Ran.{Ran, runs_of};
 ghost use Rattle.top_run.specs.Outliving.{Outlives, AllAnswered};
 
 use blk_disk::Disk;
@@ -19,5 +19,5 @@ pub fn what_is_outlived_is_not_lost<D: Disk>()
 /// replied ok, and the column is dead in the end.
 pub fn what_is_not_lost_is_answered<D: Disk>()
     ensures { (a : Work) (taken back : List (Option D)) (s : Service) → (ran : Ran D.Disk a taken s back)
-        → s.ending.lost ≡ None → AllAnswered D.Disk a taken back s ran }
+        → s.ending.lost ≡ None → AllAnswered D.Disk a taken back s (runs_of D.Disk a taken s back ran) }
 {}

@@ -13,4 +13,5 @@ pub mod Hands
 pub mod Leaving
 pub mod Causing
 pub mod All
+pub mod Deaths
 pub mod TestSetups

@@ -4,11 +4,14 @@ use Rattle.blk_disk.specs.declared.disk.Disk.{Ghosts as DiskGhosts}
 use Rattle.blk_disk.specs.Devices.{contents_of}
 use Rattle.lay_core.specs.Layout.{Shape}
 use Rattle.lay_core.specs.declared.layout.Layout.{Ghosts as LayoutGhosts}
+use Rattle.eng_cols.specs.declared.spot.Loss.{Loss}
 use Rattle.eng_cols.specs.Cols.{ColumnState}
 use Rattle.eng_cols.specs.Contents.{InSync}
 use Rattle.eng_cols.specs.Lost.{NotLost, IsLost}
 use Rattle.eng_world.specs.Planning.{Graphs}
+use Rattle.eng_parts.specs.declared.core_room.CoreRoom.{CoreRoom}
 use Rattle.eng_parts.specs.declared.setup.Setup.{Setup}
+use Rattle.eng_parts.specs.Fresh.{IsRoomFor}
 use Rattle.eng_parts.specs.Laid.{items_before, sectors_before}
 use Rattle.eng_events.specs.Opened.{states_of}
 use Rattle.eng_events.specs.Steps as steps
@@ -39,10 +42,18 @@ module _ {L D : Type 0} (lay : LayoutGhosts L) where
   abbrev pub IsNotLost : Setup L D → Type 0
   IsNotLost setup = NotLost (shape_in setup) (states_in setup)
 
-  -- the array is lost by this loss; want of memory says nothing of it
+  -- the array is lost by this loss
+  abbrev pub IsLostBy : Setup L D → Loss → Type 0
+  IsLostBy setup loss = IsLost (shape_in setup) (states_in setup) loss
+
+  -- that, or there was want of memory, which says nothing of the array
   abbrev pub IsRefusal : Setup L D → ServeFault → Type 0
-  IsRefusal setup (fault.Lost loss) = IsLost (shape_in setup) (states_in setup) loss
+  IsRefusal setup (fault.Lost loss) = IsLostBy setup loss
   IsRefusal setup fault.Memory = Unit {0}
+
+  -- the room is one for what is to be served: its layout, as many devices, its items, and its trace
+  abbrev pub IsRoomOf : Setup L D → CoreRoom D → Type 0
+  IsRoomOf setup room = IsRoomFor (shape_in setup) (length setup.devices.items) setup.clients.items setup.trace room
 
   -- the check units of the array fit its data, by what its devices hold
   abbrev pub WasInSync : DiskGhosts D → Setup L D → Type 0

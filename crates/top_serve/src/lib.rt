@@ -4,14 +4,18 @@
 //! of it is one record over what was handed in and what is handed back: a run of events of the clients alone leads from
 //! an opening to a world in which every item has its reply and no job is out, and all that is handed back is that
 //! world's.
+//!
+//! Where something is done to the array before it is served, [`room_for`] takes all memory first, and [`serve_in`] can't
+//! be refused then. Columns may have died in between.
 #![tactic(auto)]
 
 mod opening;
 mod refused;
 mod serving;
 
+pub use opening::room_for;
 pub use refused::{Refused, ServeFault};
-pub use serving::serve;
+pub use serving::{serve, serve_in};
 
 #[cfg(test)]
 mod tests;

@@ -2,18 +2,18 @@
 ghost use Rattle.std.specs.Prelude.{◌≡◌, ◌≤◌, IfOk, IfErr};
 ghost use Rattle.eng_parts.specs.Handed.{AreRegions};
 ghost use Rattle.eng_events.specs.Closed.{IsClosed};
-ghost use Rattle.eng_events.specs.Opened.{IsSetup, NoneOut};
+ghost use Rattle.eng_events.specs.Opened.{IsOpened, IsSetup, NoneOut, OpensWorlds};
 ghost use Rattle.eng_events.specs.Picked.{IsResting};
 ghost use Rattle.eng_array.specs.Fitting.{FitsTrace};
 ghost use Rattle.eng_array.specs.Steady.{IsSteady};
 ghost use Rattle.eng_array.specs.Tickets.{After};
-ghost use Rattle.top_serve.specs.Setups.{IsFew, IsNotLost, IsRefusal};
+ghost use Rattle.top_serve.specs.Setups.{IsFew, IsNotLost, IsRefusal, IsRoomOf, SectorsAreLong};
 ghost use Rattle.top_serve.specs.Served.{IsServed};
 
-use crate::opening::opened;
-use crate::refused::Refused;
+use crate::opening::{opened_in, room_for};
+use crate::refused::{Refused, ServeFault};
 use blk_disk::Disk;
-use eng_array::{Closed, Core, Setup};
+use eng_array::{Closed, Core, CoreRoom, Setup};
 use eng_crew::{drain, run_crew};
 use lay_core::Layout;
 use std::alloc::Global;
@@ -40,14 +40,58 @@ pub fn serve<L: Layout + Drop + Send, D: Disk + Drop + Send, R: Threads + Wait +
     ensures fault { IfErr result (λ refused. IsRefusal L.Layout setup refused.fault) }
     ensures back { IfErr result (λ refused. refused.setup ≡ setup) }
 {
-    match opened(alloc, setup) {
-        Ok(core) => {
-            let left = worked(rt, alloc, core, workers);
-            let rested = at_rest(left);
-            Ok(closed(rested))
+    let Some(room) = room_for(alloc, &setup) else {
+        let fault = ServeFault::Memory;
+        return Err(Refused { fault, setup });
+    };
+    match opened_in(setup, room) {
+        Ok(core) => Ok(served(rt, alloc, core, workers)),
+        Err((loss, setup)) => {
+            let fault = ServeFault::Lost(loss);
+            Err(Refused { fault, setup })
         }
-        Err(refused) => Err(refused),
     }
+}
+
+/// Serves the setup's clients as [`serve`] does, in room that was taken before. Nothing can refuse it: the array isn't
+/// lost by its columns, and the run takes no memory.
+pub fn serve_in<L: Layout + Drop + Send, D: Disk + Drop + Send, R: Threads + Wait + Sync>(
+    rt: &R,
+    alloc: Global,
+    setup: Setup<L, D>,
+    room: CoreRoom<D>,
+    workers: u32,
+) -> Closed<L, D>
+    requires workers { workers ≤ 16 }
+    requires setup { IsSetup L.Layout D.Disk setup }
+    requires room { IsRoomOf L.Layout setup room }
+    requires trace { FitsTrace L.Layout setup }
+    requires kept { IsNotLost L.Layout setup }
+    ensures { IsServed L.Layout D.Disk setup result }
+{
+    match opened_in(setup, room) {
+        Ok(core) => served(rt, alloc, core, workers),
+        Err(_) => unreachable!(),
+    }
+}
+
+// All that the core's clients ask is served, and the core is closed.
+fn served<L: Layout + Drop + Send, D: Disk + Drop + Send, R: Threads + Wait + Sync>(
+    rt: &R,
+    alloc: Global,
+    core: Core<L, D>,
+    workers: u32,
+) -> Closed<L, D>
+    requires workers { workers ≤ 16 }
+    requires steady { IsSteady L.Layout D.Disk core.array }
+    requires home { NoneOut core.array.clients }
+    ensures { (setup : Setup L D) → IsSetup L.Layout D.Disk setup
+        → IsOpened L.Layout D.Disk setup core.array → OpensWorlds L.Layout D.Disk core.array
+        → SectorsAreLong D.Disk → IsServed L.Layout D.Disk setup result }
+{
+    let left = worked(rt, alloc, core, workers);
+    let rested = at_rest(left);
+    closed(rested)
 }
 
 // The core after so many workers were at it, if there was memory for them.
