@@ -1,0 +1,82 @@
+-- What an array that was begun holds.
+use Rattle.std.proofs.Common.{◌≡◌, inl, inr, ℕ, ◌<◌, List, Bool, true, false, Option, None, refl, sym, ◌∙◌, ap, subst}
+use Rattle.std.specs.Prelude.{◌==◌}
+use Rattle.std.proofs.lemmas.Map.Views.{exact_unsigned_eq}
+use Rattle.blk_disk.specs.declared.disk.Disk.{Ghosts}
+use Rattle.blk_disk.specs.Devices.{contents_of}
+use Rattle.lay_core.specs.Layout.{Shape, IsLayout, blocks_in, stripe_of, unit_of}
+use Rattle.eng_cols.specs.declared.column.Column.{Column}
+use Rattle.eng_cols.specs.Cols.{ColumnState}
+use Rattle.eng_cols.specs.Contents.{InSync, decode}
+use Rattle.eng_cols.specs.Lost.{NotLost}
+use Rattle.eng_world.specs.World.{World}
+use Rattle.eng_events.specs.Opened.{states_of}
+use Rattle.raid_label.specs.declared.label.Label.{Label}
+use Rattle.raid_recon.specs.Array.{IsArray}
+use Rattle.top_acts.specs.Begun.{HasBegun, sweep_if}
+use Rattle.top_close.specs.Dying.{OnlyDie}
+use Rattle.top_close.proofs.DyingLaws.{columns_die}
+use Rattle.top_rounds.specs.Passes.{LosesDevice}
+use Rattle.top_run.specs.Work.{Work}
+use Rattle.top_run.specs.Ran.{Opens, states_in}
+use Rattle.top_run.proofs.InTurnSame.{decode-same}
+use Rattle.top_labelled.specs.Begun.{Begins, Holds, IsBlockOf, WasSound, opened_as}
+use Rattle.top_labelled.proofs.Blocks.{same-blocks, swept-block}
+use Rattle.top_labelled.proofs.Unmade.{unmade}
+
+zero-is : (n : ℕ) → n ≡ 0 → (n == 0) ≡ true
+zero-is n h = subst (λ m. (m == 0) ≡ true) (sym h) refl
+
+module _ {D : Type 0} (g : Ghosts D) (a : Work) (layout : IsLayout a.layout) (newest : Label) (taken opened : List (Option D)) (columns : List Column) (first : Label)
+    (begins : Begins g a newest taken opened columns first None) (array : IsArray g a.layout a.columns taken) (start : World) (opens : Opens g (opened_as a columns) opened start) where
+  abbrev y : Shape
+  y = a.layout
+
+  abbrev late : List ColumnState
+  late = states_of y columns
+
+  kept : NotLost y late
+  kept = begins.lost_is
+
+  die : OnlyDie (states_in a) late
+  die = columns_die (LosesDevice g a.columns taken opened) y a.columns columns begins.has.named.dies
+
+  -- the blocks of the opening are what the devices hold then
+  start-is : g.tells → (b k : ℕ) → b < blocks_in y → k < 512 → start.blocks b k ≡ decode y (contents_of g opened) late b k
+  start-is tells b k bl kl =
+      opens.opening.decoded b k bl kl
+      ∙ (ap (λ (cols : List ColumnState). decode y start.contents cols b k) opens.columns
+      ∙ decode-same y start.contents (contents_of g opened) late (λ d n j jl. opens.contents tells d n j jl) b k kl)
+
+  abbrev HasBegunIf : Bool → Type 0
+  HasBegunIf dirty = HasBegun g (sweep_if dirty) y newest first a.columns columns taken opened None begins.found
+
+  -- an array whose newest label is clean was in sync
+  was-in-sync : (newest.clean == 0) ≡ false → WasSound g a newest taken → InSync y (contents_of g taken) (states_in a)
+  was-in-sync clean (inl sync) = sync
+  was-in-sync clean (inr dirty) = let z : true ≡ false = sym (zero-is newest.clean dirty) ∙ clean in absurd (let u : ⊥ = cc in u)
+
+  in-sync : (dirty : Bool) → (newest.clean == 0) ≡ dirty → HasBegunIf dirty → g.tells → WasSound g a newest taken → InSync y (contents_of g opened) late
+  in-sync true is has tells sound = (has.swept refl).in_sync tells
+  in-sync false is has tells sound = has.still tells (was-in-sync is sound)
+
+  block-of : (dirty : Bool) → (newest.clean == 0) ≡ dirty → HasBegunIf dirty → g.tells → WasSound g a newest taken → (b : ℕ) → b < blocks_in y → IsBlockOf g a newest taken opened columns start.blocks b
+  block-of false is has tells sound b bl =
+      inl (λ k kl. start-is tells b k bl kl ∙ same-blocks g y layout a.columns columns taken opened array die kept tells has.frame (was-in-sync is sound) b k bl kl)
+  block-of true is has tells sound b bl =
+      elim (swept-block g y layout a.columns columns taken opened array die kept tells has.frame (λ one. (has.swept refl).checks one tells) b bl) [
+        | inl same ↦ inl (λ k kl. start-is tells b k bl kl ∙ same k kl)
+        | inr made ↦
+            let lost = unmade y a.columns columns (LosesDevice g a.columns taken opened) has.named.dies (stripe_of y b) (unit_of y b) made.0 made.1 in
+            inr (
+              exact_unsigned_eq newest.clean 0 is,
+              record { col = lost.0; of_column = lost.1.0; was = made.0; dead = lost.1.1; loses = lost.1.2 },
+              λ k kl. start-is tells b k bl kl ∙ made.2 k kl,
+            )
+      ]
+
+  pub holding : Holds g a newest taken opened columns start.blocks
+  holding = record {
+    in_sync = in-sync (newest.clean == 0) refl begins.has;
+    blocks = block-of (newest.clean == 0) refl begins.has;
+  }

@@ -1,0 +1,185 @@
+-- The labels of an array that was begun, served and closed.
+use Rattle.std.proofs.Common.{◌≡◌, ◌≢◌, ◌⊎◌, inl, inr, ℕ, ◌<◌, ◌≤◌, ◌+◌, List, [], ◌++◌, length, get_or, Option, Some, None, refl, sym, ◌∙◌, ap, subst, arith}
+use Rattle.std.specs.Prelude.{slice_get}
+use Rattle.std.specs.Option.{option_map_or}
+use Rattle.std.proofs.lemmas.List.{length-append}
+use Rattle.std.proofs.lemmas.List.Elements.{All-append, All-get_or, All-weaker}
+use Rattle.blk_disk.specs.declared.disk.Disk.{Ghosts}
+use Rattle.blk_disk.specs.Devices.{size_of, sector_of, RisesOn, Changes}
+use Rattle.blk_disk.proofs.DeviceLaws.{changes-refl, changes_sector, changes_size, rises-wider}
+use Rattle.eng_cols.specs.declared.column.Column.{Column}
+use Rattle.eng_cols.specs.declared.column.Column.TheVariants as column
+use Rattle.raid_label.specs.declared.label.Label.{Label}
+use Rattle.raid_recon.specs.declared.kind.Sweep.{Sweep}
+use Rattle.top_acts.specs.Begun.{MayBegin, MaySweep}
+use Rattle.top_acts.specs.Closed.{IsClosed}
+use Rattle.top_close.specs.Settled.{IsLiveOn}
+use Rattle.top_rounds.specs.Labels.{with_round}
+use Rattle.top_rounds.specs.Passes.{IsFirstInUse}
+use Rattle.top_rounds.specs.Rounds.{HaveFailed, IsInUse, clean_in_end}
+use Rattle.top_run.specs.Work.{Service, Work}
+use Rattle.top_labelled.specs.Begun.{Begins, sweep_in}
+use Rattle.top_labelled.specs.Between.{closing_label}
+use Rattle.top_labelled.specs.Ran.{HoldsSome, IsRelabelled}
+use Rattle.top_labelled.proofs.Lists.{pairs-append, in-use-or-not}
+
+-- a label of a round is one, whatever its fields
+as-round : (newest l : Label) (counter clean : ℕ) (seats : List ℕ) → l ≡ with_round newest counter clean seats → l ≡ with_round newest l.counter l.clean l.seats
+as-round newest l counter clean seats is = subst (λ (m : Label). m ≡ with_round newest m.counter m.clean m.seats) (sym is) refl
+
+-- a column of which another is known
+live-same : (columns after : List Column) (c d : ℕ) → ((slice_get after c ≡ slice_get columns c) ⊎ (slice_get after c ≡ Some column.Dead)) → IsLiveOn columns c d → (IsLiveOn after c d → ⊥) → slice_get after c ≡ Some column.Dead
+live-same columns after c d (inl same) live not = absurd (not (same ∙ live))
+live-same columns after c d (inr dead) live not = dead
+
+same-device : (o : Option Column) (d e : ℕ) → o ≡ Some (column.Live d) → o ≡ Some (column.Live e) → d ≡ e
+same-device o d e one two = let z : Some (column.Live d) ≡ Some (column.Live e) = sym one ∙ two in cc
+
+module _ {D : Type 0} (g : Ghosts D) (a : Work) (newest : Label) (taken opened served back : List (Option D)) (columns kept : List Column) (first last : Label) (s : Service) (may : ℕ → ℕ → Type 0)
+    (begins : Begins g a newest taken opened columns first None)
+    (run : Changes g may opened served) (away : (d : ℕ) → 1 ≤ size_of g opened d → may d 0 → ⊥)
+    (stays : (c d : ℕ) → IsLiveOn kept c d → IsLiveOn columns c d)
+    (closes : IsClosed g (closing_label first) last kept s.ending.columns served back s.ending.lost) where
+  abbrev Begun : ℕ → ℕ → Type 0
+  Begun = MayBegin g (sweep_in newest) a.layout a.columns taken
+
+  -- ## Counts of faults
+
+  rises-begun : (d : ℕ) → RisesOn g taken opened d → RisesOn g taken back d
+  rises-begun d h =
+      let served_more = rises-wider g (λ _ _. ⊥) may taken taken opened served d (changes-refl g (λ _ _. ⊥) taken) h run in
+      rises-wider g (λ _ _. ⊥) (IsFirstInUse kept) taken taken served back d (changes-refl g (λ _ _. ⊥) taken) served_more closes.counted.frame
+
+  rises-closed : (d : ℕ) → RisesOn g served back d → RisesOn g taken back d
+  rises-closed d h =
+      let before = rises-wider g may (λ _ _. ⊥) opened served back back d run h (changes-refl g (λ _ _. ⊥) back) in
+      rises-wider g Begun (λ _ _. ⊥) taken opened back back d begins.has.frame before (changes-refl g (λ _ _. ⊥) back)
+
+  abbrev early : List ℕ
+  early = begins.has.named.rises
+
+  abbrev late : List ℕ
+  late = closes.counted.rises
+
+  -- a device that failed as the array was begun is none of the run's
+  across : (i j : ℕ) (z : ℕ) → i < length early → j < length late → get_or early i z ≢ get_or late j z
+  across i j z il jl same =
+      let gone = All-get_or (λ (d : ℕ). (c : ℕ) → IsLiveOn columns c d → ⊥) early i z il begins.has.named.gone in
+      let had = All-get_or (IsInUse kept) late j z jl closes.counted.had in
+      gone had.col (subst (λ (d : ℕ). IsLiveOn columns had.col d) (sym same) (stays had.col (get_or late j z) had.live))
+
+  failed : HaveFailed g taken back (early ++ late)
+  failed = record {
+    apart = pairs-append (λ d e. d ≢ e) early late begins.has.named.failed.apart closes.counted.failed.apart across;
+    rose =
+        All-append (RisesOn g taken back) early late
+        (All-weaker (RisesOn g taken opened) (RisesOn g taken back) rises-begun early begins.has.named.failed.rose)
+        (All-weaker (RisesOn g served back) (RisesOn g taken back) rises-closed late closes.counted.failed.rose);
+  }
+
+  -- ## The last label
+
+  label-is : last ≡ with_round newest last.counter (clean_in_end s.ending.lost 1) last.seats
+  label-is = closes.label_is ∙ ap (λ (l : Label). with_round (closing_label l) last.counter (clean_in_end s.ending.lost 1) last.seats) begins.has.label_is
+
+  two-rounds : newest.counter + 2 ≤ last.counter
+  two-rounds =
+      let one = begins.has.named.least in
+      let some = begins.has.some in
+      let two : first.counter + 1 ≤ last.counter = closes.counted.least in
+      omega (arith, one, some, two)
+
+  at-most : last.counter ≤ newest.counter + 2 + length (early ++ late)
+  at-most =
+      let one = begins.has.named.most in
+      let rounds = begins.has.one refl in
+      let two : last.counter ≤ first.counter + 1 + length late = closes.counted.most in
+      let long = length-append early late in
+      omega (arith, one, rounds, two, long)
+
+  -- ## Other devices
+
+  -- the first round's label is older
+  holds-first : g.tells → (c d : ℕ) → IsLiveOn columns c d → sector_of g back d 0 ≡ sector_of g opened d 0 → HoldsSome g a newest taken s back last d
+  holds-first tells c d live same =
+      let one = begins.has.named.least in
+      let some = begins.has.some in
+      let two : first.counter + 1 ≤ last.counter = closes.counted.least in
+      record {
+        label = first;
+        col = c;
+        holds = same ∙ begins.has.held c d live tells;
+        label_is = as-round newest first first.counter 0 first.seats begins.has.label_is;
+        newer = omega (arith, one, some);
+        older = omega (arith, two);
+      }
+
+  holds-last : g.tells → (c d : ℕ) → IsLiveOn s.ending.columns c d → HoldsSome g a newest taken s back last d
+  holds-last tells c d live =
+      let two = two-rounds in
+      record {
+        label = last;
+        col = c;
+        holds = closes.held c d live tells;
+        label_is = as-round newest last last.counter (clean_in_end s.ending.lost 1) last.seats label-is;
+        newer = omega (arith, two);
+        older = omega arith;
+      }
+
+  -- a column that was live on a device whose count didn't rise is live
+  live-begun : (d : ℕ) → (RisesOn g taken back d → ⊥) → (c : ℕ) → IsLiveOn a.columns c d → IsLiveOn columns c d
+  live-begun d quiet c live = elim (begins.has.named.dies.each c) [
+    | inl same ↦ same ∙ live
+    | inr dead ↦
+        let e : d ≡ dead.1.device = same-device (slice_get a.columns c) d dead.1.device live dead.1.had in
+        absurd (quiet (rises-begun d (subst (λ (n : ℕ). RisesOn g taken opened n) (sym e) dead.1.rose)))
+  ]
+
+  live-closed : (d : ℕ) → (RisesOn g taken back d → ⊥) → (c : ℕ) → IsLiveOn kept c d → IsLiveOn s.ending.columns c d
+  live-closed d quiet c live = elim (closes.counted.dies.each c) [
+    | inl same ↦ same ∙ live
+    | inr dead ↦
+        let e : d ≡ dead.1.device = same-device (slice_get kept c) d dead.1.device live dead.1.had in
+        absurd (quiet (rises-closed d (subst (λ (n : ℕ). RisesOn g served back n) (sym e) dead.1.rose)))
+  ]
+
+  -- a sweep writes no first sector
+  swept-away : (sweep : Option Sweep) (d : ℕ) → MaySweep g sweep a.layout a.columns taken d 0 → ⊥
+  swept-away None d never = never
+  swept-away (Some kind) d h = let e = h.1.sector.sector in omega (arith, e)
+
+  untouched : g.tells → (d : ℕ) → ((c : ℕ) → IsLiveOn a.columns c d → ⊥) → sector_of g opened d 0 ≡ sector_of g taken d 0
+  untouched tells d none = changes_sector g Begun taken opened d 0 begins.has.frame tells (λ h. elim h [
+    | inl on ↦ none on.col on.live
+    | inr swept ↦ swept-away (sweep_in newest) d swept
+  ])
+
+  -- one that isn't in use as the array is closed has what it had as it was begun
+  not-called : g.tells → (d : ℕ) → 1 ≤ size_of g taken d → ((c : ℕ) → IsLiveOn kept c d → ⊥) → sector_of g back d 0 ≡ sector_of g opened d 0
+  not-called tells d sized none =
+      let size = changes_size g Begun taken opened d begins.has.frame in
+      ap (λ (x : Option D). option_map_or (λ (z : D). g.sector z 0) x []) (closes.counted.others d none)
+      ∙ changes_sector g may opened served d 0 run tells (away d (omega (arith, size, sized)))
+
+  rest : g.tells → (d : ℕ) → 1 ≤ size_of g taken d → (RisesOn g taken back d → ⊥) → (sector_of g back d 0 ≡ sector_of g taken d 0) ⊎ HoldsSome g a newest taken s back last d
+  rest tells d sized quiet = elim (in-use-or-not kept d) [
+    | inl live ↦ inr (holds-last tells live.0 d (live-closed d quiet live.0 live.1))
+    | inr none ↦
+        let same = not-called tells d sized none in
+        elim (in-use-or-not a.columns d) [
+          | inl was ↦ inr (holds-first tells was.0 d (live-begun d quiet was.0 was.1) same)
+          | inr never ↦ inl (same ∙ untouched tells d never)
+        ]
+  ]
+
+  pub relabelled : IsRelabelled g a newest taken s back last
+  relabelled = record {
+    rises = early ++ late;
+    failed = failed;
+    least = two-rounds;
+    most = at-most;
+    label_is = label-is;
+    seats = closes.seats;
+    held = closes.held;
+    rest = rest;
+  }

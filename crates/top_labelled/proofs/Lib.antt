@@ -1,0 +1,12 @@
+pub mod Blocks
+pub mod Unmade
+pub mod Lists
+pub mod Arrays
+pub mod Holding
+pub mod Labels
+pub mod Leaving
+pub mod All
+pub mod Steps
+pub mod Outlived
+pub mod TestArrays
+pub mod TestLosing

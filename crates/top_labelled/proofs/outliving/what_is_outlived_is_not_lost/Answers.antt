@@ -1,0 +1,8 @@
+use Rattle.top_labelled.proofs.Outlived.{not-begun-lost, outlived}
+use Rattle.top_labelled.proofs.outliving.what_is_outlived_is_not_lost.Goals as goal
+
+pub returns : goal.returns
+returns g c = record {
+  ran = λ a newest taken back s r outlives. outlived g.D.Disk a newest taken s back r outlives;
+  begun = λ a newest taken back e h outlives. not-begun-lost g.D.Disk a newest taken e back h outlives;
+}

@@ -1,0 +1,69 @@
+-- How an array that has labels is begun: what its devices and columns are as a core is opened, and what the blocks are then.
+use Rattle.std.specs.Prelude.{◌≡◌, ◌⊎◌, ◌<◌, ℕ, List, true, Option, Some, None, ◌==◌, slice_get}
+use Rattle.blk_disk.specs.declared.disk.Disk.{Ghosts}
+use Rattle.blk_disk.specs.Devices.{contents_of}
+use Rattle.lay_core.specs.Layout.{Shape, Blocks, blocks_in, stripe_of, unit_of, offset_of}
+use Rattle.eng_cols.specs.declared.column.Column.{Column}
+use Rattle.eng_cols.specs.declared.column.Column.TheVariants as column
+use Rattle.eng_cols.specs.declared.spot.Loss.{Loss}
+use Rattle.eng_cols.specs.Cols.{ColumnState}
+use Rattle.eng_cols.specs.Contents.{Contents, InSync, byte_of, decode, xor_others}
+use Rattle.eng_cols.specs.Seats.{is_available, is_unit_of}
+use Rattle.eng_events.specs.Opened.{states_of}
+use Rattle.raid_label.specs.declared.label.Label.{Label}
+use Rattle.raid_recon.specs.declared.kind.Sweep.{Sweep}
+use Rattle.top_acts.specs.Begun.{HasBegun, sweep_if}
+use Rattle.top_close.specs.Ended.{IsLossOf}
+use Rattle.top_rounds.specs.Passes.{LosesDevice}
+use Rattle.top_run.specs.Work.{Work}
+use Rattle.top_run.specs.Ran.{WasInSync, states_in}
+
+-- the labels say that the array was in use, and wasn't closed
+abbrev pub IsDirty : Label → Type 0
+IsDirty newest = newest.clean ≡ 0
+
+-- the sweep of its check units then
+abbrev pub sweep_in : Label → Option Sweep
+sweep_in newest = sweep_if (newest.clean == 0)
+
+-- what is asked, of an array whose columns are these by now
+abbrev pub opened_as : Work → List Column → Work
+opened_as a columns = record a { columns = columns }
+
+-- on block b both are the same
+abbrev pub Same : ℕ → Blocks → Blocks → Type 0
+Same b one other = (k : ℕ) → k < 512 → one b k ≡ other b k
+
+-- each block as the sum of its stripe's other units
+abbrev pub sums_of_others : Shape → Contents → List ColumnState → Blocks
+sums_of_others y contents cols b k = xor_others (λ j. byte_of y contents cols (stripe_of y b) j (offset_of y b) k) (unit_of y b) y.width
+
+module _ {D : Type 0} (g : Ghosts D) (a : Work) (newest : Label) (taken : List (Option D)) where
+  -- the check units fit the data, or the labels say that they may not
+  abbrev pub WasSound : Type 0
+  WasSound = WasInSync g a taken ⊎ IsDirty newest
+
+  module _ (opened : List (Option D)) (columns : List Column) where
+    -- The array was begun: labels were written in an opening round, and then check units were swept where the newest label said that the array was in use. By the columns that are left the array is lost or isn't.
+    pub record Begins (first : Label) (lost : Option Loss) : Type 0 where
+      pub found : ℕ
+      pub has : HasBegun g (sweep_in newest) a.layout newest first a.columns columns taken opened lost found
+      pub lost_is : IsLossOf a.layout None (states_of a.layout columns) lost
+
+    -- The block's unit was available, and is of a column that has died since; or it stands there, as the unit of a spread one.
+    pub record IsUnmade (b : ℕ) : Type 0 where
+      pub col : ℕ
+      pub of_column : is_unit_of a.layout (states_in a) (stripe_of a.layout b) (unit_of a.layout b) col ≡ true
+      pub was : is_available a.layout (states_in a) (stripe_of a.layout b) (unit_of a.layout b) ≡ true
+      pub dead : slice_get columns col ≡ Some column.Dead
+      pub loses : LosesDevice g a.columns taken opened col
+
+    -- the block is what the devices held as they were taken; or, where the labels said that the array was in use and the block's unit was made missing, the sum of the others of its stripe as they were held then
+    abbrev pub IsBlockOf : Blocks → ℕ → Type 0
+    IsBlockOf blocks b = Same b blocks (decode a.layout (contents_of g taken) (states_in a))
+        ⊎ (IsDirty newest × IsUnmade b × Same b blocks (sums_of_others a.layout (contents_of g taken) (states_in a)))
+
+    -- The array is in sync as the core is opened, and its blocks are these.
+    pub record Holds (start : Blocks) : Type 0 where
+      pub in_sync : g.tells → WasSound → InSync a.layout (contents_of g opened) (states_of a.layout columns)
+      pub blocks : g.tells → WasSound → (b : ℕ) → b < blocks_in a.layout → IsBlockOf start b

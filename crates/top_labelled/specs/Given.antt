@@ -1,0 +1,45 @@
+-- What is handed in, and what came of it.
+use Rattle.std.specs.Prelude.{◌≤◌, ◌*◌, List, Option}
+use Rattle.blk_disk.specs.declared.disk.Disk.{Ghosts as DiskGhosts}
+use Rattle.lay_core.specs.declared.layout.Layout.{Ghosts as LayoutGhosts}
+use Rattle.eng_array.specs.Fitting.{FitsTrace}
+use Rattle.eng_cols.specs.Cols.{IsFor}
+use Rattle.eng_events.specs.Opened.{IsSetup}
+use Rattle.raid_label.specs.Bytes.{IsHeld}
+use Rattle.raid_script.specs.Replies.{StandFor}
+use Rattle.top_rounds.specs.Passes.{CanBeLabelled}
+use Rattle.top_run.specs.Work.{Ending as End}
+use Rattle.top_run.specs.Works.{service_seen, work_of}
+use Rattle.top_serve.specs.Setups.{IsFew, IsNotLost, shape_in}
+use Rattle.top_labelled.specs.declared.labelled.Labelled.{Labelled}
+use Rattle.top_labelled.specs.declared.labelled.Outcome.{Outcome}
+use Rattle.top_labelled.specs.declared.labelled.Outcome.TheVariants as outcome
+use Rattle.top_close.specs.declared.ending.Ending.{Ending}
+use Rattle.top_labelled.specs.Ran.{RanLabelled, IsLostBefore}
+
+-- the end of an array, as it is spoken of
+abbrev pub end_seen : Ending → End
+end_seen e = record { columns = e.columns.items; lost = e.lost }
+
+module _ {L D : Type 0} (lay : LayoutGhosts L) (disk : DiskGhosts D) where
+  -- The setup may be served, and isn't lost by its columns; the device of each live column has a sector and a seat; the newest label leaves room for its counter; and there is room for the sweep and the judge.
+  pub record CanRun (l : Labelled L D) : Type 0 where
+    pub setup : IsSetup lay disk l.setup
+    pub few : IsFew l.setup
+    pub trace : FitsTrace lay l.setup
+    pub kept : IsNotLost lay l.setup
+    pub array : CanBeLabelled disk l.setup.columns.items l.setup.devices.items
+    pub held : IsHeld l.label
+    pub counter : l.label.counter ≤ 4294901760
+    pub judge : IsFor (shape_in lay l.setup) l.judge
+    pub room : 1024 * (shape_in lay l.setup).unit_sectors ≤ l.room
+
+  -- a run, or a loss before it
+  abbrev pub CameTo : Labelled L D → Outcome → List (Option D) → Type 0
+  CameTo l (outcome.Ran service) back = RanLabelled disk (work_of lay l.setup) l.label l.setup.devices.items (service_seen service) back
+  CameTo l (outcome.Lost ending) back = IsLostBefore disk (work_of lay l.setup) l.label l.setup.devices.items (end_seen ending) back
+
+-- what a run tells can be printed
+abbrev pub Stands : Outcome → Type 0
+Stands (outcome.Ran service) = StandFor service.clients.items service.replies.items service.sectors.items
+Stands (outcome.Lost ending) = Unit {0}

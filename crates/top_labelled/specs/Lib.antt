@@ -1,0 +1,4 @@
+pub mod Begun
+pub mod Ran
+pub mod Given
+pub mod Between

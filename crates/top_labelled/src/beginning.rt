@@ -1,0 +1,72 @@
+//! The array is begun.
+ghost use Rattle.top_labelled.specs.Given.{CanRun};
+ghost use Rattle.top_labelled.specs.Between.{IsBegun};
+
+use crate::labelled::Labelled;
+use blk_disk::Disk;
+use eng_array::{Loss, Setup};
+use eng_cols::Cols;
+use lay_core::Layout;
+use raid_label::Label;
+use top_acts::begin_labelled;
+use top_close::Ending;
+
+/// An array that was begun: what is to be served over it, the label that was written last, what its
+/// end wants, and by what it is lost, if it is.
+#[derive(Drop)]
+pub(crate) struct Started<L, D> {
+    pub setup: Setup<L, D>,
+    pub label: Label,
+    pub judge: Cols,
+    pub lost: Option<Loss>,
+}
+
+/// Writes the opening round, and sweeps the check units where the newest label isn't clean.
+pub(crate) fn begun<L: Layout + Drop, D: Disk + Drop>(labelled: Labelled<L, D>) -> Started<L, D>
+    requires { CanRun L.Layout D.Disk labelled }
+    ensures { IsBegun L.Layout D.Disk labelled result }
+{
+    let Labelled {
+        setup,
+        mut label,
+        mut judge,
+        mut room,
+    } = labelled;
+    let Setup {
+        layout,
+        mut devices,
+        columns,
+        clients,
+        graphs,
+        trace,
+    } = setup;
+    let mut ending = Ending {
+        columns,
+        lost: None,
+    };
+    let dirty = label.clean == 0;
+    let _ = begin_labelled(
+        &layout,
+        devices.as_mut_slice(),
+        &mut ending,
+        &mut label,
+        dirty,
+        &mut room,
+        &mut judge,
+    );
+    let Ending { columns, lost } = ending;
+    let setup = Setup {
+        layout,
+        devices,
+        columns,
+        clients,
+        graphs,
+        trace,
+    };
+    Started {
+        setup,
+        label,
+        judge,
+        lost,
+    }
+}

@@ -1,0 +1,22 @@
+//! A run of clients over an array with labels, from its opening round to its closing one.
+//!
+//! [`run_labelled`] takes all memory first. Then it writes the first round of labels, sweeps the check
+//! units where the newest label said that the array was in use, serves what is asked, and closes the
+//! array: its devices are settled, get their last labels, and are settled again. An array that is lost
+//! before it is served is left with labels that aren't clean, and nothing is served.
+#![tactic(auto)]
+
+mod beginning;
+mod closing;
+mod in_turn;
+mod labelled;
+mod outliving;
+mod running;
+
+pub use in_turn::a_sweep_comes_client_after_client;
+pub use labelled::{Labelled, Outcome};
+pub use outliving::{what_is_not_lost_is_answered, what_is_outlived_is_not_lost};
+pub use running::run_labelled;
+
+#[cfg(test)]
+mod tests;
