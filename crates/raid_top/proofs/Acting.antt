@@ -1,137 +1,93 @@
--- What is so once the clients were served, or the run of them was refused.
-use Rattle.std.specs.Prelude.{◌≡◌, ◌≤◌, ℕ, List, length, map, Option, Vec, Result, Ok, Err, IfOk, IfErr, OnErr, None}
-use Rattle.std.specs.declared.alloc.Global.{Global}
-use Rattle.std.proofs.Common.{arith, refl, sym, ap, subst, inr, ◌∙◌}
-use Rattle.std.proofs.lemmas.List.{length-map}
+-- What is so once what was due was done, or was refused for want of memory.
+use Rattle.std.specs.Prelude.{◌≡◌, ◌⊎◌, ℕ, List, length, Option, Some, Result, Ok, Err, Contains}
+use Rattle.std.proofs.Common.{refl, sym, ap, subst, inl, inr, ◌∙◌}
 use Rattle.blk_disk.specs.declared.disk.Disk.{Ghosts}
-use Rattle.eng_cols.proofs.Losing.{lost-excludes}
-use Rattle.lay_core.specs.declared.layout.Layout.{Ghosts as LayoutGhosts}
-use Rattle.eng_parts.specs.declared.setup.Setup.{Setup}
-use Rattle.eng_world.specs.declared.item.Item.{Item as AnyItem}
-use Rattle.raid_script.specs.Asked.{AreFew, Asked as Item, seen}
-use Rattle.raid_script.specs.Drawn.{drawn}
-use Rattle.raid_conf.specs.Layouts.{shape_of}
-use Rattle.lay_core.specs.Layout.{IsLayout, blocks_in}
-use Rattle.blk_disk.specs.Devices.{contents_of}
-use Rattle.eng_cols.specs.Contents.{decode}
-use Rattle.top_bound.specs.Laws.{asked_of}
-use Rattle.top_bound.proofs.Limits.{few-have-room}
+use Rattle.blk_disk.specs.Devices.{AreNamed, Changes}
 use Rattle.raid_text.specs.Text.{Text}
-use Rattle.top_bay.specs.Asked.{Asked, names_of}
-use Rattle.top_bay.specs.Lent.{AreOut, IsLent}
+use Rattle.top_bay.specs.Asked.{Asked, asked_in, names_for}
+use Rattle.top_bay.specs.Lent.{AreBack, AreOut}
 use Rattle.top_bay.specs.Told.{Told}
-use Rattle.top_bay.specs.Views.{IsWithin}
-use Rattle.top_bay.proofs.Homes.{lent_are_named}
-use Rattle.top_open.specs.Opening.{Opened}
-use Rattle.top_run.specs.Ran as run
-use Rattle.top_run.specs.InTurn.{SweptInTurn}
-use Rattle.top_run.proofs.InTurnHeld.{swept-by-seed}
-use Rattle.top_run.proofs.Outlived.{answered}
-use Rattle.top_run.specs.Work.{Service, Work}
-use Rattle.top_run.specs.Works as run_works
-use Rattle.top_serve.specs.Setups.{IsNotLost, IsRefusal}
-use Rattle.top_serve.specs.declared.refused.ServeFault.{ServeFault}
-use Rattle.top_serve.specs.declared.refused.ServeFault.TheVariants as fault
+use Rattle.top_open.specs.declared.fronts.Front.{Front}
 use Rattle.top_status.specs.declared.status.Status.TheVariants as status
-use Rattle.top_status.specs.Refusals.{Refused}
-use Rattle.top_words.specs.Asked.{Action, IsInRange, Sweep, command_of}
-use Rattle.top_duty.specs.Duty.{IsWanted, admitted_in, admitted_with, beside_dead, clients_by, states_in}
-use Rattle.top_duty.proofs.Tables.{some_blocks}
-use Rattle.top_duty.specs.Views.{drawn_by}
-use Rattle.top_duty.proofs.Drawing.{either_few}
+use Rattle.top_status.specs.Refusals.{Refused, only}
+use Rattle.top_words.specs.Asked.{Action, command_of}
+use Rattle.top_duty.specs.declared.duty.Duty.{Duty as DeclaredDuty}
+use Rattle.top_duty.specs.declared.duty.Duty.TheVariants as declared
+use Rattle.top_duty.specs.Duty.{Admitted, Duty, OnArray, IsWanted, asked_of, beside_dead, duty_in}
+use Rattle.top_duty.specs.Opening.{reads_fronts}
+use Rattle.top_duty.specs.Taken.{IsTaken, Reads, RefusedFor, WasRead}
 use Rattle.top_duty.specs.Views as views
+use Rattle.top_duty.specs.Views.{duty_seen}
 use Rattle.raid_top.specs.Ends.{Acted}
+use Rattle.raid_top.specs.Outcome.{Outcome}
 use Rattle.raid_top.specs.Refused.{IsRefused}
-use Rattle.raid_top.specs.Served.{IsServed}
-use Rattle.raid_top.specs.Works.{work_of}
-use Rattle.raid_top.proofs.Backs.{back_are_named, others_same, out_still}
-use Rattle.raid_top.proofs.Wanted.{is_run}
-
--- ## Of a result that is handed on
-
-pub both_ok : {T E : Type 0} {P Q R : T → Type 0} (r : Result T E) → IfOk r P → IfOk r Q → ((x : T) → P x → Q x → R x) → IfOk r R
-both_ok (Ok x) p q f = f x p q
-both_ok (Err e) p q f = tt
-
-pub both_err : {T E : Type 0} {P R : E → Type 0} {Q : Type 0} (r : Result T E) → IfErr r P → OnErr r Q → ((e : E) → P e → Q → R e) → IfErr r R
-both_err (Ok x) p q f = tt
-both_err (Err e) p q f = f e p q
-
--- ## A setup that isn't lost
-
--- is refused for want of memory alone
-pub only_memory : {L D : Type 0} (lay : LayoutGhosts L) (setup : Setup L D) (f : ServeFault) → IsNotLost lay setup → IsRefusal lay setup f → f ≡ fault.Memory
-only_memory lay setup fault.Memory kept h = refl
-only_memory lay setup (fault.Lost loss) kept h = absurd (lost-excludes _ _ loss h kept)
-
--- ## Devices behind a run
-
--- those that are put back stand in for those that were taken
-pub out_behind : {D : Type 0} (g : Ghosts D) (work : Work) (is_out : Text → Type 0) (names : List Text) (taken back : List (Option D)) (s : Service)
-    → run.Ran g work taken s back → AreOut is_out names taken → AreOut is_out names back
-out_behind g work is_out names taken back s ran out = out_still g (run.MayChange g work taken s back) is_out names taken back ran.ends.frame out
-
--- ## Clients that are drawn
-
-drawn_are : (seed clients ops workers : ℕ) (scripted : List (List Item)) (blocks : ℕ) → clients_by (Sweep seed clients ops workers) scripted blocks ≡ drawn seed clients ops blocks
-unfolding clients_by
-drawn_are seed clients ops workers scripted blocks = refl
-
--- they come as if one after another
-in_turn_of : {D : Type 0} (g : Ghosts D) (k : Asked) (o : Opened) (taken back : List (Option D)) (s : Service) → IsWithin k → IsLayout (shape_of k.conf o.rows)
-    → run.Ran g (work_of (admitted_with k o)) taken s back
-    → (seed clients ops workers : ℕ) → k.command.action ≡ Sweep seed clients ops workers → s.ending.lost ≡ None
-    → SweptInTurn g (work_of (admitted_with k o)) taken s back (decode (shape_of k.conf o.rows) (contents_of g taken) (states_in (admitted_with k o)))
-in_turn_of g k o taken back s within law ran seed clients ops workers is none =
-    let blocks = blocks_in (shape_of k.conf o.rows) in
-    let range : IsInRange (Sweep seed clients ops workers) = subst (λ (a : Action). IsInRange a) is within.action in
-    swept-by-seed g (work_of (admitted_with k o)) taken back s ran seed clients ops (omega (arith, range.0)) (some_blocks (shape_of k.conf o.rows) law)
-    (ap (λ (a : Action). clients_by a k.clients blocks) is ∙ drawn_are seed clients ops workers k.clients blocks) none
+use Rattle.raid_top.specs.Served.{IsDone, IsMemory}
+use Rattle.raid_top.proofs.Backs.{back_are_named, home_as_it_was, others_same}
+use Rattle.raid_top.proofs.Reading.{reads_still}
+use Rattle.raid_top.proofs.Wanted.{asked_is, is_made}
 
 -- ## The call
 
-module _ {D : Type 0} (g : Ghosts D) (b : Told D) (words : List Text) (k : Asked) (o : Opened) (command : command_of words ≡ Ok k.command) (wanted : b.tells → IsWanted (admitted_in g.size b words) (Ok (admitted_with k o))) where
-  pub acted_of : {L : Type 0} (lay : LayoutGhosts L) (setup : Setup L D) (mid : Text → Option D) (s : Service)
-      → length setup.devices.items ≡ length (names_of k.conf)
-      → (b.tells → IsLent b.home mid (names_of k.conf) setup.devices.items)
-      → run_works.work_of lay setup ≡ work_of (admitted_with k o)
-      → IsWithin k → IsLayout (shape_of k.conf o.rows)
-      → IsServed g b.tells mid b.after (names_of k.conf) (run_works.work_of lay setup) setup.devices.items s
-      → Acted g b words k.command.action s
-  acted_of lay setup mid s many lent same within law served =
-      let ran = subst (λ (w : Work). run.Ran g w setup.devices.items s served.back) same served.ran in
+-- `mid` is what is at home while the devices are out, and `first` says that the bay's count of faults had risen by then
+module _ {D : Type 0} (g : Ghosts D) (b : Told D) (words : List Text) (mid : Text → Option D) (first : Type 0) (k : Asked) (duty : Duty) (fronts : List Front) (old : List (Option D))
+    (same : asked_of duty ≡ k) (command : command_of words ≡ Ok k.command) (wanted : b.tells → IsWanted (duty_in g.size b words fronts) (Ok duty))
+    (taken : IsTaken g (record { tells = b.tells; rose = first; texts = b.texts; home = b.home; after = mid }) k old fronts) where
+  still : Changes g (λ _ _. ⊥) taken.taken old
+  still = reads_still g taken.taken old old fronts (reads_fronts k.command.action) taken.read
+
+  pub acted_of : (o : Outcome) → length old ≡ length (names_for k) → IsDone g b.tells mid b.after (names_for k) duty fronts old o → Acted g b words o
+  acted_of o many d =
       record {
-        admitted = admitted_with k o;
-        taken = setup.devices.items;
-        back = served.back;
-        words_are = command;
-        action_is = refl;
+        duty = duty;
+        fronts = fronts;
+        taken = taken.taken;
+        old = old;
+        back = d.back;
+        words_are = subst (λ (x : Asked). command_of words ≡ Ok x.command) (sym same) command;
         asked = wanted;
-        before = λ t. lent_are_named b.home mid (names_of k.conf) setup.devices.items many (lent t);
-        after = λ t. back_are_named mid b.after (names_of k.conf) served.back (served.count ∙ many) served.there (served.put t);
-        others = λ t. others_same b.home mid b.after (names_of k.conf) setup.devices.items served.back served.count (lent t) (served.put t);
-        ran = ran;
-        answered = answered g (work_of (admitted_with k o)) setup.devices.items served.back s ran;
-        in_turn = in_turn_of g k o setup.devices.items served.back s within law ran;
+        read = subst (λ (x : Asked). Reads g (reads_fronts x.command.action) taken.taken old fronts) (sym same) taken.read;
+        before = λ t. subst (λ (x : Asked). AreNamed b.home (names_for x) taken.taken) (sym same) (taken.named t);
+        after = λ t. subst (λ (x : Asked). AreNamed b.after (names_for x) d.back) (sym same) (back_are_named mid b.after (names_for k) d.back (d.count ∙ many) d.there (d.put t));
+        others = λ t. subst (λ (x : Asked). (n : Text) → (Contains (names_for x) n → ⊥) → b.after n ≡ b.home n) (sym same)
+            (others_same b.home mid b.after (names_for k) (length taken.taken) d.back (d.count ∙ still.count) (taken.others t) (d.put t));
+        does = d.does;
       }
 
-  pub refused_of : (r : Refused) → r ≡ beside_dead (admitted_with k o) status.Memory → (b.tells → (n : Text) → b.after n ≡ b.home n) → IsRefused g.size b words r
-  refused_of r is same = record {
-    kind = subst (λ (x : Refused). views.IsRefusal b.rose x.status) (sym is) tt;
+  -- why it was refused
+  for_memory : (r : Refused) → b.tells → AreBack mid b.after (names_for k) old → length old ≡ length (names_for k) → (is_out : Text → Type 0) → AreOut is_out (names_for k) old → IsMemory duty r → RefusedFor g b words r
+  for_memory r t back many is_out out (inl plain) = inr (inr (inl plain))
+  for_memory r t back many is_out out (inr at) =
+      let made = is_made (duty_in g.size b words fronts) duty (wanted t) in
+      inr (inr (inr (record {
+        fronts = fronts;
+        wanted = (at.0, made.is ∙ ap (λ (d : Duty). Ok d) at.1, at.2);
+        read = λ x asks.
+            let one : k ≡ x = sym same ∙ asked_is g.size b words fronts x duty asks made.is in
+            subst (λ (z : Asked). WasRead g b z fronts) one (record {
+              taken = taken.taken;
+              back = old;
+              before = taken.named t;
+              after = back_are_named mid b.after (names_for k) old many out.there back;
+              read = taken.read;
+            });
+      })))
+
+  memory_kind : (r : Refused) → IsMemory duty r → r.status ≡ status.Memory
+  memory_kind r (inl plain) = ap (λ (x : Refused). x.status) plain
+  memory_kind r (inr at) = ap (λ (x : Refused). x.status) at.2
+
+  pub refused_of : (r : Refused) (is_out : Text → Type 0) → length old ≡ length (names_for k) → AreOut is_out (names_for k) old → IsMemory duty r → (b.tells → AreBack mid b.after (names_for k) old) → IsRefused g b words r
+  refused_of r is_out many out memory back = record {
+    kind = subst (λ (s : _). views.IsRefusal b.rose s) (sym (memory_kind r memory)) tt;
     usage = λ i e. absurd (let z : ⊥ = cc (e, command) in z);
-    cause = λ t. inr (inr (inr (admitted_with k o, (is_run _ _ (wanted t)).is, is)));
-    same = same;
+    cause = λ t. for_memory r t (back t) many is_out out memory;
+    same = λ t. home_as_it_was g b.home mid b.after is_out (names_for k) taken.taken old (taken.named t) (taken.others t) still out (back t);
   }
 
--- ## What was served
+-- ## What was admitted
 
-lengths-mapped : {X Z : Type 0} (f : X → Z) (xs zs : List X) → map f xs ≡ map f zs → length xs ≡ length zs
-lengths-mapped f xs zs e = sym (length-map xs f) ∙ (ap length e ∙ length-map zs f)
-
--- there are no more clients than there may be
-pub few_clients : {L D : Type 0} (lay : LayoutGhosts L) (setup : Setup L D) (g : Ghosts D) (s : Service) (back : List (Option D)) → length setup.clients.items ≤ 16
-    → run.Ran g (run_works.work_of lay setup) setup.devices.items s back → length s.clients ≤ 16
-few_clients lay setup g s back few ran = omega (arith, few, lengths-mapped (λ (items : Vec AnyItem Global). map seen items.items) s.clients setup.clients.items ran.tells.asked)
-
-pub few_asked : (k : Asked) (blocks : ℕ) (given : List (Vec AnyItem Global)) → IsWithin k → AreFew (drawn_by k.command.action blocks) → asked_of given ≡ clients_by k.command.action k.clients blocks → length given ≤ 16
-few_asked k blocks given within drawn is = (few-have-room given (subst (λ rows. AreFew rows) (sym is) (either_few k.command.action k.clients blocks within.few drawn))).clients
+pub asked_of_seen : (k : Asked) (d : DeclaredDuty) → asked_of (duty_seen k d) ≡ k
+asked_of_seen k (declared.OnArray ready) = refl
+asked_of_seen k (declared.Shows opened) = refl
+asked_of_seen k declared.OneLabel = refl
+asked_of_seen k declared.PrintConf = refl

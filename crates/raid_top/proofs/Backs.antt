@@ -6,9 +6,11 @@ use Rattle.std.proofs.lemmas.Option.{get_or_from_slice_get, slice_get-get_or, sl
 use Rattle.std.proofs.lemmas.List.Elements.{Contains-get_or}
 use Rattle.blk_disk.specs.declared.disk.Disk.{Ghosts}
 use Rattle.blk_disk.specs.Devices.{AreNamed, Changes, StaysIf, at_home, device_at}
+use Rattle.blk_disk.proofs.DeviceLaws.{stays-refl}
 use Rattle.raid_text.specs.Text.{Text}
-use Rattle.top_bay.specs.Lent.{AreBack, AreOut, IsLent, IsMeant}
-use Rattle.top_bay.proofs.Homes.{device_at-past}
+use Rattle.top_bay.specs.Lent.{AreBack, AreOut, IsMeant}
+use Rattle.top_bay.proofs.Homes.{at_home-named, device_at-past}
+use Rattle.top_bay.proofs.Meant.{by_meant}
 
 -- a device that was there is there after changes, and no other
 stays_there : {D : Type 0} (g : Ghosts D) (may : ℕ → Type 0) (x z : Option D) → StaysIf g may x z → is_some z ≡ is_some x
@@ -42,8 +44,28 @@ back_are_named {D} mid after names ds many there back = record { count = many; e
     inside d lt (Some (b ∷ n)) e = sym (back.each d (b ∷ n) lt ((there d (b ∷ n) lt e).1 (λ empty. cc empty)) e)
 
 -- and other names have what they had
-pub others_same : {D : Type 0} (home mid after : Text → Option D) (names : List Text) (taken back : List (Option D)) → length back ≡ length taken → IsLent home mid names taken → AreBack mid after names back
+pub others_same : {D : Type 0} (home mid after : Text → Option D) (names : List Text) (many : ℕ) (back : List (Option D)) → length back ≡ many
+    → ((n : Text) → (IsMeant names many n → ⊥) → mid n ≡ home n) → AreBack mid after names back
     → (n : Text) → (Contains names n → ⊥) → after n ≡ home n
-others_same home mid after names taken back many lent put n away =
+others_same home mid after names many back count lent put n away =
     let apart : (k : ℕ) → IsMeant names k n → ⊥ = λ k m. away (subst (λ (x : Text). Contains names x) (get_or_from_slice_get names m.at n n m.is) (Contains-get_or names m.at n (slice_get_within names m.at n m.is))) in
-    put.others n (apart (length back)) ∙ lent.others n (apart (length taken))
+    put.others n (apart (length back)) ∙ lent n (apart many)
+
+-- ## Devices that were looked at alone
+
+stays_as_it_is : {D : Type 0} (g : Ghosts D) (x : Option D) → StaysIf g (λ _. ⊥) x x
+stays_as_it_is g None = tt
+stays_as_it_is g (Some x) = stays-refl g (λ _. ⊥) x
+
+-- what was taken, looked at and put back has changed no sector, and all else is as it was
+pub home_as_it_was : {D : Type 0} (g : Ghosts D) (home mid after : Text → Option D) (is_out : Text → Type 0) (names : List Text) (taken old : List (Option D))
+    → AreNamed home names taken → ((n : Text) → (IsMeant names (length taken) n → ⊥) → mid n ≡ home n) → Changes g (λ _ _. ⊥) taken old → AreOut is_out names old → AreBack mid after names old
+    → (n : Text) → StaysIf g (λ _. ⊥) (home n) (after n)
+home_as_it_was g home mid after is_out names taken old named lent still out back n = by_meant {P = StaysIf g (λ _. ⊥) (home n) (after n)} names (length old) n
+    (λ m.
+    let was : device_at taken m.at ≡ home n = named.each m.at ∙ (ap (λ (o : Option Text). at_home home o) m.is ∙ at_home-named home n m.named) in
+    let now : after n ≡ device_at old m.at = back.each m.at n m.before ((out.there m.at n m.before m.is).1 m.named) m.is in
+    subst (λ (x : Option _). StaysIf g (λ _. ⊥) x (after n)) was (subst (λ (z : Option _). StaysIf g (λ _. ⊥) (device_at taken m.at) z) (sym now) (still.each m.at)))
+    (λ apart.
+    let same : after n ≡ home n = back.others n apart ∙ lent n (subst (λ (j : ℕ). IsMeant names j n → ⊥) still.count apart) in
+    subst (λ (z : Option _). StaysIf g (λ _. ⊥) (home n) z) (sym same) (stays_as_it_is g (home n)))

@@ -1,49 +1,67 @@
 -- A call by which all that is asked for is right ends well, or for want of memory.
-use Rattle.std.specs.Prelude.{◌≡◌, ◌⊎◌, ℕ, List, Option, None}
+use Rattle.std.specs.Prelude.{◌≡◌, ◌⊎◌, ℕ, List, Option, Ok, Err}
 use Rattle.std.proofs.Common.{inl, inr, sym, ap, subst, ◌∙◌}
 use Rattle.blk_disk.specs.Devices.{AreNamed}
 use Rattle.blk_disk.specs.declared.disk.Disk.{Ghosts}
 use Rattle.raid_text.specs.Text.{Text}
-use Rattle.top_bay.specs.Asked.{names_of}
+use Rattle.top_bay.specs.Asked.{Asked, names_for}
 use Rattle.top_bay.specs.Told.{Told}
+use Rattle.top_open.specs.declared.fronts.Front.{Front}
 use Rattle.top_status.specs.declared.status.Status.{Status}
 use Rattle.top_status.specs.declared.status.Status.TheVariants as status
 use Rattle.top_status.specs.Refusals.{Refused}
-use Rattle.top_status.specs.Status.{status_of_loss}
-use Rattle.top_run.specs.Outliving.{Outlives}
-use Rattle.top_run.proofs.Outlived.{outlived}
-use Rattle.top_duty.specs.Duty.{Admitted, WantsMemory, admitted_in}
-use Rattle.top_duty.specs.Views.{RefusedBy}
-use Rattle.raid_top.specs.Ends.{Acts, Answers, IsRight}
-use Rattle.raid_top.specs.Outcome.{Outcome, Ran, Refuses, status_of}
-use Rattle.raid_top.specs.Works.{work_of}
-use Rattle.raid_top.proofs.Wanted.{one_is_run, run_or_refused}
+use Rattle.top_duty.specs.Duty.{Duty, asked_of, duty_in}
+use Rattle.top_duty.specs.Opening.{reads_fronts}
+use Rattle.top_duty.specs.Taken.{MemoryAt, RefusedAt, RefusedFor}
+use Rattle.blk_disk.proofs.DeviceLaws.{changes-refl}
+use Rattle.raid_top.specs.Ends.{Acted, Acts, Answers, EndsWell, IsDue, IsRight, MayRead, Survives}
+use Rattle.raid_top.specs.Outcome.{Outcome, Ran, Did, Looked, Refuses, status_of}
+use Rattle.raid_top.proofs.Frames.{AnySector, due_moves}
+use Rattle.raid_top.proofs.Reading.{may_read, reads_still}
+use Rattle.raid_top.proofs.Wanted.{asked_is, due_or_refused, is_made, one_duty}
+use Rattle.raid_top.proofs.Well.{due_well}
 
 module _ {D : Type 0} (g : Ghosts D) (b : Told D) (words : List Text) (told : b.tells) (right : IsRight g b words) (sound : b.rose → ⊥) where
-  for_memory : (r : Refused) → WantsMemory (admitted_in g.size b words) r → r.status ≡ status.Memory
-  for_memory r (inl is) = ap (λ (x : Refused). x.status) is
-  for_memory r (inr dead) = ap (λ (x : Refused). x.status) dead.2
+  acted_well : (o : Outcome) → Acted g b words o → EndsWell words (status_of o)
+  acted_well o acted =
+      let made = is_made (duty_in g.size b words acted.fronts) acted.duty (acted.asked told) in
+      let same : asked_of acted.duty ≡ right.asked = asked_is g.size b words acted.fronts right.asked acted.duty right.asks made.is in
+      let before = subst (λ (k : Asked). AreNamed b.home (names_for k) acted.taken) same (acted.before told) in
+      let after = subst (λ (k : Asked). AreNamed b.after (names_for k) acted.back) same (acted.after told) in
+      let moves = due_moves g acted.duty acted.fronts acted.old acted.back o acted.does in
+      let read = subst (λ (k : Asked). MayRead g (reads_fronts k.command.action) acted.taken acted.back acted.fronts) same
+      (may_read g acted.taken acted.old acted.back acted.fronts (reads_fronts (asked_of acted.duty).command.action) moves acted.read) in
+      let due = right.due acted.taken acted.back acted.fronts before after read in
+      let one : due.duty ≡ acted.duty = one_duty (duty_in g.size b words acted.fronts) due.duty acted.duty due.wanted (acted.asked told) in
+      let survives = subst (λ (d : Duty). Survives g d acted.taken acted.back) one due.survives in
+      due_well g words acted.duty acted.fronts acted.taken acted.old acted.back o
+      (reads_still g acted.taken acted.old acted.back acted.fronts (reads_fronts (asked_of acted.duty).command.action) acted.read)
+      survives acted.words_are acted.does
 
-  refused : (r : Refused) → RefusedBy b.rose (admitted_in g.size b words) r → r.status ≡ status.Memory
-  refused r (inl wanted) = absurd (run_or_refused (admitted_in g.size b words) right.admitted r right.wanted wanted)
+  for_memory : (r : Refused) → r.status ≡ status.Memory → EndsWell words r.status
+  for_memory r e = subst (λ (s : Status). EndsWell words s) (sym e) tt
+
+  refused_at : (r : Refused) → RefusedAt g b words r → ⊥
+  refused_at r at =
+      let was = at.read right.asked right.asks in
+      let due = right.due was.taken was.back at.fronts was.before was.after
+      (may_read g was.taken was.back was.back at.fronts (reads_fronts right.asked.command.action) (changes-refl g AnySector was.back) was.read) in
+      due_or_refused (duty_in g.size b words at.fronts) due.duty r due.wanted at.wanted
+
+  refused : (r : Refused) → RefusedFor g b words r → EndsWell words r.status
+  refused r (inl at) = absurd (refused_at r at)
   refused r (inr (inl bay)) = absurd (sound bay.1)
-  refused r (inr (inr memory)) = for_memory r memory
+  refused r (inr (inr (inl memory))) = for_memory r (ap (λ (x : Refused). x.status) memory)
+  refused r (inr (inr (inr at))) = for_memory r (ap (λ (x : Refused). x.status) at.wanted.2)
 
-  ended : (o : Outcome) → Acts g b words o → (status_of o ≡ status.Ok) ⊎ (status_of o ≡ status.Memory)
-  ended (Ran action s) acted =
-      let same : right.admitted ≡ acted.admitted = one_is_run (admitted_in g.size b words) right.admitted acted.admitted right.wanted (acted.asked told) in
-      let before = subst (λ (a : Admitted). AreNamed b.home (names_of a.asked.conf) acted.taken) (sym same) (acted.before told) in
-      let after = subst (λ (a : Admitted). AreNamed b.after (names_of a.asked.conf) acted.back) (sym same) (acted.after told) in
-      let outlives = subst (λ (a : Admitted). Outlives g (work_of a) acted.taken acted.back) same (right.outlives acted.taken acted.back before after) in
-      inl (ap status_of_loss (outlived g (work_of acted.admitted) acted.taken acted.back s acted.ran outlives))
-  ended (Refuses r) is = inr (refused r (is.cause told))
+  ended : (o : Outcome) → Acts g b words o → EndsWell words (status_of o)
+  ended (Ran action s) acted = acted_well (Ran action s) acted
+  ended (Did act e) acted = acted_well (Did act e) acted
+  ended (Looked text) acted = acted_well (Looked text) acted
+  ended (Refuses r) is = refused r (is.cause told)
 
-  pub complete_of : (sink_tells sink_rose : Type 0) (answer : Status) (old new : List ℕ) → Answers g b words sink_tells sink_rose answer old new → (sink_rose → ⊥)
-      → (answer ≡ status.Ok) ⊎ (answer ≡ status.Memory)
+  pub complete_of : (sink_tells sink_rose : Type 0) (answer : Status) (old new : List ℕ) → Answers g b words sink_tells sink_rose answer old new → (sink_rose → ⊥) → EndsWell words answer
   complete_of sink_tells sink_rose answer old new a quiet = elim a.printed [
-    | inl whole ↦ elim (ended a.ends.outcome a.ends.acts) [
-      | inl ok ↦ inl (whole.0 ∙ (a.ends.status ∙ ok))
-      | inr memory ↦ inr (whole.0 ∙ (a.ends.status ∙ memory))
-    ]
+    | inl whole ↦ subst (λ (s : Status). EndsWell words s) (sym (whole.0 ∙ a.ends.status)) (ended a.ends.outcome a.ends.acts)
     | inr cut ↦ absurd (quiet cut.1)
   ]

@@ -9,11 +9,8 @@ use Rattle.blk_plain.specs.declared.op.Op.TheVariants as op
 use Rattle.blk_disk.specs.declared.disk.Disk.{Ghosts}
 use Rattle.lay_core.specs.Layout.{Shape}
 use Rattle.lay_core.specs.declared.layout.Layout.{Ghosts as LayoutGhosts}
-use Rattle.eng_array.specs.Small.{AreOwn, HasSectors, IsOwn}
-use Rattle.eng_array.proofs.SmallSetups.{own-device}
 use Rattle.eng_cols.specs.declared.column.Column.{Column}
-use Rattle.eng_cols.specs.declared.column.Column.TheVariants as column
-use Rattle.eng_cols.specs.Cols.{HasDevice, Spread, is_set_filling, is_set_spread, state_set}
+use Rattle.eng_cols.specs.Cols.{HasDevice, is_set_filling, is_set_spread}
 use Rattle.eng_cols.specs.Laws.{HaveSpares}
 use Rattle.eng_events.specs.Beginning as begin
 use Rattle.eng_events.specs.Opened.{IsSetup, NamesGraph, states_of}
@@ -35,40 +32,20 @@ use Rattle.raid_script.specs.Asked.{Asked as Asks}
 use Rattle.top_bay.specs.Asked.{Asked, names_of}
 use Rattle.top_bay.specs.Views.{IsWithin}
 use Rattle.top_open.specs.Opening.{Opened}
-use Rattle.top_duty.specs.Duty.{clients_by, traces}
-use Rattle.top_duty.specs.Opening.{sizes_of}
+use Rattle.top_open.specs.declared.fronts.Front.{Front}
+use Rattle.top_duty.specs.Duty.{clients_by, traces, with_dead}
+use Rattle.top_duty.specs.Fit.{IsFit}
+use Rattle.top_duty.specs.Opening.{needs_of}
 use Rattle.top_duty.specs.Views.{IsReady, drawn_by}
 use Rattle.top_duty.proofs.Drawing.{either_asked, either_few}
-use Rattle.top_duty.proofs.Opens.{none_filling, none_spread, opened_count}
+use Rattle.top_duty.proofs.Fits.{fit_apart, fit_labelled, fit_there}
 use Rattle.raid_conf.proofs.TableLaws.{shape-columns, shape-rows, shape-unit}
-use Rattle.raid_top.specs.Served.{MayServe}
-use Rattle.raid_top.proofs.OwnColumns.{opens_so, own_columns}
+use Rattle.raid_label.specs.declared.label.Label.{Label}
+use Rattle.top_acts.specs.Acts.{IsSettable}
+use Rattle.top_rounds.specs.Passes.{CanBeLabelled}
+use Rattle.raid_top.specs.Served.{MayLabelIf, MayServe}
 use Rattle.graph_text.specs.Format.{Named}
 use Rattle.graph_text.specs.FormatForm.{AreGraphs}
-
--- an element of a list that was mapped
-map_was : {X Z : Type 0} (f : X → Z) (xs : List X) (c : ℕ) (z : Z) → slice_get (map f xs) c ≡ Some z → (x : X) × (slice_get xs c ≡ Some x) × (f x ≡ z)
-map_was f [] c z e = cc e
-map_was f (x ∷ xs) zero z e = (x, refl, cc e)
-map_was f (x ∷ xs) (suc c) z e = map_was f xs c z e
-
--- ## Columns
-
-module _ {D : Type 0} (disk : Ghosts D) (ds : List (Option D)) (need : ℕ) (columns : List Column) (own : AreOwn disk ds need columns) where
-  pub own_there : (n c device : ℕ) → HasDevice (map (state_set n) columns) c device → HasSectors disk ds device need
-  own_there n c device h = let d = own-device disk ds need columns own n c device h in subst (λ (k : ℕ). HasSectors disk ds k need) (sym d.0) d.1
-
-  pub own_apart : (n c k device : ℕ) → HasDevice (map (state_set n) columns) c device → HasDevice (map (state_set n) columns) k device → c ≡ k
-  own_apart n c k device h i = sym (own-device disk ds need columns own n c device h).0 ∙ (own-device disk ds need columns own n k device i).0
-
-  nowhere : (n c : ℕ) (done : List Bool) (x : Column) → IsOwn disk ds need c x → state_set n x ≡ Spread done → ⊥
-  nowhere n c done (column.Live d) is e = let z : ⊥ = cc in z
-  nowhere n c done column.Dead is e = let z : ⊥ = cc in z
-  nowhere n c done (column.Filling d) is e = absurd is
-  nowhere n c done column.Spread is e = absurd is
-
-  pub own_spares : (y : Shape) → HaveSpares y (map (state_set y.stripes) columns)
-  own_spares y c s done e within = let x = map_was (state_set y.stripes) columns c (Spread done) e in absurd (nowhere y.stripes c done x.0 (own c x.0 x.1) x.2)
 
 -- ## Items
 
@@ -121,33 +98,36 @@ within_sum y z book n rows others t one two kept h =
 
 -- ## The setup
 
+abbrev IsThere : {D : Type 0} → Ghosts D → List (Option D) → Shape → List Column → Type 0
+IsThere {D} disk devices z columns = (c device : ℕ) → HasDevice (states_of z columns) c device → (x : D) × (slice_get devices device ≡ Some (Some x)) × (64 + z.rows * z.unit_sectors ≤ disk.size x)
+
+abbrev IsApart : Shape → List Column → Type 0
+IsApart z columns = (c e device : ℕ) → HasDevice (states_of z columns) c device → HasDevice (states_of z columns) e device → c ≡ e
+
 module _ {L D : Type 0} (lay : LayoutGhosts L) (disk : Ghosts D) (setup : Setup L D) where
-  pub is_setup : (columns : ℕ) (book : List Named)
+  is_setup : (columns : ℕ) (book : List Named) (k : Asked) (o : Opened)
       → columns ≡ (lay.shape setup.layout).columns
-      → length setup.columns.items ≡ columns
-      → count_by is_set_filling setup.columns.items ≡ 0
-      → count_by is_set_spread setup.columns.items ≡ 0
-      → AreOwn disk setup.devices.items (64 + (lay.shape setup.layout).rows * (lay.shape setup.layout).unit_sectors) setup.columns.items
+      → IsWithin k → IsFit disk k o setup.devices.items → (needs_of k).excused ≡ None → k.conf.columns ≡ columns
+      → lay.shape setup.layout ≡ shape_of k.conf o.rows → setup.columns.items ≡ o.columns
       → All (All (IsAsked columns (length book))) (asked_of setup.clients.items)
       → AreGraphs book → map (λ g. g.drawn) setup.graphs.items ≡ map (λ g. g.graph) book
       → IsSetup lay disk setup
-  is_setup columns book same entries filling spread own asked graphs are =
+  is_setup columns book k o same within fit none many shape cols asked graphs are =
       let y = lay.shape setup.layout in
-      let need = 64 + y.rows * y.unit_sectors in
       let as_many : length book ≡ length setup.graphs.items = sym (length-mapped (λ (g : Named). g.graph) book) ∙ (ap (λ l. length l) (sym are) ∙ length-mapped (λ g. g.drawn) setup.graphs.items) in
       record {
-        entries = entries ∙ same;
-        filling = filling;
-        spread = omega (arith, spread);
-        spares = own_spares disk setup.devices.items need setup.columns.items own y;
-        there = own_there disk setup.devices.items need setup.columns.items own y.stripes;
-        one_column = own_apart disk setup.devices.items need setup.columns.items own y.stripes;
-        asked = λ c n i at. subst (λ (k : ℕ). begin.IsAsked y i × MayBeAsked y i × NamesGraph k i) as_many (may_run y columns (length book) i same (item_is columns (length book) setup.clients.items c n i asked at));
+        entries = ap (λ (l : List Column). length l) cols ∙ (fit.entries ∙ (many ∙ same));
+        filling = ap (λ (l : List Column). count_by is_set_filling l) cols ∙ fit.filling;
+        spread = subst (λ (l : List Column). count_by is_set_spread l ≤ 1) (sym cols) fit.spread;
+        spares = subst (λ (z : Shape). HaveSpares z (states_of z setup.columns.items)) (sym shape) (subst (λ (l : List Column). HaveSpares (shape_of k.conf o.rows) (states_of (shape_of k.conf o.rows) l)) (sym cols) fit.spares);
+        there = subst (λ (z : Shape). IsThere disk setup.devices.items z setup.columns.items) (sym shape) (subst (λ (l : List Column). IsThere disk setup.devices.items (shape_of k.conf o.rows) l) (sym cols) (λ c d h. fit_there disk k o setup.devices.items fit within.conf none (shape_of k.conf o.rows).stripes c d h));
+        one_column = subst (λ (z : Shape). IsApart z setup.columns.items) (sym shape) (subst (λ (l : List Column). IsApart (shape_of k.conf o.rows) l) (sym cols) (λ c e d one other. fit_apart disk k o setup.devices.items fit (shape_of k.conf o.rows).stripes c e d one other));
+        asked = λ c n i at. subst (λ (j : ℕ). begin.IsAsked y i × MayBeAsked y i × NamesGraph j i) as_many (may_run y columns (length book) i same (item_is columns (length book) setup.clients.items c n i asked at));
         fit = graphs-fit book setup.graphs.items graphs are;
       }
 
   -- what was admitted may be served
-  pub may_serve : (k : Asked) (o : Opened) → IsWithin k → IsReady k (sizes_of disk.size setup.devices.items) o
+  pub may_serve : (k : Asked) (o : Opened) (sizes : List ℕ) (fronts : List Front) → IsWithin k → IsReady k sizes fronts o → IsFit disk k o setup.devices.items → (needs_of k).excused ≡ None
       → lay.shape setup.layout ≡ shape_of k.conf o.rows → setup.columns.items ≡ o.columns → length setup.devices.items ≡ length (names_of k.conf)
       → asked_of setup.clients.items ≡ clients_by k.command.action k.clients (blocks_in (shape_of k.conf o.rows))
       → All (All (IsAsked k.conf.columns (length k.book))) (drawn_by k.command.action (blocks_in (shape_of k.conf o.rows)))
@@ -155,30 +135,42 @@ module _ {L D : Type 0} (lay : LayoutGhosts L) (disk : Ghosts D) (setup : Setup 
       → map (λ g. g.drawn) setup.graphs.items ≡ map (λ g. g.graph) k.book
       → setup.trace ≡ traces k.command.action
       → MayServe lay disk setup
-  may_serve k o within ready shape columns many clients drawn_asked drawn_few graphs trace =
+  may_serve k o sizes fronts within ready fit none shape columns many clients drawn_asked drawn_few graphs trace =
       let y = lay.shape setup.layout in
       let blocks = blocks_in (shape_of k.conf o.rows) in
-      let opens = opens_so k.conf (sizes_of disk.size setup.devices.items) o ready.opened in
       let conf = within.conf in
       let asked = subst (λ (rows : List (List Asks)). All (All (IsAsked k.conf.columns (length k.book))) rows) (sym clients) (either_asked k.conf.columns (length k.book) k.command.action k.clients blocks within.asked drawn_asked) in
       let few = subst (λ (rows : List (List Asks)). AreFew rows) (sym clients) (either_few k.command.action k.clients blocks within.few drawn_few) in
       let room = few-have-room setup.clients.items few in
       let same : k.conf.columns ≡ y.columns = sym (shape-columns k.conf o.rows conf) ∙ sym (ap (λ (z : Shape). z.columns) shape) in
-      let rows : y.rows ≡ o.rows = ap (λ (z : Shape). z.rows) shape ∙ shape-rows k.conf o.rows conf in
-      let unit : y.unit_sectors ≡ k.conf.unit = ap (λ (z : Shape). z.unit_sectors) shape ∙ shape-unit k.conf o.rows conf in
-      let entries : length setup.columns.items ≡ k.conf.columns = ap (λ (l : List Column). length l) columns ∙ opened_count k.conf (sizes_of disk.size setup.devices.items) o conf opens in
-      let need : 64 + o.rows * k.conf.unit ≡ 64 + y.rows * y.unit_sectors = ap (λ (n : ℕ). 64 + n * k.conf.unit) (sym rows) ∙ ap (λ (n : ℕ). 64 + y.rows * n) (sym unit) in
-      let own = subst (λ (l : List Column). AreOwn disk setup.devices.items (64 + y.rows * y.unit_sectors) l) (sym columns)
-      (subst (λ (n : ℕ). AreOwn disk setup.devices.items n o.columns) need (own_columns disk k.conf setup.devices.items o conf opens)) in
+      let entries : length setup.columns.items ≡ k.conf.columns = ap (λ (l : List Column). length l) columns ∙ fit.entries in
       let names : length (names_of k.conf) ≡ k.conf.columns + k.conf.spares = length-append k.conf.disks k.conf.spare_names ∙ (ap (λ (n : ℕ). n + length k.conf.spare_names) conf.disk_count ∙ ap (λ (n : ℕ). k.conf.columns + n) conf.spare_count) in
+      let alive : NotLost (shape_of k.conf o.rows) (states_of (shape_of k.conf o.rows) o.columns) = subst (λ (c : Option ℕ). NotLost (shape_of k.conf o.rows) (states_of (shape_of k.conf o.rows) (with_dead c o.columns))) none ready.kept in
       record {
-        opens = is_setup k.conf.columns k.book same entries
-            (ap (λ (l : List Column). count_by is_set_filling l) columns ∙ none_filling k.conf (sizes_of disk.size setup.devices.items) o conf opens)
-            (ap (λ (l : List Column). count_by is_set_spread l) columns ∙ none_spread k.conf (sizes_of disk.size setup.devices.items) o conf opens)
-            own asked within.graphs graphs;
+        opens = is_setup k.conf.columns k.book k o same within fit none refl shape columns asked within.graphs graphs;
         few = record { clients = room.clients; items = room.items; sectors = room.sectors; devices = omega (arith, many, names, conf.columns_most, conf.spares_most) };
         trace = λ kept. what-fits lay setup k.book (length (names_of k.conf)) k.conf.columns (entries ∙ same) (omega (arith, same, names))
             (record { clients = room.clients; asked = asked; graphs_are = graphs })
             (within_sum (lay.shape setup.layout) (shape_of k.conf o.rows) k.book (length (names_of k.conf)) (asked_of setup.clients.items) (clients_by k.command.action k.clients blocks) (traces k.command.action) shape clients (sym trace ∙ kept) ready.bound) kept;
-        kept = subst (λ (z : Shape). NotLost z (states_of z setup.columns.items)) (sym shape) (subst (λ (l : List Column). NotLost (shape_of k.conf o.rows) (states_of (shape_of k.conf o.rows) l)) (sym columns) ready.kept);
+        kept = subst (λ (z : Shape). NotLost z (states_of z setup.columns.items)) (sym shape) (subst (λ (l : List Column). NotLost (shape_of k.conf o.rows) (states_of (shape_of k.conf o.rows) l)) (sym columns) alive);
       }
+
+-- ## Labels
+
+module _ {L D : Type 0} (lay : LayoutGhosts L) (disk : Ghosts D) (setup : Setup L D) where
+  -- the labels that it has may be written anew
+  pub may_label : (k : Asked) (o : Opened) (newest : Option Label) → IsWithin k → IsFit disk k o setup.devices.items → (needs_of k).writes ≡ true → setup.columns.items ≡ o.columns → o.newest ≡ newest → MayLabelIf lay disk setup newest
+  may_label k o None within fit writes columns is = tt
+  may_label k o (Some l) within fit writes columns is = record {
+    array = subst (λ (cols : List Column). CanBeLabelled disk cols setup.devices.items) (sym columns) (fit_labelled disk k o setup.devices.items fit within.conf);
+    held = (fit.newest l is).0;
+    counter = (fit.newest l is).1 writes;
+  }
+
+-- columns that may be settled
+pub settable : {D : Type 0} (disk : Ghosts D) (k : Asked) (o : Opened) (devices : List (Option D)) (y : Shape) → IsWithin k → IsFit disk k o devices → y ≡ shape_of k.conf o.rows → IsSettable y o.columns
+settable disk k o devices y within fit shape = record {
+  entries = fit.entries ∙ (sym (shape-columns k.conf o.rows within.conf) ∙ sym (ap (λ (z : Shape). z.columns) shape));
+  filling = fit.filling;
+  spread = fit.spread;
+}

@@ -1,66 +1,123 @@
--- What is wanted is one: an array that is run, or one refusal.
+-- What is wanted is one: a duty, or one refusal.
 use Rattle.std.specs.Prelude.{◌≡◌, ℕ, Bool, true, false, List, Option, Some, None, Result, Ok, Err, if◌then◌else◌}
 use Rattle.std.proofs.Common.{refl, sym, ap, subst, ◌∙◌}
 use Rattle.eng_cols.specs.declared.spot.Loss.{Loss}
 use Rattle.eng_cols.proofs.Losing.{lost-excludes}
 use Rattle.raid_text.specs.Text.{Text}
-use Rattle.top_bay.specs.Asked.{asked_in}
+use Rattle.top_bay.specs.Asked.{Asked, asked_in, names_for}
+use Rattle.top_bay.specs.Told.{Told}
+use Rattle.top_open.specs.Opening.{Opened}
+use Rattle.top_open.specs.declared.fronts.Front.{Front}
 use Rattle.top_status.specs.declared.status.Status.TheVariants as status
 use Rattle.top_status.specs.Refusals.{Refused, ◌then◌}
-use Rattle.top_duty.specs.Duty.{Admitted, IsWanted, LossIs, admitted_in, beside_dead, is_past_bound, layout_of, states_in, unless_lost, unless_past}
+use Rattle.top_words.specs.Asked.{Action, Io, Sweep, Show, Init, Check, Rewrite, Print, Fail, ShowLabel, Label as Labels, Rebuild}
+use Rattle.top_duty.specs.Duty.{Admitted, Duty, OnArray, Shows, OneLabel, PrintConf, IsWanted, LossIs, admitted_with, asked_of, beside_dead, duty_by, duty_for, duty_in, is_past_bound, judged, judged_states, layout_of, unless_lost, unless_past}
+use Rattle.top_duty.specs.Opening.{kind_of, opened_by, sizes_in}
 
--- what is run if the trace has room, or not
-past_or : (b : Bool) (a k : Admitted) (r : Refused) → Ok k ≡ (if b then Err r else Ok a) → (b ≡ false) × (a ≡ k)
-past_or true a k r e = absurd (let z : ⊥ = cc in z)
-past_or false a k r e = (refl, cc e)
+-- an array that something is done to isn't lost by the columns as the action makes them, and its trace has room
+abbrev pub IsKept : Duty → Type 0
+IsKept (OnArray a) = LossIs (layout_of a) (judged_states a) None × (is_past_bound a ≡ false)
+IsKept (Shows k o) = Unit {0}
+IsKept (OneLabel k) = Unit {0}
+IsKept (PrintConf k) = Unit {0}
+
+-- What is due is what is wanted.
+pub record IsMade (w : Result Duty Refused) (d : Duty) : Type 0 where
+  pub is : w ≡ Ok d
+  pub kept : IsKept d
+
+-- what is done if the trace has room, or not
+past_or : (b : Bool) (a : Admitted) (d : Duty) (r : Refused) → Ok d ≡ ((if b then Err r else Ok a) then λ bound. Ok (OnArray bound)) → (b ≡ false) × (OnArray a ≡ d)
+past_or true a d r e = absurd (let z : ⊥ = cc in z)
+past_or false a d r e = (refl, cc e)
 
 -- and if it isn't lost
-kept_or : (l : Option Loss) (a k : Admitted) → Ok k ≡ (unless_lost a l then λ kept. unless_past kept) → (l ≡ None) × (is_past_bound a ≡ false) × (a ≡ k)
-kept_or None a k e = let past = past_or (is_past_bound a) a k (beside_dead a (status.Script 0 8)) e in (refl, past.0, past.1)
-kept_or (Some loss) a k e = absurd (let z : ⊥ = cc in z)
+kept_or : (l : Option Loss) (a : Admitted) (d : Duty) → Ok d ≡ (unless_lost a l then λ kept. unless_past kept then λ bound. Ok (OnArray bound)) → (l ≡ None) × (is_past_bound a ≡ false) × (OnArray a ≡ d)
+kept_or None a d e = let past = past_or (is_past_bound a) a d (beside_dead a (status.Script 0 8)) e in (refl, past.0, past.1)
+kept_or (Some loss) a d e = absurd (let z : ⊥ = cc in z)
 
--- What is run isn't lost, and its trace has room.
-pub record IsRun (w : Result Admitted Refused) (a : Admitted) : Type 0 where
-  pub is : w ≡ Ok a
-  pub kept : LossIs (layout_of a) (states_in a) None
-  pub bound : is_past_bound a ≡ false
+made_from : (w x : Result Duty Refused) (d : Duty) → IsWanted w (Ok d) → x ≡ w → IsMade w d
+made_from w (Err r) d h same =
+    let e : Ok d ≡ (Err r then λ k. judged k h.loss) = subst (λ (y : Result Duty Refused). Ok d ≡ (y then λ k. judged k h.loss)) (sym same) h.is in
+    absurd (let z : ⊥ = cc in z)
+made_from w (Ok (OnArray a)) d h same =
+    let e : Ok d ≡ (Ok (OnArray a) then λ k. judged k h.loss) = subst (λ (y : Result Duty Refused). Ok d ≡ (y then λ k. judged k h.loss)) (sym same) h.is in
+    let all = kept_or h.loss a d e in
+    let loss : LossIs (layout_of a) (judged_states a) None = subst (λ (l : Option Loss). LossIs (layout_of a) (judged_states a) l) all.0 (h.is_loss a (sym same)) in
+    record { is = sym same ∙ ap (λ (x : Duty). Ok x) all.2; kept = subst IsKept all.2 (loss, all.1) }
+made_from w (Ok (Shows k o)) d h same =
+    let e : Ok d ≡ (Ok (Shows k o) then λ k. judged k h.loss) = subst (λ (y : Result Duty Refused). Ok d ≡ (y then λ k. judged k h.loss)) (sym same) h.is in
+    let one : Shows k o ≡ d = cc e in
+    record { is = sym same ∙ ap (λ (x : Duty). Ok x) one; kept = subst IsKept one tt }
+made_from w (Ok (OneLabel k)) d h same =
+    let e : Ok d ≡ (Ok (OneLabel k) then λ k. judged k h.loss) = subst (λ (y : Result Duty Refused). Ok d ≡ (y then λ k. judged k h.loss)) (sym same) h.is in
+    let one : OneLabel k ≡ d = cc e in
+    record { is = sym same ∙ ap (λ (x : Duty). Ok x) one; kept = subst IsKept one tt }
+made_from w (Ok (PrintConf k)) d h same =
+    let e : Ok d ≡ (Ok (PrintConf k) then λ k. judged k h.loss) = subst (λ (y : Result Duty Refused). Ok d ≡ (y then λ k. judged k h.loss)) (sym same) h.is in
+    let one : PrintConf k ≡ d = cc e in
+    record { is = sym same ∙ ap (λ (x : Duty). Ok x) one; kept = subst IsKept one tt }
 
-run_from : (w x : Result Admitted Refused) (a : Admitted) → IsWanted w (Ok a) → x ≡ w → IsRun w a
-run_from w (Err r) a h same = let e : Ok a ≡ (Err r then λ k. unless_lost k h.loss then λ kept. unless_past kept) = subst (λ (y : Result Admitted Refused). Ok a ≡ (y then λ k. unless_lost k h.loss then λ kept. unless_past kept)) (sym same) h.is in absurd (let z : ⊥ = cc in z)
-run_from w (Ok k) a h same =
-    let e : Ok a ≡ (Ok k then λ k. unless_lost k h.loss then λ kept. unless_past kept) = subst (λ (y : Result Admitted Refused). Ok a ≡ (y then λ k. unless_lost k h.loss then λ kept. unless_past kept)) (sym same) h.is in
-    let all = kept_or h.loss k a e in
-    let loss : LossIs (layout_of k) (states_in k) None = subst (λ (l : Option Loss). LossIs (layout_of k) (states_in k) l) all.0 (h.is_loss k (sym same)) in
-    record {
-      is = sym same ∙ ap (λ (x : Admitted). Ok x) all.2;
-      kept = subst (λ (x : Admitted). LossIs (layout_of x) (states_in x) None) all.2 loss;
-      bound = subst (λ (x : Admitted). is_past_bound x ≡ false) all.2 all.1;
-    }
+pub is_made : (w : Result Duty Refused) (d : Duty) → IsWanted w (Ok d) → IsMade w d
+is_made w d h = made_from w w d h refl
 
-pub is_run : (w : Result Admitted Refused) (a : Admitted) → IsWanted w (Ok a) → IsRun w a
-is_run w a h = run_from w w a h refl
+-- one duty at most is wanted
+pub one_duty : (w : Result Duty Refused) (d e : Duty) → IsWanted w (Ok d) → IsWanted w (Ok e) → d ≡ e
+one_duty w d e one two = let same : Ok d ≡ Ok e = sym (is_made w d one).is ∙ (is_made w e two).is in cc same
 
--- one array at most is run
-pub one_is_run : (w : Result Admitted Refused) (a k : Admitted) → IsWanted w (Ok a) → IsWanted w (Ok k) → a ≡ k
-one_is_run w a k one two = let e : Ok a ≡ Ok k = sym (is_run w a one).is ∙ (is_run w k two).is in cc e
-
-refused_not : (a : Admitted) (r : Refused) (l : Option Loss) → LossIs (layout_of a) (states_in a) None → is_past_bound a ≡ false → LossIs (layout_of a) (states_in a) l
-    → Err r ≡ (unless_lost a l then λ kept. unless_past kept) → ⊥
+refused_not : (a : Admitted) (r : Refused) (l : Option Loss) → LossIs (layout_of a) (judged_states a) None → is_past_bound a ≡ false → LossIs (layout_of a) (judged_states a) l
+    → Err r ≡ (unless_lost a l then λ kept. unless_past kept then λ bound. Ok (OnArray bound)) → ⊥
 refused_not a r None kept bound loss e = go (is_past_bound a) bound e
   where
-    go : (b : Bool) → b ≡ false → Err r ≡ (if b then Err (beside_dead a (status.Script 0 8)) else Ok a) → ⊥
+    go : (b : Bool) → b ≡ false → Err r ≡ ((if b then Err (beside_dead a (status.Script 0 8)) else Ok a) then λ bound. Ok (OnArray bound)) → ⊥
     go true one two = cc one
     go false one two = cc two
-refused_not a r (Some loss) kept bound is e = lost-excludes (layout_of a) (states_in a) loss is kept
+refused_not a r (Some loss) kept bound is e = lost-excludes (layout_of a) (judged_states a) loss is kept
 
--- and what is run isn't refused
-pub run_or_refused : (w : Result Admitted Refused) (a : Admitted) (r : Refused) → IsWanted w (Ok a) → IsWanted w (Err r) → ⊥
-run_or_refused w a r one two =
-    let run = is_run w a one in
-    refused_not a r two.loss run.kept run.bound (two.is_loss a run.is) (subst (λ (y : Result Admitted Refused). Err r ≡ (y then λ k. unless_lost k two.loss then λ kept. unless_past kept)) run.is two.is)
+not_refused : (d : Duty) (r : Refused) (l : Option Loss) → IsKept d → ((a : Admitted) → d ≡ OnArray a → LossIs (layout_of a) (judged_states a) l) → Err r ≡ judged d l → ⊥
+not_refused (OnArray a) r l kept loss e = refused_not a r l kept.0 kept.1 (loss a refl) e
+not_refused (Shows k o) r l kept loss e = cc e
+not_refused (OneLabel k) r l kept loss e = cc e
+not_refused (PrintConf k) r l kept loss e = cc e
 
--- it goes by words, texts and devices at home alone
-pub admitted_same : {D : Type 0} (size : D → ℕ) (tells rose now_rose : Type 0) (texts : Text → Option Text) (home after now_after : Text → Option D) (words : List Text)
-    → admitted_in size (record { tells = tells; rose = rose; texts = texts; home = home; after = after }) words ≡ admitted_in size (record { tells = tells; rose = now_rose; texts = texts; home = home; after = now_after }) words
-unfolding admitted_in asked_in
-admitted_same size tells rose now_rose texts home after now_after words = refl
+-- and what is due isn't refused
+pub due_or_refused : (w : Result Duty Refused) (d : Duty) (r : Refused) → IsWanted w (Ok d) → IsWanted w (Err r) → ⊥
+due_or_refused w d r one two =
+    let made = is_made w d one in
+    not_refused d r two.loss made.kept (λ a e. two.is_loss a (made.is ∙ ap (λ (x : Duty). Ok x) e)) (subst (λ (y : Result Duty Refused). Err r ≡ (y then λ k. judged k two.loss)) made.is two.is)
+
+-- ## What was asked
+
+opened_asked : (k : Asked) (f : Opened → Duty) (r : Result Opened Refused) (d : Duty) → ((o : Opened) → asked_of (f o) ≡ k) → (r then λ o. Ok (f o)) ≡ Ok d → asked_of d ≡ k
+opened_asked k f (Ok o) d each e = let same : f o ≡ d = cc e in sym (ap asked_of same) ∙ each o
+opened_asked k f (Err r) d each e = cc e
+
+duty_asked : (action : Action) (k : Asked) (sizes : List ℕ) (fronts : List Front) (d : Duty) → duty_for (kind_of action) k sizes fronts ≡ Ok d → asked_of d ≡ k
+duty_asked (Io beside workers) k sizes fronts d e = opened_asked k (λ o. OnArray (admitted_with k o)) (opened_by k sizes fronts) d (λ o. refl) e
+duty_asked (Sweep seed clients ops workers) k sizes fronts d e = opened_asked k (λ o. OnArray (admitted_with k o)) (opened_by k sizes fronts) d (λ o. refl) e
+duty_asked Init k sizes fronts d e = opened_asked k (λ o. OnArray (admitted_with k o)) (opened_by k sizes fronts) d (λ o. refl) e
+duty_asked Check k sizes fronts d e = opened_asked k (λ o. OnArray (admitted_with k o)) (opened_by k sizes fronts) d (λ o. refl) e
+duty_asked Rewrite k sizes fronts d e = opened_asked k (λ o. OnArray (admitted_with k o)) (opened_by k sizes fronts) d (λ o. refl) e
+duty_asked (Fail comp) k sizes fronts d e = opened_asked k (λ o. OnArray (admitted_with k o)) (opened_by k sizes fronts) d (λ o. refl) e
+duty_asked (Labels serial) k sizes fronts d e = opened_asked k (λ o. OnArray (admitted_with k o)) (opened_by k sizes fronts) d (λ o. refl) e
+duty_asked (Rebuild in_place comp beside workers) k sizes fronts d e = opened_asked k (λ o. OnArray (admitted_with k o)) (opened_by k sizes fronts) d (λ o. refl) e
+duty_asked Show k sizes fronts d e = opened_asked k (λ o. Shows k o) (opened_by k sizes fronts) d (λ o. refl) e
+duty_asked (ShowLabel comp) k sizes fronts d e = let same : OneLabel k ≡ d = cc e in sym (ap asked_of same)
+duty_asked Print k sizes fronts d e = let same : PrintConf k ≡ d = cc e in sym (ap asked_of same)
+
+by_asked : (k : Asked) (sizes : List ℕ) (fronts : List Front) (d : Duty) → duty_by k sizes fronts ≡ Ok d → asked_of d ≡ k
+unfolding duty_by
+by_asked k sizes fronts d e = duty_asked k.command.action k sizes fronts d e
+
+-- a duty is of what was asked
+pub asked_is : {D : Type 0} (size : D → ℕ) (b : Told D) (words : List Text) (fronts : List Front) (k : Asked) (d : Duty) → asked_in b words ≡ Ok k → duty_in size b words fronts ≡ Ok d → asked_of d ≡ k
+unfolding duty_in
+asked_is size b words fronts k d asks e =
+    by_asked k (sizes_in size b.home (names_for k)) fronts d
+    (subst (λ (r : Result Asked Refused). (r then λ x. duty_by x (sizes_in size b.home (names_for x)) fronts) ≡ Ok d) asks e)
+
+-- it goes by words, texts, devices at home and fronts alone
+pub duty_same : {D : Type 0} (size : D → ℕ) (tells rose now_rose : Type 0) (texts : Text → Option Text) (home after now_after : Text → Option D) (words : List Text) (fronts : List Front)
+    → duty_in size (record { tells = tells; rose = rose; texts = texts; home = home; after = after }) words fronts ≡ duty_in size (record { tells = tells; rose = now_rose; texts = texts; home = home; after = now_after }) words fronts
+unfolding duty_in asked_in
+duty_same size tells rose now_rose texts home after now_after words fronts = refl

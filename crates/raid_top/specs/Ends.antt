@@ -1,44 +1,50 @@
 -- How a call of the program ends: its outcome with all that is so then, its output and its status.
-use Rattle.std.specs.Prelude.{◌≡◌, ◌⊎◌, ℕ, List, ◌++◌, take, Option, None, Ok, Contains}
-use Rattle.blk_disk.specs.Devices.{AreNamed, contents_of}
+use Rattle.std.specs.Prelude.{◌≡◌, ◌⊎◌, ℕ, List, length, ◌++◌, take, Bool, true, false, Option, Some, Ok, Contains}
+use Rattle.blk_disk.specs.Devices.{AreNamed, RisesOn}
 use Rattle.blk_disk.specs.declared.disk.Disk.{Ghosts}
-use Rattle.eng_cols.specs.Contents.{decode}
+use Rattle.eng_cols.specs.declared.column.Column.{Column}
+use Rattle.eng_cols.specs.Cols.{HasDevice}
+use Rattle.eng_cols.specs.Deaths.{Dies}
+use Rattle.eng_cols.specs.Lost.{NotLost}
 use Rattle.raid_text.specs.Text.{Text}
 use Rattle.top_bay.specs.Told.{Told}
-use Rattle.top_bay.specs.Asked.{names_of}
+use Rattle.top_bay.specs.Asked.{Asked, asked_in, names_for}
 use Rattle.top_status.specs.declared.status.Status.{Status}
 use Rattle.top_status.specs.declared.status.Status.TheVariants as status
-use Rattle.top_words.specs.Asked.{Action, Sweep, command_of}
-use Rattle.top_duty.specs.Duty.{Admitted, IsWanted, admitted_in, layout_of, states_in}
-use Rattle.top_run.specs.InTurn.{SweptInTurn}
-use Rattle.top_run.specs.Outliving.{AllAnswered, Outlives}
-use Rattle.top_run.specs.Work.{Service}
-use Rattle.raid_top.specs.Outcome.{Outcome, Ran as Runs, Refuses, outcome_text, status_of}
+use Rattle.top_open.specs.Fronts.{AreFronts}
+use Rattle.top_open.specs.declared.fronts.Front.{Front}
+use Rattle.top_words.specs.Asked.{Check, Command, command_of}
+use Rattle.top_duty.specs.Duty.{Admitted, Duty, OnArray, Shows, OneLabel, PrintConf, IsWanted, asked_of, columns_of, duty_in, layout_of, states_in, states_of}
+use Rattle.top_duty.specs.Opening.{needs_of, reads_fronts, unread}
+use Rattle.top_duty.specs.Taken.{Reads}
+use Rattle.top_run.specs.Outliving.{HasFail}
+use Rattle.raid_top.specs.Does.{Does}
+use Rattle.raid_top.specs.Outcome.{Outcome, Ran, Did, Looked, Refuses, outcome_text, status_of}
 use Rattle.raid_top.specs.Refused.{IsRefused}
-use Rattle.raid_top.specs.Ran.{Ran}
 use Rattle.raid_top.specs.Works.{work_of}
 
 module _ {D : Type 0} (g : Ghosts D) (b : Told D) (words : List Text) where
-  -- The clients were served. There are what was asked, and the devices of its names as they were taken and as they are put back; what speaks of names and texts holds where the bay tells them. Where the array isn't lost, each item has the reply that it ought to have, and clients that were drawn leave, and are replied, what they would one after another.
-  pub record Acted (action : Action) (s : Service) : Type 0 where
-    pub admitted : Admitted
+  -- What was due was done. There are what was asked, and the devices of its names as they were taken, as they were once their first sectors had been read, where that is done, and as they are put back. What speaks of names and texts holds where the bay tells them.
+  pub record Acted (o : Outcome) : Type 0 where
+    pub duty : Duty
+    pub fronts : List Front
     pub taken : List (Option D)
+    pub old : List (Option D)
     pub back : List (Option D)
-    pub words_are : command_of words ≡ Ok admitted.asked.command
-    pub action_is : admitted.asked.command.action ≡ action
-    pub asked : b.tells → IsWanted (admitted_in g.size b words) (Ok admitted)
-    pub before : b.tells → AreNamed b.home (names_of admitted.asked.conf) taken
-    pub after : b.tells → AreNamed b.after (names_of admitted.asked.conf) back
-    pub others : b.tells → (n : Text) → (Contains (names_of admitted.asked.conf) n → ⊥) → b.after n ≡ b.home n
-    pub ran : Ran g admitted taken s back
-    pub answered : s.ending.lost ≡ None → AllAnswered g (work_of admitted) taken back s ran
-    pub in_turn : (seed clients ops workers : ℕ) → action ≡ Sweep seed clients ops workers → s.ending.lost ≡ None
-        → SweptInTurn g (work_of admitted) taken s back (decode (layout_of admitted) (contents_of g taken) (states_in admitted))
+    pub words_are : command_of words ≡ Ok (asked_of duty).command
+    pub asked : b.tells → IsWanted (duty_in g.size b words fronts) (Ok duty)
+    pub read : Reads g (reads_fronts (asked_of duty).command.action) taken old fronts
+    pub before : b.tells → AreNamed b.home (names_for (asked_of duty)) taken
+    pub after : b.tells → AreNamed b.after (names_for (asked_of duty)) back
+    pub others : b.tells → (n : Text) → (Contains (names_for (asked_of duty)) n → ⊥) → b.after n ≡ b.home n
+    pub does : Does g duty fronts old back o
 
   -- what is so of an outcome
   abbrev pub Acts : Outcome → Type 0
-  Acts (Runs action s) = Acted action s
-  Acts (Refuses r) = IsRefused g.size b words r
+  Acts (Refuses r) = IsRefused g b words r
+  Acts (Ran action s) = Acted (Ran action s)
+  Acts (Did act e) = Acted (Did act e)
+  Acts (Looked text) = Acted (Looked text)
 
   -- a call ends so, with this status and this output
   pub record Ends (ending : Status) (printed : List ℕ) : Type 0 where
@@ -62,8 +68,41 @@ pub record Answers {D : Type 0} (g : Ghosts D) (b : Told D) (words : List Text) 
 
 -- ## Completeness
 
--- All that is asked for is right, and the array outlives the call: it isn't lost, whichever columns be dead of which an item asks that they fail, or whose device's count of faults rose.
+module _ {D : Type 0} (g : Ghosts D) where
+  module _ (a : Admitted) (taken back : List (Option D)) where
+    -- a column that may be dead in the end: the action names it, an item asks that it fail, or its device's count of faults rose
+    abbrev pub MayDie : ℕ → Type 0
+    MayDie c = ((needs_of a.asked).excused ≡ Some c)
+        ⊎ (HasFail (work_of a) c ⊎ ((d : ℕ) × HasDevice (states_in a) c d × RisesOn g taken back d))
+
+  -- an array that something is done to outlives the call: it isn't lost, whichever of these columns be dead
+  abbrev pub Survives : Duty → (taken back : List (Option D)) → Type 0
+  Survives (OnArray a) taken back = (cols : List Column) → Dies (MayDie a taken back) (columns_of a) cols → NotLost (layout_of a) (states_of (layout_of a) cols)
+  Survives (Shows k opened) taken back = Unit {0}
+  Survives (OneLabel k) taken back = Unit {0}
+  Survives (PrintConf k) taken back = Unit {0}
+
+  -- sector 0 of each device may have been read so, between these; or none was
+  abbrev pub MayRead : Bool → (taken back : List (Option D)) → List Front → Type 0
+  MayRead true taken back fronts = AreFronts g taken back fronts
+  MayRead false taken back fronts = fronts ≡ unread (length taken)
+
+  -- By these fronts all that is asked for is right, and its array outlives the call.
+  pub record IsDue (b : Told D) (words : List Text) (taken back : List (Option D)) (fronts : List Front) : Type 0 where
+    pub duty : Duty
+    pub wanted : IsWanted (duty_in g.size b words fronts) (Ok duty)
+    pub survives : Survives duty taken back
+
+-- Words, texts and names are right; and by whatever may have been read of the first sectors, sizes and labels are too, and the array isn't lost and outlives the call.
 pub record IsRight {D : Type 0} (g : Ghosts D) (b : Told D) (words : List Text) : Type 0 where
-  pub admitted : Admitted
-  pub wanted : IsWanted (admitted_in g.size b words) (Ok admitted)
-  pub outlives : (taken back : List (Option D)) → AreNamed b.home (names_of admitted.asked.conf) taken → AreNamed b.after (names_of admitted.asked.conf) back → Outlives g (work_of admitted) taken back
+  pub asked : Asked
+  pub asks : asked_in b words ≡ Ok asked
+  pub due : (taken back : List (Option D)) (fronts : List Front) → AreNamed b.home (names_for asked) taken → AreNamed b.after (names_for asked) back
+      → MayRead g (reads_fronts asked.command.action) taken back fronts → IsDue g b words taken back fronts
+
+-- The call ended well; or memory was wanted; or stripes were tested, and some weren't in sync.
+abbrev pub EndsWell : List Text → Status → Type 0
+EndsWell words status.Ok = Unit {0}
+EndsWell words status.Memory = Unit {0}
+EndsWell words (status.NotInSync n) = (c : Command) × (command_of words ≡ Ok c) × (c.action ≡ Check)
+EndsWell words _ = ⊥

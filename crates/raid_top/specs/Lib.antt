@@ -1,6 +1,9 @@
 pub mod Outcome
+pub mod Arrays
+pub mod Orders
 pub mod Works
+pub mod Does
+pub mod Views
 pub mod Served
-pub mod Ran
 pub mod Refused
 pub mod Ends

@@ -1,24 +1,46 @@
 -- How a call of the program ends, and what it prints.
-use Rattle.std.specs.Prelude.{ℕ, List, [], ◌++◌, Option, Some, None}
+use Rattle.std.specs.Prelude.{ℕ, zero, suc, List, [], ◌++◌, Option, Some, None}
 use Rattle.eng_cols.specs.declared.spot.Loss.{Loss}
 use Rattle.raid_script.specs.Replies.{replies_text}
 use Rattle.raid_script.specs.History.{history_text}
 use Rattle.raid_script.specs.Trace.{trace_text}
 use Rattle.raid_script.specs.Summary.{summary_text}
 use Rattle.top_status.specs.declared.status.Status.{Status}
-use Rattle.top_status.specs.Status.{ending_text, status_of_loss}
+use Rattle.top_status.specs.declared.status.Status.TheVariants as status
+use Rattle.top_status.specs.Status.{ending_text, status_of_loss, status_text}
 use Rattle.top_status.specs.Refusals.{Refused, refusal_text}
-use Rattle.top_run.specs.Work.{Service}
+use Rattle.top_acts.specs.declared.done.Done.{Done}
+use Rattle.top_acts.specs.declared.done.Done.TheVariants as done
+use Rattle.top_acts.specs.Done.{done_text}
+use Rattle.top_run.specs.Work.{Ending, Service}
 use Rattle.top_words.specs.Asked.{Action, Sweep}
 
--- A script was run, or items that were drawn; or nothing was done.
+-- A script was run, or items that were drawn; or something was done to the array without a core, or it was lost before the core was opened; or it was looked at, and this is what is said of it; or nothing was done.
 pub data Outcome : Type 0 where
   Ran : (action : Action) (s : Service) → Outcome
+  Did : (act : Done) (e : Ending) → Outcome
+  Looked : (text : List ℕ) → Outcome
   Refuses : (r : Refused) → Outcome
+
+-- how it ends where the array isn't lost: well, but for stripes that were found not to be in sync
+abbrev pub status_of_act : Done → Status
+status_of_act (done.Check (suc n)) = status.NotInSync (suc n)
+status_of_act (done.Check zero) = status.Ok
+status_of_act done.Nothing = status.Ok
+status_of_act (done.Init n) = status.Ok
+status_of_act (done.Rewrite n) = status.Ok
+status_of_act (done.Killed c) = status.Ok
+status_of_act (done.Labelled n) = status.Ok
+
+abbrev pub status_of_done : Done → Option Loss → Status
+status_of_done act None = status_of_act act
+status_of_done act (Some loss) = status_of_loss (Some loss)
 
 -- the status, a lost run's too
 abbrev pub status_of : Outcome → Status
 status_of (Ran action s) = status_of_loss s.ending.lost
+status_of (Did act e) = status_of_done act e.lost
+status_of (Looked text) = status.Ok
 status_of (Refuses r) = r.status
 
 -- what is told of a script: replies, history, and the trace where it is kept
@@ -39,7 +61,13 @@ service_text action s = script_text s
 abbrev pub ran_text : Action → Service → List ℕ
 ran_text action s = service_text action s ++ ending_text s.ending.columns (status_of_loss s.ending.lost)
 
+-- and of what was done without a core: its line, if it has one, the columns that are dead in the end, and the status
+abbrev pub did_text : Done → Ending → List ℕ
+did_text act e = done_text act ++ ending_text e.columns (status_of_done act e.lost)
+
 -- all that is printed
 abbrev pub outcome_text : Outcome → List ℕ
 outcome_text (Ran action s) = ran_text action s
+outcome_text (Did act e) = did_text act e
+outcome_text (Looked text) = text ++ status_text status.Ok
 outcome_text (Refuses r) = refusal_text r

@@ -1,16 +1,35 @@
--- What may be served, and what is so once it was.
-use Rattle.std.specs.Prelude.{◌≡◌, ◌<◌, ◌↔◌, ℕ, List, [], length, Option, Some, IsSome, slice_get}
+-- What may be served, and what came of it.
+use Rattle.std.specs.Prelude.{◌≡◌, ◌⊎◌, ◌≤◌, ◌<◌, ◌↔◌, ℕ, List, [], length, Option, Some, None, IsSome, slice_get}
 use Rattle.blk_disk.specs.Devices.{device_at}
 use Rattle.blk_disk.specs.declared.disk.Disk.{Ghosts}
+use Rattle.lay_core.specs.Layout.{Shape}
 use Rattle.lay_core.specs.declared.layout.Layout.{Ghosts as LayoutGhosts}
 use Rattle.eng_array.specs.Fitting.{FitsTrace}
+use Rattle.eng_cols.specs.declared.column.Column.{Column}
 use Rattle.eng_events.specs.Opened.{IsSetup}
 use Rattle.eng_parts.specs.declared.setup.Setup.{Setup}
+use Rattle.raid_label.specs.declared.label.Label.{Label}
+use Rattle.raid_label.specs.Bytes.{IsHeld}
+use Rattle.top_acts.specs.declared.done.Done.TheVariants as done
+use Rattle.top_labelled.specs.Ran.{IsLostBefore, RanLabelled}
+use Rattle.top_rounds.specs.Passes.{CanBeLabelled}
+use Rattle.top_run.specs.Ran as run
+use Rattle.top_run.specs.Work.{Work}
+use Rattle.top_run.specs.Works.{service_seen}
+use Rattle.top_serve.specs.Setups.{IsFew, IsNotLost}
 use Rattle.raid_text.specs.Text.{Text}
 use Rattle.top_bay.specs.Lent.{AreBack}
-use Rattle.top_run.specs.Ran.{Ran}
-use Rattle.top_run.specs.Work.{Service, Work}
-use Rattle.top_serve.specs.Setups.{IsFew, IsNotLost}
+use Rattle.top_duty.specs.Duty.{Admitted, Duty, OnArray, beside_dead}
+use Rattle.top_open.specs.declared.fronts.Front.{Front}
+use Rattle.top_status.specs.Refusals.{Refused, only}
+use Rattle.top_status.specs.declared.status.Status.TheVariants as status
+use Rattle.top_words.specs.Asked.{Action, Io, Sweep}
+use Rattle.raid_top.specs.Arrays.{DoesOrder, ending_seen}
+use Rattle.raid_top.specs.Does.{Does}
+use Rattle.raid_top.specs.Outcome.{Outcome}
+use Rattle.raid_top.specs.declared.array.Order.{Order}
+use Rattle.raid_top.specs.declared.came.Came.{Came}
+use Rattle.raid_top.specs.declared.came.Came.TheVariants as came
 
 -- It is one that a core is opened over: its array isn't lost, it is within the limits, and a trace that is kept has room.
 pub record MayServe {L D : Type 0} (lay : LayoutGhosts L) (disk : Ghosts D) (setup : Setup L D) : Type 0 where
@@ -19,10 +38,42 @@ pub record MayServe {L D : Type 0} (lay : LayoutGhosts L) (disk : Ghosts D) (set
   pub trace : FitsTrace lay setup
   pub kept : IsNotLost lay setup
 
--- It was served over the devices as they were taken, and these are put back under the names; one is there exactly where a name isn't empty.
-pub record IsServed {D : Type 0} (g : Ghosts D) (tells : Type 0) (home after : Text → Option D) (names : List Text) (work : Work) (taken : List (Option D)) (s : Service) : Type 0 where
+-- Its devices can be labelled, the newest label leaves room for rounds, and what is held beside it is as large as it has to be.
+pub record MayLabel {L D : Type 0} (lay : LayoutGhosts L) (disk : Ghosts D) (setup : Setup L D) (newest : Label) : Type 0 where
+  pub array : CanBeLabelled disk setup.columns.items setup.devices.items
+  pub held : IsHeld newest
+  pub counter : newest.counter ≤ 4294901760
+
+abbrev pub MayLabelIf : {L D : Type 0} → LayoutGhosts L → Ghosts D → Setup L D → Option Label → Type 0
+MayLabelIf lay disk setup None = Unit {0}
+MayLabelIf lay disk setup (Some newest) = MayLabel lay disk setup newest
+
+-- What came of it, over the devices as they were and as they are in the end: it was served; or the array, which has labels, was lost before that.
+abbrev pub CameOf : {D : Type 0} → Ghosts D → Work → Option Label → (old back : List (Option D)) → Came → Type 0
+CameOf g work None old back (came.Ran service) = run.Ran g work old (service_seen service) back
+CameOf g work (Some newest) old back (came.Ran service) = RanLabelled g work newest old (service_seen service) back
+CameOf g work (Some newest) old back (came.Did act ending) = (act ≡ done.Nothing) × IsLostBefore g work newest old (ending_seen ending) back
+CameOf g work newest old back _ = ⊥
+
+-- it was this that was done without a core
+abbrev pub ComesOfOrder : {D : Type 0} → Ghosts D → Shape → List Column → (old back : List (Option D)) → Order → Came → Type 0
+ComesOfOrder g y columns old back order (came.Did act ending) = DoesOrder g y columns old back act (ending_seen ending) order
+ComesOfOrder g y columns old back order _ = ⊥
+
+-- What was due is done, and the devices, as they are then, are put back under the names; one is there exactly where a name isn't empty.
+pub record IsDone {D : Type 0} (g : Ghosts D) (tells : Type 0) (home after : Text → Option D) (names : List Text) (duty : Duty) (fronts : List Front) (old : List (Option D)) (o : Outcome) : Type 0 where
   pub back : List (Option D)
-  pub count : length back ≡ length taken
+  pub count : length back ≡ length old
   pub there : (d : ℕ) (n : Text) → d < length back → slice_get names d ≡ Some n → (IsSome (device_at back d)) ↔ (n ≡ [] → ⊥)
-  pub ran : Ran g work taken s back
+  pub does : Does g duty fronts old back o
   pub put : tells → AreBack home after names back
+
+-- memory was wanted: no column is printed dead, or those of the array as it was opened
+abbrev pub IsMemory : Duty → Refused → Type 0
+IsMemory duty r = (r ≡ only status.Memory) ⊎ ((a : Admitted) × (duty ≡ OnArray a) × (r ≡ beside_dead a status.Memory))
+
+-- clients are served
+abbrev pub IsRun : Action → Type 0
+IsRun (Io beside workers) = Unit {0}
+IsRun (Sweep seed clients ops workers) = Unit {0}
+IsRun _ = ⊥

@@ -2,19 +2,30 @@
 ghost use Rattle.std.specs.Prelude.{◌≡◌, ◌≤◌, ◌++◌, length, is_ok, OnErr};
 ghost use Rattle.blk_disk.specs.Disk.{Rose};
 ghost use Rattle.raid_bay.specs.Sink.{Puts};
-ghost use Rattle.raid_script.specs.History.{history_text};
-ghost use Rattle.raid_script.specs.Replies.{StandFor, replies_text};
-ghost use Rattle.raid_script.specs.Trace.{trace_text};
+ghost use Rattle.raid_conf.specs.Form.{IsConf};
+ghost use Rattle.raid_script.specs.Replies.{StandFor};
+ghost use Rattle.top_looks.specs.Labels.{label_text};
+ghost use Rattle.top_looks.specs.Show.{show_text};
+ghost use Rattle.top_open.specs.Opening.{opened_seen};
 ghost use Rattle.top_run.specs.Works.{service_seen};
-ghost use Rattle.top_status.specs.Status.{ending_text, status_of_loss};
+ghost use Rattle.top_status.specs.Status.{status_of_loss, status_text};
 ghost use Rattle.top_words.specs.Views.{action_seen};
-ghost use Rattle.raid_top.specs.Outcome.{ran_text, script_text, service_text, sweep_text};
+ghost use Rattle.raid_top.specs.Arrays.{ending_seen};
+ghost use Rattle.raid_top.specs.Outcome.{did_text, outcome_text, ran_text, script_text, service_text, status_of_act, status_of_done, sweep_text};
+ghost use Rattle.raid_top.specs.Views.{CanBePrinted, outcome_seen, status_came};
 
+use crate::came::{Came, Ended};
 use blk_disk::Failed;
+use eng_cols::Loss;
 use raid_bay::Sink;
+use raid_conf::Conf;
 use raid_script::{put_history, put_replies, put_summary, put_trace};
+use top_acts::{Done, put_done};
+use top_close::Ending;
+use top_looks::{put_label, put_show};
+use top_open::{Front, Opened};
 use top_run::Service;
-use top_status::{Status, put_ending};
+use top_status::{Status, put_ending, put_status};
 use top_words::Action;
 
 // Prints replies, history and trace.
@@ -59,8 +70,8 @@ fn put_service<K: Sink>(action: Action<'_>, service: &Service, out: &mut K) -> R
     }
 }
 
-/// Prints what a run tells, the columns that are dead in the end, and the status.
-pub(crate) fn put_run<K: Sink>(
+// Prints what a run tells, the columns that are dead in the end, and the status.
+fn put_run<K: Sink>(
     action: Action<'_>,
     service: &Service,
     status: &Status,
@@ -76,4 +87,111 @@ pub(crate) fn put_run<K: Sink>(
 {
     put_service(action, service, out)?;
     put_ending(&service.columns, status, out)
+}
+
+// Prints the line of what was done, if it has one, the columns that are dead in the end, and the status.
+fn put_act<K: Sink>(act: &Done, ending: &Ending, status: &Status, out: &mut K) -> Result<(), Failed>
+    requires status { status.now ≡ status_of_done act.now ending.now.lost }
+    ensures output { K.tells → Puts (is_ok result) (K.output out.old) (did_text act.now (ending_seen ending.now)) (K.output out.new) }
+    ensures later { K.faults out.old ≤ K.faults out.new }
+    ensures cause { OnErr result (Rose (K.faults out.old) (K.faults out.new)) }
+{
+    put_done(act, out)?;
+    put_ending(&ending.columns, status, out)
+}
+
+// Prints how an array was opened, and the status.
+fn put_opened<K: Sink>(
+    conf: &Conf,
+    opened: &Opened,
+    sizes: &[u64],
+    fronts: &[Front],
+    status: &Status,
+    out: &mut K,
+) -> Result<(), Failed>
+    requires conf { IsConf conf.now }
+    ensures output { K.tells → Puts (is_ok result) (K.output out.old)
+        (show_text conf.now (opened_seen opened.now) sizes.now fronts.now ++ status_text status.now) (K.output out.new) }
+    ensures later { K.faults out.old ≤ K.faults out.new }
+    ensures cause { OnErr result (Rose (K.faults out.old) (K.faults out.new)) }
+{
+    put_show(conf, opened, sizes, fronts, out)?;
+    put_status(status, out)
+}
+
+// Prints the label of a device, and the status.
+fn put_front<K: Sink>(front: &Front, status: &Status, out: &mut K) -> Result<(), Failed>
+    ensures output { K.tells → Puts (is_ok result) (K.output out.old) (label_text front.now ++ status_text status.now) (K.output out.new) }
+    ensures later { K.faults out.old ≤ K.faults out.new }
+    ensures cause { OnErr result (Rose (K.faults out.old) (K.faults out.new)) }
+{
+    put_label(front, out)?;
+    put_status(status, out)
+}
+
+// Prints a text, and the status.
+fn put_text<K: Sink>(text: &[u8], status: &Status, out: &mut K) -> Result<(), Failed>
+    ensures output { K.tells → Puts (is_ok result) (K.output out.old) (text.now ++ status_text status.now) (K.output out.new) }
+    ensures later { K.faults out.old ≤ K.faults out.new }
+    ensures cause { OnErr result (Rose (K.faults out.old) (K.faults out.new)) }
+{
+    out.put(text)?;
+    put_status(status, out)
+}
+
+// The status of what was done, where the array isn't lost.
+fn status_of_act(act: Done) -> Status
+    ensures { result ≡ status_of_act act }
+{
+    match act {
+        Done::Check(0) => Status::Ok,
+        Done::Check(count) => Status::NotInSync(count),
+        _ => Status::Ok,
+    }
+}
+
+// And where it may be.
+fn status_of_done(act: Done, lost: Option<Loss>) -> Status
+    ensures { result ≡ status_of_done act lost }
+{
+    match lost {
+        None => status_of_act(act),
+        Some(_) => Status::of_loss(lost),
+    }
+}
+
+/// The status of what came of a command.
+pub(crate) fn status_of(came: &Came) -> Status
+    ensures { result ≡ status_came came.now }
+{
+    match came {
+        Came::Ran(service) => Status::of_loss(service.lost),
+        Came::Did(act, ending) => status_of_done(*act, ending.lost),
+        Came::Shows(_, _, _) | Came::ShowsLabel(_) | Came::Prints(_) => Status::Ok,
+    }
+}
+
+/// Prints what came of a command.
+pub(crate) fn put_ended<K: Sink>(
+    ended: &Ended<'_>,
+    status: &Status,
+    out: &mut K,
+) -> Result<(), Failed>
+    requires conf { IsConf ended.now.conf }
+    requires printed { CanBePrinted ended.now.came }
+    requires status { status.now ≡ status_came ended.now.came }
+    ensures output { K.tells → Puts (is_ok result) (K.output out.old)
+        (outcome_text (outcome_seen (action_seen ended.now.action) ended.now.conf ended.now.came)) (K.output out.new) }
+    ensures later { K.faults out.old ≤ K.faults out.new }
+    ensures cause { OnErr result (Rose (K.faults out.old) (K.faults out.new)) }
+{
+    match &ended.came {
+        Came::Ran(service) => put_run(ended.action, service, status, out),
+        Came::Did(act, ending) => put_act(act, ending, status, out),
+        Came::Shows(opened, sizes, fronts) => {
+            put_opened(&ended.conf, opened, sizes, fronts, status, out)
+        }
+        Came::ShowsLabel(front) => put_front(front, status, out),
+        Came::Prints(text) => put_text(text, status, out),
+    }
 }

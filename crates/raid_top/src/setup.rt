@@ -1,64 +1,67 @@
 //! What is served, as it is handed to the core.
 ghost use Rattle.std.specs.Prelude.{◌≡◌, ◌≤◌, ℕ, map};
-ghost use Rattle.lay_core.specs.Layout.{blocks_in};
 ghost use Rattle.top_words.specs.Asked.{IsInRange};
 ghost use Rattle.top_words.specs.Views.{action_seen};
 ghost use Rattle.top_duty.specs.Duty.{clients_by, traces};
 ghost use Rattle.top_duty.specs.Views.{drawn_by, items_seen};
 
 use eng_array::Setup;
-use raid_conf::{AnyLayout, Conf};
-use top_bay::Asked;
-use top_duty::{Admitted, Ready, choose, traces};
+use eng_cols::Cols;
+use eng_world::Item;
+use graph_text::Book;
+use raid_conf::AnyLayout;
+use raid_label::Label;
+use raid_recon::Room;
+use top_duty::{Ready, choose, traces};
 use top_words::Action;
 
-/// What is handed to the core, and what is kept of the command beside it.
-pub(crate) struct Work<'a, D> {
+/// What is handed to the core, and what the labels of the array take, the newest of which this is, where it has any.
+pub(crate) struct Work<D> {
     pub setup: Setup<AnyLayout, D>,
-    pub conf: Conf,
-    pub action: Action<'a>,
+    pub newest: Option<Label>,
+    pub judge: Cols,
+    pub room: Room,
 }
 
 /// Puts together what is handed to the core.
-pub(crate) fn work_of<'a, D>(admitted: Admitted<'a, D>) -> Work<'a, D>
-    ensures layout { result.setup.layout ≡ admitted.entry.ready.layout }
-    ensures devices { result.setup.devices ≡ admitted.entry.devices }
-    ensures columns { result.setup.columns ≡ admitted.entry.ready.opened.columns }
-    ensures clients { (blocks : ℕ) → items_seen admitted.entry.ready.drawn.items ≡ drawn_by (action_seen admitted.entry.asked.command.action) blocks →
-        items_seen result.setup.clients.items ≡ clients_by (action_seen admitted.entry.asked.command.action) (items_seen admitted.entry.asked.clients.items) blocks }
-    ensures graphs { map (λ g. g.drawn) result.setup.graphs.items ≡ map (λ g. g.graph) admitted.entry.asked.book }
-    ensures trace { result.setup.trace ≡ traces (action_seen admitted.entry.asked.command.action) }
-    ensures conf { result.conf ≡ admitted.entry.asked.conf }
-    ensures action { result.action ≡ admitted.entry.asked.command.action }
+pub(crate) fn work_of<D>(
+    action: Action<'_>,
+    book: Book,
+    clients: Vec<Vec<Item>>,
+    ready: Ready,
+    devices: Vec<Option<D>>,
+) -> Work<D>
+    ensures layout { result.setup.layout ≡ ready.layout }
+    ensures devices { result.setup.devices ≡ devices }
+    ensures columns { result.setup.columns ≡ ready.opened.columns }
+    ensures clients { (blocks : ℕ) → items_seen ready.drawn.items ≡ drawn_by (action_seen action.entry) blocks →
+        items_seen result.setup.clients.items ≡ clients_by (action_seen action.entry) (items_seen clients.items) blocks }
+    ensures graphs { map (λ g. g.drawn) result.setup.graphs.items ≡ map (λ g. g.graph) book }
+    ensures trace { result.setup.trace ≡ traces (action_seen action.entry) }
+    ensures newest { result.newest ≡ ready.opened.newest }
+    ensures judge { result.judge ≡ ready.judge }
+    ensures room { result.room ≡ ready.room }
 {
-    let Admitted {
-        asked,
-        devices,
-        ready,
-    } = admitted;
-    let Asked {
-        command,
-        conf,
-        book,
-        clients,
-    } = asked;
     let Ready {
         opened,
         layout,
         drawn,
+        judge,
+        room,
     } = ready;
     let setup = Setup {
         layout,
         devices,
         columns: opened.columns,
-        clients: choose(command.action, clients, drawn),
+        clients: choose(action, clients, drawn),
         graphs: book.into_graphs(),
-        trace: traces(command.action),
+        trace: traces(action),
     };
     Work {
         setup,
-        conf,
-        action: command.action,
+        newest: opened.newest,
+        judge,
+        room,
     }
 }
 

@@ -12,6 +12,8 @@ use std::thread::Threads;
 mod crews;
 mod faults;
 mod graphs;
+mod labels;
+mod letters;
 mod levels;
 mod refused;
 mod rows;
@@ -35,6 +37,15 @@ fn component(
 ) -> Result<(Name, MemDisk), Fail> {
     let bytes = vec![in alloc; 0; SECTOR * usize::from(sectors)]?;
     let disk = MemDisk::new(alloc, bytes, fails.to_vec(alloc)?, 100)?;
+    Ok((Name::new(alloc, name)?, disk))
+}
+
+// The same of 128 sectors, one of which is filled with a byte.
+fn spoilt(alloc: Global, name: &str, sector: u16, byte: u8) -> Result<(Name, MemDisk), Fail> {
+    let mut bytes = vec![in alloc; 0; SECTOR * 128]?;
+    let at = SECTOR * usize::from(sector % 128);
+    bytes[at..at + SECTOR].fill(byte);
+    let disk = MemDisk::new(alloc, bytes, Vec::new(alloc), 100)?;
     Ok((Name::new(alloc, name)?, disk))
 }
 
@@ -88,6 +99,21 @@ fn answer<D: Disk + Drop + Send, R: Threads + Wait + Sync>(
     Ok((status.number(), out.bytes().to_vec(alloc)?))
 }
 
+// These commands, one after another, each of which prints these lines and ends with this number.
+fn come<R: Abort + Threads + Wait + Sync>(
+    rt: &R,
+    alloc: Global,
+    bay: &mut MemBay<MemDisk>,
+    commands: &[(&[&str], u8, &str)],
+) -> Result<(), Fail> {
+    for (words, exit, lines) in commands {
+        let (number, printed) = answer(rt, alloc, bay, words)?;
+        assert_eq!(rt; printed.as_slice(), lines.as_bytes(), "{lines}");
+        assert_eq!(rt; number, *exit, "{lines}");
+    }
+    Ok(())
+}
+
 // The component is at home, its sectors from `first` on are filled with these bytes, and each other sector is zero.
 fn holds(rt: &impl Abort, bay: &MemBay<MemDisk>, name: &str, first: usize, bytes: &[u8]) {
     let Some(disk) = bay.disk(name) else {
@@ -105,16 +131,21 @@ fn holds(rt: &impl Abort, bay: &MemBay<MemDisk>, name: &str, first: usize, bytes
     }
 }
 
-// The component is at home, and had these good reads and writes, by kind, first sector and count, and then a settle.
+// The component is at home, and had a read of its first sector, then these good reads and writes, by kind, first sector and
+// count, and then a settle.
 fn tells(rt: &impl Abort, bay: &MemBay<MemDisk>, name: &str, calls: &[(u8, u64, u32)]) {
     let Some(disk) = bay.disk(name) else {
         assert!(rt; false, "{name} isn't at home");
         return;
     };
     let told = disk.calls();
-    assert_eq!(rt; told.len(), calls.len() + 1, "{name}");
+    assert_eq!(rt; told.len(), calls.len() + 2, "{name}");
     for (k, call) in told.iter().enumerate() {
-        let (kind, first, count) = calls.get(k).copied().unwrap_or((Call::SETTLE, 0, 0));
+        let (kind, first, count) = if k == 0 {
+            (Call::READ, 0, 1)
+        } else {
+            calls.get(k - 1).copied().unwrap_or((Call::SETTLE, 0, 0))
+        };
         assert_eq!(rt;
             (call.kind, call.first, call.count, call.good),
             (kind, first, count, true),

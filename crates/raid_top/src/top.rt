@@ -1,11 +1,11 @@
 //! The run of the words, and what it prints.
-ghost use Rattle.std.specs.Prelude.{◌≡◌, ◌⊎◌, ◌≤◌, OnOk, OnErr};
+ghost use Rattle.std.specs.Prelude.{◌≡◌, ◌≤◌, OnOk, OnErr};
 ghost use Rattle.blk_disk.specs.Disk.{Rose};
 ghost use Rattle.top_bay.specs.Told.{Told};
-ghost use Rattle.raid_top.specs.Ends.{Answers, IsRight};
+ghost use Rattle.raid_top.specs.Ends.{Answers, EndsWell, IsRight};
 
-use crate::act::{Ended, act};
-use crate::printing::put_run;
+use crate::act::act;
+use crate::printing::{put_ended, status_of};
 use blk_disk::Failed;
 use raid_bay::{Bay, Name, Sink};
 use std::alloc::Global;
@@ -55,14 +55,14 @@ where
           home = B.home bay.old;
           after = B.home bay.new;
         }) words.now → ¬ Rose (B.faults bay.old) (B.faults bay.new) → ¬ Rose (K.faults out.old) (K.faults out.new) →
-        (result ≡ Status.Ok) ⊎ (result ≡ Status.Memory) }
+        EndsWell words.now result }
     ensures bay_later { B.faults bay.old ≤ B.faults bay.new }
     ensures sink_later { K.faults out.old ≤ K.faults out.new }
 {
     match act(rt, alloc, words, bay) {
-        Ok(Ended { action, service }) => {
-            let status = Status::of_loss(service.lost);
-            let printed = put_run(action, &service, &status, out);
+        Ok(ended) => {
+            let status = status_of(&ended.came);
+            let printed = put_ended(&ended, &status, out);
             answer_of(status, printed)
         }
         Err(refusal) => {

@@ -78,7 +78,7 @@ fn a_write_fails_among_workers(rt: HostRuntime) -> Result<(), Fail> {
     lines.push_str("dead 0\nstatus ok\n")?;
     for _ in 0..10 {
         for workers in ["1", "4", "16"] {
-            let mut bay = bay_of(alloc, [CONF, SCRIPT, ""], [&[0], &[], &[], &[], &[]])?;
+            let mut bay = bay_of(alloc, [CONF, SCRIPT, ""], [&[1], &[], &[], &[], &[]])?;
             let words = ["r5", "--io", "s1", "-w", workers];
             let (number, printed) = answer(&rt, alloc, &mut bay, &words)?;
             assert_eq!(rt; number, 0, "{workers}");

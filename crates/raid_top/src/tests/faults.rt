@@ -1,18 +1,19 @@
 //! Runs in which components fail or are absent.
 use super::*;
 
-// The first call of column 1, the read, fails before the commit: the operation is planned anew without it, and the read of
-// block 0 needs no other column. The first write of column 0 fails behind the commit: the block is then made from the other
+// The read of column 1's first sector fails, so that it is dead as the array is opened. Its next call, a read, fails before
+// the commit: the operation is planned anew without it, and the read of block 0 needs no other column. The first write of column 0 fails behind the commit: the block is then made from the other
 // two. The settle of column 2 fails last. Two columns that fail lose the array.
 #[test]
 fn columns_that_fail_are_dead(rt: HostRuntime) -> Result<(), Fail> {
     let alloc = rt.alloc();
-    let tables: [([&[u32]; 5], u8, &str); 4] = [
+    let tables: [([&[u32]; 5], u8, &str); 5] = [
         ([&[], &[0], &[], &[], &[]], 0, "dead 1\nstatus ok\n"),
-        ([&[0], &[], &[], &[], &[]], 0, "dead 0\nstatus ok\n"),
-        ([&[], &[], &[1], &[], &[]], 0, "dead 2\nstatus ok\n"),
+        ([&[], &[1], &[], &[], &[]], 0, "dead 1\nstatus ok\n"),
+        ([&[1], &[], &[], &[], &[]], 0, "dead 0\nstatus ok\n"),
+        ([&[], &[], &[2], &[], &[]], 0, "dead 2\nstatus ok\n"),
         (
-            [&[], &[1], &[1], &[], &[]],
+            [&[], &[2], &[2], &[], &[]],
             8,
             "dead 1\ndead 2\nstatus lost 1 2 0\n",
         ),
@@ -39,7 +40,7 @@ fn an_operation_is_planned_anew(rt: HostRuntime) -> Result<(), Fail> {
     let mut bay = bay_of(
         alloc,
         [CONF, "0 write 0 1 a5\n", ""],
-        [&[], &[0], &[], &[], &[]],
+        [&[], &[1], &[], &[], &[]],
     )?;
     let words = ["r5", "--io", "s1", "-w", "0", "--trace"];
     let (number, lines) = answer(&rt, alloc, &mut bay, &words)?;

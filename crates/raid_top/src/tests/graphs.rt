@@ -68,7 +68,7 @@ fn an_operation_by_a_graph_of_the_file_is_undone(rt: HostRuntime) -> Result<(), 
             "0 use large write 0 1 a5\n0 read 0 1\n",
             graphs.as_str(),
         ],
-        [&[], &[0], &[], &[], &[]],
+        [&[], &[1], &[], &[], &[]],
     )?;
     let (number, lines) = answer(&rt, alloc, &mut bay, &WORDS)?;
     assert_eq!(rt; number, 0);

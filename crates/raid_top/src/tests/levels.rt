@@ -66,21 +66,39 @@ fn columns_fail_at_each_level(rt: HostRuntime) -> Result<(), Fail> {
     Ok(())
 }
 
+// What two clients that share stripe 0 may print: block 1 is read as it was where the read stands before the write of client
+// 1 in the history, and else as that has written it.
+const SHARED: [&str; 3] = [
+    "reply 0.0 done\nreply 0.1 data\nblock 0 1 11\nblock 1 1 00\nreply 1.0 done\ncommit 0.0\ncommit 0.1\ncommit 1.0\nstatus ok\n",
+    "reply 0.0 done\nreply 0.1 data\nblock 0 1 11\nblock 1 1 22\nreply 1.0 done\ncommit 0.0\ncommit 1.0\ncommit 0.1\nstatus ok\n",
+    "reply 0.0 done\nreply 0.1 data\nblock 0 1 11\nblock 1 1 22\nreply 1.0 done\ncommit 1.0\ncommit 0.0\ncommit 0.1\nstatus ok\n",
+];
+
+// Whether the lines are of one of these histories.
+fn is_shared(lines: &[u8]) -> bool {
+    for shared in SHARED {
+        if lines == shared.as_bytes() {
+            return true;
+        }
+    }
+    false
+}
+
 // Two clients write the two data units of stripe 0, whose check unit is their sum: on the last column at level 4, and on
-// column 0 where the first tuple of the design is 0, 1, 2.
+// column 0 where the first tuple of the design is 0, 1, 2. The one then reads both.
 #[test]
 fn two_clients_share_a_stripe_at_levels_4_and_t(rt: HostRuntime) -> Result<(), Fail> {
     let alloc = rt.alloc();
-    let script = "0 write 0 1 11\n1 write 1 1 22\n";
+    let script = "0 write 0 1 11\n1 write 1 1 22\n0 read 0 2\n";
+    let words = ["r5", "--io", "s1", "-w", "2"];
     for (conf, held) in [
         (CHECKED, [0x11, 0x22, 0x33]),
         (DECLUSTERED, [0x33, 0x11, 0x22]),
     ] {
         let mut bay = sound_bay(alloc, conf, script)?;
-        let words = ["r5", "--io", "s1", "-w", "2"];
         let (number, printed) = answer(&rt, alloc, &mut bay, &words)?;
         assert_eq!(rt; number, 0);
-        assert!(rt; printed.starts_with(b"reply 0.0 done\nreply 1.0 done\ncommit "));
+        assert!(rt; is_shared(&printed));
         for (name, byte) in [("d0", held[0]), ("d1", held[1]), ("d2", held[2])] {
             holds(&rt, &bay, name, 64, &[byte]);
         }

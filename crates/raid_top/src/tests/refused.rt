@@ -31,10 +31,14 @@ fn holds_nothing(rt: &impl Abort, bay: &MemBay<MemDisk>) {
 #[test]
 fn words_are_refused(rt: HostRuntime) -> Result<(), Fail> {
     let alloc = rt.alloc();
-    let commands: [(&[&str], &str); 5] = [
+    let commands: [(&[&str], &str); 9] = [
         (&[], "status usage 0\n"),
-        (&["r5", "-s"], "status usage 0\n"),
+        (&["r5", "-F", "d1"], "status usage 0\n"),
         (&["r5"], "status usage 1\n"),
+        (&["r5", "-s", "-p"], "status usage 1\n"),
+        (&["r5", "-s", "--trace"], "status usage 2\n"),
+        (&["r5", "-f", "d3"], "status usage 3\n"),
+        (&["r5", "-I", "4294967296"], "status usage 3\n"),
         (
             &[
                 "r5",

@@ -1,24 +1,24 @@
-use Rattle.std.proofs.Common.{refl}
+use Rattle.std.proofs.Common.{refl, ap, ◌∙◌, ◌≡◌}
 use Rattle.blk_disk.specs.Disk.{Rose}
-use Rattle.top_run.specs.Works.{service_seen}
 use Rattle.top_status.specs.Refusals.{refusal_text}
 use Rattle.top_words.specs.Views.{action_seen}
-use Rattle.raid_top.specs.Outcome.{Ran, Refuses, ran_text}
+use Rattle.raid_top.specs.Outcome.{Refuses, outcome_text}
+use Rattle.raid_top.specs.Views.{outcome_seen}
 use Rattle.raid_top.proofs.Completing.{complete_of}
-use Rattle.raid_top.proofs.Endings.{printed_of}
+use Rattle.raid_top.proofs.Endings.{acts_of, printed_of, status_same}
 use Rattle.raid_top.proofs.top.run.Goals as goal
 
 pub returns-in-Ok-clause-answer : goal.returns-in-Ok-clause-answer
 returns-in-Ok-clause-answer g c =
     let K = g.K.Sink in
-    let action = action_seen c.in-Ok.field-0.action in
-    let service = service_seen c.in-Ok.field-0.service in
-    let ending = c.of_loss-status.result in
+    let e = c.in-Ok.ended in
+    let outcome = outcome_seen (action_seen e.action) e.conf e.came in
+    let ending = c.status_of-status.result in
     record {
       status = ending;
-      text = ran_text action service;
-      ends = record { outcome = Ran action service; status = c.of_loss-status.ensures; text = refl; acts = c.in-Ok.ensures.acted };
-      printed = printed_of K.tells (Rose (K.faults c.args.out.now) (K.faults c.put_run-printed.new.out)) ending c.answer_of.result (ran_text action service) (K.output c.args.out.now) (K.output c.put_run-printed.new.out) c.put_run-printed.result c.answer_of.ensures.ok c.answer_of.ensures.err c.put_run-printed.ensures.output c.put_run-printed.ensures.cause;
+      text = outcome_text outcome;
+      ends = record { outcome = outcome; status = c.status_of-status.ensures ∙ status_same (action_seen e.action) e.conf e.came; text = refl; acts = acts_of _ _ _ (action_seen e.action) e.conf e.came c.in-Ok.ensures.acted };
+      printed = printed_of K.tells (Rose (K.faults c.args.out.now) (K.faults c.put_ended-printed.new.out)) ending c.answer_of.result (outcome_text outcome) (K.output c.args.out.now) (K.output c.put_ended-printed.new.out) c.put_ended-printed.result c.answer_of.ensures.ok c.answer_of.ensures.err c.put_ended-printed.ensures.output c.put_ended-printed.ensures.cause;
     }
 
 pub returns-in-Err-clause-answer : goal.returns-in-Err-clause-answer

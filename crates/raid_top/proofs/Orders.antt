@@ -1,0 +1,180 @@
+-- What an action asks to be done to an array may be done to it.
+use Rattle.std.specs.Prelude.{◌≡◌, ◌≤◌, ◌<◌, ◌+◌, ◌^◌, ℕ, Bool, true, false, List, length, Option, Some, None}
+use Rattle.std.proofs.Common.{arith, refl, sym, ap, subst, ◌∙◌}
+use Rattle.blk_disk.specs.declared.disk.Disk.{Ghosts}
+use Rattle.lay_core.specs.Layout.{Shape}
+use Rattle.eng_cols.specs.declared.column.Column.{Column}
+use Rattle.raid_conf.specs.declared.conf.Conf.{Conf}
+use Rattle.raid_conf.specs.Layouts.{shape_of}
+use Rattle.raid_label.specs.declared.label.Label.{Label}
+use Rattle.raid_recon.specs.Array.{IsArray}
+use Rattle.top_acts.specs.declared.sweeping.Renewal.TheVariants as renewal
+use Rattle.top_bay.specs.Asked.{Asked, has_action, names_by, names_of}
+use Rattle.top_bay.specs.Views.{IsKnown, IsWithin}
+use Rattle.top_open.specs.Opening.{Opened}
+use Rattle.top_words.specs.Asked.{Action, Io, Sweep, Show, Init, Check, Rewrite, Print, Fail, ShowLabel, Label as Labels, Rebuild}
+use Rattle.top_duty.specs.Duty.{Admitted, columns_of, layout_of}
+use Rattle.top_duty.specs.Fit.{IsFit}
+use Rattle.top_duty.specs.Opening.{kind_of, needs_for, needs_of}
+use Rattle.top_duty.proofs.Fits.{fit_array}
+use Rattle.raid_top.specs.declared.array.Order.{Order}
+use Rattle.raid_top.specs.declared.array.Order.TheVariants as order
+use Rattle.raid_top.specs.declared.came.Came.{Came}
+use Rattle.raid_top.specs.declared.came.Came.TheVariants as came
+use Rattle.raid_top.specs.Arrays.{HasRounds, IsNewest, MayDo}
+use Rattle.raid_top.specs.Does.{DoesArray, DoesIt, DoesRun, order_of}
+use Rattle.raid_top.specs.Orders.{first_label, kill_of, order_by}
+use Rattle.raid_top.specs.Outcome.{Outcome, Ran, Did, Looked, Refuses}
+use Rattle.raid_top.specs.Served.{ComesOfOrder, IsRun}
+use Rattle.raid_top.specs.Views.{outcome_seen}
+
+-- ## Which actions serve clients
+
+no_kill : (comp : Option ℕ) (newest : Option Label) (at : ℕ) → comp ≡ Some at → (l : Label) → newest ≡ Some l → kill_of comp newest ≡ None → ⊥
+no_kill None newest at one l two e = cc one
+no_kill (Some c) None at one l two e = cc two
+no_kill (Some c) (Some l) at one m two e = cc e
+
+-- an action on an array that asks for nothing to be done without a core serves clients
+pub serves : (action : Action) (comp : Option ℕ) (newest : Option Label) (conf : Conf) (rows : ℕ)
+    → has_action action ≡ true → kind_of action ≡ kind_of Init → IsKnown conf action comp → ((needs_for action comp).labels ≡ true → (l : Label) × (newest ≡ Some l))
+    → order_by action comp newest conf rows ≡ None → IsRun action
+serves (Io beside workers) comp newest conf rows has kind known labels e = tt
+serves (Sweep seed clients ops workers) comp newest conf rows has kind known labels e = tt
+serves Show comp newest conf rows has kind known labels e = absurd (let z : ⊥ = cc kind in z)
+serves Init comp newest conf rows has kind known labels e = absurd (let z : ⊥ = cc e in z)
+serves Check comp newest conf rows has kind known labels e = absurd (let z : ⊥ = cc e in z)
+serves Rewrite comp newest conf rows has kind known labels e = absurd (let z : ⊥ = cc e in z)
+serves Print comp newest conf rows has kind known labels e = absurd (let z : ⊥ = cc kind in z)
+serves (Fail name) comp newest conf rows has kind known labels e = let l = labels refl in absurd (no_kill comp newest known.at known.is l.0 l.1 e)
+serves (ShowLabel name) comp newest conf rows has kind known labels e = absurd (let z : ⊥ = cc kind in z)
+serves (Labels serial) comp newest conf rows has kind known labels e = absurd (let z : ⊥ = cc e in z)
+serves (Rebuild in_place name beside workers) comp newest conf rows has kind known labels e = absurd (let z : ⊥ = cc has in z)
+
+-- and such an action excuses no column, and writes labels
+pub run_excuses : (action : Action) (comp : Option ℕ) → IsRun action → (needs_for action comp).excused ≡ None
+run_excuses (Io beside workers) comp is = refl
+run_excuses (Sweep seed clients ops workers) comp is = refl
+run_excuses Show comp is = absurd is
+run_excuses Init comp is = absurd is
+run_excuses Check comp is = absurd is
+run_excuses Rewrite comp is = absurd is
+run_excuses Print comp is = absurd is
+run_excuses (Fail name) comp is = absurd is
+run_excuses (ShowLabel name) comp is = absurd is
+run_excuses (Labels serial) comp is = absurd is
+run_excuses (Rebuild in_place name beside workers) comp is = absurd is
+
+pub run_writes : (action : Action) (comp : Option ℕ) → IsRun action → (needs_for action comp).writes ≡ true
+run_writes (Io beside workers) comp is = refl
+run_writes (Sweep seed clients ops workers) comp is = refl
+run_writes Show comp is = absurd is
+run_writes Init comp is = absurd is
+run_writes Check comp is = absurd is
+run_writes Rewrite comp is = absurd is
+run_writes Print comp is = absurd is
+run_writes (Fail name) comp is = absurd is
+run_writes (ShowLabel name) comp is = absurd is
+run_writes (Labels serial) comp is = absurd is
+run_writes (Rebuild in_place name beside workers) comp is = absurd is
+
+-- ## What may be done
+
+same_order : (x z : Order) → Some x ≡ Some z → x ≡ z
+same_order x z e = cc e
+
+module _ {D : Type 0} (g : Ghosts D) (k : Asked) (o : Opened) (devices : List (Option D)) (within : IsWithin k) (fit : IsFit g k o devices) where
+  rounds_of : (l : Label) → (needs_of k).writes ≡ true → o.newest ≡ Some l → HasRounds l
+  rounds_of l writes is = let at = fit.newest l is in record { held = at.0; counter = omega (arith, at.1 writes) }
+
+  newest_is : (newest : Option Label) → (needs_of k).writes ≡ true → o.newest ≡ newest → IsNewest newest
+  newest_is None writes is = tt
+  newest_is (Some l) writes is = rounds_of l writes is
+
+  array : (needs_of k).excused ≡ None → IsArray g (shape_of k.conf o.rows) o.columns devices
+  array none = fit_array g k o devices fit within.conf none
+
+  may_kill : (comp : Option ℕ) (newest : Option Label) (it : Order) (at : ℕ) → comp ≡ Some at → at < k.conf.columns → (needs_of k).writes ≡ true → o.newest ≡ newest → kill_of comp newest ≡ Some it
+      → MayDo g (shape_of k.conf o.rows) o.columns it devices
+  may_kill None newest it at one below writes two e = absurd (let z : ⊥ = cc one in z)
+  may_kill (Some c) None it at one below writes two e = absurd (let z : ⊥ = cc e in z)
+  may_kill (Some c) (Some l) it at one below writes two e =
+      let here : c ≡ at = cc one in
+      subst (λ (x : Order). MayDo g (shape_of k.conf o.rows) o.columns x devices) (same_order (order.Kill c l) it e)
+      (omega (arith, below, here, fit.entries), rounds_of l writes two)
+
+  pub may_do : (action : Action) (it : Order) → k.command.action ≡ action → order_by action k.comp o.newest k.conf o.rows ≡ Some it → MayDo g (shape_of k.conf o.rows) o.columns it devices
+  may_do Init it same e = subst (λ (x : Order). MayDo g (shape_of k.conf o.rows) o.columns x devices) (same_order _ it e)
+      (array (ap (λ (a : Action). (needs_for a k.comp).excused) same), newest_is o.newest (ap (λ (a : Action). (needs_for a k.comp).writes) same) refl)
+  may_do Rewrite it same e = subst (λ (x : Order). MayDo g (shape_of k.conf o.rows) o.columns x devices) (same_order _ it e)
+      (array (ap (λ (a : Action). (needs_for a k.comp).excused) same), newest_is o.newest (ap (λ (a : Action). (needs_for a k.comp).writes) same) refl)
+  may_do Check it same e = subst (λ (x : Order). MayDo g (shape_of k.conf o.rows) o.columns x devices) (same_order _ it e)
+      (array (ap (λ (a : Action). (needs_for a k.comp).excused) same))
+  may_do (Fail name) it same e =
+      let known = subst (λ (a : Action). IsKnown k.conf a k.comp) same within.known in
+      may_kill k.comp o.newest it known.at known.is known.within (ap (λ (a : Action). (needs_for a k.comp).writes) same) refl e
+  may_do (Labels serial) it same e = subst (λ (x : Order). MayDo g (shape_of k.conf o.rows) o.columns x devices) (same_order _ it e)
+      (record { version = refl; clean = omega arith })
+  may_do (Io beside workers) it same e = absurd (let z : ⊥ = cc e in z)
+  may_do (Sweep seed clients ops workers) it same e = absurd (let z : ⊥ = cc e in z)
+  may_do Show it same e = absurd (let z : ⊥ = cc e in z)
+  may_do Print it same e = absurd (let z : ⊥ = cc e in z)
+  may_do (ShowLabel name) it same e = absurd (let z : ⊥ = cc e in z)
+  may_do (Rebuild in_place name beside workers) it same e = absurd (let z : ⊥ = cc e in z)
+
+-- ## What was done
+
+module _ {D : Type 0} (g : Ghosts D) (a : Admitted) (old back : List (Option D)) where
+  comes_it : (it : Order) (action : Action) (conf : Conf) (c : Came) → ComesOfOrder g (layout_of a) (columns_of a) old back it c → DoesIt g a old back (Some it) (outcome_seen action conf c)
+  comes_it it action conf (came.Did act ending) h = h
+  comes_it it action conf (came.Ran service) h = absurd h
+  comes_it it action conf (came.Shows opened sizes fronts) h = absurd h
+  comes_it it action conf (came.ShowsLabel front) h = absurd h
+  comes_it it action conf (came.Prints text) h = absurd h
+
+  it_does : (action : Action) (o : Outcome) (it : Order) → order_of g a old back action ≡ Some it → DoesIt g a old back (Some it) o → DoesArray g a old back action o
+  it_does Init o it e h = subst (λ (x : Option Order). DoesIt g a old back x o) (sym e) h
+  it_does Rewrite o it e h = subst (λ (x : Option Order). DoesIt g a old back x o) (sym e) h
+  it_does Check o it e h = subst (λ (x : Option Order). DoesIt g a old back x o) (sym e) h
+  it_does (Fail name) o it e h = subst (λ (x : Option Order). DoesIt g a old back x o) (sym e) h
+  it_does (Labels serial) o it e h = subst (λ (x : Option Order). DoesIt g a old back x o) (sym e) h
+  it_does (Io beside workers) o it e h = absurd (let z : ⊥ = cc e in z)
+  it_does (Sweep seed clients ops workers) o it e h = absurd (let z : ⊥ = cc e in z)
+  it_does Show o it e h = absurd (let z : ⊥ = cc e in z)
+  it_does Print o it e h = absurd (let z : ⊥ = cc e in z)
+  it_does (ShowLabel name) o it e h = absurd (let z : ⊥ = cc e in z)
+  it_does (Rebuild in_place name beside workers) o it e h = absurd (let z : ⊥ = cc e in z)
+
+  -- what was asked was done
+  pub order_does : (action : Action) (conf : Conf) (it : Order) (c : Came) → order_of g a old back action ≡ Some it → ComesOfOrder g (layout_of a) (columns_of a) old back it c → DoesArray g a old back action (outcome_seen action conf c)
+  order_does action conf it c e h = it_does action (outcome_seen action conf c) it e (comes_it it action conf c h)
+
+  -- or clients were served
+  pub run_does : (action : Action) (o : Outcome) → IsRun action → DoesRun g a old back a.opened.newest o → DoesArray g a old back action o
+  run_does (Io beside workers) o is h = h
+  run_does (Sweep seed clients ops workers) o is h = h
+  run_does Show o is h = absurd is
+  run_does Init o is h = absurd is
+  run_does Check o is h = absurd is
+  run_does Rewrite o is h = absurd is
+  run_does Print o is h = absurd is
+  run_does (Fail name) o is h = absurd is
+  run_does (ShowLabel name) o is h = absurd is
+  run_does (Labels serial) o is h = absurd is
+  run_does (Rebuild in_place name beside workers) o is h = absurd is
+
+-- ## Names
+
+-- what is done with an array goes by all devices of its configuration
+pub array_names : (conf : Conf) (action : Action) → kind_of action ≡ kind_of Init → names_by conf action ≡ names_of conf
+array_names conf (Io beside workers) e = refl
+array_names conf (Sweep seed clients ops workers) e = refl
+array_names conf Show e = refl
+array_names conf Init e = refl
+array_names conf Check e = refl
+array_names conf Rewrite e = refl
+array_names conf Print e = absurd (let z : ⊥ = cc e in z)
+array_names conf (Fail name) e = refl
+array_names conf (ShowLabel name) e = absurd (let z : ⊥ = cc e in z)
+array_names conf (Labels serial) e = refl
+array_names conf (Rebuild in_place name beside workers) e = refl

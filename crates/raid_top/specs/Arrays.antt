@@ -1,0 +1,63 @@
+-- What is done to an array without a core.
+use Rattle.std.specs.Prelude.{◌≡◌, ◌≤◌, ◌<◌, ◌+◌, ◌*◌, ◌^◌, ℕ, List, length, Option, Some, None}
+use Rattle.blk_disk.specs.declared.disk.Disk.{Ghosts}
+use Rattle.lay_core.specs.Layout.{Shape}
+use Rattle.lay_core.specs.declared.layout.Layout.{Ghosts as LayoutGhosts}
+use Rattle.eng_cols.specs.declared.column.Column.{Column}
+use Rattle.eng_cols.specs.Cols.{IsFor}
+use Rattle.raid_label.specs.declared.label.Label.{Label}
+use Rattle.raid_label.specs.Bytes.{IsHeld}
+use Rattle.raid_recon.specs.Array.{IsArray}
+use Rattle.top_rounds.specs.Passes.{CanBeLabelled}
+use Rattle.top_acts.specs.Acts.{IsSettable}
+use Rattle.top_acts.specs.Checked.{IsChecked}
+use Rattle.top_acts.specs.Killed.{IsKilled}
+use Rattle.top_acts.specs.Labelled.{IsFirstLabelled}
+use Rattle.top_acts.specs.Renewed.{IsRenewed, IsRenewedPlain}
+use Rattle.top_acts.specs.declared.done.Done.{Done}
+use Rattle.top_acts.specs.declared.sweeping.Renewal.{Renewal}
+use Rattle.top_run.specs.Work.{Ending}
+use Rattle.top_close.specs.declared.ending.Ending as declared_ending
+use Rattle.raid_top.specs.declared.array.Array.{Array}
+use Rattle.raid_top.specs.declared.array.Order.{Order}
+use Rattle.raid_top.specs.declared.array.Order.TheVariants as order
+
+-- how it is in the end
+abbrev pub ending_seen : declared_ending.Ending → Ending
+ending_seen e = record { columns = e.columns.items; lost = e.lost }
+
+-- A label as a device holds it, whose counter has room for all rounds of a call.
+pub record HasRounds (l : Label) : Type 0 where
+  pub held : IsHeld l
+  pub counter : l.counter + 200 < 2 ^ 32
+
+abbrev pub IsNewest : Option Label → Type 0
+IsNewest None = Unit {0}
+IsNewest (Some l) = HasRounds l
+
+-- Its columns have devices of their own, on which a label has place; none is filling and at most one spread; and what is held beside them is as large as it has to be.
+pub record IsSound {L D : Type 0} (lay : LayoutGhosts L) (g : Ghosts D) (a : Array L) (devices : List (Option D)) : Type 0 where
+  pub columns : IsSettable (lay.shape a.layout) a.ending.columns.items
+  pub labels : CanBeLabelled g a.ending.columns.items devices
+  pub judge : IsFor (lay.shape a.layout) a.judge
+  pub room : 1024 * (lay.shape a.layout).unit_sectors ≤ a.room
+
+module _ {D : Type 0} (g : Ghosts D) (y : Shape) (columns : List Column) where
+  -- this may be done: for what goes over the stripes the devices are large enough, and labels have room for their rounds
+  abbrev pub MayDo : Order → List (Option D) → Type 0
+  MayDo order.Check devices = IsArray g y columns devices
+  MayDo (order.Renew kind newest) devices = IsArray g y columns devices × IsNewest newest
+  MayDo (order.Kill c l) devices = (c < length columns) × HasRounds l
+  MayDo (order.Label l) devices = IsHeld l
+
+  module _ (old back : List (Option D)) (act : Done) (e : Ending) where
+    abbrev pub Renews : Renewal → Option Label → Type 0
+    Renews kind None = IsRenewedPlain g kind y columns e.columns old back e.lost act
+    Renews kind (Some l) = (next : Label) × IsRenewed g kind y l next columns e.columns old back e.lost act
+
+    -- it was done, and this is how it was done; `next` is the label that was written last
+    abbrev pub DoesOrder : Order → Type 0
+    DoesOrder order.Check = IsChecked g y columns e.columns old back e.lost act
+    DoesOrder (order.Renew kind newest) = Renews kind newest
+    DoesOrder (order.Kill c l) = (next : Label) × IsKilled g y c l next columns e.columns old back e.lost act
+    DoesOrder (order.Label l) = (next : Label) × IsFirstLabelled g y l next columns e.columns old back e.lost act

@@ -1,0 +1,82 @@
+-- What is done to the array of a call, or said of it.
+use Rattle.std.specs.Prelude.{◌≡◌, ℕ, List, [], ◌∷◌, Option, Some, None}
+use Rattle.blk_disk.specs.Devices.{contents_of}
+use Rattle.blk_disk.specs.declared.disk.Disk.{Ghosts}
+use Rattle.eng_cols.specs.Contents.{decode}
+use Rattle.raid_conf.specs.Form.{conf_text}
+use Rattle.raid_label.specs.declared.label.Label.{Label}
+use Rattle.top_acts.specs.declared.done.Done.{Done}
+use Rattle.top_acts.specs.declared.done.Done.TheVariants as done
+use Rattle.top_open.specs.declared.fronts.Front.{Front}
+use Rattle.top_words.specs.Asked.{Action, Io, Sweep}
+use Rattle.top_duty.specs.Duty.{Admitted, Duty, OnArray, Shows, OneLabel, PrintConf, columns_of, layout_of, states_in}
+use Rattle.top_duty.specs.Opening.{sizes_of}
+use Rattle.top_run.specs.Ran as run
+use Rattle.top_run.specs.InTurn.{SweptInTurn}
+use Rattle.top_run.specs.Outliving.{AllAnswered}
+use Rattle.top_run.specs.Work.{Ending, Service}
+use Rattle.top_labelled.specs.Begun.{opened_as}
+use Rattle.top_labelled.specs.Ran.{IsLostBefore, RanLabelled}
+use Rattle.top_looks.specs.Labels.{label_text}
+use Rattle.top_looks.specs.Show.{show_text}
+use Rattle.raid_top.specs.Arrays.{DoesOrder}
+use Rattle.raid_top.specs.Orders.{order_by}
+use Rattle.raid_top.specs.Outcome.{Outcome, Ran, Did, Looked, Refuses}
+use Rattle.raid_top.specs.Works.{work_of}
+use Rattle.raid_top.specs.declared.array.Order.{Order}
+
+-- From the devices as they were once their first sectors had been read to the devices as they are put back.
+module _ {D : Type 0} (g : Ghosts D) where
+  module _ (a : Admitted) (old back : List (Option D)) where
+    -- The clients were served over an array without labels. Where it isn't lost, each item has the reply that it ought to have, and clients that were drawn leave, and are replied, what they would one after another.
+    pub record RunsPlain (s : Service) : Type 0 where
+      pub ran : run.Ran g (work_of a) old s back
+      pub answered : s.ending.lost ≡ None → AllAnswered g (work_of a) old back s (run.runs_of g (work_of a) old s back ran)
+      pub in_turn : (seed clients ops workers : ℕ) → a.asked.command.action ≡ Sweep seed clients ops workers → s.ending.lost ≡ None
+          → SweptInTurn g (work_of a) old s back (decode (layout_of a) (contents_of g old) (states_in a))
+
+    -- The same over an array whose newest label is this one, by its columns and devices as the core was opened.
+    pub record RunsLabelled (newest : Label) (s : Service) : Type 0 where
+      pub ran : RanLabelled g (work_of a) newest old s back
+      pub answered : s.ending.lost ≡ None → AllAnswered g (opened_as (work_of a) ran.columns) ran.opened back s ran.run
+      pub in_turn : (seed clients ops workers : ℕ) → a.asked.command.action ≡ Sweep seed clients ops workers → s.ending.lost ≡ None
+          → SweptInTurn g (opened_as (work_of a) ran.columns) ran.opened s back ran.run.start.blocks
+
+    -- clients were served; or the array, which has labels, was lost before that
+    abbrev pub DoesRun : Option Label → Outcome → Type 0
+    DoesRun None (Ran action s) = (action ≡ a.asked.command.action) × RunsPlain s
+    DoesRun None (Did act e) = ⊥
+    DoesRun (Some newest) (Ran action s) = (action ≡ a.asked.command.action) × RunsLabelled newest s
+    DoesRun (Some newest) (Did act e) = (act ≡ done.Nothing) × IsLostBefore g (work_of a) newest old e back
+    DoesRun newest (Looked text) = ⊥
+    DoesRun newest (Refuses r) = ⊥
+
+    -- something was done without a core
+    abbrev pub DoesIt : Option Order → Outcome → Type 0
+    DoesIt (Some order) (Did act e) = DoesOrder g (layout_of a) (columns_of a) old back act e order
+    DoesIt order o = ⊥
+
+    abbrev pub order_of : Action → Option Order
+    order_of action = order_by action a.asked.comp a.opened.newest a.asked.conf a.opened.rows
+
+    abbrev pub DoesArray : Action → Outcome → Type 0
+    DoesArray (Io beside workers) o = DoesRun a.opened.newest o
+    DoesArray (Sweep seed clients ops workers) o = DoesRun a.opened.newest o
+    DoesArray action o = DoesIt (order_of action) o
+
+  -- something is said, and no device was called
+  abbrev pub Says : (old back : List (Option D)) → List ℕ → Outcome → Type 0
+  Says old back said (Looked text) = (text ≡ said) × (back ≡ old)
+  Says old back said o = ⊥
+
+  -- the front of the one device that was looked at
+  abbrev pub SaysLabel : (old back : List (Option D)) → List Front → Outcome → Type 0
+  SaysLabel old back (front ∷ []) o = Says old back (label_text front) o
+  SaysLabel old back fronts o = ⊥
+
+  -- what is due was done
+  abbrev pub Does : Duty → List Front → (old back : List (Option D)) → Outcome → Type 0
+  Does (OnArray a) fronts old back o = DoesArray a old back a.asked.command.action o
+  Does (Shows k opened) fronts old back o = Says old back (show_text k.conf opened (sizes_of g.size old) fronts) o
+  Does (OneLabel k) fronts old back o = SaysLabel old back fronts o
+  Does (PrintConf k) fronts old back o = Says old back (conf_text k.conf) o

@@ -1,0 +1,29 @@
+//! An array that something is done to without a core.
+use eng_cols::Cols;
+use raid_label::Label;
+use raid_recon::Room;
+use top_acts::Renewal;
+use top_close::Ending;
+
+/// An array, with all the memory that something takes which is done to it without a core: its columns as they are opened;
+/// columns to judge by, as many as its layout has; and room to sum up a stripe's units.
+#[derive(Drop)]
+pub(crate) struct Array<L> {
+    pub layout: L,
+    pub ending: Ending,
+    pub judge: Cols,
+    pub room: Room,
+}
+
+/// What is to be done to an array without a core.
+#[derive(Clone, Copy)]
+pub(crate) enum Order {
+    /// Its stripes are tested.
+    Check,
+    /// Its check units are rewritten, and so are its labels, of which this is the newest, where it has any.
+    Renew(Renewal, Option<Label>),
+    /// This column is failed. The array has labels, of which this is the newest.
+    Kill(u32, Label),
+    /// Its devices get labels that say this besides column, counter and seats.
+    Label(Label),
+}

@@ -1,0 +1,50 @@
+//! An array that was admitted is changed without a core.
+ghost use Rattle.std.specs.Prelude.{◌≤◌, ◌*◌};
+ghost use Rattle.eng_cols.specs.Cols.{IsFor};
+ghost use Rattle.top_acts.specs.Acts.{IsSettable};
+ghost use Rattle.raid_conf.specs.Layouts.{shape_in};
+ghost use Rattle.top_rounds.specs.Passes.{CanBeLabelled};
+ghost use Rattle.raid_top.specs.Arrays.{MayDo};
+ghost use Rattle.raid_top.specs.Served.{ComesOfOrder};
+
+use crate::array::{Array, Order};
+use crate::came::Came;
+use crate::doing::alter;
+use blk_disk::Disk;
+use top_close::Ending;
+use top_duty::Ready;
+
+/// Does something to the array, and says what came of it, with its devices. No memory is taken.
+pub(crate) fn change<D: Disk>(
+    order: Order,
+    ready: Ready,
+    mut devices: Vec<Option<D>>,
+) -> (Came, Vec<Option<D>>)
+    requires columns { IsSettable (shape_in ready.layout) ready.opened.columns.items }
+    requires labels { CanBeLabelled D.Disk ready.opened.columns.items devices.items }
+    requires judge { IsFor (shape_in ready.layout) ready.judge }
+    requires room { 1024 * (shape_in ready.layout).unit_sectors ≤ ready.room }
+    requires may { MayDo D.Disk (shape_in ready.layout) ready.opened.columns.items order devices.items }
+    ensures { ComesOfOrder D.Disk (shape_in ready.layout) ready.opened.columns.items
+        devices.items result.1.items order result.0 }
+{
+    let Ready {
+        opened,
+        layout,
+        judge,
+        room,
+        ..
+    } = ready;
+    let ending = Ending {
+        columns: opened.columns,
+        lost: None,
+    };
+    let mut array = Array {
+        layout,
+        ending,
+        judge,
+        room,
+    };
+    let act = alter(order, devices.as_mut_slice(), &mut array);
+    (Came::Did(act, array.ending), devices)
+}

@@ -1,0 +1,60 @@
+//! What is done to an array without a core.
+ghost use Rattle.raid_top.specs.Arrays.{DoesOrder, IsNewest, IsSound, MayDo, Renews, ending_seen};
+ghost use Rattle.raid_recon.specs.Array.{IsArray};
+
+use crate::array::{Array, Order};
+use blk_disk::Disk;
+use lay_core::Layout;
+use raid_label::Label;
+use top_acts::{Done, Renewal, check, kill, label, renew, renew_unlabelled};
+
+// Rewrites the check units, and the labels where there are any.
+fn rewrite<L: Layout, D: Disk>(
+    kind: Renewal,
+    newest: Option<Label>,
+    devices: &mut [Option<D>],
+    array: &mut Array<L>,
+) -> Done
+    requires sound { IsSound L.Layout D.Disk array.old devices.old }
+    requires large { IsArray D.Disk (L.shape array.old.layout) array.old.ending.columns.items devices.old }
+    requires newest { IsNewest newest }
+    ensures { Renews D.Disk (L.shape array.old.layout) array.old.ending.columns.items devices.old
+        devices.new result (ending_seen array.new.ending) kind newest }
+{
+    let layout = &array.layout;
+    let ending = &mut array.ending;
+    let room = &mut array.room;
+    let judge = &mut array.judge;
+    match newest {
+        Some(mut label) => renew(kind, layout, devices, ending, &mut label, room, judge),
+        None => renew_unlabelled(kind, layout, devices, ending, room, judge),
+    }
+}
+
+/// Does something to an array. No memory is taken.
+pub(crate) fn alter<L: Layout, D: Disk>(
+    order: Order,
+    devices: &mut [Option<D>],
+    array: &mut Array<L>,
+) -> Done
+    requires sound { IsSound L.Layout D.Disk array.old devices.old }
+    requires may { MayDo D.Disk (L.shape array.old.layout) array.old.ending.columns.items order devices.old }
+    ensures { DoesOrder D.Disk (L.shape array.old.layout) array.old.ending.columns.items devices.old
+        devices.new result (ending_seen array.new.ending) order }
+{
+    if let Order::Renew(kind, newest) = order {
+        return rewrite(kind, newest, devices, array);
+    }
+    let layout = &array.layout;
+    let ending = &mut array.ending;
+    let room = &mut array.room;
+    let judge = &mut array.judge;
+    match order {
+        Order::Check => check(layout, devices, ending, room, judge),
+        Order::Kill(column, mut newest) => {
+            kill(layout, devices, ending, column, &mut newest, judge)
+        }
+        Order::Label(mut first) => label(layout, devices, ending, &mut first, judge),
+        Order::Renew(_, _) => unreachable!(),
+    }
+}

@@ -1,0 +1,204 @@
+//! What is due is done.
+ghost use Rattle.std.specs.Prelude.{◌≡◌, List, [], ◌∷◌, length, IfOk, IfErr, OnErr};
+ghost use Rattle.raid_conf.specs.Form.{IsConf};
+ghost use Rattle.top_bay.specs.Asked.{names_for, names_of};
+ghost use Rattle.top_bay.specs.Views.{IsWithin, asked_seen};
+ghost use Rattle.top_duty.specs.Duty.{admitted_with, beside_dead};
+ghost use Rattle.top_duty.specs.Fit.{IsFit};
+ghost use Rattle.top_duty.specs.Opening.{kind_of, sizes_of};
+ghost use Rattle.top_duty.specs.Views.{IsDutyOver, IsFitFor, IsPrepared, duty_seen};
+ghost use Rattle.top_open.specs.Opening.{opened_seen};
+ghost use Rattle.top_status.specs.Refusals.{only};
+ghost use Rattle.top_open.specs.declared.fronts.Front.{Front};
+ghost use Rattle.top_words.specs.Asked.{Init};
+ghost use Rattle.top_words.specs.Views.{action_seen};
+ghost use Rattle.raid_top.specs.Does.{Does, DoesArray, DoesRun};
+ghost use Rattle.raid_top.specs.Served.{IsMemory, IsRun};
+ghost use Rattle.raid_top.specs.Views.{CanBePrinted, PrintsConf, outcome_seen};
+
+use crate::came::Came;
+use crate::changing::change;
+use crate::order::order_of;
+use crate::running::{Served, serve};
+use crate::setup::{work_of, workers_of};
+use blk_disk::Disk;
+use raid_conf::Conf;
+use std::alloc::Global;
+use std::sync::Wait;
+use std::thread::Threads;
+use top_bay::Asked;
+use top_duty::{Admitted, Duty, Ready};
+use top_looks::printed_conf;
+use top_open::Front;
+use top_status::{Refusal, Status};
+use top_words::Action;
+
+/// What came of a command, or that it was refused, with the devices; and what is kept of the command.
+pub(crate) struct Performed<'a, D> {
+    pub action: Action<'a>,
+    pub conf: Conf,
+    pub served: Served<D>,
+}
+
+// Serves the clients that are asked for.
+fn run_array<'a, D: Disk + Drop + Send, R: Threads + Wait + Sync>(
+    rt: &R,
+    alloc: Global,
+    asked: Asked<'a>,
+    ready: Ready,
+    devices: Vec<Option<D>>,
+) -> Performed<'a, D>
+    requires within { IsWithin (asked_seen asked) }
+    requires ready { (fronts : List Front) × IsPrepared (asked_seen asked) (sizes_of D.size devices.items) fronts ready }
+    requires fit { IsFit D.Disk (asked_seen asked) (opened_seen ready.opened) devices.items }
+    requires many { length devices.items ≡ length (names_of asked.conf) }
+    requires run { IsRun (action_seen asked.command.action) }
+    ensures action { result.action ≡ asked.entry.command.action }
+    ensures conf { result.conf ≡ asked.entry.conf }
+    ensures does { IfOk result.served.came (λ came. DoesRun D.Disk
+        (admitted_with (asked_seen asked.entry) (opened_seen ready.opened))
+        devices.items result.served.devices.items ready.opened.newest
+        (outcome_seen (action_seen result.action) result.conf came)) }
+    ensures printed { IfOk result.served.came CanBePrinted }
+    ensures memory { IfErr result.served.came (λ r. r ≡ beside_dead
+        (admitted_with (asked_seen asked.entry) (opened_seen ready.opened)) Status.Memory) }
+    ensures same { OnErr result.served.came (result.served.devices ≡ devices) }
+{
+    let Asked {
+        command,
+        conf,
+        book,
+        clients,
+        ..
+    } = asked;
+    let action = command.action;
+    let work = work_of(action, book, clients, ready, devices);
+    Performed {
+        action,
+        conf,
+        served: serve(rt, alloc, work, workers_of(action)),
+    }
+}
+
+// Does something to the array, or serves the clients that are asked for.
+fn act_on_array<'a, D: Disk + Drop + Send, R: Threads + Wait + Sync>(
+    rt: &R,
+    alloc: Global,
+    asked: Asked<'a>,
+    ready: Ready,
+    devices: Vec<Option<D>>,
+) -> Performed<'a, D>
+    requires within { IsWithin (asked_seen asked) }
+    requires ready { (fronts : List Front) × IsPrepared (asked_seen asked) (sizes_of D.size devices.items) fronts ready }
+    requires kind { kind_of (action_seen asked.command.action) ≡ kind_of Init }
+    requires fit { IsFit D.Disk (asked_seen asked) (opened_seen ready.opened) devices.items }
+    requires many { length devices.items ≡ length (names_of asked.conf) }
+    ensures action { result.action ≡ asked.entry.command.action }
+    ensures conf { result.conf ≡ asked.entry.conf }
+    ensures does { IfOk result.served.came (λ came. DoesArray D.Disk
+        (admitted_with (asked_seen asked.entry) (opened_seen ready.opened))
+        devices.items result.served.devices.items (action_seen result.action)
+        (outcome_seen (action_seen result.action) result.conf came)) }
+    ensures printed { IfOk result.served.came CanBePrinted }
+    ensures memory { IfErr result.served.came (λ r. r ≡ beside_dead
+        (admitted_with (asked_seen asked.entry) (opened_seen ready.opened)) Status.Memory) }
+    ensures same { OnErr result.served.came (result.served.devices ≡ devices) }
+{
+    let action = asked.command.action;
+    let opened = &ready.opened;
+    match order_of(action, asked.comp, opened.newest, &asked.conf, opened.rows) {
+        Some(order) => {
+            let (came, devices) = change(order, ready, devices);
+            Performed {
+                action,
+                conf: asked.conf,
+                served: Served {
+                    came: Ok(came),
+                    devices,
+                },
+            }
+        }
+        None => run_array(rt, alloc, asked, ready, devices),
+    }
+}
+
+// What came of a command for which no device is called.
+fn say<'a, D>(
+    asked: Asked<'a>,
+    came: Result<Came, Refusal>,
+    devices: Vec<Option<D>>,
+) -> Performed<'a, D>
+    ensures action { result.action ≡ asked.entry.command.action }
+    ensures conf { result.conf ≡ asked.entry.conf }
+    ensures came { result.served.came ≡ came }
+    ensures devices { result.served.devices ≡ devices }
+{
+    Performed {
+        action: asked.command.action,
+        conf: asked.conf,
+        served: Served { came, devices },
+    }
+}
+
+// The one front.
+fn only_front(mut fronts: Vec<Front>) -> Front
+    requires { length fronts.items ≡ 1 }
+    ensures { fronts.items ≡ result ∷ [] }
+{
+    match fronts.pop() {
+        Some(front) => front,
+        None => unreachable!(),
+    }
+}
+
+// The text of the configuration, or that memory was wanted for it.
+fn print_conf(alloc: Global, conf: &Conf) -> Result<Came, Refusal>
+    requires { IsConf conf.now }
+    ensures text { IfOk result (PrintsConf conf.now) }
+    ensures memory { IfErr result (λ r. r ≡ only Status.Memory) }
+{
+    match printed_conf(alloc, conf) {
+        Ok(text) => Ok(Came::Prints(text)),
+        Err(_) => Err(Refusal::only(alloc, Status::Memory)),
+    }
+}
+
+/// Does what is due. The only refusal is want of memory, and the devices are then what they were.
+pub(crate) fn perform<'a, D: Disk + Drop + Send, R: Threads + Wait + Sync>(
+    rt: &R,
+    alloc: Global,
+    admitted: Admitted<'a, D>,
+) -> Performed<'a, D>
+    requires within { IsWithin (asked_seen admitted.asked) }
+    requires duty { IsDutyOver (asked_seen admitted.asked) (sizes_of D.size admitted.devices.items) admitted.fronts.items admitted.duty }
+    requires fit { IsFitFor D.Disk (asked_seen admitted.asked) admitted.devices.items admitted.duty }
+    requires sizes { admitted.sizes.items ≡ sizes_of D.size admitted.devices.items }
+    requires fronts { length admitted.fronts.items ≡ length admitted.devices.items }
+    requires many { length admitted.devices.items ≡ length (names_for (asked_seen admitted.asked)) }
+    ensures action { result.action ≡ admitted.entry.asked.command.action }
+    ensures conf { result.conf ≡ admitted.entry.asked.conf }
+    ensures does { IfOk result.served.came (λ came. Does D.Disk
+        (duty_seen (asked_seen admitted.entry.asked) admitted.entry.duty) admitted.entry.fronts.items
+        admitted.entry.devices.items result.served.devices.items
+        (outcome_seen (action_seen result.action) result.conf came)) }
+    ensures printed { IfOk result.served.came CanBePrinted }
+    ensures memory { IfErr result.served.came (IsMemory (duty_seen (asked_seen admitted.entry.asked) admitted.entry.duty)) }
+    ensures same { OnErr result.served.came (result.served.devices ≡ admitted.entry.devices) }
+{
+    let Admitted {
+        asked,
+        devices,
+        sizes,
+        fronts,
+        duty,
+    } = admitted;
+    match duty {
+        Duty::OnArray(ready) => act_on_array(rt, alloc, asked, ready, devices),
+        Duty::Shows(opened) => say(asked, Ok(Came::Shows(opened, sizes, fronts)), devices),
+        Duty::OneLabel => say(asked, Ok(Came::ShowsLabel(only_front(fronts))), devices),
+        Duty::PrintConf => {
+            let came = print_conf(alloc, &asked.conf);
+            say(asked, came, devices)
+        }
+    }
+}
