@@ -7,6 +7,7 @@ mod faults;
 mod graphs;
 mod late;
 mod opening;
+mod orders;
 mod rebuilding;
 mod rebuilt;
 mod rows;
