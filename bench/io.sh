@@ -9,26 +9,12 @@
 # of eight sectors, in turn, at blocks that a fixed generator spreads over the array. The scripts take
 # turns, and each time is the least of its rounds.
 set -eu
-top=$(cd "$(dirname "$0")/.." && pwd)
-program=$top/crates/raidctl/out/raidctl
-[ -x "$program" ] || "$top/demo.sh" > /dev/null
+. "$(dirname "$0")/timing.sh"
 
 stripes=64
 unit=32
 count=8
 rounds=${ROUNDS:-9}
-
-folder=$(mktemp -d "${TMPDIR:-/tmp}/raidctl.XXXXXX")
-trap 'rm -rf "$folder"' EXIT
-cd "$folder"
-
-# A configuration of five components with units of so many sectors, and images of so many stripes.
-array() {
-    printf 'START array\n1 5 0\nSTART disks\n%sd0\n%sd1\n%sd2\n%sd3\n%sd4\nSTART layout\n%s 1 1 5\n' "$1" "$1" "$1" "$1" "$1" "$2" > "$1conf"
-    for disk in d0 d1 d2 d3 d4; do
-        head -c $((512 * (64 + $2 * $3))) /dev/zero > "$1$disk"
-    done
-}
 
 # So many operations of so many clients in turn. The span begins at any block from which it fits.
 script() {
@@ -42,26 +28,6 @@ script() {
             else printf "%d read %d %d\n", client, first, count
         }
     }'
-}
-
-declare -A least
-
-# Runs a command, and notes its nanoseconds under a name where they are the least so far.
-timed() {
-    local name=$1 begin end
-    shift
-    begin=$(date +%s%N)
-    "$@" > out
-    end=$(date +%s%N)
-    if [ -z "${least[$name]:-}" ] || [ $((end - begin)) -lt "${least[$name]}" ]; then least[$name]=$((end - begin)); fi
-}
-
-# The same of a run of the program, which has to end well.
-run() {
-    local name=$1
-    shift
-    timed "$name" "$program" "$@"
-    tail -n 1 out | grep -qx 'status ok'
 }
 
 array '' "$unit" "$stripes"

@@ -1,12 +1,18 @@
 #!/usr/bin/env bash
 # Runs each example in a folder of its own, on images of zeros that it makes, and compares what is printed with what is
-# wanted. An example has the words (args, one a line), the texts that they name, the images with their sectors, and the
-# output.
+# wanted. An example has the words of a call (args, one a line) or several calls (session), the texts that they name, the
+# images with their sectors, and the output.
 set -eu
 here=$(cd "$(dirname "$0")" && pwd)
 top=$(dirname "$here")
 program=$top/crates/raidctl/out/raidctl
 [ -x "$program" ] || "$top/demo.sh" > /dev/null
+
+# A call of a session: its words, what it prints, and its exit number where that isn't 0.
+raidctl() {
+    echo "\$ raidctl $*"
+    "$program" "$@" || echo "exit $?"
+}
 
 folder=$(mktemp -d "${TMPDIR:-/tmp}/raidctl.XXXXXX")
 trap 'rm -rf "$folder"' EXIT
@@ -19,8 +25,12 @@ for example in "$here"/*/; do
     while read -r image sectors; do
         head -c $((sectors * 512)) /dev/zero > "$image"
     done < images
-    mapfile -t words < args
-    "$program" "${words[@]}" > printed || true
+    if [ -e session ]; then
+        . ./session > printed
+    else
+        mapfile -t words < args
+        "$program" "${words[@]}" > printed || true
+    fi
     if cmp -s printed output; then
         passed=$((passed + 1))
         echo "$name: as wanted"
