@@ -20,6 +20,3 @@ mod top;
 
 pub use top::run;
 pub use top_status::Status;
-
-#[cfg(test)]
-mod tests;
