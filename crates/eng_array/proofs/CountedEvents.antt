@@ -1,5 +1,5 @@
 -- What is counted by one number for all items has room in a trace.
-use Rattle.std.proofs.Common.{◌≡◌, ◌≤◌, ◌+◌, ◌*◌, ℕ, zero, suc, List, length, refl, sym, ◌∙◌, ap, arith, true, Some}
+use Rattle.std.proofs.Common.{◌≡◌, ◌≤◌, ◌+◌, ◌*◌, ℕ, zero, suc, List, length, refl, arith, Some}
 use Rattle.std.specs.Prelude.{Vec, slice_get, slice_set}
 use Rattle.std.specs.declared.alloc.Global.{Global}
 use Rattle.std.proofs.Math.Nat.{mul-le-mul, mul-suc, mul_comm, suc-mul}
@@ -14,7 +14,7 @@ use Rattle.eng_rest.proofs.Summing.{below-le}
 use Rattle.eng_parts.specs.Given.{items_at}
 use Rattle.eng_parts.specs.declared.setup.Setup.{Setup}
 use Rattle.eng_events.specs.Opened.{states_of}
-use Rattle.eng_array.specs.Fitting.{most_in, item_events, row_events, opening_events, rebuild_events, counted_events, trace_sum, rebuilds_sum, FitsTrace, FitsRebuilding}
+use Rattle.eng_array.specs.Fitting.{most_in, item_events, row_events, rebuild_events, counted_events, trace_sum, rebuilds_sum, FitsTrace, FitsRebuilding, HasAtMost}
 use Rattle.eng_array.specs.Serving.{most_for_unit}
 use Rattle.eng_array.proofs.ShortTraces.{alive-most, states-count}
 use Rattle.eng_array.proofs.StartedSteady.{alive-more}
@@ -47,11 +47,11 @@ module _ (y : Shape) (graphs : List Held) (devices : ℕ) where
   rows-counted : (n : ℕ) (given : List (Vec Item Global)) → n ≤ devices → below (λ c. row_events y graphs n (items_at given c)) 16 ≤ trace_sum y graphs devices given
   rows-counted n given few = below-le (λ c. counted_events y graphs devices (items_at given c)) (λ c. row_events y graphs n (items_at given c)) 16 (λ c l. row-counted n (items_at given c) few)
 
-  rebuilds-counted : (n : ℕ) → n ≤ devices → rebuild_events y n ≤ rebuilds_sum y devices y.stripes
-  rebuilds-counted n few =
+  rebuilds-counted : (n rebuilds : ℕ) → n ≤ devices → rebuild_events y n rebuilds ≤ rebuilds_sum y devices rebuilds
+  rebuilds-counted n rebuilds few =
       let one = item-counted n devices (most_for_unit y) few in
-      let a = below-le (λ s. (2 * most_for_unit y + 4) * (1 + devices)) (λ s. item_events n (most_for_unit y)) y.stripes (λ s l. one) in
-      let b = below-same ((2 * most_for_unit y + 4) * (1 + devices)) y.stripes in
+      let a = below-le (λ s. (2 * most_for_unit y + 4) * (1 + devices)) (λ s. item_events n (most_for_unit y)) rebuilds (λ s l. one) in
+      let b = below-same ((2 * most_for_unit y + 4) * (1 + devices)) rebuilds in
       omega (arith, a, b)
 
 module _ {L D : Type 0} (lay : LayoutGhosts L) (setup : Setup L D) (devices : ℕ) (entries : length setup.columns.items ≡ (lay.shape setup.layout).columns) (few : (lay.shape setup.layout).columns ≤ devices) where
@@ -68,11 +68,11 @@ module _ {L D : Type 0} (lay : LayoutGhosts L) (setup : Setup L D) (devices : �
       let rows = rows-counted y setup.graphs.items devices (alive columns) setup.clients.items (omega (arith, most, count, entries, few)) in
       omega (arith, most, count, entries, few, rows, sum)
 
-  pub counted-rebuilds : (c : ℕ) → slice_get columns c ≡ Some Dead → trace_sum y setup.graphs.items devices setup.clients.items + rebuilds_sum y devices y.stripes ≤ 1048576 → FitsRebuilding lay setup
-  counted-rebuilds c dead sum on =
+  pub counted-rebuilds : (c rebuilds : ℕ) → slice_get columns c ≡ Some Dead → HasAtMost y columns c rebuilds → trace_sum y setup.graphs.items devices setup.clients.items + rebuilds_sum y devices rebuilds ≤ 1048576 → FitsRebuilding lay setup c
+  counted-rebuilds c rebuilds dead at-most sum on =
       let less = alive-less columns c dead in
       let count = states-count y setup.columns.items in
       let enough : alive columns + 1 ≤ devices = omega (arith, less, count, entries, few) in
       let rows = rows-counted y setup.graphs.items devices (alive columns + 1) setup.clients.items enough in
-      let rebuilds = rebuilds-counted y setup.graphs.items devices (alive columns + 1) enough in
-      omega (arith, less, count, entries, rows, rebuilds, sum)
+      let counted = rebuilds-counted y setup.graphs.items devices (alive columns + 1) rebuilds enough in
+      (rebuilds, at-most, omega (arith, less, count, entries, rows, counted, sum))

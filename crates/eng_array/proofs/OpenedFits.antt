@@ -1,5 +1,5 @@
 -- A rebuild fits an opened core where it fits its setup.
-use Rattle.std.proofs.Common.{◌≡◌, ℕ, ◌<◌, ◌≤◌, ◌+◌, List, [], length, sym, ap, ◌∙◌, arith, Bool, true}
+use Rattle.std.proofs.Common.{◌≡◌, ℕ, ◌<◌, ◌≤◌, ◌+◌, List, [], length, sym, ap, subst, ◌∙◌, arith, Bool, true}
 use Rattle.std.specs.Prelude.{slice_index_or, if◌then◌else◌, Vec}
 use Rattle.std.specs.declared.alloc.Global.{Global}
 use Rattle.std.proofs.lemmas.List.{length-replicate}
@@ -15,7 +15,7 @@ use Rattle.eng_parts.specs.declared.region.Region.{Region}
 use Rattle.eng_parts.specs.declared.setup.Setup.{Setup}
 use Rattle.eng_events.specs.declared.array.Array.{Array}
 use Rattle.eng_parts.specs.Desk.{Desk, desk_at}
-use Rattle.eng_array.specs.Fitting.{row_events, rebuild_events, FitsRebuild, FitsRebuilding}
+use Rattle.eng_array.specs.Fitting.{row_events, rebuild_events, FitsRebuild, FitsRebuilding, HasAtMost}
 use Rattle.eng_parts.specs.Given.{items_at}
 use Rattle.eng_parts.specs.Handed.{no_region}
 use Rattle.eng_parts.specs.Laid.{items_before}
@@ -54,20 +54,27 @@ module _ {L D : Type 0} (lay : LayoutGhosts L) (disk : DiskGhosts D) (setup : Se
       ∙ (ap (λ (g : List Held). row_events y g (alive core.cols.states + 1) (items_at given c)) graphs
       ∙ ap (λ (n : ℕ). row_events y setup.graphs.items (n + 1) (items_at given c)) living))
 
-  rebuilds-same : rebuild_events (lay.shape core.layout) (alive core.cols.states + 1) ≡ rebuild_events y (alive columns + 1)
-  rebuilds-same = ap (λ (v : Shape). rebuild_events v (alive core.cols.states + 1)) shape ∙ ap (λ (n : ℕ). rebuild_events y (n + 1)) living
+  rebuilds-same : (rebuilds : ℕ) → rebuild_events (lay.shape core.layout) (alive core.cols.states + 1) rebuilds ≡ rebuild_events y (alive columns + 1) rebuilds
+  rebuilds-same rebuilds = ap (λ (v : Shape). rebuild_events v (alive core.cols.states + 1) rebuilds) shape ∙ ap (λ (n : ℕ). rebuild_events y (n + 1) rebuilds) living
 
-  pub opened-fits : FitsRebuilding lay setup → FitsRebuild lay core
-  opened-fits fits = record {
+  -- the column has as many stripes
+  few-same : (column rebuilds : ℕ) → HasAtMost y columns column rebuilds → HasAtMost (lay.shape core.layout) core.cols.states column rebuilds
+  few-same column rebuilds few =
+      subst (λ (v : Shape). HasAtMost v core.cols.states column rebuilds) (sym shape)
+      (subst (λ (l : List ColumnState). HasAtMost y l column rebuilds) (sym (ap (λ (v : Columns). v.states) o.cols)) few)
+
+  pub opened-fits : (column : ℕ) → FitsRebuilding lay setup column → FitsRebuild lay core column
+  opened-fits column fits = record {
     trace = λ on.
         let keeps : setup.trace ≡ true = sym (ap (λ (l : Logged). l.keeps) o.log) ∙ on in
         let room : core.log.trace_room ≡ 1048576 + 2 + y.columns = ap (λ (l : Logged). l.trace_room) o.log ∙ ap (λ (b : Bool). if b then 1048576 + 2 + y.columns else 0) keeps in
         let none : length core.log.trace ≡ 0 = ap (λ (l : Logged). length l.trace) o.log in
         let rows : below row 16 ≤ below setup-row 16 = below-le setup-row row 16 (λ c lt. let e = rows-same c lt in omega (arith, e)) in
         let f = fits keeps in
-        let r = rebuilds-same in
+        let r = rebuilds-same f.0 in
         let a = living in
-        omega (arith, room, none, rows, f, r, a);
+        let fit = f.2 in
+        (f.0, few-same column f.0 f.1, omega (arith, room, none, rows, fit, r, a));
     history =
         let items : below (λ c. length (desk_at core.clients c).items) 16 ≤ below (λ c. length (items_at given c)) 16 = below-le (λ c. length (items_at given c)) (λ c. length (desk_at core.clients c).items) 16 (λ c lt. let e = ap (λ (d : Desk). length d.items) (o.clients c (omega (arith, lt))) in omega (arith, e)) in
         let room : core.log.history_room ≡ 65536 + y.stripes = ap (λ (l : Logged). l.history_room) o.log in

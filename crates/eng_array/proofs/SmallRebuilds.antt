@@ -11,9 +11,9 @@ use Rattle.lay_core.specs.Layout.{Shape}
 use Rattle.lay_core.specs.declared.layout.Layout.{Ghosts as LayoutGhosts}
 use Rattle.eng_cols.specs.declared.column.Column.{Column}
 use Rattle.eng_cols.specs.declared.column.Column.TheVariants as column
-use Rattle.eng_cols.specs.Cols.{ColumnState, Columns, Live, Dead, Filling, HasDevice, state_set, is_filling, is_spread}
+use Rattle.eng_cols.specs.Cols.{ColumnState, Columns, Live, Filling, HasDevice, state_set, is_filling, is_spread}
 use Rattle.eng_parts.specs.Brought.{brought}
-use Rattle.eng_parts.specs.Desk.{Desk, desk_at}
+use Rattle.eng_parts.specs.Desk.{Desk}
 use Rattle.eng_parts.specs.Given.{items_at}
 use Rattle.eng_parts.specs.Listing.{Listing}
 use Rattle.eng_parts.specs.Shelf.{Shelved, seen_at, has_failed}

@@ -1,7 +1,7 @@
 -- A core is steady as the rebuild of a dead column starts.
-use Rattle.std.proofs.Common.{◌≡◌, ℕ, zero, suc, ◌<◌, ◌≤◌, ◌+◌, List, [], ◌∷◌, ◌++◌, length, get_or, subst, sym, ap, ◌∙◌, arith, inl, inr, Bool, true, Option, Some, None}
-use Rattle.std.specs.Prelude.{slice_get, slice_set, slice_index_or, option_map, if◌then◌else◌}
-use Rattle.std.proofs.lemmas.Bool.{cases_eq}
+use Rattle.std.proofs.Common.{◌≡◌, ℕ, zero, suc, ◌<◌, ◌≤◌, ◌+◌, List, [], ◌∷◌, ◌++◌, length, get_or, subst, refl, sym, ap, ◌∙◌, arith, inl, inr, Bool, true, false, Option, Some, None}
+use Rattle.std.specs.Prelude.{◌==◌, ◌&&◌, ◌||◌, slice_get, slice_set, slice_index_or, option_map, if◌then◌else◌}
+use Rattle.std.proofs.lemmas.Bool.{cases_eq, eqb-false}
 use Rattle.std.proofs.lemmas.List.{length-set, length-map, length_push}
 use Rattle.std.proofs.lemmas.Option.{slice_get-map, slice_get-get_or, slice_get_within}
 use Rattle.blk_plain.specs.declared.op.Op.{Op}
@@ -10,7 +10,9 @@ use Rattle.blk_disk.specs.declared.disk.Disk.{Ghosts as DiskGhosts}
 use Rattle.lay_core.specs.Layout.{Shape}
 use Rattle.lay_core.specs.declared.layout.Layout.{Ghosts as LayoutGhosts}
 use Rattle.graph_mean.specs.Graph.{Held}
-use Rattle.eng_cols.specs.Cols.{ColumnState, Dead}
+use Rattle.eng_cols.specs.Cols.{ColumnState, Dead, is_spread, passes}
+use Rattle.eng_cols.specs.Seats.{IsStripeOf, is_place_on, is_unit_of}
+use Rattle.eng_cols.proofs.Lists.{get_set_other}
 use Rattle.eng_world.specs.declared.item.Item.{Item}
 use Rattle.eng_world.specs.declared.item.Item.TheVariants as item
 use Rattle.eng_world.specs.declared.item.Traced.{Traced}
@@ -24,7 +26,7 @@ use Rattle.eng_events.specs.declared.array.Array.{Array}
 use Rattle.eng_events.specs.Beginning.{IsAsked}
 use Rattle.eng_events.specs.Copied.{AreLaid}
 use Rattle.eng_parts.specs.Desk.{Desk, desk_at}
-use Rattle.eng_array.specs.Fitting.{most_in, item_events, row_events, rebuild_events, FitsRebuild}
+use Rattle.eng_array.specs.Fitting.{most_in, item_events, row_events, rebuild_events, FitsRebuild, HasAtMost}
 use Rattle.eng_parts.specs.Listing.{rebuild}
 use Rattle.eng_parts.specs.Log.{noted}
 use Rattle.eng_events.specs.Rebuilding.{CanRebuild, Started, with_items}
@@ -46,11 +48,22 @@ alive-more [] c x dead one = let z : None ≡ Some Dead = dead in absurd (let u 
 alive-more (k ∷ ks) zero x dead one = let z : Some k ≡ Some Dead = dead in let e : k ≡ Dead = cc in let none : is_alive k ≡ 0 = ap is_alive e in omega (arith, none, one)
 alive-more (k ∷ ks) (suc c) x dead one = let r = alive-more ks c x dead one in omega (arith, r)
 
--- the trace has room for the start
-pub start-room : {L D : Type 0} (lay : LayoutGhosts L) (core : Array L D) → FitsRebuild lay core → HasRoom core.log
-start-room lay core fits keeps = let a = fits.trace keeps in omega (arith, a)
+-- whatever a column becomes, no stripe more is its own
+pub set-stripes : (y : Shape) (cols : List ColumnState) (c : ℕ) (x : ColumnState) (s : ℕ) → IsStripeOf y (slice_set cols c x) c s → IsStripeOf y cols c s
+set-stripes y cols c x s h = (h.0, h.1, go (c == (y.place s h.0).column) refl h.2)
+  where
+    go : (b : Bool) → (c == (y.place s h.0).column) ≡ b → (b || (passes is_spread (slice_get (slice_set cols c x) (y.place s h.0).column) && is_place_on (y.spare s) c)) ≡ true
+        → is_unit_of y cols s h.0 c ≡ true
+    go true e is = rw e refl
+    go false e is =
+        let other : slice_get (slice_set cols c x) (y.place s h.0).column ≡ slice_get cols (y.place s h.0).column = get_set_other cols c (y.place s h.0).column x (λ same. eqb-false c (y.place s h.0).column e (sym same)) in
+        rw e (ap (λ (o : Option ColumnState). passes is_spread o && is_place_on (y.spare s) c) (sym other) ∙ is)
 
-module _ {L D : Type 0} (lay : LayoutGhosts L) (disk : DiskGhosts D) (old new : Array L D) (c : ℕ) (states : List ColumnState) (e : Traced) (steady : IsSteady lay disk old) (can : CanRebuild lay disk old c) (fits : FitsRebuild lay old) (f : Started lay old c states e new) (more : alive states ≡ alive old.cols.states + 1) where
+-- the trace has room for the start
+pub start-room : {L D : Type 0} (lay : LayoutGhosts L) (core : Array L D) (c : ℕ) → FitsRebuild lay core c → HasRoom core.log
+start-room lay core c fits keeps = let a = (fits.trace keeps).2 in omega (arith, a)
+
+module _ {L D : Type 0} (lay : LayoutGhosts L) (disk : DiskGhosts D) (old new : Array L D) (c : ℕ) (states : List ColumnState) (e : Traced) (steady : IsSteady lay disk old) (can : CanRebuild lay disk old c) (fits : FitsRebuild lay old c) (f : Started lay old c states e new) (more : alive states ≡ alive old.cols.states + 1) (own : (s : ℕ) → IsStripeOf (lay.shape old.layout) states c s → IsStripeOf (lay.shape old.layout) old.cols.states c s) where
   abbrev y : Shape
   y = lay.shape old.layout
 
@@ -169,22 +182,29 @@ module _ {L D : Type 0} (lay : LayoutGhosts L) (disk : DiskGhosts D) (old new : 
       let k = count in
       ap (most_in y graphs) (item-is n (omega (arith, lt, k)))
 
-  last-row : row 16 ≤ rebuild_events y (alive old.cols.states + 1)
-  last-row =
+  -- there are no more rebuilds than the column has stripes
+  few-rebuilds : (rebuilds : ℕ) → HasAtMost y old.cols.states c rebuilds → length f.items ≤ rebuilds
+  few-rebuilds rebuilds few =
+      let a = few stripes f.rebuilds.ascending (λ s there. ((f.rebuilds.only s there).0, own s (f.rebuilds.only s there).1)) in
+      let b = count in
+      omega (arith, a, b)
+
+  last-row : (rebuilds : ℕ) → HasAtMost y old.cols.states c rebuilds → row 16 ≤ rebuild_events y (alive old.cols.states + 1) rebuilds
+  last-row rebuilds few =
       let is : row 16 ≡ row_events y graphs (alive states) f.items = ap (λ (d : Desk). row_events y graphs (alive states) d.items) (desk-set old.clients 16 now below-all) in
       let a : row_events y graphs (alive states) f.items ≤ below one (length f.items) = below-le one (λ i. item_events (alive states) (most_in y graphs (slice_get f.items i))) (length f.items) (λ i lt. let q = ap (item_events (alive states)) (most-rebuild i lt) in omega (arith, q)) in
-      let b : below one (length f.items) ≤ below one y.stripes = below-grows one (length f.items) y.stripes (let n = count in let m = f.rebuilds.few in omega (arith, n, m)) in
-      let g : below one y.stripes ≡ rebuild_events y (alive old.cols.states + 1) = ap (rebuild_events y) more in
+      let b : below one (length f.items) ≤ below one rebuilds = below-grows one (length f.items) rebuilds (few-rebuilds rebuilds few) in
+      let g : below one rebuilds ≡ rebuild_events y (alive old.cols.states + 1) rebuilds = ap (λ (n : ℕ). rebuild_events y n rebuilds) more in
       omega (arith, is, a, b, g)
 
-  all-left : (w : World) → Shows disk plain w → events_left most w ≤ below old-row 16 + rebuild_events y (alive old.cols.states + 1) + (alive old.cols.states + 1)
-  all-left w s =
+  all-left : (w : World) (rebuilds : ℕ) → Shows disk plain w → HasAtMost y old.cols.states c rebuilds → events_left most w ≤ below old-row 16 + rebuild_events y (alive old.cols.states + 1) rebuilds + (alive old.cols.states + 1)
+  all-left w rebuilds s few =
       let a : events_left most w ≤ below seen-row 17 + alive w.columns = unbegun-left most w (unbegun w s) in
       let b : below seen-row 17 ≤ below row 17 = below-le row seen-row 17 (λ k lt. let q = rows-same k in omega (arith, q)) in
       let n : alive w.columns ≡ alive states = ap alive s.columns in
       let t : below row 17 ≡ below row 16 + row 16 = below-one row 16 in
       let o : below row 16 ≤ below old-row 16 = below-le old-row row 16 (λ k lt. let q = rows-old k lt in omega (arith, q)) in
-      let l = last-row in
+      let l = last-row rebuilds few in
       let m = more in
       omega (arith, a, b, n, t, o, l, m)
     where
@@ -199,8 +219,9 @@ module _ {L D : Type 0} (lay : LayoutGhosts L) (disk : DiskGhosts D) (old new : 
   trace-room : (w : World) → Shows disk plain w → old.log.keeps ≡ true → length (noted old.log e).trace + events_left most w ≤ old.log.trace_room
   trace-room w s keeps =
       let longer : length (noted old.log e).trace ≡ length old.log.trace + 1 = ap (λ (b : Bool). length (if b then old.log.trace ++ e ∷ [] else old.log.trace)) keeps ∙ length_push old.log.trace e in
-      let a = all-left w s in
-      let r = fits.trace keeps in
+      let fit = fits.trace keeps in
+      let a = all-left w fit.0 s fit.1 in
+      let r = fit.2 in
       omega (arith, longer, a, r)
 
   history-room : below (λ k. length (desk_at desks k).items) 17 ≤ old.log.history_room

@@ -1,10 +1,12 @@
 -- Whether a log has room for all that may come: of a core that opens, and of one that begins a rebuild.
-use Rattle.std.specs.Prelude.{◌≡◌, ◌≤◌, ◌+◌, ◌*◌, ℕ, List, [], length, true, Option, Some, None, Vec, slice_get, slice_index_or}
+use Rattle.std.specs.Prelude.{◌≡◌, ◌<◌, ◌≤◌, ◌+◌, ◌*◌, ℕ, List, [], length, true, Option, Some, None, Vec, slice_get, slice_index_or, Contains}
+use Rattle.std.specs.List.Sorted.{IsStrictlyIncreasing}
 use Rattle.std.specs.declared.alloc.Global.{Global}
 use Rattle.lay_core.specs.Layout.{Shape}
 use Rattle.lay_core.specs.declared.layout.Layout.{Ghosts as LayoutGhosts}
 use Rattle.graph_mean.specs.Graph.{Held}
 use Rattle.eng_cols.specs.Cols.{ColumnState}
+use Rattle.eng_cols.specs.Seats.{IsStripeOf}
 use Rattle.eng_world.specs.declared.item.Item.{Item}
 use Rattle.eng_world.specs.declared.item.Item.TheVariants as item
 use Rattle.eng_rest.specs.Left.{below, alive}
@@ -37,19 +39,25 @@ opening_events y graphs columns given = below (λ c. row_events y graphs (alive 
 abbrev pub FitsTrace : {L D : Type 0} → LayoutGhosts L → Setup L D → Type 0
 FitsTrace lay setup = setup.trace ≡ true → opening_events (lay.shape setup.layout) setup.graphs.items (states_of (lay.shape setup.layout) setup.columns.items) setup.clients.items ≤ 1048576 + 2 + (lay.shape setup.layout).columns
 
--- those of a rebuild of each stripe, which is an operation over one
-abbrev pub rebuild_events : Shape → ℕ → ℕ
-rebuild_events y n = below (λ s. item_events n (most_for_unit y)) y.stripes
+-- those of so many rebuilds, each an operation over one stripe
+abbrev pub rebuild_events : Shape → ℕ → ℕ → ℕ
+rebuild_events y n rebuilds = below (λ s. item_events n (most_for_unit y)) rebuilds
 
--- A core that has begun no operation has room for a rebuild of a dead column: its trace, if it is kept, for the start, for all events of all items and of a rebuild of each stripe, where one column more may fail, and for these failures; its history for one operation more for each stripe; and client 16 has a region for each.
-pub record FitsRebuild {L D : Type 0} (lay : LayoutGhosts L) (core : Array L D) : Type 0 where
-  pub trace : core.log.keeps ≡ true → length core.log.trace + 1 + below (λ c. row_events (lay.shape core.layout) core.graphs.items (alive core.cols.states + 1) (desk_at core.clients c).items) 16 + rebuild_events (lay.shape core.layout) (alive core.cols.states + 1) + (alive core.cols.states + 1) ≤ core.log.trace_room
+-- the column has at most so many stripes
+abbrev pub HasAtMost : Shape → List ColumnState → ℕ → ℕ → Type 0
+HasAtMost y cols column n = (stripes : List ℕ) → IsStrictlyIncreasing stripes → ((s : ℕ) → Contains stripes s → (s < y.stripes) × IsStripeOf y cols column s) → length stripes ≤ n
+
+-- A core that has begun no operation has room for a rebuild of a dead column: its trace, if it is kept, for the start, for all events of all items and of a rebuild of each of the column's stripes, where one column more may fail, and for these failures; its history for one operation more for each stripe; and client 16 has a region for each.
+pub record FitsRebuild {L D : Type 0} (lay : LayoutGhosts L) (core : Array L D) (column : ℕ) : Type 0 where
+  pub trace : core.log.keeps ≡ true → (rebuilds : ℕ) × HasAtMost (lay.shape core.layout) core.cols.states column rebuilds
+      × (length core.log.trace + 1 + below (λ c. row_events (lay.shape core.layout) core.graphs.items (alive core.cols.states + 1) (desk_at core.clients c).items) 16 + rebuild_events (lay.shape core.layout) (alive core.cols.states + 1) rebuilds + (alive core.cols.states + 1) ≤ core.log.trace_room)
   pub history : below (λ c. length (desk_at core.clients c).items) 16 + (lay.shape core.layout).stripes ≤ core.log.history_room
   pub regions : (lay.shape core.layout).stripes ≤ length (slice_index_or core.log.handed.regions 16 [])
 
--- the trace of an opening, if it is kept, has room for a rebuild too
-abbrev pub FitsRebuilding : {L D : Type 0} → LayoutGhosts L → Setup L D → Type 0
-FitsRebuilding lay setup = setup.trace ≡ true → 1 + below (λ c. row_events (lay.shape setup.layout) setup.graphs.items (alive (states_of (lay.shape setup.layout) setup.columns.items) + 1) (items_at setup.clients.items c)) 16 + rebuild_events (lay.shape setup.layout) (alive (states_of (lay.shape setup.layout) setup.columns.items) + 1) + (alive (states_of (lay.shape setup.layout) setup.columns.items) + 1) ≤ 1048576 + 2 + (lay.shape setup.layout).columns
+-- the trace of an opening, if it is kept, has room for a rebuild of this column too
+abbrev pub FitsRebuilding : {L D : Type 0} → LayoutGhosts L → Setup L D → ℕ → Type 0
+FitsRebuilding lay setup column = setup.trace ≡ true → (rebuilds : ℕ) × HasAtMost (lay.shape setup.layout) (states_of (lay.shape setup.layout) setup.columns.items) column rebuilds
+    × (1 + below (λ c. row_events (lay.shape setup.layout) setup.graphs.items (alive (states_of (lay.shape setup.layout) setup.columns.items) + 1) (items_at setup.clients.items c)) 16 + rebuild_events (lay.shape setup.layout) (alive (states_of (lay.shape setup.layout) setup.columns.items) + 1) rebuilds + (alive (states_of (lay.shape setup.layout) setup.columns.items) + 1) ≤ 1048576 + 2 + (lay.shape setup.layout).columns)
 
 -- ## By one number for all items
 

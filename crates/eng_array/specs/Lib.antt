@@ -9,3 +9,4 @@ pub mod Tickets
 pub mod Blamed
 pub mod HandedBack
 pub mod Small
+pub mod Starts

@@ -1,5 +1,5 @@
 //! An engine is opened, and closed.
-ghost use Rattle.std.specs.Prelude.{◌≡◌, length, MatchResult, IfOk, IfErr};
+ghost use Rattle.std.specs.Prelude.{◌≡◌, ℕ, length, MatchResult, IfOk, IfErr};
 ghost use Rattle.eng_cols.specs.Lost.{NotLost};
 ghost use Rattle.eng_events.specs.Closed.{IsClosed};
 ghost use Rattle.eng_events.specs.Copied.{AreLaid};
@@ -34,7 +34,7 @@ impl<L: Layout, D: Disk + Drop> Core<L, D> {
         ensures worlds { IfOk result (λ engine. OpensWorlds L.Layout D.Disk engine.array) }
         ensures laid { IfOk result (λ engine. AreLaid engine.array.log.handed engine.array.clients) }
         ensures steady { IfOk result (λ engine. IsSteady L.Layout D.Disk engine.array) }
-        ensures rebuilds { IfOk result (λ engine. FitsRebuilding L.Layout setup → FitsRebuild L.Layout engine.array) }
+        ensures rebuilds { IfOk result (λ engine. (column : ℕ) → FitsRebuilding L.Layout setup column → FitsRebuild L.Layout engine.array column) }
     {
         match Array::open(setup, room) {
             Ok(array) => Ok(Core { array }),

@@ -7,6 +7,7 @@ mod core_open;
 mod core_rebuild;
 mod fitting;
 mod progress;
+mod start;
 mod tickets;
 
 pub use calls::Core;
@@ -17,6 +18,7 @@ pub use eng_parts::{Closed, CoreRoom, Memory, OpenFault, Region, Regions, Setup}
 pub use eng_world::{Event, Item, Reply, Traced};
 pub use fitting::what_is_counted_fits_the_trace;
 pub use progress::{each_event_leaves_less, events_of_an_item_are_few, somebody_goes_on};
+pub use start::Start;
 pub use tickets::{
     chains_are_runs, failed_devices_are_blamed, looks_are_quiet, what_is_out_has_one_place,
     what_was_handed_in_comes_back,

@@ -1,5 +1,5 @@
 //! Openings of small setups: what an opening asks is tested, and the test is proved.
-ghost use Rattle.std.specs.Prelude.{◌≡◌, ◌≤◌, ◌*◌, ◌+◌, length, IfOk, IsTrue, All};
+ghost use Rattle.std.specs.Prelude.{ℕ, ◌≡◌, ◌≤◌, ◌*◌, ◌+◌, length, IfOk, IsTrue, All};
 ghost use Rattle.eng_parts.specs.Laid.{item_sectors};
 ghost use Rattle.eng_world.specs.Step.{MayBeAsked};
 ghost use Rattle.eng_events.specs.Beginning.{IsAsked};
@@ -147,7 +147,7 @@ pub(super) fn opened<L: Layout + Drop, D: Disk + Drop>(
     requires trace { FitsTrace L.Layout setup }
     ensures steady { IfOk result (λ core. IsSteady L.Layout D.Disk core.array) }
     ensures opened { IfOk result (λ core. IsOpened L.Layout D.Disk setup core.array) }
-    ensures room { IfOk result (λ core. FitsRebuilding L.Layout setup → FitsRebuild L.Layout core.array) }
+    ensures room { IfOk result (λ core. (column : ℕ) → FitsRebuilding L.Layout setup column → FitsRebuild L.Layout core.array column) }
     ensures own { IfOk result (λ core. AreOwn D.Disk setup.devices.items (needed (L.shape setup.layout)) setup.columns.items) }
 {
     if !is_setup(&setup) || setup.devices.len() > 64 {

@@ -1,4 +1,4 @@
-use Rattle.std.proofs.Common.{◌≡◌, ◌≤◌, ◌+◌, ◌*◌, ◌∙◌, ℕ, List, length, Option, Some, ap, subst, arith}
+use Rattle.std.proofs.Common.{◌≡◌, ◌≤◌, ◌+◌, ◌*◌, ◌∙◌, ℕ, true, false, List, length, Option, Some, ap, subst, sym, arith}
 use Rattle.std.specs.Prelude.{slice_get}
 use Rattle.eng_cols.specs.declared.column.Column.{Column}
 use Rattle.eng_cols.specs.declared.column.Column.TheVariants as column
@@ -18,3 +18,6 @@ fill-requires-clause-can g c =
     let there : HasSectors g.D.Disk setup.devices.items c.args.device (needed y) = subst (λ (n : ℕ). HasSectors g.D.Disk setup.devices.items c.args.device n) need
     (subst (λ (l : List (Option g.row.D.Denot)). HasSectors g.D.Disk l c.args.device (64 + c.from.result * c.from-2.result)) c.deref-2.ensures.value (c.has_sectors.ensures c.if-not-has_sectors.false)) in
     can-fill g.L.Layout g.D.Disk setup c.in-Ok.core.array c.in-Ok.ensures.opened c.in-Ok.ensures.own c.args.column dead c.args.device behind there
+
+pub fill-requires-clause-room : goal.fill-requires-clause-room
+fill-requires-clause-room g c = c.in-Ok.ensures.room c.args.column (λ kept. absurd (let h : true ≡ false = sym kept ∙ c.requires in cc))
