@@ -1,5 +1,5 @@
 -- What a command asks for, or which refusal comes first, by its words and by what the bay has.
-use Rattle.std.specs.Prelude.{ℕ, Bool, true, false, List, [], ◌∷◌, ◌++◌, Option, Some, None, Result, Ok, Err, if◌then◌else◌, is_some, option_and_then, option_map}
+use Rattle.std.specs.Prelude.{ℕ, Bool, true, List, [], ◌∷◌, ◌++◌, Option, Some, None, Result, Ok, Err, if◌then◌else◌, is_some, option_and_then, option_map}
 use Rattle.std.specs.List.{position}
 use Rattle.std.specs.Str.{bytes_eq}
 use Rattle.raid_text.specs.Text.{Text}
@@ -27,27 +27,9 @@ abbrev pub or_status : {A F : Type 0} → (F → Status) → Result A F → Resu
 or_status status_of (Ok x) = Ok x
 or_status status_of (Err fault) = Err (only (status_of fault))
 
--- the actions that this program has: all but the rebuilding of a column
-abbrev pub has_action : Action → Bool
-has_action (Io beside workers) = true
-has_action (Sweep seed clients ops workers) = true
-has_action (Rebuild in_place comp beside workers) = false
-has_action Show = true
-has_action Init = true
-has_action Check = true
-has_action Rewrite = true
-has_action Print = true
-has_action (Fail comp) = true
-has_action (ShowLabel comp) = true
-has_action (Label serial) = true
-
--- the command, where this program has its action
-abbrev pub served_command : Command → Result Command Refused
-served_command c = if has_action c.action then Ok c else Err (only (status.Usage 0))
-
 -- the command that the words are
 unfoldable pub command_in : List Text → Result Command Refused
-command_in words = or_status (λ case. status.Usage case) (command_of words) then served_command
+command_in words = or_status (λ case. status.Usage case) (command_of words)
 
 -- the configuration of this name
 unfoldable pub conf_in : (Text → Option Text) → Text → Result Conf Refused
@@ -62,13 +44,13 @@ unfoldable pub component_in : List Text → Text → Result (Option ℕ) Refused
 component_in names [] = Err (only (status.Usage 3))
 component_in names (b ∷ name) = or_refusal (position (λ n. bytes_eq n (b ∷ name)) names) (status.Usage 3) then λ at. Ok (Some at)
 
--- the place of the component that an action names: a column's for one that is to fail, and a device's for one whose label is shown, the spares behind the columns
+-- the place of the component that an action names: a column's for one that is to fail or to be rebuilt, and a device's for one whose label is shown, the spares behind the columns
 abbrev pub comp_in : Conf → Action → Result (Option ℕ) Refused
 comp_in conf (Fail comp) = component_in conf.disks comp
 comp_in conf (ShowLabel comp) = component_in (names_of conf) comp
 comp_in conf (Io beside workers) = Ok None
 comp_in conf (Sweep seed clients ops workers) = Ok None
-comp_in conf (Rebuild in_place comp beside workers) = Ok None
+comp_in conf (Rebuild in_place comp beside workers) = component_in conf.disks comp
 comp_in conf Show = Ok None
 comp_in conf Init = Ok None
 comp_in conf Check = Ok None

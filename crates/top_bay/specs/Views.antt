@@ -1,5 +1,5 @@
 -- What is seen of a command and of what it asks for, without where that lies in memory.
-use Rattle.std.specs.Prelude.{◌≡◌, ◌<◌, ℕ, true, List, [], length, map, All, Option, Some, None, slice_get}
+use Rattle.std.specs.Prelude.{◌≡◌, ◌<◌, ℕ, List, [], length, map, All, Option, Some, None, slice_get}
 use Rattle.graph_text.specs.FormatForm.{AreGraphs}
 use Rattle.raid_conf.specs.Form.{IsConf}
 use Rattle.raid_script.specs.Asked.{AreFew, IsAsked, seen}
@@ -7,7 +7,7 @@ use Rattle.raid_conf.specs.declared.conf.Conf.{Conf}
 use Rattle.raid_text.specs.Text.{Text}
 use Rattle.top_words.specs.Asked.{Action, Io, Sweep, Show, Init, Check, Rewrite, Print, Fail, ShowLabel, Label, Rebuild, IsInRange}
 use Rattle.top_words.specs.Views.{command_seen}
-use Rattle.top_bay.specs.Asked.{Asked, has_action, names_of}
+use Rattle.top_bay.specs.Asked.{Asked, names_of}
 use Rattle.top_bay.specs.declared.asked.Asked as declared_asked
 
 abbrev pub asked_seen : declared_asked.Asked → Asked
@@ -27,7 +27,7 @@ IsKnown conf (Fail name) comp = IsPlace conf.disks conf.columns name comp
 IsKnown conf (ShowLabel name) comp = IsPlace (names_of conf) (length (names_of conf)) name comp
 IsKnown conf (Io beside workers) comp = comp ≡ None
 IsKnown conf (Sweep seed clients ops workers) comp = comp ≡ None
-IsKnown conf (Rebuild in_place name beside workers) comp = comp ≡ None
+IsKnown conf (Rebuild in_place name beside workers) comp = IsPlace conf.disks conf.columns name comp
 IsKnown conf Show comp = comp ≡ None
 IsKnown conf Init comp = comp ≡ None
 IsKnown conf Check comp = comp ≡ None
@@ -35,9 +35,8 @@ IsKnown conf Rewrite comp = comp ≡ None
 IsKnown conf Print comp = comp ≡ None
 IsKnown conf (Label serial) comp = comp ≡ None
 
--- What is asked for lies within the limits: of a command that this program has, of a configuration and a component of it, of graphs, and of a script for so many columns beside so many graphs.
+-- What is asked for lies within the limits: of a command, of a configuration and a component of it, of graphs, and of a script for so many columns beside so many graphs.
 pub record IsWithin (a : Asked) : Type 0 where
-  pub served : has_action a.command.action ≡ true
   pub action : IsInRange a.command.action
   pub conf : IsConf a.conf
   pub known : IsKnown a.conf a.command.action a.comp

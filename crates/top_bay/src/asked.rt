@@ -27,7 +27,7 @@ pub struct Asked<'a> {
     pub command: Command<'a>,
     /// The configuration of the array.
     pub conf: Conf,
-    /// The place of the component that the command names: for `-f` that of its column, for `-g` that of its device, the
+    /// The place of the component that the command names: for `-f`, `-F` and `-R` that of its column, for `-g` that of its device, the
     /// spares behind the columns; None for the other actions, which name none.
     pub comp: Option<u32>,
     /// The graphs of the file; none where no file is named.

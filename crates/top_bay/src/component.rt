@@ -6,7 +6,7 @@ ghost use Rattle.raid_conf.specs.Form.{IsConf};
 ghost use Rattle.top_words.specs.Views.{action_seen};
 ghost use Rattle.top_bay.specs.Answers.{IsUsage, Opens};
 ghost use Rattle.top_bay.specs.Asked.{comp_in, component_in, names_of};
-ghost use Rattle.top_bay.specs.Views.{IsKnown};
+ghost use Rattle.top_bay.specs.Views.{IsKnown, IsPlace};
 
 use crate::names::{count, name_at};
 use raid_conf::Conf;
@@ -44,7 +44,17 @@ fn component(conf: &Conf, count: u32, name: &str) -> Result<Option<u32>, Status>
     }
 }
 
-/// The place of the component that the action names: for `-f` that of its column, for `-g` that of its device, the spares
+// The place of a component among the columns' disks.
+fn column(conf: &Conf, name: &str) -> Result<Option<u32>, Status>
+    requires { IsConf conf.now }
+    ensures answer { Opens (λ comp. comp) result (component_in conf.now.disks name.now) }
+    ensures known { IfOk result (IsPlace conf.now.disks conf.now.columns name.now) }
+    ensures kind { IfErr result IsUsage }
+{
+    component(conf, conf.disks.len(), name)
+}
+
+/// The place of the component that the action names: for `-f`, `-F` and `-R` that of its column, for `-g` that of its device, the spares
 /// behind the columns; none where it names none.
 pub(crate) fn open_component(conf: &Conf, action: Action<'_>) -> Result<Option<u32>, Status>
     requires { IsConf conf.now }
@@ -53,7 +63,8 @@ pub(crate) fn open_component(conf: &Conf, action: Action<'_>) -> Result<Option<u
     ensures kind { IfErr result IsUsage }
 {
     match action {
-        Action::Fail { comp } => component(conf, conf.disks.len(), comp),
+        Action::Fail { comp } => column(conf, comp),
+        Action::Rebuild { comp, .. } => column(conf, comp),
         Action::ShowLabel { comp } => component(conf, count(conf), comp),
         _ => Ok(None),
     }

@@ -1,5 +1,5 @@
 //! The words and texts of a command, opened and read.
-ghost use Rattle.std.specs.Prelude.{◌≡◌, ℕ, true, List, [], Ok, length, map, All, IfOk, IfErr, IsErrOf};
+ghost use Rattle.std.specs.Prelude.{◌≡◌, ℕ, List, [], Ok, length, map, All, IfOk, IfErr, IsErrOf};
 ghost use Rattle.blk_disk.specs.Disk.{Rose};
 ghost use Rattle.graph_text.specs.FormatForm.{AreGraphs};
 ghost use Rattle.raid_conf.specs.Form.{IsConf};
@@ -7,7 +7,7 @@ ghost use Rattle.raid_script.specs.Asked.{AreFew, IsAsked, seen};
 ghost use Rattle.top_words.specs.Asked.{IsInRange, command_of};
 ghost use Rattle.top_words.specs.Views.{action_seen, command_seen, text_of};
 ghost use Rattle.top_bay.specs.Answers.{IsEarly, IsUsage, Opens};
-ghost use Rattle.top_bay.specs.Asked.{book_in, command_in, conf_in, has_action, script_in};
+ghost use Rattle.top_bay.specs.Asked.{book_in, command_in, conf_in, script_in};
 ghost use Rattle.top_bay.specs.Told.{IsRead};
 
 use crate::texts::open_text;
@@ -18,17 +18,7 @@ use raid_conf::{Conf, ConfFault, read_conf};
 use raid_script::{ScriptFault, read_script};
 use std::alloc::Global;
 use top_status::Status;
-use top_words::{Action, Command, WordsFault, read_words};
-
-// Whether it is one of the actions that this program has.
-fn has_action(command: Command) -> bool
-    ensures { result ≡ has_action (command_seen command.entry).action }
-{
-    match command.action {
-        Action::Rebuild { .. } => false,
-        _ => true,
-    }
-}
+use top_words::{Command, WordsFault, read_words};
 
 /// The command that the words are.
 #[tactic(auto, unfolding(crate::specs::Asked::command_in))]
@@ -36,18 +26,12 @@ pub(crate) fn open_words<'a>(alloc: Global, words: &'a [Name]) -> Result<Command
     ensures answer { Opens command_seen result (command_in words.entry.now) }
     ensures command { IfOk result (λ c. command_of words.entry.now ≡ Ok (command_seen c)) }
     ensures range { IfOk result (λ c. IsInRange (action_seen c.action)) }
-    ensures served { IfOk result (λ c. has_action (action_seen c.action) ≡ true) }
     ensures kind { IfErr result IsUsage }
 {
-    let command = match read_words(alloc, words) {
-        Ok(command) => command,
-        Err(WordsFault::Usage(case)) => return Err(Status::Usage(case)),
-        Err(WordsFault::Memory) => return Err(Status::Memory),
-    };
-    if has_action(command) {
-        Ok(command)
-    } else {
-        Err(Status::Usage(0))
+    match read_words(alloc, words) {
+        Ok(command) => Ok(command),
+        Err(WordsFault::Usage(case)) => Err(Status::Usage(case)),
+        Err(WordsFault::Memory) => Err(Status::Memory),
     }
 }
 

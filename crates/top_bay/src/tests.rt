@@ -91,7 +91,7 @@ fn all_at_home(rt: &impl Abort, bay: &MemBay<MemDisk>) {
 fn refusals_come_in_order(rt: HostRuntime) -> Result<(), Fail> {
     let alloc = rt.alloc();
     let tables: [(&[&str], (u8, u32, u32)); 12] = [
-        (&["conf", "-F", "d0"], (1, 0, 0)),
+        (&["conf", "-F", "d0", "-R", "d0"], (1, 1, 0)),
         (&["no", "--io", "script", "-w", "17"], (1, 3, 0)),
         (&["no", "--io", "no", "--graphs", "no"], (6, 0, 0)),
         (&["no_conf", "--io", "no", "--graphs", "no"], (2, 3, 3)),
@@ -123,7 +123,11 @@ fn refusals_come_in_order(rt: HostRuntime) -> Result<(), Fail> {
 #[test]
 fn components_are_judged_in_order(rt: HostRuntime) -> Result<(), Fail> {
     let alloc = rt.alloc();
-    let tables: [(&[&str], (u8, u32, u32)); 9] = [
+    let tables: [(&[&str], (u8, u32, u32)); 13] = [
+        (&["conf", "-F", "s0"], (1, 3, 0)),
+        (&["conf", "-R", "d9", "--io", "no"], (1, 3, 0)),
+        (&["conf", "-R", "d0", "--io", "no"], (6, 0, 0)),
+        (&["conf", "-F", "d0", "--io", "no_script"], (3, 1, 5)),
         (&["no", "-f", "d9"], (6, 0, 0)),
         (&["no_conf", "-f", "d9"], (2, 3, 3)),
         (&["away", "-f", "d9"], (1, 3, 0)),
@@ -148,7 +152,9 @@ fn components_are_judged_in_order(rt: HostRuntime) -> Result<(), Fail> {
 #[test]
 fn devices_are_those_of_the_action(rt: HostRuntime) -> Result<(), Fail> {
     let alloc = rt.alloc();
-    let tables: [(&[&str], Option<u32>, usize); 7] = [
+    let tables: [(&[&str], Option<u32>, usize); 9] = [
+        (&["conf", "-F", "d2"], Some(2), 4),
+        (&["conf", "-R", "d0", "--io", "plain"], Some(0), 4),
         (&["conf", "-f", "d2"], Some(2), 4),
         (&["conf", "-g", "d2"], Some(2), 1),
         (&["conf", "-g", "s0"], Some(3), 1),
