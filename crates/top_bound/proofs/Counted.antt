@@ -16,11 +16,11 @@ use Rattle.eng_world.specs.declared.item.Item.TheVariants.{Run, Fail}
 use Rattle.eng_parts.specs.declared.setup.Setup.{Setup}
 use Rattle.eng_parts.specs.Desk.{no_graph}
 use Rattle.eng_array.specs.Fitting as core
-use Rattle.eng_array.proofs.CountedEvents.{counted-fits}
+use Rattle.eng_array.proofs.CountedEvents.{counted-fits, counted-rebuilds}
 use Rattle.raid_script.specs.Asked.{Asked, IsAsked, seen}
-use Rattle.top_bound.specs.Bound.{span_nodes, nodes_in, graph_nodes, item_nodes, item_bound, row_sum, trace_sum}
+use Rattle.top_bound.specs.Bound.{span_nodes, nodes_in, graph_nodes, item_nodes, item_bound, row_sum, rebuilds_sum, trace_sum}
 use Rattle.top_bound.specs.Laws.{asked_of}
-use Rattle.top_bound.specs.Traced.{IsScriptOf, WhatFitsHasRoom}
+use Rattle.top_bound.specs.Traced.{IsScriptOf, WhatFitsARebuild, WhatFitsHasRoom}
 use Rattle.top_bound.proofs.Below.{below-zero, below-all, below-clients}
 use Rattle.top_bound.proofs.Limits.{sum-map}
 
@@ -106,3 +106,8 @@ pub what-fits : {L D : Type 0} (lay : LayoutGhosts L) (setup : Setup L D) → Wh
 what-fits lay setup book devices columns entries few is sum =
     counted-fits lay setup devices entries few
     (subst (λ (n : ℕ). n ≤ 1048576) (traced-alike (lay.shape setup.layout) book setup.graphs.items devices columns setup.clients.items is) sum)
+
+pub what-fits-rebuilt : {L D : Type 0} (lay : LayoutGhosts L) (setup : Setup L D) → WhatFitsARebuild lay setup
+what-fits-rebuilt lay setup book devices columns column rebuilds entries few is dead most sum =
+    counted-rebuilds lay setup devices entries few column rebuilds dead most
+    (subst (λ (n : ℕ). n + rebuilds_sum (lay.shape setup.layout) devices rebuilds ≤ 1048576) (traced-alike (lay.shape setup.layout) book setup.graphs.items devices columns setup.clients.items is) sum)

@@ -45,3 +45,7 @@ row_sum y book devices items = sum_by (λ i. item_bound devices (item_nodes y bo
 -- the sum over the items of all clients, for so many devices, columns and spares
 unfoldable pub trace_sum : Shape → List Named → ℕ → List (List Asked) → ℕ
 trace_sum y book devices clients = sum_by (row_sum y book devices) clients
+
+-- and over so many rebuilds, each of which has the graph of one unit
+abbrev pub rebuilds_sum : Shape → ℕ → ℕ → ℕ
+rebuilds_sum y devices rebuilds = rebuilds * item_bound devices (y.width + 3)

@@ -1,15 +1,17 @@
 -- That what a trace is judged to have room for has room in a core's trace.
-use Rattle.std.specs.Prelude.{◌≡◌, ◌≤◌, ℕ, List, length, map, All, Vec}
+use Rattle.std.specs.Prelude.{◌≡◌, ◌≤◌, ◌+◌, ℕ, List, length, map, All, Some, Vec, slice_get}
 use Rattle.std.specs.declared.alloc.Global.{Global}
 use Rattle.lay_core.specs.Layout.{Shape}
 use Rattle.lay_core.specs.declared.layout.Layout.{Ghosts as LayoutGhosts}
 use Rattle.graph_mean.specs.Graph.{Held}
 use Rattle.graph_text.specs.Format.{Named}
+use Rattle.eng_cols.specs.Cols.{Dead}
+use Rattle.eng_events.specs.Opened.{states_of}
 use Rattle.eng_world.specs.declared.item.Item.{Item}
 use Rattle.eng_parts.specs.declared.setup.Setup.{Setup}
 use Rattle.eng_array.specs.Fitting as core
 use Rattle.raid_script.specs.Asked.{IsAsked}
-use Rattle.top_bound.specs.Bound.{trace_sum}
+use Rattle.top_bound.specs.Bound.{rebuilds_sum, trace_sum}
 use Rattle.top_bound.specs.Laws.{asked_of}
 
 -- the items are a script's, of at most 16 clients, for so many columns, and the graphs are the book's, without their names
@@ -28,3 +30,12 @@ abbrev pub WhatFitsHasRoom : {L D : Type 0} → LayoutGhosts L → Setup L D →
 WhatFitsHasRoom lay setup = (book : List Named) (devices columns : ℕ) → length setup.columns.items ≡ (lay.shape setup.layout).columns → (lay.shape setup.layout).columns ≤ devices
     → IsScriptOf columns book setup.graphs.items setup.clients.items
     → trace_sum (lay.shape setup.layout) book devices (asked_of setup.clients.items) ≤ 1048576 → core.FitsTrace lay setup
+
+-- so it has for the rebuild of a dead column too, where that has at most so many stripes, and so many rebuilds are judged to fit beside the items
+abbrev pub WhatFitsARebuild : {L D : Type 0} → LayoutGhosts L → Setup L D → Type 0
+WhatFitsARebuild lay setup = (book : List Named) (devices columns column rebuilds : ℕ) → length setup.columns.items ≡ (lay.shape setup.layout).columns → (lay.shape setup.layout).columns ≤ devices
+    → IsScriptOf columns book setup.graphs.items setup.clients.items
+    → slice_get (states_of (lay.shape setup.layout) setup.columns.items) column ≡ Some Dead
+    → core.HasAtMost (lay.shape setup.layout) (states_of (lay.shape setup.layout) setup.columns.items) column rebuilds
+    → trace_sum (lay.shape setup.layout) book devices (asked_of setup.clients.items) + rebuilds_sum (lay.shape setup.layout) devices rebuilds ≤ 1048576
+    → core.FitsRebuilding lay setup column

@@ -3,7 +3,7 @@ ghost use Rattle.std.specs.Prelude.{◌≡◌, ◌≤◌, ◌<◌, ◌+◌, ◌-
 ghost use Rattle.lay_core.specs.Layout.{data_units, blocks_in};
 ghost use Rattle.lay_core.specs.Touched.{stripe_count};
 ghost use Rattle.raid_script.specs.Asked.{seen};
-ghost use Rattle.top_bound.specs.Bound.{span_nodes, graph_nodes, run_nodes, item_nodes, item_bound, row_sum, trace_sum};
+ghost use Rattle.top_bound.specs.Bound.{span_nodes, graph_nodes, run_nodes, item_nodes, item_bound, row_sum, rebuilds_sum, trace_sum};
 
 use blk_plain::{Op, Span};
 use eng_world::Item;
@@ -110,7 +110,8 @@ fn row_sum<L: Layout>(layout: &L, book: &Book, devices: u32, items: &[Item]) -> 
 fn trace_sum<L: Layout>(layout: &L, book: &Book, devices: u32, clients: &[Vec<Item>]) -> u128
     requires few { length clients.now ≤ 17 }
     requires devices { devices ≤ 40 }
-    ensures { result ≡ trace_sum (L.shape layout.now) book.now devices (map (λ items. map seen items.items) clients.now) }
+    ensures value { result ≡ trace_sum (L.shape layout.now) book.now devices (map (λ items. map seen items.items) clients.now) }
+    ensures small { result ≤ 41538374868278621028243970633760768 }
 {
     let mut total: u128 = 0;
     for items in clients {
@@ -119,19 +120,36 @@ fn trace_sum<L: Layout>(layout: &L, book: &Book, devices: u32, clients: &[Vec<It
     total
 }
 
-/// Whether a trace has room for all events that these clients' items may come to: whether the sum of
-/// (2 N + 4) (1 + `devices`) over all items is at most 1,048,576.
+// The most events of so many rebuilds.
+fn rebuilds_sum<L: Layout>(layout: &L, devices: u32, rebuilds: u32) -> u128
+    requires { devices ≤ 40 }
+    ensures value { result ≡ rebuilds_sum (L.shape layout.now) devices rebuilds }
+    ensures small { result ≤ 70368744177664 * rebuilds }
+{
+    u128::from(rebuilds) * u128::from(item_bound(devices, u64::from(layout.width()) + 3))
+}
+
+/// Whether a trace has room for all events that these clients' items, and so many rebuilds beside
+/// them, may come to: whether the sum of (2 N + 4) (1 + `devices`) over all items and rebuilds is at
+/// most 1,048,576.
 ///
 /// N bounds the nodes of the item's graph: (2 d + 1) (s + 2) + 2 for a write or read by the
 /// library's graph whose span touches s stripes of d data units, none of its blocks past the end;
-/// the nodes of the graph of the file, where one is named; k + 3 for a sync, k being the units of a
-/// stripe; and 0 for the rest. `devices` counts columns and spares; each may fail in the run, and
-/// have an operation planned anew.
-pub fn trace_fits<L: Layout>(layout: &L, book: &Book, devices: u32, clients: &[Vec<Item>]) -> bool
+/// the nodes of the graph of the file, where one is named; k + 3 for a sync or a rebuild, k being the
+/// units of a stripe; and 0 for the rest. `devices` counts columns and spares; each may fail in the
+/// run, and have an operation planned anew.
+pub fn trace_fits<L: Layout>(
+    layout: &L,
+    book: &Book,
+    devices: u32,
+    clients: &[Vec<Item>],
+    rebuilds: u32,
+) -> bool
     requires few { length clients.now ≤ 17 }
     requires devices { devices ≤ 40 }
     ensures { result ≡ nat_le (trace_sum (L.shape layout.now) book.now devices
-        (map (λ items. map seen items.items) clients.now)) 1048576 }
+        (map (λ items. map seen items.items) clients.now) + rebuilds_sum (L.shape layout.now) devices rebuilds) 1048576 }
 {
-    trace_sum(layout, book, devices, clients) <= EVENTS
+    let items = trace_sum(layout, book, devices, clients);
+    items + rebuilds_sum(layout, devices, rebuilds) <= EVENTS
 }

@@ -2,7 +2,7 @@
 //! them. These calls do nothing: what each ensures is the law.
 ghost use Rattle.eng_parts.specs.declared.setup.Setup.{Setup};
 ghost use Rattle.top_bound.specs.Laws.{FewItemsHaveRoom, SectorsAreCountedAlike, FileGraphsFitThePool};
-ghost use Rattle.top_bound.specs.Traced.{TraceIsCountedAlike, WhatFitsHasRoom};
+ghost use Rattle.top_bound.specs.Traced.{TraceIsCountedAlike, WhatFitsARebuild, WhatFitsHasRoom};
 
 use blk_disk::Disk;
 use lay_core::Layout;
@@ -30,7 +30,9 @@ pub fn traces_are_counted_alike()
 {}
 
 /// Where [`trace_fits`](crate::trace_fits) says so of a script, a core that is opened over it has room
-/// in its trace for all events that may come.
+/// in its trace for all events that may come; and where it says so of the script beside a rebuild of
+/// each stripe of a dead column, the core has room for the rebuild of that column too.
 pub fn what_fits_has_room<L: Layout, D: Disk>()
-    ensures { (setup : Setup L D) → WhatFitsHasRoom L.Layout setup }
+    ensures items { (setup : Setup L D) → WhatFitsHasRoom L.Layout setup }
+    ensures rebuild { (setup : Setup L D) → WhatFitsARebuild L.Layout setup }
 {}

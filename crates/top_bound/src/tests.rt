@@ -57,7 +57,7 @@ fn fits(
     for _i in 0..failures {
         row.push(FAIL)?;
     }
-    Ok(trace_fits(&layout, &book, 5, &[row]))
+    Ok(trace_fits(&layout, &book, 5, &[row], 0))
 }
 
 // A write of a block touches one stripe of four data units, so 9 * 3 + 2 = 29 nodes are counted, and
@@ -92,6 +92,16 @@ fn all_stripes_of_a_long_span_are_counted(rt: HostRuntime) -> Result<(), Fail> {
     assert!(rt; fits(&rt, rt.alloc(), many, 58, &[])?);
     assert!(rt; !fits(&rt, rt.alloc(), many, 59, &[])?);
     Ok(())
+}
+
+// A rebuild of a stripe of five units has (2 * 8 + 4) * 6 = 120 events with five devices, as a sync: 8,738 of them are
+// 1,048,560, and leave 16.
+#[test]
+fn rebuilds_are_counted_beside_the_items(rt: HostRuntime) {
+    let layout = Raid5::new(5, 32, 64).expect(&rt, "a layout");
+    let book = read_graphs(rt.alloc(), b"".as_slice()).expect(&rt, "no graph");
+    assert!(rt; trace_fits(&layout, &book, 5, &[], 8738));
+    assert!(rt; !trace_fits(&layout, &book, 5, &[], 8739));
 }
 
 #[test]

@@ -1,15 +1,13 @@
 -- What is fit for what is to be done meets what those ask that do it.
-use Rattle.std.specs.Prelude.{◌≡◌, ◌⊎◌, ◌≢◌, ◌+◌, ◌*◌, ◌≤◌, ℕ, zero, suc, Bool, true, false, List, [], ◌∷◌, length, map, cond, count_by, Option, Some, None, IsSome, slice_get, slice_set, ◌==◌}
+use Rattle.std.specs.Prelude.{◌≡◌, ◌≢◌, ◌+◌, ◌*◌, ◌≤◌, ℕ, zero, suc, Bool, true, false, List, [], ◌∷◌, map, count_by, Option, Some, None, IsSome, slice_get}
 use Rattle.std.specs.Option.{option_map_or}
 use Rattle.std.proofs.Common.{arith, refl, sym, ap, subst, inl, inr, ◌∙◌}
-use Rattle.std.proofs.lemmas.Bool.{eqb-false, eqb-true}
-use Rattle.std.proofs.lemmas.List.Sums.{sum_by-cons}
 use Rattle.blk_disk.specs.Devices.{device_at, size_of}
 use Rattle.blk_disk.specs.declared.disk.Disk.{Ghosts}
 use Rattle.eng_cols.specs.declared.column.Column.{Column}
 use Rattle.eng_cols.specs.declared.column.Column.TheVariants as column
 use Rattle.eng_cols.specs.Cols.{Live, Filling, Spread, HasDevice, is_set_filling, is_set_spread, passes, state_set}
-use Rattle.eng_cols.proofs.Lists.{count_at_most, get_set_either, get_set_other, get_set_same}
+use Rattle.eng_cols.proofs.Lists.{count_at_most}
 use Rattle.raid_conf.specs.Form.{IsConf}
 use Rattle.raid_conf.specs.Layouts.{shape_of}
 use Rattle.raid_conf.proofs.TableLaws.{shape-columns, shape-rows, shape-unit}
@@ -17,12 +15,12 @@ use Rattle.raid_recon.specs.Array.{IsArray}
 use Rattle.top_bay.specs.Asked.{Asked}
 use Rattle.top_close.specs.Settled.{HaveDevices, IsLiveOn}
 use Rattle.top_open.specs.Opening.{Opened}
-use Rattle.top_open.specs.Seats.{is_same}
 use Rattle.top_rounds.specs.Passes.{CanBeLabelled}
 use Rattle.top_duty.specs.Duty.{with_dead}
 use Rattle.top_duty.specs.Fit.{IsFit}
 use Rattle.top_duty.specs.Opening.{needs_of}
 use Rattle.top_duty.proofs.Counts.{none_counted}
+use Rattle.top_duty.proofs.Deadened.{dead_fewer, dead_length, dead_live}
 
 -- a device that has a sector is there
 there_if_sized : {D : Type 0} (g : Ghosts D) (ds : List (Option D)) (d : ℕ) → 1 ≤ size_of g ds d → IsSome (device_at ds d)
@@ -83,51 +81,6 @@ module _ (n : ℕ) (columns : List Column) (filling : count_by is_set_filling co
       count_at_most is_set_spread columns few c k (ap (λ (o : Option Column). passes is_set_spread o) x.1 ∙ spread_set n done x.0 x.2)
       (ap (λ (o : Option Column). passes is_set_spread o) z.1 ∙ spread_set n other z.0 z.2)
 
--- ## The column that the action fails
-
-length-slice_set : {X : Type 0} (xs : List X) (i : ℕ) (x : X) → length (slice_set xs i x) ≡ length xs
-length-slice_set [] i x = refl
-length-slice_set (y ∷ xs) zero x = refl
-length-slice_set (y ∷ xs) (suc i) x = ap suc (length-slice_set xs i x)
-
-dead_length : (e : Option ℕ) (columns : List Column) → length (with_dead e columns) ≡ length columns
-dead_length None columns = refl
-dead_length (Some c) columns = length-slice_set columns c column.Dead
-
--- a column that isn't dead is what it was, and another
-dead_get : (e : Option ℕ) (columns : List Column) (c : ℕ) (x : Column) → slice_get (with_dead e columns) c ≡ Some x → (x ≡ column.Dead) ⊎ ((slice_get columns c ≡ Some x) × (is_same e c ≡ false))
-dead_get None columns c x h = inr (h, refl)
-dead_get (Some i) columns c x h = go (i == c) refl
-  where
-    here : i ≡ c → (slice_get (slice_set columns i column.Dead) c ≡ Some column.Dead) ⊎ (slice_get (slice_set columns i column.Dead) c ≡ slice_get columns c) → x ≡ column.Dead
-    here same (inl e) = cc (e, h)
-    here same (inr e) =
-        let was : slice_get columns i ≡ Some x = ap (λ (j : ℕ). slice_get columns j) same ∙ (sym e ∙ h) in
-        let dead : slice_get (slice_set columns i column.Dead) i ≡ Some column.Dead = get_set_same columns i x column.Dead was in
-        let now : slice_get (slice_set columns i column.Dead) i ≡ Some x = ap (λ (j : ℕ). slice_get (slice_set columns i column.Dead) j) same ∙ h in
-        cc (dead, now)
-
-    go : (b : Bool) → (i == c) ≡ b → (x ≡ column.Dead) ⊎ ((slice_get columns c ≡ Some x) × (is_same (Some i) c ≡ false))
-    go true e = inl (here (eqb-true i c e) (get_set_either columns i c column.Dead))
-    go false e = inr (sym (get_set_other columns i c column.Dead (λ f. eqb-false i c e (sym f))) ∙ h, e)
-
-dead_live : (e : Option ℕ) (columns : List Column) (c d : ℕ) → IsLiveOn (with_dead e columns) c d → IsLiveOn columns c d × (is_same e c ≡ false)
-dead_live e columns c d h = go (dead_get e columns c (column.Live d) h)
-  where
-    go : (column.Live d ≡ column.Dead) ⊎ (IsLiveOn columns c d × (is_same e c ≡ false)) → IsLiveOn columns c d × (is_same e c ≡ false)
-    go (inl other) = cc other
-    go (inr at) = at
-
--- no more of them pass a test that a dead one doesn't
-fewer : (p : Column → Bool) (columns : List Column) (i : ℕ) → p column.Dead ≡ false → count_by p (slice_set columns i column.Dead) ≤ count_by p columns
-fewer p [] i dead = omega arith
-fewer p (x ∷ xs) zero dead = omega (arith, sum_by-cons (λ (y : Column). cond (p y) 1 0) x xs, sum_by-cons (λ (y : Column). cond (p y) 1 0) column.Dead xs, ap (λ (b : Bool). cond {A = ℕ} b 1 0) dead)
-fewer p (x ∷ xs) (suc i) dead = omega (arith, fewer p xs i dead, sum_by-cons (λ (y : Column). cond (p y) 1 0) x xs, sum_by-cons (λ (y : Column). cond (p y) 1 0) x (slice_set xs i column.Dead))
-
-dead_fewer : (p : Column → Bool) (e : Option ℕ) (columns : List Column) → p column.Dead ≡ false → count_by p (with_dead e columns) ≤ count_by p columns
-dead_fewer p None columns dead = omega arith
-dead_fewer p (Some i) columns dead = fewer p columns i dead
-
 module _ {D : Type 0} (g : Ghosts D) (k : Asked) (o : Opened) (devices : List (Option D)) (fit : IsFit g k o devices) where
   -- devices that may be settled
   pub fit_devices : HaveDevices o.columns devices
@@ -149,11 +102,11 @@ module _ {D : Type 0} (g : Ghosts D) (k : Asked) (o : Opened) (devices : List (O
   need_is : IsConf k.conf → 64 + o.rows * k.conf.unit ≡ 64 + (shape_of k.conf o.rows).rows * (shape_of k.conf o.rows).unit_sectors
   need_is is = ap (λ (n : ℕ). 64 + n * k.conf.unit) (sym (shape-rows k.conf o.rows is)) ∙ ap (λ (n : ℕ). 64 + (shape_of k.conf o.rows).rows * n) (sym (shape-unit k.conf o.rows is))
 
-  -- where the action fails no column, each column's device is there with room for the rows
-  pub fit_there : IsConf k.conf → (needs_of k).excused ≡ None → (n c d : ℕ) → HasDevice (map (state_set n) o.columns) c d
+  -- each column's device is there with room for the rows
+  pub fit_there : IsConf k.conf → (n c d : ℕ) → HasDevice (map (state_set n) o.columns) c d
       → (x : D) × (slice_get devices d ≡ Some (Some x)) × (64 + (shape_of k.conf o.rows).rows * (shape_of k.conf o.rows).unit_sectors ≤ g.size x)
-  fit_there is none n c d had =
-      let large = fit.large c d (had_live n o.columns fit.filling c d had) (ap (λ (e : Option ℕ). is_same e c) none) in
+  fit_there is n c d had =
+      let large = fit.large c d (had_live n o.columns fit.filling c d had) in
       with_sectors g devices d (64 + (shape_of k.conf o.rows).rows * (shape_of k.conf o.rows).unit_sectors) (λ e. omega (arith, e)) (subst (λ (m : ℕ). m ≤ size_of g devices d) (need_is is) large)
 
   -- an array for sweeps, as the action makes its columns
@@ -168,7 +121,7 @@ module _ {D : Type 0} (g : Ghosts D) (k : Asked) (o : Opened) (devices : List (O
     };
     there = λ c d had.
         let live = dead_live (needs_of k).excused o.columns c d (had_live n columns filling c d had) in
-        subst (λ (m : ℕ). m ≤ size_of g devices d) (need_is is) (fit.large c d live.0 live.1);
+        subst (λ (m : ℕ). m ≤ size_of g devices d) (need_is is) (fit.large c d live.0);
   }
     where
       n : ℕ
@@ -183,6 +136,14 @@ module _ {D : Type 0} (g : Ghosts D) (k : Asked) (o : Opened) (devices : List (O
       spread : count_by is_set_spread columns ≤ 1
       spread = omega (arith, dead_fewer is_set_spread (needs_of k).excused o.columns refl, fit.spread)
 
-  -- and as it was opened, where the action fails none
-  pub fit_array : IsConf k.conf → (needs_of k).excused ≡ None → IsArray g (shape_of k.conf o.rows) o.columns devices
-  fit_array is none = subst (λ (e : Option ℕ). IsArray g (shape_of k.conf o.rows) (with_dead e o.columns) devices) none (fit_judged is)
+  -- and as it was opened
+  pub fit_array : IsConf k.conf → IsArray g (shape_of k.conf o.rows) o.columns devices
+  fit_array is = record {
+    entries = fit.entries ∙ sym (shape-columns k.conf o.rows is);
+    order = record {
+      one_column = fit_apart (shape_of k.conf o.rows).stripes;
+      one_filling = λ c e d f done other one two. absurd (not_filling (shape_of k.conf o.rows).stripes o.columns fit.filling c d done one);
+      one_spread = λ c e done other one two. one_spread (shape_of k.conf o.rows).stripes o.columns fit.filling fit.spread c e done other one two;
+    };
+    there = λ c d had. subst (λ (m : ℕ). m ≤ size_of g devices d) (need_is is) (fit.large c d (had_live (shape_of k.conf o.rows).stripes o.columns fit.filling c d had));
+  }

@@ -1,28 +1,25 @@
 -- An array that was opened over the devices that were looked at is fit for what is to be done.
-use Rattle.std.specs.Prelude.{◌≡◌, ◌≤◌, ℕ, zero, suc, Bool, true, false, List, [], ◌∷◌, length, get_or, map, All, Option, Some, None, IsSome, IsTrue, Ok, if◌then◌else◌, nat_eq, slice_get, slice_index}
-use Rattle.std.proofs.Common.{arith, refl, sym, ap, subst, ◌∙◌}
+use Rattle.std.specs.Prelude.{◌≡◌, ◌⊎◌, ◌+◌, ◌*◌, ◌≤◌, ℕ, zero, suc, Bool, true, List, [], ◌∷◌, length, get_or, map, All, Option, Some, IsSome, Ok, slice_get, slice_index}
+use Rattle.std.proofs.Common.{arith, refl, ap, subst, inl, inr, ◌∙◌}
 use Rattle.std.proofs.lemmas.Option.{slice_get-get_or}
 use Rattle.blk_disk.specs.Devices.{size_of}
 use Rattle.blk_disk.specs.declared.disk.Disk.{Ghosts}
-use Rattle.blk_disk.proofs.DeviceLaws.{changes_size}
-use Rattle.lay_decluster.specs.Shapes.{declustered, spared}
 use Rattle.eng_cols.specs.declared.column.Column.{Column}
 use Rattle.eng_cols.specs.declared.column.Column.TheVariants as column
 use Rattle.eng_cols.specs.Cols.{Spread, state_set}
 use Rattle.eng_cols.specs.Laws.{HaveSpares}
-use Rattle.raid_conf.specs.declared.given.Given.{Given}
-use Rattle.raid_conf.specs.Designs.{blocks_of}
-use Rattle.raid_conf.specs.Form.{IsConf, IsDesignOf}
-use Rattle.raid_conf.specs.Layouts.{design_shape, level_shape, plain_of, plain_shape, shape_of}
-use Rattle.raid_conf.specs.Levels.{has_design}
+use Rattle.raid_conf.specs.Form.{IsConf}
+use Rattle.raid_conf.specs.Layouts.{shape_of}
+use Rattle.raid_label.specs.Bytes.{IsHeld}
 use Rattle.raid_label.specs.declared.label.Label.{Label}
 use Rattle.top_bay.specs.Asked.{Asked}
+use Rattle.top_bay.specs.Views.{IsWithin}
+use Rattle.top_close.specs.Settled.{IsLiveOn}
 use Rattle.top_open.specs.declared.fronts.Front.{Front}
-use Rattle.top_open.specs.declared.fronts.Front.TheVariants as front
 use Rattle.top_open.specs.Opening.{Opened, opened_in, opened_seen}
 use Rattle.top_open.specs.Plan.{sectors_for}
-use Rattle.top_open.proofs.Columns.{WasHeld, held_devices, no_filling, numbered_devices}
-use Rattle.top_open.proofs.LargeEnough.{large_devices, large_unlabelled}
+use Rattle.top_open.proofs.Columns.{no_filling, numbered_devices}
+use Rattle.top_open.proofs.LargeEnough.{large_devices}
 use Rattle.top_open.proofs.Newest.{newest_may_follow}
 use Rattle.top_open.proofs.OneSpread.{one_spread}
 use Rattle.top_open.proofs.OwnDevices.{own_devices}
@@ -31,27 +28,14 @@ use Rattle.top_duty.specs.declared.duty.Duty as declared_duty
 use Rattle.top_duty.specs.declared.duty.Duty.TheVariants as duty
 use Rattle.top_duty.specs.Duty.{states_of}
 use Rattle.top_duty.specs.Fit.{IsFit}
-use Rattle.top_duty.specs.Opening.{needs_of, plan_of, present_of, reads_fronts, sizes_of, unread}
-use Rattle.top_duty.specs.Taken.{Reads}
+use Rattle.top_duty.specs.Opening.{as_opened, needs_of, opened_by, plan_of, present_of, sizes_of}
 use Rattle.top_duty.specs.Views.{IsDutyOver, IsFitFor, IsReady}
-use Rattle.top_duty.proofs.Opens.{opened_count, opens_so, opened_filling, opened_rows, opened_spread, present_count}
+use Rattle.top_duty.proofs.Deadened.{small_get, small_live}
+use Rattle.top_duty.proofs.Opens.{opened_count, opened_filling, opened_rows, opened_spread, present_count, was_opened}
+use Rattle.top_duty.proofs.Places.{spare_by}
 use Rattle.top_duty.proofs.Sized.{size_at}
+use Rattle.top_duty.proofs.Starting.{may_start}
 use Rattle.top_duty.proofs.Tables.{plan_is}
-
--- ## Sectors
-
--- nothing was read
-unread_at : (n d : ℕ) (bytes : List ℕ) → slice_get (unread n) d ≡ Some (front.Held bytes) → ⊥
-unread_at zero d bytes h = cc h
-unread_at (suc n) zero bytes h = cc h
-unread_at (suc n) (suc d) bytes h = unread_at n d bytes h
-
--- a device whose sector 0 was read has one
-sized_read : {D : Type 0} (g : Ghosts D) (reads : Bool) (old new : List (Option D)) (fronts : List Front) (d : ℕ) → Reads g reads old new fronts → WasHeld fronts d → 1 ≤ size_of g new d
-sized_read g true old new fronts d read held =
-    let is = read.0.each d (front.Held held.0) held.1 in
-    omega (arith, is.0, changes_size g (λ _ _. ⊥) old new d read.2)
-sized_read g false old new fronts d read held = absurd (unread_at (length old) d held.0 (ap (λ (l : List Front). slice_get l d) (sym read.1) ∙ held.1))
 
 -- ## Spare places
 
@@ -66,67 +50,85 @@ spread_set n done column.Dead e = cc e
 spread_set n done (column.Filling d) e = cc e
 spread_set n done column.Spread e = refl
 
--- at level D each stripe has one
-with_design : IsTrue (has_design 68)
-unfolding has_design
-with_design = refl
-
-spare_by : (level n u rows : ℕ) (given : Option Given) → level ≡ 68 → IsDesignOf level n given → (s : ℕ) → IsSome ((level_shape level n u rows given).spare s)
-unfolding design_shape
-spare_by level n u rows None e is s = let bad : true ≡ false = sym with_design ∙ (ap has_design (sym e) ∙ is) in cc bad
-spare_by level n u rows (Some given) e is s =
-    subst (λ (b : Bool). IsSome ((if b then design_shape level (blocks_of given) u rows else plain_shape (plain_of level) n u rows).spare s)) (sym is.0)
-    (subst (λ (l : ℕ). IsSome ((if nat_eq l 68 then spared (blocks_of given) u rows else declustered (blocks_of given) u rows).spare s)) (sym e) refl)
-
 -- ## All of it
 
-module _ {D : Type 0} (g : Ghosts D) (k : Asked) (o : Opened) (old devices : List (Option D)) (fronts : List Front) (is : IsConf k.conf) (opens : opened_in (needs_of k) (plan_of k.conf) (present_of k.conf) (sizes_of g.size devices) fronts ≡ Ok o) (read : Reads g (reads_fronts k.command.action) old devices fronts) where
-  sized : (c d : ℕ) → slice_get o.columns c ≡ Some (column.Live d) → 1 ≤ size_of g devices d
-  sized c d at = go o.newest refl
-    where
-      go : (l : Option Label) → o.newest ≡ l → 1 ≤ size_of g devices d
-      go None e =
-          let large : sectors_for (plan_of k.conf) o.rows ≤ slice_index (sizes_of g.size devices) d = large_unlabelled (needs_of k) (plan_of k.conf) (present_of k.conf) (sizes_of g.size devices) fronts o (plan_is k.conf is) opens e c d at in
-          omega (arith, large, size_at g devices d)
-      go (Some l) e = sized_read g (reads_fronts k.command.action) old devices fronts d read (held_devices (needs_of k) (plan_of k.conf) (present_of k.conf) (sizes_of g.size devices) fronts o opens l e c d at)
+module _ {D : Type 0} (g : Ghosts D) (k : Asked) (o : Opened) (devices : List (Option D)) (fronts : List Front) (is : IsConf k.conf) (opens : opened_by k (sizes_of g.size devices) fronts ≡ Ok o) where
+  abbrev sizes : List ℕ
+  sizes = sizes_of g.size devices
+
+  abbrev was : (b : Opened) × (opened_in (needs_of k) (plan_of k.conf) (present_of k.conf) sizes fronts ≡ Ok b) × (as_opened k sizes b ≡ o)
+  was = was_opened k sizes fronts o opens
+
+  abbrev b : Opened
+  b = was.0
+
+  abbrev needs : ℕ
+  needs = sectors_for (plan_of k.conf) b.rows
+
+  -- what a column is, if it isn't dead, it is by the opening
+  was_at : (c : ℕ) (x : Column) → slice_get o.columns c ≡ Some x → (x ≡ column.Dead) ⊎ (slice_get b.columns c ≡ Some x)
+  was_at c x at = small_get (needs_of k).excused sizes needs b.columns c x (ap (λ (z : Opened). slice_get z.columns c) was.2 ∙ at)
+
+  live_was : (c d : ℕ) → IsLiveOn o.columns c d → IsLiveOn b.columns c d × (needs ≤ slice_index sizes d)
+  live_was c d at = small_live (needs_of k).excused sizes needs b.columns
+      (λ e f here other. large_devices (needs_of k) (plan_of k.conf) (present_of k.conf) sizes fronts b (plan_is k.conf is) was.1 e f here other)
+      c d (ap (λ (z : Opened). slice_get z.columns c) was.2 ∙ at)
+
+  sized : (c d : ℕ) → IsLiveOn o.columns c d → 1 ≤ size_of g devices d
+  sized c d at = let enough = (live_was c d at).1 in omega (arith, enough, size_at g devices d)
 
   spares : HaveSpares (shape_of k.conf o.rows) (states_of (shape_of k.conf o.rows) o.columns)
-  spares c s done e within =
-      let x = map_was (state_set (shape_of k.conf o.rows).stripes) o.columns c (Spread done) e in
-      let at : slice_get o.columns c ≡ Some column.Spread = x.1 ∙ ap (λ (z : Column). Some z) (spread_set (shape_of k.conf o.rows).stripes done x.0 x.2) in
-      spare_by k.conf.level k.conf.columns k.conf.unit o.rows k.conf.design ((one_spread (needs_of k) (plan_of k.conf) (present_of k.conf) (sizes_of g.size devices) fronts o opens c c at at).1) is.design s
+  spares c s done e within = go (was_at c column.Spread at)
+    where
+      x : (x : Column) × (slice_get o.columns c ≡ Some x) × (state_set (shape_of k.conf o.rows).stripes x ≡ Spread done)
+      x = map_was (state_set (shape_of k.conf o.rows).stripes) o.columns c (Spread done) e
+
+      at : slice_get o.columns c ≡ Some column.Spread
+      at = x.1 ∙ ap (λ (z : Column). Some z) (spread_set (shape_of k.conf o.rows).stripes done x.0 x.2)
+
+      go : (column.Spread ≡ column.Dead) ⊎ (slice_get b.columns c ≡ Some column.Spread) → IsSome ((shape_of k.conf o.rows).spare s)
+      go (inl other) = absurd (let z : ⊥ = cc other in z)
+      go (inr here) = spare_by k.conf.level k.conf.columns k.conf.unit o.rows k.conf.design ((one_spread (needs_of k) (plan_of k.conf) (present_of k.conf) sizes fronts b was.1 c c here here).1) is.design s
 
   numbered : All (IsNumbered (length o.columns)) o.columns
   numbered c z lt = go (get_or o.columns c z) (slice_get-get_or o.columns c z lt)
     where
+      none : (d : ℕ) → (column.Filling d ≡ column.Dead) ⊎ (slice_get b.columns c ≡ Some (column.Filling d)) → ⊥
+      none d (inl other) = cc other
+      none d (inr here) = no_filling (needs_of k) (plan_of k.conf) (present_of k.conf) sizes fronts b was.1 c d here
+
       go : (x : Column) → slice_get o.columns c ≡ Some x → IsNumbered (length o.columns) x
-      go (column.Live d) at = omega (arith, numbered_devices (needs_of k) (plan_of k.conf) (present_of k.conf) (sizes_of g.size devices) fronts o opens c d at, present_count k.conf is, opened_count k (sizes_of g.size devices) fronts o is opens, is.spares_most)
+      go (column.Live d) at = omega (arith, numbered_devices (needs_of k) (plan_of k.conf) (present_of k.conf) sizes fronts b was.1 c d (live_was c d at).0, present_count k.conf is, opened_count k sizes fronts o is opens, is.spares_most)
       go column.Dead at = tt
-      go (column.Filling d) at = absurd (no_filling (needs_of k) (plan_of k.conf) (present_of k.conf) (sizes_of g.size devices) fronts o opens c d at)
+      go (column.Filling d) at = absurd (none d (was_at c (column.Filling d) at))
       go column.Spread at = tt
 
   pub is_fit : IsFit g k o devices
   is_fit = record {
-    entries = opened_count k (sizes_of g.size devices) fronts o is opens;
-    filling = opened_filling k (sizes_of g.size devices) fronts o is opens;
-    spread = opened_spread k (sizes_of g.size devices) fronts o is opens;
+    entries = opened_count k sizes fronts o is opens;
+    filling = opened_filling k sizes fronts o is opens;
+    spread = opened_spread k sizes fronts o is opens;
     spares = spares;
-    apart = own_devices (needs_of k) (plan_of k.conf) (present_of k.conf) (sizes_of g.size devices) fronts o opens;
+    apart = λ c e d one two. own_devices (needs_of k) (plan_of k.conf) (present_of k.conf) sizes fronts b was.1 c e d (live_was c d one).0 (live_was e d two).0;
     sized = sized;
-    large = λ c d at other.
-        let large : sectors_for (plan_of k.conf) o.rows ≤ slice_index (sizes_of g.size devices) d = large_devices (needs_of k) (plan_of k.conf) (present_of k.conf) (sizes_of g.size devices) fronts o (plan_is k.conf is) opens c d at other in
-        omega (arith, large, size_at g devices d);
+    large = λ c d at.
+        let enough : needs ≤ slice_index sizes d = (live_was c d at).1 in
+        let rows : b.rows ≡ o.rows = ap (λ (z : Opened). z.rows) was.2 in
+        let need : needs ≡ 64 + o.rows * k.conf.unit = ap (λ (n : ℕ). 64 + n * k.conf.unit) rows in
+        omega (arith, need, enough, size_at g devices d);
     numbered = numbered;
-    rows = opened_rows k (sizes_of g.size devices) fronts o is opens;
-    newest = newest_may_follow (needs_of k) (plan_of k.conf) (present_of k.conf) (sizes_of g.size devices) fronts o opens;
+    rows = opened_rows k sizes fronts o is opens;
+    newest = subst (λ (z : Opened). (l : Label) → z.newest ≡ Some l → IsHeld l × ((needs_of k).writes ≡ true → l.counter ≤ 4294901760)) was.2
+        (newest_may_follow (needs_of k) (plan_of k.conf) (present_of k.conf) sizes fronts b was.1);
   }
 
 -- so is what is to be done
-pub fit_for : {D : Type 0} (g : Ghosts D) (k : Asked) (old devices : List (Option D)) (fronts : List Front) (d : declared_duty.Duty) → IsConf k.conf → Reads g (reads_fronts k.command.action) old devices fronts
+pub fit_for : {D : Type 0} (g : Ghosts D) (k : Asked) (devices : List (Option D)) (fronts : List Front) (d : declared_duty.Duty) → IsWithin k
     → IsDutyOver k (sizes_of g.size devices) fronts d → IsFitFor g k devices d
-fit_for g k old devices fronts (duty.OnArray r) is read over =
-    let ready : IsReady k (sizes_of g.size devices) fronts (opened_seen r.opened) = over.1.ready in
-    is_fit g k (opened_seen r.opened) old devices fronts is (opens_so k (sizes_of g.size devices) fronts (opened_seen r.opened) ready.opened) read
-fit_for g k old devices fronts (duty.Shows o) is read over = tt
-fit_for g k old devices fronts duty.OneLabel is read over = tt
-fit_for g k old devices fronts duty.PrintConf is read over = tt
+fit_for g k devices fronts (duty.OnArray r) within over =
+    let o = opened_seen r.opened in
+    let ready : IsReady k (sizes_of g.size devices) fronts o r.start = over.1.ready in
+    (is_fit g k o devices fronts within.conf ready.opened, may_start g k o devices fronts within ready.opened r.start ready.starts)
+fit_for g k devices fronts (duty.Shows o) within over = tt
+fit_for g k devices fronts duty.OneLabel within over = tt
+fit_for g k devices fronts duty.PrintConf within over = tt

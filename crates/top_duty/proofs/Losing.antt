@@ -12,7 +12,7 @@ use Rattle.eng_cols.specs.Lost.{IsLost, NotLost}
 use Rattle.top_duty.specs.Duty.{LossIs, states_of, with_dead}
 use Rattle.top_duty.specs.Views.{with_killed}
 
-set_dead : (n : ℕ) (columns : List Column) (c : ℕ) → slice_set (map (state_set n) columns) c Dead ≡ map (state_set n) (slice_set columns c column.Dead)
+pub set_dead : (n : ℕ) (columns : List Column) (c : ℕ) → slice_set (map (state_set n) columns) c Dead ≡ map (state_set n) (slice_set columns c column.Dead)
 set_dead n [] c = refl
 set_dead n (x ∷ columns) zero = refl
 set_dead n (x ∷ columns) (suc c) = ap (λ (l : List ColumnState). state_set n x ∷ l) (set_dead n columns c)

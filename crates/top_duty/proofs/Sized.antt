@@ -138,5 +138,5 @@ any_kind rose (status.Lost f s t) h = tt
 any_kind rose (status.Label f s t u) h = tt
 any_kind rose (status.Small f s t) h = tt
 any_kind rose (status.NotInSync n) h = absurd h
-any_kind rose status.NoSpare h = absurd h
+any_kind rose status.NoSpare h = tt
 any_kind rose (status.LongText n) h = tt

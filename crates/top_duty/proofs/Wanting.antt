@@ -1,17 +1,20 @@
 -- What is wanted, by how far the array was made ready.
-use Rattle.std.specs.Prelude.{◌≡◌, ◌⊎◌, ◌&&◌, ℕ, true, false, List, length, nat_lt, Option, Some, None, Result, Ok, Err}
+use Rattle.std.specs.Prelude.{◌≡◌, ◌⊎◌, ◌&&◌, ◌+◌, ℕ, true, false, List, length, nat_lt, Option, Some, None, Result, Ok, Err}
+use Rattle.std.specs.Option.{ForSome}
 use Rattle.std.proofs.Common.{refl, sym, ap, subst, inl, inr, ◌∙◌}
 use Rattle.lay_core.specs.Layout.{Shape, blocks_in}
+use Rattle.eng_array.specs.Starts.{column_of}
+use Rattle.eng_array.specs.declared.start.Start.{Start}
 use Rattle.eng_cols.specs.declared.column.Column.{Column}
 use Rattle.eng_cols.specs.declared.spot.Loss.{Loss}
 use Rattle.graph_text.specs.Format.{Named}
 use Rattle.raid_conf.specs.Layouts.{shape_of}
 use Rattle.raid_script.specs.Asked.{Asked as Item}
-use Rattle.top_bound.specs.Bound.{trace_sum}
+use Rattle.top_bound.specs.Bound.{rebuilds_sum, trace_sum}
 use Rattle.top_words.specs.Asked.{Action, Io, Sweep, Show, Init, Check, Rewrite, Print, Fail, ShowLabel, Label, Rebuild}
 use Rattle.top_bay.specs.Asked.{Asked, names_of}
 use Rattle.top_open.specs.declared.fronts.Front.{Front}
-use Rattle.top_open.specs.Opening.{Opened, opened_in, opened_seen}
+use Rattle.top_open.specs.Opening.{Opened, opened_seen}
 use Rattle.top_open.specs.declared.fault.OpenFault.{OpenFault}
 use Rattle.top_open.specs.declared.fault.OpenFault.TheVariants as fault
 use Rattle.top_status.specs.declared.status.Status.{Status}
@@ -21,9 +24,11 @@ use Rattle.top_duty.specs.declared.duty.Duty as declared_duty
 use Rattle.top_duty.specs.declared.duty.Duty.TheVariants as duty
 use Rattle.top_duty.specs.declared.kind.Kind.{Kind}
 use Rattle.top_duty.specs.declared.kind.Kind.TheVariants as kind
-use Rattle.top_duty.specs.Duty.{Admitted, Duty, OnArray, Shows, OneLabel, PrintConf, IsWanted, LossIs, WantsMemory, admitted_with, beside_dead, clients_by, columns_of, duty_by, duty_for, is_past, is_past_bound, judged_states, layout_of, lost_by, traces, with_dead}
-use Rattle.top_duty.specs.Opening.{kind_of, needs_of, opened_by, plan_of, present_of, status_of}
-use Rattle.top_duty.specs.Views.{IsDutyOver, IsReady, IsRefusal, RefusedAfter, RefusedHere, RefusedIf, dead_beside, duty_seen}
+use Rattle.top_duty.specs.Duty.{Admitted, Duty, OnArray, Shows, OneLabel, PrintConf, IsWanted, LossIs, WantsMemory, admitted_with, beside_dead, clients_by, columns_of, duty_by, duty_for, is_past, is_past_bound, is_short, judged_states, layout_of, lost_by, rebuilds_by, rebuilds_of, traces, with_dead}
+use Rattle.top_duty.specs.Opening.{kind_of, needs_of, opened_by, status_of}
+use Rattle.top_duty.specs.Start.{start_in}
+use Rattle.top_duty.specs.Views.{IsDutyOver, IsReady, IsRefusal, MayBeDone, RefusedAfter, RefusedHere, RefusedIf, dead_beside, duty_seen}
+use Rattle.top_duty.proofs.Counting.{rebuilds_dead, rebuilds_none}
 
 ok_same : (r : Result Duty Refused) (a b : Admitted) → r ≡ Ok (OnArray a) → r ≡ Ok (OnArray b) → a ≡ b
 ok_same r a b one two = cc (one, two)
@@ -44,18 +49,25 @@ wanted_lost w a loss e h = record {
   is = rw e refl;
 }
 
-pub wanted_past : (w : Result Duty Refused) (a : Admitted) → w ≡ Ok (OnArray a) → LossIs (layout_of a) (judged_states a) None → is_past_bound a ≡ true → IsWanted w (Err (beside_dead a (status.Script 0 8)))
-wanted_past w a e h past = record {
+pub wanted_short : (w : Result Duty Refused) (a : Admitted) → w ≡ Ok (OnArray a) → LossIs (layout_of a) (judged_states a) None → is_short a ≡ true → IsWanted w (Err (only status.NoSpare))
+wanted_short w a e h short = record {
   loss = None;
   is_loss = λ b here. subst (λ (x : Admitted). LossIs (layout_of x) (judged_states x) None) (ok_same w a b e here) h;
-  is = rw (e, past) refl;
+  is = rw (e, short) refl;
 }
 
-pub wanted_ok : (w : Result Duty Refused) (a : Admitted) → w ≡ Ok (OnArray a) → LossIs (layout_of a) (judged_states a) None → is_past_bound a ≡ false → IsWanted w (Ok (OnArray a))
-wanted_ok w a e h past = record {
+pub wanted_past : (w : Result Duty Refused) (a : Admitted) → w ≡ Ok (OnArray a) → LossIs (layout_of a) (judged_states a) None → is_short a ≡ false → is_past_bound a ≡ true → IsWanted w (Err (beside_dead a (status.Script 0 8)))
+wanted_past w a e h found past = record {
   loss = None;
   is_loss = λ b here. subst (λ (x : Admitted). LossIs (layout_of x) (judged_states x) None) (ok_same w a b e here) h;
-  is = rw (e, past) refl;
+  is = rw (e, found, past) refl;
+}
+
+pub wanted_ok : (w : Result Duty Refused) (a : Admitted) → w ≡ Ok (OnArray a) → LossIs (layout_of a) (judged_states a) None → is_short a ≡ false → is_past_bound a ≡ false → IsWanted w (Ok (OnArray a))
+wanted_ok w a e h found past = record {
+  loss = None;
+  is_loss = λ b here. subst (λ (x : Admitted). LossIs (layout_of x) (judged_states x) None) (ok_same w a b e here) h;
+  is = rw (e, found, past) refl;
 }
 
 -- what isn't judged is wanted as it is
@@ -73,8 +85,8 @@ pub refused_after : (w : Result Duty Refused) (a : Admitted) (s : Status) → w 
     → (let r : Refused = record { status = s; dead = dead_beside (needs_of a.asked).excused (columns_of a) s } in IsWanted w (Err r) ⊎ WantsMemory w r)
 refused_after w a (status.Lost first second stripe) e h = inl (wanted_lost w a (record { first = first; second = second; stripe = stripe }) e h)
 refused_after w a (status.Script line code) e h =
-    inl (subst (λ (l : ℕ). IsWanted w (Err (beside_dead a (status.Script l code)))) (sym h.2)
-    (subst (λ (c : ℕ). IsWanted w (Err (beside_dead a (status.Script 0 c)))) (sym h.3) (wanted_past w a e h.0 h.1)))
+    inl (subst (λ (l : ℕ). IsWanted w (Err (beside_dead a (status.Script l code)))) (sym h.3)
+    (subst (λ (c : ℕ). IsWanted w (Err (beside_dead a (status.Script 0 c)))) (sym h.4) (wanted_past w a e h.0 h.1 h.2)))
 refused_after w a status.Memory e h = inr (a, e, refl)
 refused_after w a status.Ok e h = absurd h
 refused_after w a (status.Usage i) e h = absurd h
@@ -86,49 +98,69 @@ refused_after w a status.SinkFault e h = absurd h
 refused_after w a (status.Label a1 b c d) e h = absurd h
 refused_after w a (status.Small a1 b c) e h = absurd h
 refused_after w a (status.NotInSync n) e h = absurd h
-refused_after w a status.NoSpare e h = absurd h
+refused_after w a status.NoSpare e h = inl (wanted_short w a e h.0 h.1)
 refused_after w a (status.LongText n) e h = absurd h
 
--- a trace is kept of a script's items alone
-past_same : (y : Shape) (book : List Named) (n : ℕ) (action : Action) (scripted : List (List Item)) (blocks : ℕ)
-    → (traces action && nat_lt 1048576 (trace_sum y book n (clients_by action scripted blocks))) ≡ (traces action && nat_lt 1048576 (trace_sum y book n scripted))
+-- a trace is kept of a script's items alone, and of rebuilds
+past_same : (y : Shape) (book : List Named) (n count : ℕ) (action : Action) (scripted : List (List Item)) (blocks : ℕ)
+    → (traces action && nat_lt 1048576 (trace_sum y book n (clients_by action scripted blocks) + rebuilds_sum y n count)) ≡ (traces action && nat_lt 1048576 (trace_sum y book n scripted + rebuilds_sum y n count))
 unfolding clients_by
-past_same y book n (Io beside workers) scripted blocks = refl
-past_same y book n (Sweep seed clients ops workers) scripted blocks = refl
-past_same y book n Show scripted blocks = refl
-past_same y book n Init scripted blocks = refl
-past_same y book n Check scripted blocks = refl
-past_same y book n Rewrite scripted blocks = refl
-past_same y book n Print scripted blocks = refl
-past_same y book n (Fail comp) scripted blocks = refl
-past_same y book n (ShowLabel comp) scripted blocks = refl
-past_same y book n (Label serial) scripted blocks = refl
-past_same y book n (Rebuild in_place comp beside workers) scripted blocks = refl
+past_same y book n count (Io beside workers) scripted blocks = refl
+past_same y book n count (Sweep seed clients ops workers) scripted blocks = refl
+past_same y book n count Show scripted blocks = refl
+past_same y book n count Init scripted blocks = refl
+past_same y book n count Check scripted blocks = refl
+past_same y book n count Rewrite scripted blocks = refl
+past_same y book n count Print scripted blocks = refl
+past_same y book n count (Fail comp) scripted blocks = refl
+past_same y book n count (ShowLabel comp) scripted blocks = refl
+past_same y book n count (Label serial) scripted blocks = refl
+past_same y book n count (Rebuild in_place comp beside workers) scripted blocks = refl
 
-pub past_is : (k : Asked) (o : Opened) → is_past_bound (admitted_with k o) ≡ is_past (shape_of k.conf o.rows) k k.clients
-past_is k o = past_same (shape_of k.conf o.rows) k.book (length (names_of k.conf)) k.command.action k.clients (blocks_in (shape_of k.conf o.rows))
+-- its rebuilds are those of the columns as they are opened
+rebuilds_are : (k : Asked) (o : Opened) (start : Option Start) → ForSome start (λ s. (needs_of k).excused ≡ Some (column_of s))
+    → rebuilds_of (admitted_with k o start) ≡ rebuilds_by (shape_of k.conf o.rows) o.columns start
+rebuilds_are k o None named = rebuilds_none (shape_of k.conf o.rows) (with_dead (needs_of k).excused o.columns) o.columns
+rebuilds_are k o (Some s) named =
+    ap (λ (e : Option ℕ). rebuilds_by (shape_of k.conf o.rows) (with_dead e o.columns) (Some s)) (named s refl)
+    ∙ rebuilds_dead (shape_of k.conf o.rows) o.columns s
 
--- why what is asked isn't run is why what is admitted isn't
-pub after_if : (k : Asked) (o : Opened) (s : Status) → RefusedIf (shape_of k.conf o.rows) k (with_dead (needs_of k).excused o.columns) (Some s) → RefusedAfter (admitted_with k o) s
-after_if k o (status.Lost first second stripe) h = h
-after_if k o (status.Script line code) h = (h.0, past_is k o ∙ h.1, h.2, h.3)
-after_if k o status.Memory h = tt
-after_if k o status.Ok h = absurd h
-after_if k o (status.Usage i) h = absurd h
-after_if k o (status.Conf l c) h = absurd h
-after_if k o (status.GraphText l c) h = absurd h
-after_if k o status.BayFault h = absurd h
-after_if k o (status.NoFile n) h = absurd h
-after_if k o status.SinkFault h = absurd h
-after_if k o (status.Label a1 b c d) h = absurd h
-after_if k o (status.Small a1 b c) h = absurd h
-after_if k o (status.NotInSync n) h = absurd h
-after_if k o status.NoSpare h = absurd h
-after_if k o (status.LongText n) h = absurd h
+past_is : (k : Asked) (o : Opened) (start : Option Start) → ForSome start (λ s. (needs_of k).excused ≡ Some (column_of s))
+    → is_past_bound (admitted_with k o start) ≡ is_past (shape_of k.conf o.rows) k k.clients (rebuilds_by (shape_of k.conf o.rows) o.columns start)
+past_is k o start named =
+    past_same (shape_of k.conf o.rows) k.book (length (names_of k.conf)) (rebuilds_of (admitted_with k o start)) k.command.action k.clients (blocks_in (shape_of k.conf o.rows))
+    ∙ ap (λ (n : ℕ). is_past (shape_of k.conf o.rows) k k.clients n) (rebuilds_are k o start named)
+
+module _ (k : Asked) (o : Opened) (start : Option Start) (named : ForSome start (λ s. (needs_of k).excused ≡ Some (column_of s))) where
+  -- why what is asked isn't run is why what is admitted isn't
+  pub after_if : (s : Status) → RefusedIf (shape_of k.conf o.rows) k (with_dead (needs_of k).excused o.columns) (rebuilds_by (shape_of k.conf o.rows) o.columns start) start (Some s) → RefusedAfter (admitted_with k o start) s
+  after_if (status.Lost first second stripe) h = h
+  after_if (status.Script line code) h = (h.0, h.1.0, past_is k o start named ∙ h.1.1, h.1.2, h.1.3)
+  after_if status.NoSpare h = h
+  after_if status.Memory h = tt
+  after_if status.Ok h = absurd h.1
+  after_if (status.Usage i) h = absurd h.1
+  after_if (status.Conf l c) h = absurd h.1
+  after_if (status.GraphText l c) h = absurd h.1
+  after_if status.BayFault h = absurd h.1
+  after_if (status.NoFile n) h = absurd h.1
+  after_if status.SinkFault h = absurd h.1
+  after_if (status.Label a1 b c d) h = absurd h.1
+  after_if (status.Small a1 b c) h = absurd h.1
+  after_if (status.NotInSync n) h = absurd h.1
+  after_if (status.LongText n) h = absurd h.1
+
+  -- and where it isn't refused, it may be done
+  pub done_if : RefusedIf (shape_of k.conf o.rows) k (with_dead (needs_of k).excused o.columns) (rebuilds_by (shape_of k.conf o.rows) o.columns start) start None → MayBeDone (admitted_with k o start)
+  done_if h = record { kept = h.0; found = h.1.0; bound = past_is k o start named ∙ h.1.1 }
 
 -- the same of a layout and columns that are those
-pub if_same : (y z : Shape) (k : Asked) (columns cols : List Column) (r : Option Status) → y ≡ z → columns ≡ cols → RefusedIf y k columns r → RefusedIf z k cols r
-if_same y z k columns cols r one two h = subst (λ (x : Shape). RefusedIf x k cols r) one (subst (λ (l : List Column). RefusedIf y k l r) two h)
+pub if_same : (y z : Shape) (k : Asked) (columns cols opened others : List Column) (start : Option Start) (r : Option Status) → y ≡ z → columns ≡ cols → opened ≡ others
+    → RefusedIf y k columns (rebuilds_by y opened start) start r → RefusedIf z k cols (rebuilds_by z others start) start r
+if_same y z k columns cols opened others start r one two three h =
+    subst (λ (x : Shape). RefusedIf x k cols (rebuilds_by x others start) start r) one
+    (subst (λ (l : List Column). RefusedIf y k cols (rebuilds_by y l start) start r) three
+    (subst (λ (l : List Column). RefusedIf y k l (rebuilds_by y opened start) start r) two h))
 
 pub kind_after : (a : Admitted) (s : Status) → RefusedAfter a s → IsRefusal ⊥ s
 kind_after a (status.Lost first second stripe) h = tt
@@ -144,24 +176,23 @@ kind_after a status.SinkFault h = absurd h
 kind_after a (status.Label a1 b c d) h = absurd h
 kind_after a (status.Small a1 b c) h = absurd h
 kind_after a (status.NotInSync n) h = absurd h
-kind_after a status.NoSpare h = absurd h
+kind_after a status.NoSpare h = tt
 kind_after a (status.LongText n) h = absurd h
 
 -- ## By how the array was opened
 
-pub array_is : (k : Asked) (sizes : List ℕ) (fronts : List Front) (o : Opened) → opened_by k sizes fronts ≡ Ok o → duty_for kind.Array k sizes fronts ≡ Ok (OnArray (admitted_with k o))
-array_is k sizes fronts o e = rw e refl
+pub array_is : (k : Asked) (sizes : List ℕ) (fronts : List Front) (o : Opened) (start : Option Start) → opened_by k sizes fronts ≡ Ok o → start ≡ start_in k o sizes fronts
+    → duty_for kind.Array k sizes fronts ≡ Ok (OnArray (admitted_with k o start))
+array_is k sizes fronts o start e is = rw e (ap (λ (s : Option Start). Ok (OnArray (admitted_with k o s))) (sym is))
 
 -- an array is refused as it is opened, or memory was wanted
-pub refused_opening : (k : Asked) (sizes : List ℕ) (fronts : List Front) (f : OpenFault) → (f ≡ fault.Memory) ⊎ (opened_in (needs_of k) (plan_of k.conf) (present_of k.conf) sizes fronts ≡ Err f)
+pub refused_opening : (k : Asked) (sizes : List ℕ) (fronts : List Front) (f : OpenFault) → (f ≡ fault.Memory) ⊎ (opened_by k sizes fronts ≡ Err (only (status_of f)))
     → RefusedHere (duty_for kind.Array k sizes fronts) (only (status_of f))
-unfolding opened_by
 refused_opening k sizes fronts f (inl memory) = inr (ap (λ (x : OpenFault). only (status_of x)) memory)
 refused_opening k sizes fronts f (inr e) = inl (inl (wanted_err (duty_for kind.Array k sizes fronts) (only (status_of f)) (rw e refl)))
 
-pub refused_showing : (k : Asked) (sizes : List ℕ) (fronts : List Front) (f : OpenFault) → (f ≡ fault.Memory) ⊎ (opened_in (needs_of k) (plan_of k.conf) (present_of k.conf) sizes fronts ≡ Err f)
+pub refused_showing : (k : Asked) (sizes : List ℕ) (fronts : List Front) (f : OpenFault) → (f ≡ fault.Memory) ⊎ (opened_by k sizes fronts ≡ Err (only (status_of f)))
     → RefusedHere (duty_for kind.Shown k sizes fronts) (only (status_of f))
-unfolding opened_by
 refused_showing k sizes fronts f (inl memory) = inr (ap (λ (x : OpenFault). only (status_of x)) memory)
 refused_showing k sizes fronts f (inr e) = inl (inl (wanted_err (duty_for kind.Shown k sizes fronts) (only (status_of f)) (rw e refl)))
 
@@ -183,8 +214,8 @@ refused_duty k sizes fronts x r e h = subst (λ (w : Result Duty Refused). Refus
 pub duty_wanted : (k : Asked) (sizes : List ℕ) (fronts : List Front) (d : declared_duty.Duty) → IsDutyOver k sizes fronts d → IsWanted (duty_by k sizes fronts) (Ok (duty_seen k d))
 duty_wanted k sizes fronts (duty.OnArray r) h =
     let o = opened_seen r.opened in
-    let ready : IsReady k sizes fronts o = h.1.ready in
-    wanted_ok (duty_by k sizes fronts) (admitted_with k o) (duty_is k sizes fronts kind.Array h.0 ∙ array_is k sizes fronts o ready.opened) ready.kept ready.bound
+    let ready : IsReady k sizes fronts o r.start = h.1.ready in
+    wanted_ok (duty_by k sizes fronts) (admitted_with k o r.start) (duty_is k sizes fronts kind.Array h.0 ∙ array_is k sizes fronts o r.start ready.opened ready.starts) ready.kept ready.found ready.bound
 duty_wanted k sizes fronts (duty.Shows opened) h =
     wanted_shown (duty_by k sizes fronts) k (opened_seen opened) (duty_is k sizes fronts kind.Shown h.0 ∙ shown h.1)
   where

@@ -1,36 +1,42 @@
 -- What is to be done, or which refusal comes first: by words, texts, names, sizes, and sector 0 of the devices.
-use Rattle.std.specs.Prelude.{◌≡◌, ◌&&◌, ℕ, Bool, false, List, length, map, Option, Some, None, Result, Ok, Err, if◌then◌else◌, nat_lt, slice_set}
+use Rattle.std.specs.Prelude.{◌≡◌, ◌&&◌, ◌+◌, ℕ, Bool, false, List, length, map, Option, Some, None, is_none, Result, Ok, Err, if◌then◌else◌, nat_lt, slice_set}
+use Rattle.std.specs.Option.{option_map_or}
 use Rattle.lay_core.specs.Layout.{Shape, blocks_in}
+use Rattle.eng_array.specs.declared.start.Start.{Start}
+use Rattle.eng_array.specs.Starts.{column_of}
 use Rattle.eng_cols.specs.declared.column.Column.{Column}
 use Rattle.eng_cols.specs.declared.column.Column.TheVariants as column
 use Rattle.eng_cols.specs.declared.spot.Loss.{Loss}
 use Rattle.eng_cols.specs.Cols.{ColumnState, state_set}
 use Rattle.eng_cols.specs.Lost.{IsLost, NotLost}
 use Rattle.raid_conf.specs.Layouts.{shape_of}
+use Rattle.raid_recon.specs.Counts.{count_below, is_stripe_of}
 use Rattle.raid_text.specs.Text.{Text}
 use Rattle.raid_script.specs.Asked.{Asked as Item}
 use Rattle.raid_script.specs.Drawn.{drawn}
 use Rattle.top_bay.specs.Told.{Told}
 use Rattle.top_bay.specs.Asked.{Asked, asked_in, names_for, names_of}
-use Rattle.top_bound.specs.Bound.{trace_sum}
+use Rattle.top_bound.specs.Bound.{rebuilds_sum, trace_sum}
 use Rattle.top_open.specs.declared.fronts.Front.{Front}
 use Rattle.top_open.specs.Opening.{Opened}
 use Rattle.top_status.specs.declared.status.Status.{Status}
 use Rattle.top_status.specs.declared.status.Status.TheVariants as status
 use Rattle.top_status.specs.Dead.{dead_columns}
-use Rattle.top_status.specs.Refusals.{Refused, ◌then◌}
-use Rattle.top_words.specs.Asked.{Action, Io, Sweep}
+use Rattle.top_status.specs.Refusals.{Refused, ◌then◌, only}
+use Rattle.top_words.specs.Asked.{Action, Sweep, beside_of}
 use Rattle.top_duty.specs.declared.kind.Kind.{Kind}
 use Rattle.top_duty.specs.declared.kind.Kind.TheVariants as kind
 use Rattle.top_duty.specs.Opening.{kind_of, needs_of, opened_by, sizes_in}
+use Rattle.top_duty.specs.Start.{rebuilds, start_in}
 
 -- ## What is admitted
 
--- What was asked, the array as it is opened, and the items of all clients.
+-- What was asked, the array as it is opened, the items of all clients, and how a column is rebuilt, if one is.
 pub record Admitted : Type 0 where
   pub asked : Asked
   pub opened : Opened
   pub clients : List (List Item)
+  pub start : Option Start
 
 -- Something is done with an array; or an array is shown; or the label of one device; or the configuration is printed.
 pub data Duty : Type 0 where
@@ -60,7 +66,7 @@ states_of y columns = map (state_set y.stripes) columns
 abbrev pub states_in : Admitted → List ColumnState
 states_in a = states_of (layout_of a) (columns_of a)
 
--- the column that the action fails is dead
+-- the column that the action fails or rebuilds is dead
 abbrev pub with_dead : Option ℕ → List Column → List Column
 with_dead None columns = columns
 with_dead (Some c) columns = slice_set columns c column.Dead
@@ -77,12 +83,12 @@ unfoldable pub clients_by : Action → List (List Item) → ℕ → List (List I
 clients_by (Sweep seed clients ops workers) scripted blocks = drawn seed clients ops blocks
 clients_by action scripted blocks = scripted
 
-abbrev pub admitted_with : Asked → Opened → Admitted
-admitted_with k o = record { asked = k; opened = o; clients = clients_by k.command.action k.clients (blocks_in (shape_of k.conf o.rows)) }
+abbrev pub admitted_with : Asked → Opened → Option Start → Admitted
+admitted_with k o start = record { asked = k; opened = o; clients = clients_by k.command.action k.clients (blocks_in (shape_of k.conf o.rows)); start = start }
 
 -- what is to be done by what is made of the array
 abbrev pub duty_for : Kind → Asked → List ℕ → List Front → Result Duty Refused
-duty_for kind.Array k sizes fronts = opened_by k sizes fronts then λ o. Ok (OnArray (admitted_with k o))
+duty_for kind.Array k sizes fronts = opened_by k sizes fronts then λ o. Ok (OnArray (admitted_with k o (start_in k o sizes fronts)))
 duty_for kind.Shown k sizes fronts = opened_by k sizes fronts then λ o. Ok (Shows k o)
 duty_for kind.Label k sizes fronts = Ok (OneLabel k)
 duty_for kind.Conf k sizes fronts = Ok (PrintConf k)
@@ -115,25 +121,41 @@ abbrev pub unless_lost : Admitted → Option Loss → Result Admitted Refused
 unless_lost a None = Ok a
 unless_lost a (Some loss) = Err (lost_by a loss)
 
+-- a column is to be rebuilt, and there is nowhere to
+abbrev pub is_short : Admitted → Bool
+is_short a = rebuilds a.asked.command.action && is_none a.start
+
+-- that is refused, and no column is printed dead
+abbrev pub unless_short : Admitted → Result Admitted Refused
+unless_short a = if is_short a then Err (only status.NoSpare) else Ok a
+
 -- whether a trace is kept
 abbrev pub traces : Action → Bool
-traces (Io beside workers) = beside.trace
-traces action = false
+traces action = option_map_or (λ beside. beside.trace) (beside_of action) false
 
--- more events may come than a trace that is kept has room for
-abbrev pub is_past : Shape → Asked → List (List Item) → Bool
-is_past y asked clients = traces asked.command.action && nat_lt 1048576 (trace_sum y asked.book (length (names_of asked.conf)) clients)
+-- how many rebuilds there are: one for each of the column's stripes
+unfoldable pub rebuilds_by : Shape → List Column → Option Start → ℕ
+rebuilds_by y columns None = 0
+rebuilds_by y columns (Some start) = count_below (is_stripe_of y (states_of y columns) (column_of start)) y.stripes
+
+abbrev pub rebuilds_of : Admitted → ℕ
+rebuilds_of a = rebuilds_by (layout_of a) (judged_columns a) a.start
+
+-- so many items of clients, and so many rebuilds: more events may come than a trace that is kept has room for
+abbrev pub is_past : Shape → Asked → List (List Item) → ℕ → Bool
+is_past y asked clients rebuilds = traces asked.command.action
+    && nat_lt 1048576 (trace_sum y asked.book (length (names_of asked.conf)) clients + rebuilds_sum y (length (names_of asked.conf)) rebuilds)
 
 abbrev pub is_past_bound : Admitted → Bool
-is_past_bound a = is_past (layout_of a) a.asked a.clients
+is_past_bound a = is_past (layout_of a) a.asked a.clients (rebuilds_of a)
 
 -- a trace that is kept has room for all events
 abbrev pub unless_past : Admitted → Result Admitted Refused
 unless_past a = if is_past_bound a then Err (beside_dead a (status.Script 0 8)) else Ok a
 
--- an array that something is done with isn't lost, and its trace has room; nothing else is judged
+-- an array that something is done with isn't lost, has somewhere to rebuild to, and its trace has room; nothing else is judged
 abbrev pub judged : Duty → Option Loss → Result Duty Refused
-judged (OnArray a) loss = unless_lost a loss then λ kept. unless_past kept then λ bound. Ok (OnArray bound)
+judged (OnArray a) loss = unless_lost a loss then λ kept. unless_short kept then λ with_start. unless_past with_start then λ bound. Ok (OnArray bound)
 judged (Shows k o) loss = Ok (Shows k o)
 judged (OneLabel k) loss = Ok (OneLabel k)
 judged (PrintConf k) loss = Ok (PrintConf k)

@@ -1,4 +1,5 @@
 pub mod Opening
+pub mod Start
 pub mod Duty
 pub mod Taken
 pub mod Fit

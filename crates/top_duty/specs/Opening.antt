@@ -1,7 +1,9 @@
 -- How an array is opened: by what is asked, by the sizes of its devices, and by their labels.
-use Rattle.std.specs.Prelude.{ℕ, Bool, true, false, List, [], ◌∷◌, map, replicate, Option, Some, None, Result, Ok, Err}
+use Rattle.std.specs.Prelude.{ℕ, Bool, true, false, List, [], ◌∷◌, map, replicate, Option, Some, None, Result, Ok, Err, if◌then◌else◌, nat_le, slice_index, slice_index_or, slice_set}
 use Rattle.std.specs.Option.{option_map_or}
 use Rattle.blk_disk.specs.Devices.{at_home}
+use Rattle.eng_cols.specs.declared.column.Column.{Column}
+use Rattle.eng_cols.specs.declared.column.Column.TheVariants as column
 use Rattle.raid_conf.specs.declared.conf.Conf.{Conf}
 use Rattle.raid_conf.specs.Layouts.{table_rows, table_stripes}
 use Rattle.raid_conf.specs.Parameters.{parameters_of}
@@ -13,11 +15,11 @@ use Rattle.top_open.specs.declared.fronts.Front.{Front}
 use Rattle.top_open.specs.declared.fronts.Front.TheVariants as front
 use Rattle.top_open.specs.declared.plan.Plan.{Plan}
 use Rattle.top_open.specs.declared.plan.Needs.{Needs}
-use Rattle.top_open.specs.Plan.{AreWholeTables}
+use Rattle.top_open.specs.Plan.{AreWholeTables, sectors_for}
 use Rattle.top_open.specs.Opening.{Opened, opened_in}
 use Rattle.top_status.specs.declared.status.Status.{Status}
 use Rattle.top_status.specs.declared.status.Status.TheVariants as status
-use Rattle.top_status.specs.Refusals.{Refused, only}
+use Rattle.top_status.specs.Refusals.{Refused, ◌then◌, only}
 use Rattle.top_words.specs.Asked.{Action, Io, Sweep, Show, Init, Check, Rewrite, Print, Fail, ShowLabel, Label, Rebuild}
 use Rattle.top_duty.specs.declared.kind.Kind.{Kind}
 use Rattle.top_duty.specs.declared.kind.Kind.TheVariants as kind
@@ -60,7 +62,7 @@ looks = record { plain = false; labels = false; excused = None; own = false; wri
 abbrev pub writes : Needs
 writes = record { plain = false; labels = false; excused = None; own = false; writes = true }
 
--- What an action asks of the opening: a column is failed of a labelled array alone, and its own device is refused for nothing. First labels are written without a look at those that there are.
+-- What an action asks of the opening: a column is failed or rebuilt of a labelled array alone, and its own device is refused for nothing; the disk onto which it is rebuilt in place is judged for its size. First labels are written without a look at those that there are.
 abbrev pub needs_for : Action → Option ℕ → Needs
 needs_for (Io beside workers) comp = writes
 needs_for (Sweep seed clients ops workers) comp = writes
@@ -72,7 +74,7 @@ needs_for Print comp = looks
 needs_for (Fail name) comp = record { plain = false; labels = true; excused = comp; own = false; writes = true }
 needs_for (ShowLabel name) comp = looks
 needs_for (Label serial) comp = record { plain = true; labels = false; excused = None; own = false; writes = false }
-needs_for (Rebuild in_place name beside workers) comp = looks
+needs_for (Rebuild in_place name beside workers) comp = record { plain = false; labels = true; excused = comp; own = in_place; writes = true }
 
 abbrev pub needs_of : Asked → Needs
 needs_of k = needs_for k.command.action k.comp
@@ -127,9 +129,24 @@ abbrev pub or_fault : Result Opened OpenFault → Result Opened Refused
 or_fault (Ok opened) = Ok opened
 or_fault (Err fault) = Err (only (status_of fault))
 
+-- a column stays so where its device has so many sectors
+abbrev pub kept_if_large : List ℕ → ℕ → Column → Column
+kept_if_large sizes needs (column.Live device) = if nat_le needs (slice_index sizes device) then column.Live device else column.Dead
+kept_if_large sizes needs column.Dead = column.Dead
+kept_if_large sizes needs (column.Filling device) = column.Filling device
+kept_if_large sizes needs column.Spread = column.Spread
+
+-- the column that the action fails, whose device is refused for nothing, is dead where that has too few sectors
+abbrev pub without_small : Option ℕ → List ℕ → ℕ → List Column → List Column
+without_small None sizes needs columns = columns
+without_small (Some c) sizes needs columns = slice_set columns c (kept_if_large sizes needs (slice_index_or columns c column.Dead))
+
+abbrev pub as_opened : Asked → List ℕ → Opened → Opened
+as_opened k sizes o = record o { columns = without_small (needs_of k).excused sizes (sectors_for (plan_of k.conf) o.rows) o.columns }
+
 -- rows, columns and the newest label by sizes and fronts of the devices, or why the array is refused
 unfoldable pub opened_by : Asked → List ℕ → List Front → Result Opened Refused
-opened_by k sizes fronts = or_fault (opened_in (needs_of k) (plan_of k.conf) (present_of k.conf) sizes fronts)
+opened_by k sizes fronts = or_fault (opened_in (needs_of k) (plan_of k.conf) (present_of k.conf) sizes fronts) then λ o. Ok (as_opened k sizes o)
 
 -- so many rows are those of whole tables of the configuration
 abbrev pub AreRows : Conf → ℕ → Type 0

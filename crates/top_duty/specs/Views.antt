@@ -1,8 +1,9 @@
 -- What is seen of what is to be done, without where it lies in memory.
-use Rattle.std.specs.Prelude.{◌≡◌, ◌⊎◌, ◌≤◌, ◌*◌, ℕ, List, [], true, false, map, All, Vec, Option, Some, None, Ok, Err, Result}
+use Rattle.std.specs.Prelude.{◌≡◌, ◌⊎◌, ◌≤◌, ◌*◌, ◌&&◌, ℕ, List, [], true, false, map, All, Vec, Option, Some, None, is_none, Ok, Err, Result}
 use Rattle.std.specs.declared.alloc.Global.{Global}
 use Rattle.blk_disk.specs.declared.disk.Disk.{Ghosts}
 use Rattle.lay_core.specs.Layout.{Shape, blocks_in}
+use Rattle.eng_array.specs.declared.start.Start.{Start}
 use Rattle.eng_cols.specs.Changes.{killed}
 use Rattle.eng_cols.specs.Cols.{Columns, ColumnState, IsFor}
 use Rattle.eng_cols.specs.declared.column.Column.{Column}
@@ -15,6 +16,9 @@ use Rattle.raid_script.specs.Drawn.{drawn}
 use Rattle.top_bay.specs.Asked.{Asked}
 use Rattle.top_open.specs.declared.fronts.Front.{Front}
 use Rattle.top_open.specs.Opening.{Opened, opened_seen}
+use Rattle.top_open.specs.declared.fault.OpenFault.{OpenFault}
+use Rattle.top_open.specs.declared.fault.OpenFault.TheVariants as fault
+use Rattle.top_open.specs.declared.opened.Opened as declared_opened
 use Rattle.top_status.specs.declared.status.Status.{Status}
 use Rattle.top_status.specs.declared.status.Status.TheVariants as status
 use Rattle.top_status.specs.Dead.{dead_columns}
@@ -24,9 +28,10 @@ use Rattle.top_duty.specs.declared.duty.Duty as declared_duty
 use Rattle.top_duty.specs.declared.duty.Duty.TheVariants as duty
 use Rattle.top_duty.specs.declared.duty.Ready as declared_ready
 use Rattle.top_duty.specs.declared.kind.Kind.TheVariants as kind
-use Rattle.top_duty.specs.Duty.{Admitted, Duty, OnArray, Shows, OneLabel, PrintConf, IsWanted, WantsMemory, admitted_with, is_past, is_past_bound, judged_states, layout_of, states_of, with_dead}
-use Rattle.top_duty.specs.Fit.{IsFit}
-use Rattle.top_duty.specs.Opening.{AreRows, kind_of, opened_by}
+use Rattle.top_duty.specs.Duty.{Admitted, Duty, OnArray, Shows, OneLabel, PrintConf, IsWanted, WantsMemory, admitted_with, is_past, is_past_bound, is_short, judged_states, layout_of, states_of, with_dead}
+use Rattle.top_duty.specs.Fit.{IsFit, MayStart}
+use Rattle.top_duty.specs.Opening.{AreRows, kind_of, opened_by, status_of}
+use Rattle.top_duty.specs.Start.{has_failed, rebuilds, start_in}
 
 -- what items of clients ask for
 abbrev pub items_seen : List (Vec AnyItem Global) → List (List Item)
@@ -37,13 +42,22 @@ abbrev pub drawn_by : Action → ℕ → List (List Item)
 drawn_by (Sweep seed clients ops workers) blocks = drawn seed clients ops blocks
 drawn_by action blocks = []
 
+-- ## What is opened
+
+-- this is that opening; want of memory may come in its place
+abbrev pub OpensSo : Result declared_opened.Opened OpenFault → Result Opened Refused → Type 0
+OpensSo (Ok o) answer = answer ≡ Ok (opened_seen o)
+OpensSo (Err f) answer = (f ≡ fault.Memory) ⊎ (answer ≡ Err (only (status_of f)))
+
 -- ## What is ready
 
--- Something may be done with the array: it is opened as this, it isn't lost as the action makes its columns, and a trace that is kept has room.
-pub record IsReady (k : Asked) (sizes : List ℕ) (fronts : List Front) (o : Opened) : Type 0 where
+-- Something may be done with the array: it is opened as this, it isn't lost as the action makes its columns, a column is rebuilt so or none is, and a trace that is kept has room.
+pub record IsReady (k : Asked) (sizes : List ℕ) (fronts : List Front) (o : Opened) (start : Option Start) : Type 0 where
   pub opened : opened_by k sizes fronts ≡ Ok o
-  pub kept : NotLost (layout_of (admitted_with k o)) (judged_states (admitted_with k o))
-  pub bound : is_past_bound (admitted_with k o) ≡ false
+  pub starts : start ≡ start_in k o sizes fronts
+  pub kept : NotLost (layout_of (admitted_with k o start)) (judged_states (admitted_with k o start))
+  pub found : is_short (admitted_with k o start) ≡ false
+  pub bound : is_past_bound (admitted_with k o start) ≡ false
 
 -- Its layout, the items that are drawn, and room for its columns and for the units of a stripe are made.
 pub record IsMade (k : Asked) (o : Opened) (layout : AnyLayout) (given : List (Vec AnyItem Global)) (cols : Columns) (bytes : ℕ) : Type 0 where
@@ -54,16 +68,17 @@ pub record IsMade (k : Asked) (o : Opened) (layout : AnyLayout) (given : List (V
   pub judge : IsFor (shape_of k.conf o.rows) cols
   pub room : 1024 * (shape_of k.conf o.rows).unit_sectors ≤ bytes
 
--- both
+-- both; and whether the device that is to be filled couldn't be read
 pub record IsPrepared (k : Asked) (sizes : List ℕ) (fronts : List Front) (r : declared_ready.Ready) : Type 0 where
-  pub ready : IsReady k sizes fronts (opened_seen r.opened)
+  pub ready : IsReady k sizes fronts (opened_seen r.opened) r.start
+  pub failed : r.failed ≡ has_failed r.start fronts
   pub rows : AreRows k.conf r.opened.rows
   pub made : IsMade k (opened_seen r.opened) r.layout r.drawn.items r.judge r.room
 
 -- ## What is to be done
 
 abbrev pub duty_seen : Asked → declared_duty.Duty → Duty
-duty_seen k (duty.OnArray r) = OnArray (admitted_with k (opened_seen r.opened))
+duty_seen k (duty.OnArray r) = OnArray (admitted_with k (opened_seen r.opened) r.start)
 duty_seen k (duty.Shows o) = Shows k (opened_seen o)
 duty_seen k duty.OneLabel = OneLabel k
 duty_seen k duty.PrintConf = PrintConf k
@@ -75,38 +90,52 @@ IsDutyOver k sizes fronts (duty.Shows o) = (kind_of k.command.action ≡ kind.Sh
 IsDutyOver k sizes fronts duty.OneLabel = kind_of k.command.action ≡ kind.Label
 IsDutyOver k sizes fronts duty.PrintConf = kind_of k.command.action ≡ kind.Conf
 
--- and the array that something is done with is fit for it
+-- and the array that something is done with is fit for it, and for the rebuild of a column, if one is rebuilt
 abbrev pub IsFitFor : {D : Type 0} → Ghosts D → Asked → List (Option D) → declared_duty.Duty → Type 0
-IsFitFor g k devices (duty.OnArray r) = IsFit g k (opened_seen r.opened) devices
+IsFitFor g k devices (duty.OnArray r) = IsFit g k (opened_seen r.opened) devices × MayStart g k (opened_seen r.opened) devices r.start
 IsFitFor g k devices (duty.Shows o) = Unit {0}
 IsFitFor g k devices duty.OneLabel = Unit {0}
 IsFitFor g k devices duty.PrintConf = Unit {0}
 
 -- ## Why nothing is done
 
--- Why nothing is done with an array that was opened: it is lost; or it isn't, and its trace would pass its bound; or memory was wanted.
+-- Why nothing is done with an array that was opened: it is lost; or it isn't, and there is nowhere to rebuild a column to; or there is, and its trace would pass its bound; or memory was wanted.
 abbrev pub RefusedAfter : Admitted → Status → Type 0
 RefusedAfter a (status.Lost first second stripe) = IsLost (layout_of a) (judged_states a) (record { first = first; second = second; stripe = stripe })
-RefusedAfter a (status.Script line code) = NotLost (layout_of a) (judged_states a) × (is_past_bound a ≡ true) × (line ≡ 0) × (code ≡ 8)
+RefusedAfter a status.NoSpare = NotLost (layout_of a) (judged_states a) × (is_short a ≡ true)
+RefusedAfter a (status.Script line code) = NotLost (layout_of a) (judged_states a) × (is_short a ≡ false) × (is_past_bound a ≡ true) × (line ≡ 0) × (code ≡ 8)
 RefusedAfter a status.Memory = Unit {0}
 RefusedAfter a _ = ⊥
 
--- the same of an array of these columns whose clients are those of the script, if nothing is done with it
-abbrev pub RefusedIf : Shape → Asked → List Column → Option Status → Type 0
-RefusedIf y k columns None = NotLost y (states_of y columns) × (is_past y k k.clients ≡ false)
-RefusedIf y k columns (Some (status.Lost first second stripe)) = IsLost y (states_of y columns) (record { first = first; second = second; stripe = stripe })
-RefusedIf y k columns (Some (status.Script line code)) = NotLost y (states_of y columns) × (is_past y k k.clients ≡ true) × (line ≡ 0) × (code ≡ 8)
-RefusedIf y k columns (Some status.Memory) = Unit {0}
-RefusedIf y k columns (Some _) = ⊥
+-- nothing of that is so
+pub record MayBeDone (a : Admitted) : Type 0 where
+  pub kept : NotLost (layout_of a) (judged_states a)
+  pub found : is_short a ≡ false
+  pub bound : is_past_bound a ≡ false
+
+-- the same of an array that isn't lost, whose clients are those of the script, beside so many rebuilds, if nothing is done with it
+abbrev pub RefusedUnlost : Shape → Asked → ℕ → Option Start → Option Status → Type 0
+RefusedUnlost y k count start None = ((rebuilds k.command.action && is_none start) ≡ false) × (is_past y k k.clients count ≡ false)
+RefusedUnlost y k count start (Some status.NoSpare) = (rebuilds k.command.action && is_none start) ≡ true
+RefusedUnlost y k count start (Some (status.Script line code)) = ((rebuilds k.command.action && is_none start) ≡ false) × (is_past y k k.clients count ≡ true) × (line ≡ 0) × (code ≡ 8)
+RefusedUnlost y k count start (Some _) = ⊥
+
+-- and of one of these columns
+abbrev pub RefusedIf : Shape → Asked → List Column → ℕ → Option Start → Option Status → Type 0
+RefusedIf y k columns count start (Some (status.Lost first second stripe)) = IsLost y (states_of y columns) (record { first = first; second = second; stripe = stripe })
+RefusedIf y k columns count start (Some status.Memory) = Unit {0}
+RefusedIf y k columns count start None = NotLost y (states_of y columns) × RefusedUnlost y k count start None
+RefusedIf y k columns count start (Some s) = NotLost y (states_of y columns) × RefusedUnlost y k count start (Some s)
 
 -- a column is made dead, if there is one to be
 abbrev pub with_killed : Option ℕ → List ColumnState → List ColumnState
 with_killed None states = states
 with_killed (Some c) states = killed states c
 
--- the columns that are printed dead beside a status: those of a lost array as the action makes them
+-- the columns that are printed dead beside a status: those of a lost array as the action makes them, and none where there is nowhere to rebuild to
 abbrev pub dead_beside : Option ℕ → List Column → Status → List ℕ
 dead_beside excused columns (status.Lost first second stripe) = dead_columns (with_dead excused columns)
+dead_beside excused columns status.NoSpare = []
 dead_beside excused columns _ = dead_columns columns
 
 -- what was asked is refused, or memory was wanted
@@ -118,6 +147,5 @@ abbrev pub IsRefusal : Type 0 → Status → Type 0
 IsRefusal rose status.Ok = ⊥
 IsRefusal rose status.SinkFault = ⊥
 IsRefusal rose (status.NotInSync count) = ⊥
-IsRefusal rose status.NoSpare = ⊥
 IsRefusal rose status.BayFault = rose
 IsRefusal rose _ = Unit {0}

@@ -79,8 +79,8 @@ fn judge<D: Disk>(
 /// What the words ask for, the devices that it goes by, which the bay has then lent, and what is to be done.
 ///
 /// Refused are, in this order, what [`top_bay::ask`] refuses; labels and sizes that [`top_open::open_array`] refuses; an array
-/// that is lost by its columns, as the action makes them; and a trace that would pass its bound. What is only shown or printed
-/// isn't judged for the last two. Where it is refused, the bay has all devices again, of which nothing but sector 0 was read.
+/// that is lost by its columns, as the action makes them; a column that there is nowhere to rebuild to; and a trace that would
+/// pass its bound. What is only shown or printed isn't judged for the last three. Where it is refused, the bay has all devices again, of which nothing but sector 0 was read.
 pub fn admit<'a, B: Bay>(
     alloc: Global,
     words: &'a [Name],

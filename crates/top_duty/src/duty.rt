@@ -1,4 +1,5 @@
 //! What is to be done.
+use eng_array::Start;
 use eng_cols::Cols;
 use eng_world::Item;
 use raid_conf::AnyLayout;
@@ -18,6 +19,10 @@ pub struct Ready {
     pub judge: Cols,
     /// Room for the units of a stripe.
     pub room: Room,
+    /// How a column is rebuilt, if one is.
+    pub start: Option<Start>,
+    /// Sector 0 of the device that is to be filled couldn't be read.
+    pub failed: bool,
 }
 
 /// What is to be done.

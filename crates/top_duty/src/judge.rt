@@ -58,8 +58,8 @@ pub(crate) fn loss_of<L: Layout>(
 pub fn traces(action: Action<'_>) -> bool
     ensures { result ≡ traces (action_seen action.entry) }
 {
-    match action {
-        Action::Io { beside, .. } => beside.trace,
-        _ => false,
+    match action.beside() {
+        Some(beside) => beside.trace,
+        None => false,
     }
 }

@@ -2,8 +2,8 @@
 //! whether it is refused.
 //!
 //! [`admit`] asks for what the words say, looks at the devices, and judges the array. Behind the refusals of `top_bay` come, in
-//! this order, what the labels and sizes of the devices call for, an array that is lost by its columns, and a trace that would
-//! pass its bound. What is refused is put back.
+//! this order, what the labels and sizes of the devices call for, an array that is lost by its columns, a column that there is
+//! nowhere to rebuild to, and a trace that would pass its bound. What is refused is put back.
 #![tactic(auto)]
 
 mod admitting;
@@ -16,6 +16,8 @@ mod needs;
 mod opening;
 mod plan;
 mod preparing;
+mod refusing;
+mod start;
 
 pub use admitting::{Admitted, admit};
 pub use clients::choose;

@@ -1,5 +1,5 @@
 //! What the opening takes of the configuration, and of the sizes of the devices.
-ghost use Rattle.std.specs.Prelude.{◌≡◌, ℕ, length, map, replicate, IfOk};
+ghost use Rattle.std.specs.Prelude.{◌≡◌, ℕ, length, map, replicate, slice_index, IfOk};
 ghost use Rattle.std.specs.Option.{option_map_or};
 ghost use Rattle.raid_conf.specs.Form.{IsConf};
 ghost use Rattle.top_duty.specs.Opening.{is_named, plan_of, present_of, sizes_of, unread};
@@ -68,6 +68,16 @@ pub(crate) fn sizes_of<D: Disk>(
         sizes.push(size_of(device))?;
     }
     Ok(sizes)
+}
+
+/// The sectors of this device, 0 where there is none.
+pub(crate) fn size_at(sizes: &[u64], device: u32) -> u64
+    ensures { result ≡ slice_index sizes.now device }
+{
+    match sizes.get(device as usize) {
+        Some(size) => *size,
+        None => 0,
+    }
 }
 
 /// Nothing is read of so many devices.

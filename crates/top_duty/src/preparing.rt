@@ -1,24 +1,27 @@
 //! What is asked for is made ready, or refused.
-ghost use Rattle.std.specs.Prelude.{◌≡◌, ◌⊎◌, ◌≤◌, ◌<◌, ◌*◌, ◌+◌, ℕ, false, All, length, count_by, Ok, Err, IfOk, IfErr, OnOk};
+ghost use Rattle.std.specs.Prelude.{◌≡◌, ◌⊎◌, ◌≤◌, ◌<◌, ◌*◌, ◌+◌, ℕ, Some, length, count_by, Ok, Err, IfOk, IfErr, OnOk};
 ghost use Rattle.std.specs.Option.{ForSome};
+ghost use Rattle.eng_array.specs.Starts.{column_of};
 ghost use Rattle.eng_cols.specs.Cols.{IsFor, is_set_filling, is_set_spread};
-ghost use Rattle.eng_cols.specs.Lost.{NotLost};
 ghost use Rattle.raid_conf.specs.Form.{IsConf};
 ghost use Rattle.raid_conf.specs.Layouts.{shape_of};
 ghost use Rattle.top_open.specs.Opening.{opened_seen};
 ghost use Rattle.top_bay.specs.Asked.{names_for};
 ghost use Rattle.top_bay.specs.Views.{IsWithin, asked_seen};
 ghost use Rattle.top_duty.specs.declared.kind.Kind.TheVariants as kind;
-ghost use Rattle.top_duty.specs.Duty.{admitted_with, duty_by, duty_for, is_past, is_past_bound, judged_states, layout_of, with_dead};
+ghost use Rattle.top_duty.specs.Duty.{admitted_with, duty_by, duty_for, with_dead};
 ghost use Rattle.top_duty.specs.Opening.{AreRows, kind_of, needs_of, opened_by};
-ghost use Rattle.top_duty.specs.Views.{IsDutyOver, IsMade, IsPrepared, IsRefusal, RefusedAfter, RefusedHere, RefusedIf, dead_beside};
+ghost use Rattle.top_duty.specs.Views.{IsDutyOver, IsMade, IsPrepared, IsRefusal, MayBeDone, RefusedAfter, RefusedHere, dead_beside};
 
 use crate::clients::draw;
 use crate::duty::{Duty, Ready};
-use crate::judge::{judge_for, loss_of, traces};
+use crate::judge::judge_for;
 use crate::kind::{Kind, kind_of};
 use crate::needs::needs_of;
 use crate::opening::{open, status_of};
+use crate::refusing::refusal;
+use crate::start::{has_failed, start_in};
+use eng_array::Start;
 use eng_cols::{Cols, Column};
 use eng_world::Item;
 use lay_core::{Layout, blocks};
@@ -27,7 +30,6 @@ use raid_conf::{AnyFault, AnyLayout, Conf};
 use raid_recon::Room;
 use std::alloc::Global;
 use top_bay::Asked;
-use top_bound::trace_fits;
 use top_open::{Front, Opened};
 use top_status::{Refusal, Status};
 
@@ -64,18 +66,6 @@ fn layout_of(alloc: Global, conf: &Conf, rows: u32) -> Result<AnyLayout, Status>
     }
 }
 
-// Whether more events may come than a trace that is kept has room for.
-fn is_past<L: Layout>(layout: &L, asked: &Asked<'_>) -> bool
-    requires { IsWithin (asked_seen asked.now) }
-    ensures { result ≡ is_past (L.shape layout.now) (asked_seen asked.now) (asked_seen asked.now).clients }
-{
-    if !traces(asked.command.action) {
-        return false;
-    }
-    let devices = asked.conf.disks.len() + asked.conf.spare_names.len();
-    !trace_fits(layout, &asked.book, devices, &asked.clients)
-}
-
 // Room for two units of so many sectors.
 fn room_for(alloc: Global, unit: u32) -> Result<Room, Status>
     requires { unit ≤ 128 }
@@ -88,43 +78,24 @@ fn room_for(alloc: Global, unit: u32) -> Result<Room, Status>
     }
 }
 
-// Why nothing may be done with the array, if that is so. This column is made dead.
-fn refusal<L: Layout>(
-    judge: &mut Cols,
-    layout: &L,
+// What an array needs that was opened, of which a column is rebuilt so, or none is.
+fn make(
+    alloc: Global,
     asked: &Asked<'_>,
-    columns: &[Column],
-    dead: Option<u32>,
-) -> Option<Status>
-    requires asked { IsWithin (asked_seen asked.now) }
-    requires judge { IsFor (L.shape layout.now) judge.old }
-    requires columns { length columns.now ≡ (L.shape layout.now).columns }
-    requires filling { count_by is_set_filling columns.now ≤ 1 }
-    requires spread { count_by is_set_spread columns.now ≤ 1 }
-    requires dead { ForSome dead (λ c. c < length columns.now) }
-    ensures refused { RefusedIf (L.shape layout.now) (asked_seen asked.now) (with_dead dead columns.now) result }
-    ensures judge { IsFor (L.shape layout.now) judge.new }
-{
-    match loss_of(judge, layout, columns, dead) {
-        None => is_past(layout, asked).then_some(Status::Script(0, 8)),
-        Some(loss) => Some(Status::of_loss(Some(loss))),
-    }
-}
-
-// What an array needs that was opened.
-fn make(alloc: Global, asked: &Asked<'_>, opened: &Opened) -> Result<Parts, Status>
+    opened: &Opened,
+    start: Option<Start>,
+) -> Result<Parts, Status>
     requires asked { IsWithin (asked_seen asked.now) }
     requires rows { AreRows asked.now.conf opened.now.rows }
     requires columns { length opened.now.columns.items ≡ asked.now.conf.columns }
     requires filling { count_by is_set_filling opened.now.columns.items ≤ 1 }
     requires spread { count_by is_set_spread opened.now.columns.items ≤ 1 }
     requires dead { ForSome (needs_of (asked_seen asked.now)).excused (λ c. c < asked.now.conf.columns) }
+    requires start { ForSome start (λ s. (needs_of (asked_seen asked.now)).excused ≡ Some (column_of s)) }
     ensures made { IfOk result (λ parts. IsMade (asked_seen asked.now) (opened_seen opened.now)
         parts.layout parts.drawn.items parts.judge parts.room) }
-    ensures kept { OnOk result (NotLost (layout_of (admitted_with (asked_seen asked.now) (opened_seen opened.now)))
-        (judged_states (admitted_with (asked_seen asked.now) (opened_seen opened.now)))) }
-    ensures bound { OnOk result (is_past_bound (admitted_with (asked_seen asked.now) (opened_seen opened.now)) ≡ false) }
-    ensures refused { IfErr result (RefusedAfter (admitted_with (asked_seen asked.now) (opened_seen opened.now))) }
+    ensures may { OnOk result (MayBeDone (admitted_with (asked_seen asked.now) (opened_seen opened.now) start)) }
+    ensures refused { IfErr result (RefusedAfter (admitted_with (asked_seen asked.now) (opened_seen opened.now) start)) }
 {
     let layout = match layout_of(alloc, &asked.conf, opened.rows) {
         Ok(layout) => layout,
@@ -135,7 +106,7 @@ fn make(alloc: Global, asked: &Asked<'_>, opened: &Opened) -> Result<Parts, Stat
         Err(status) => return Err(status),
     };
     let dead = needs_of(asked).excused;
-    match refusal(&mut judge, &layout, asked, &opened.columns, dead) {
+    match refusal(&mut judge, &layout, asked, &opened.columns, dead, start) {
         Some(status) => return Err(status),
         None => {}
     }
@@ -166,13 +137,15 @@ fn with_dead(mut columns: Vec<Column>, dead: Option<u32>) -> Vec<Column>
     columns
 }
 
-// A refusal beside the columns that are dead as the array was opened; of a lost array as the action makes them.
-fn refuse(columns: Vec<Column>, dead: Option<u32>, status: Status) -> Refusal
+// A refusal beside the columns that are dead as the array was opened; of a lost array as the action makes them; and beside
+// none where there is nowhere to rebuild to.
+fn refuse(alloc: Global, columns: Vec<Column>, dead: Option<u32>, status: Status) -> Refusal
     requires { ForSome dead (λ c. c < length columns.items) }
     ensures { result ≡ record { status = status; dead = dead_beside dead columns.items status } }
 {
     match &status {
         Status::Lost { .. } => Refusal::beside(with_dead(columns, dead), status),
+        Status::NoSpare => Refusal::only(alloc, status),
         _ => Refusal::beside(columns, status),
     }
 }
@@ -194,7 +167,8 @@ fn make_ready(
         Ok(opened) => opened,
         Err(fault) => return Err(Refusal::only(alloc, status_of(fault))),
     };
-    match make(alloc, asked, &opened) {
+    let start = start_in(asked, &opened, sizes, fronts);
+    match make(alloc, asked, &opened, start) {
         Ok(
             Parts {
                 layout,
@@ -208,8 +182,10 @@ fn make_ready(
             drawn,
             judge,
             room,
+            start,
+            failed: has_failed(start, fronts),
         }),
-        Err(status) => Err(refuse(opened.columns, needs_of(asked).excused, status)),
+        Err(status) => Err(refuse(alloc, opened.columns, needs_of(asked).excused, status)),
     }
 }
 
@@ -235,8 +211,9 @@ fn make_shown(
 /// What is to be done, by sizes and fronts of the devices.
 ///
 /// An array is opened and made ready; one that is shown is opened. Refused are, in this order, what its labels and sizes call
-/// for; an array that is lost by its columns, as the action makes them; and a trace that would pass its bound. Memory may be
-/// wanted at any point. Behind the opening the columns that are dead are printed.
+/// for; an array that is lost by its columns, as the action makes them; a column that there is nowhere to rebuild to; and a
+/// trace that would pass its bound. Memory may be wanted at any point. Behind the opening the columns that are dead are
+/// printed, but for a column without a spare.
 pub(crate) fn prepare(
     alloc: Global,
     asked: &Asked<'_>,

@@ -2,6 +2,7 @@
 //! units, behind the 64 that are kept free.
 use super::*;
 use blk_disk::{MemDisk, SECTOR};
+use eng_array::Start;
 use eng_cols::Column;
 use lay_core::Layout;
 use raid_bay::{MemBay, MemSink, Name};
@@ -177,10 +178,15 @@ fn marked(alloc: Global, name: &str, sectors: u16, mark: Mark) -> Result<(Name, 
     Ok((Name::new(alloc, name)?, disk))
 }
 
-// A bay whose three disks have these labels, the second so many sectors.
-fn marked_bay(alloc: Global, marks: [Mark; 3], sectors: u16) -> Result<MemBay<MemDisk>, Fail> {
+// A bay whose three disks have these labels, the second so many sectors; with a script of so many reads.
+fn marked_bay(
+    alloc: Global,
+    marks: [Mark; 3],
+    sectors: u16,
+    reads: u16,
+) -> Result<MemBay<MemDisk>, Fail> {
     let conf = (Name::new(alloc, "conf")?, CONF.as_bytes().to_vec(alloc)?);
-    let texts = vec![in alloc; conf, script_of(alloc, 1)?]?;
+    let texts = vec![in alloc; conf, script_of(alloc, reads)?]?;
     let disks = vec![in alloc;
         marked(alloc, "d0", 128, marks[0])?,
         marked(alloc, "d1", sectors, marks[1])?,
@@ -287,7 +293,7 @@ fn labels_and_sizes_are_judged(rt: HostRuntime) -> Result<(), Fail> {
         (LAST, 128, &["-i"], ""),
     ];
     for (marks, sectors, action, wanted) in tables {
-        let mut bay = marked_bay(alloc, marks, sectors)?;
+        let mut bay = marked_bay(alloc, marks, sectors, 1)?;
         let words = words_of(alloc, action)?;
         let printed = refusal_of(alloc, &mut bay, &words)?;
         assert_eq!(rt; printed.as_slice(), wanted.as_bytes(), "{wanted}");
@@ -300,7 +306,7 @@ fn labels_and_sizes_are_judged(rt: HostRuntime) -> Result<(), Fail> {
 #[test]
 fn a_stale_array_is_opened(rt: HostRuntime) -> Result<(), Fail> {
     let alloc = rt.alloc();
-    let mut bay = marked_bay(alloc, STALE, 128)?;
+    let mut bay = marked_bay(alloc, STALE, 128, 1)?;
     let words = names(alloc, &["conf", "-i"])?;
     let Ok(
         Admitted {
@@ -339,7 +345,7 @@ fn what_is_only_printed(rt: HostRuntime) -> Result<(), Fail> {
     let alloc = rt.alloc();
     let tables: [(&[&str], usize); 2] = [(&["conf", "-g", "d2"], 1), (&["conf", "-G"], 0)];
     for (words, count) in tables {
-        let mut bay = marked_bay(alloc, FOREIGN, 64)?;
+        let mut bay = marked_bay(alloc, FOREIGN, 64, 1)?;
         let words = names(alloc, words)?;
         let Ok(
             Admitted {
@@ -357,6 +363,105 @@ fn what_is_only_printed(rt: HostRuntime) -> Result<(), Fail> {
         all_at_home(&rt, &bay);
         assert_eq!(rt; fronts.len(), count);
         assert!(rt; matches!(&duty, Duty::OneLabel | Duty::PrintConf));
+    }
+    Ok(())
+}
+
+// A column is rebuilt of a labelled array alone, and where there is a spare, or in place. Its own device is refused for
+// nothing, but the disk onto which it is rebuilt for its size. A lost array comes before a spare that there isn't.
+#[test]
+fn rebuilds_are_judged(rt: HostRuntime) -> Result<(), Fail> {
+    let alloc = rt.alloc();
+    let tables: [([Mark; 3], u16, &[&str], &str); 8] = [
+        (BLANK, 64, &["-F", "d1"], "status label 1 1 0 0\n"),
+        (SOUND, 128, &["-F", "d1"], "status nospare\n"),
+        (SOUND, 100, &["-F", "d1"], "status nospare\n"),
+        (SOUND, 128, &["-R", "d1"], ""),
+        (SOUND, 100, &["-R", "d1"], "status small 1 100 128\n"),
+        (FOREIGN, 128, &["-R", "d2"], ""),
+        (
+            STALE,
+            128,
+            &["-F", "d0"],
+            "dead 0\ndead 1\nstatus lost 0 1 0\n",
+        ),
+        (
+            WORN,
+            128,
+            &["-R", "d1"],
+            "status label 0 6 4294901761 4294901760\n",
+        ),
+    ];
+    for (marks, sectors, action, wanted) in tables {
+        let mut bay = marked_bay(alloc, marks, sectors, 1)?;
+        let words = words_of(alloc, action)?;
+        let printed = refusal_of(alloc, &mut bay, &words)?;
+        assert_eq!(rt; printed.as_slice(), wanted.as_bytes(), "{wanted}");
+        all_at_home(&rt, &bay);
+    }
+    Ok(())
+}
+
+// Each of the 64 stripes is a rebuild of at most 6 nodes, so of 64 events, beside reads of 2,672: 390 of these have room.
+#[test]
+fn rebuilds_are_traced_beside_the_script(rt: HostRuntime) -> Result<(), Fail> {
+    let alloc = rt.alloc();
+    for (reads, wanted) in [(390, ""), (391, "status script 0 8\n")] {
+        let mut bay = marked_bay(alloc, SOUND, 128, reads)?;
+        let words = words_of(alloc, &["-R", "d1", "--io", "script", "--trace"])?;
+        let printed = refusal_of(alloc, &mut bay, &words)?;
+        assert_eq!(rt; printed.as_slice(), wanted.as_bytes(), "{wanted}");
+    }
+    Ok(())
+}
+
+// Three columns and two spares.
+const SPARES: &str =
+    "START array\n1 3 2\nSTART disks\nd0\nd1\nd2\nSTART spare\ns0\ns1\nSTART layout\n1 1 1 5\n";
+
+// The first spare has fewer sectors than the rows need, so the second is taken; in place the column has its own disk.
+#[test]
+fn a_spare_is_found(rt: HostRuntime) -> Result<(), Fail> {
+    let alloc = rt.alloc();
+    for (letter, device) in [("-F", 4), ("-R", 1)] {
+        let conf = (Name::new(alloc, "conf")?, SPARES.as_bytes().to_vec(alloc)?);
+        let texts = vec![in alloc; conf]?;
+        let disks = vec![in alloc;
+            marked(alloc, "d0", 128, SOUND[0])?,
+            marked(alloc, "d1", 128, SOUND[1])?,
+            marked(alloc, "d2", 128, SOUND[2])?,
+            disk(alloc, "s0", 127)?,
+            disk(alloc, "s1", 128)?,
+        ]?;
+        let mut bay = MemBay::new(alloc, texts, disks, Vec::new(alloc));
+        let words = names(alloc, &["conf", letter, "d1"])?;
+        let Ok(
+            Admitted {
+                asked,
+                devices,
+                sizes: _,
+                fronts: _,
+                duty,
+            },
+        ) = admit(alloc, &words, &mut bay)
+        else {
+            return Err("refused".into());
+        };
+        put_all(&mut bay, &asked.conf, asked.command.action, devices);
+        let Duty::OnArray(ready) = duty else {
+            return Err("another duty".into());
+        };
+        let Some(
+            Start::Fill {
+                column: 1,
+                device: filled,
+            },
+        ) = ready.start
+        else {
+            return Err("another start".into());
+        };
+        assert_eq!(rt; filled, device);
+        assert_eq!(rt; ready.failed, false);
     }
     Ok(())
 }

@@ -14,7 +14,7 @@ returns-in-Ok-prepare-clause-fit g c =
     let k = asked_seen c.args.asked.now in
     let d = c.in-Ok-prepare.duty in
     let sizes : c.deref.result.now ≡ sizes_of g.D.Disk.size c.look.new.devices = c.deref.ensures.value ∙ c.in-Ok.ensures.sizes in
-    fit_for g.D.Disk k c.args.devices.now c.look.new.devices c.in-Ok.seen.fronts.items d c.requires.asked.conf c.in-Ok.ensures.read
+    fit_for g.D.Disk k c.look.new.devices c.in-Ok.seen.fronts.items d c.requires.asked
     (subst (λ (l : List ℕ). IsDutyOver k l c.in-Ok.seen.fronts.items d) sizes
     (subst (λ (f : List Front). IsDutyOver k c.deref.result.now f d) c.deref-2.ensures.value c.in-Ok-prepare.ensures.duty))
 

@@ -1,6 +1,7 @@
 use Rattle.std.specs.Prelude.{◌≡◌, ◌<◌, ◌≤◌, ℕ, None, Some, List, Option, length}
 use Rattle.std.proofs.Common.{◌∙◌, ap, arith, subst, sym}
 use Rattle.lay_core.specs.Layout.{Shape, blocks_in}
+use Rattle.eng_array.specs.Starts.{column_of}
 use Rattle.eng_cols.specs.Cols.{IsFor}
 use Rattle.eng_cols.specs.declared.column.Column.{Column}
 use Rattle.raid_conf.specs.Layouts.{shape_in, shape_lawful, shape_of}
@@ -13,7 +14,7 @@ use Rattle.top_duty.specs.Duty.{with_dead}
 use Rattle.top_duty.specs.Opening.{needs_of}
 use Rattle.top_duty.specs.Views.{drawn_by}
 use Rattle.top_duty.proofs.Tables.{few_blocks, some_blocks}
-use Rattle.top_duty.proofs.Wanting.{after_if, if_same, past_is}
+use Rattle.top_duty.proofs.Wanting.{after_if, done_if, if_same}
 use Rattle.top_duty.proofs.preparing.make.Goals as goal
 
 pub refusal-requires-clause-columns : goal.refusal-requires-clause-columns
@@ -33,31 +34,32 @@ draw-requires-clause-blocks c = subst (λ (n : ℕ). 0 < n) (sym c.blocks-2.ensu
 pub draw-requires-clause-most : goal.draw-requires-clause-most
 draw-requires-clause-most c = subst (λ (n : ℕ). n ≤ 4294967296) (sym c.blocks-2.ensures) (few_blocks (shape_in c.in-Ok.layout) (shape_lawful c.in-Ok.layout))
 
+pub refusal-requires-clause-start : goal.refusal-requires-clause-start
+refusal-requires-clause-start c = λ s e.
+    let lt : column_of s < c.args.asked.now.conf.columns = c.requires.dead (column_of s) (c.requires.start s e) in
+    omega (arith, lt, c.requires.columns, ap (λ (l : List Column). length l) c.deref.ensures.value)
+
 pub returns-in-Some-clause-refused : goal.returns-in-Some-clause-refused
 returns-in-Some-clause-refused c =
     let dead : c.needs_of-dead.result.excused ≡ (needs_of (asked_seen c.args.asked.now)).excused = ap (λ (q : Needs). q.excused) c.needs_of-dead.ensures in
-    after_if (asked_seen c.args.asked.now) (opened_seen c.args.opened.now) c.in-Some.status
+    after_if (asked_seen c.args.asked.now) (opened_seen c.args.opened.now) c.args.start c.requires.start c.in-Some.status
     (if_same _ (shape_of c.args.asked.now.conf c.args.opened.now.rows) (asked_seen c.args.asked.now)
     (with_dead c.needs_of-dead.result.excused c.deref.result.now) (with_dead (needs_of (asked_seen c.args.asked.now)).excused c.args.opened.now.columns.items)
+    c.deref.result.now c.args.opened.now.columns.items c.args.start
     (Some c.in-Some.status) c.in-Ok.ensures.shape
-    (ap (λ (e : Option ℕ). with_dead e c.deref.result.now) dead ∙ ap (λ (l : List Column). with_dead (needs_of (asked_seen c.args.asked.now)).excused l) c.deref.ensures.value) c.in-Some.ensures.refused)
+    (ap (λ (e : Option ℕ). with_dead e c.deref.result.now) dead ∙ ap (λ (l : List Column). with_dead (needs_of (asked_seen c.args.asked.now)).excused l) c.deref.ensures.value)
+    c.deref.ensures.value c.in-Some.ensures.refused)
 
-pub returns-in-Ok-room_for-clause-kept : goal.returns-in-Ok-room_for-clause-kept
-returns-in-Ok-room_for-clause-kept c =
+pub returns-in-Ok-room_for-clause-may : goal.returns-in-Ok-room_for-clause-may
+returns-in-Ok-room_for-clause-may c =
     let dead : c.needs_of-dead.result.excused ≡ (needs_of (asked_seen c.args.asked.now)).excused = ap (λ (q : Needs). q.excused) c.needs_of-dead.ensures in
+    done_if (asked_seen c.args.asked.now) (opened_seen c.args.opened.now) c.args.start c.requires.start
     (if_same _ (shape_of c.args.asked.now.conf c.args.opened.now.rows) (asked_seen c.args.asked.now)
     (with_dead c.needs_of-dead.result.excused c.deref.result.now) (with_dead (needs_of (asked_seen c.args.asked.now)).excused c.args.opened.now.columns.items)
+    c.deref.result.now c.args.opened.now.columns.items c.args.start
     None c.in-Ok.ensures.shape
-    (ap (λ (e : Option ℕ). with_dead e c.deref.result.now) dead ∙ ap (λ (l : List Column). with_dead (needs_of (asked_seen c.args.asked.now)).excused l) c.deref.ensures.value) c.in-None.ensures.refused).0
-
-pub returns-in-Ok-room_for-clause-bound : goal.returns-in-Ok-room_for-clause-bound
-returns-in-Ok-room_for-clause-bound c =
-    let dead : c.needs_of-dead.result.excused ≡ (needs_of (asked_seen c.args.asked.now)).excused = ap (λ (q : Needs). q.excused) c.needs_of-dead.ensures in
-    past_is (asked_seen c.args.asked.now) (opened_seen c.args.opened.now)
-    ∙ (if_same _ (shape_of c.args.asked.now.conf c.args.opened.now.rows) (asked_seen c.args.asked.now)
-    (with_dead c.needs_of-dead.result.excused c.deref.result.now) (with_dead (needs_of (asked_seen c.args.asked.now)).excused c.args.opened.now.columns.items)
-    None c.in-Ok.ensures.shape
-    (ap (λ (e : Option ℕ). with_dead e c.deref.result.now) dead ∙ ap (λ (l : List Column). with_dead (needs_of (asked_seen c.args.asked.now)).excused l) c.deref.ensures.value) c.in-None.ensures.refused).1
+    (ap (λ (e : Option ℕ). with_dead e c.deref.result.now) dead ∙ ap (λ (l : List Column). with_dead (needs_of (asked_seen c.args.asked.now)).excused l) c.deref.ensures.value)
+    c.deref.ensures.value c.in-None.ensures.refused)
 
 pub returns-in-Ok-room_for-clause-made : goal.returns-in-Ok-room_for-clause-made
 returns-in-Ok-room_for-clause-made c = record {

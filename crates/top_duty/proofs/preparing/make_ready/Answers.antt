@@ -9,7 +9,8 @@ use Rattle.top_duty.specs.declared.kind.Kind.TheVariants as kind
 use Rattle.top_duty.specs.Duty.{IsWanted, WantsMemory, admitted_with, duty_for}
 use Rattle.top_duty.specs.Opening.{needs_of}
 use Rattle.top_duty.specs.Views.{RefusedHere, dead_beside}
-use Rattle.top_duty.proofs.Opens.{dead_within, opened_count, opened_filling, opened_is, opened_rows, opened_spread}
+use Rattle.top_duty.proofs.Named.{start_named}
+use Rattle.top_duty.proofs.Opens.{dead_within, opened_count, opened_filling, opened_rows, opened_spread}
 use Rattle.top_duty.proofs.Wanting.{array_is, refused_after, refused_opening}
 use Rattle.top_duty.proofs.preparing.make_ready.Goals as goal
 
@@ -40,6 +41,9 @@ refuse-requires c = λ i e.
     let lt : i < c.args.asked.now.conf.columns = dead_within (asked_seen c.args.asked.now) c.requires.asked i is in
     omega (arith, lt, opened_count (asked_seen c.args.asked.now) c.args.sizes.now c.args.fronts.now (opened_seen c.in-Ok.opened) c.requires.asked.conf c.in-Ok.ensures)
 
+pub make-requires-clause-start : goal.make-requires-clause-start
+make-requires-clause-start c = λ s e. start_named c.args.fronts.now c.args.sizes.now (asked_seen c.args.asked.now) (opened_seen c.in-Ok.opened) c.requires.asked s (sym c.start_in-start.ensures ∙ e)
+
 pub returns-in-Err-make-clause-refused : goal.returns-in-Err-make-clause-refused
 returns-in-Err-make-clause-refused c =
     let k = asked_seen c.args.asked.now in
@@ -49,14 +53,15 @@ returns-in-Err-make-clause-refused c =
     let made : c.refuse.result ≡ record { status = c.in-Err-make.status; dead = dead_beside (needs_of k).excused o.columns c.in-Err-make.status } =
     c.refuse.ensures ∙ ap (λ (e : Option ℕ). record { status = c.in-Err-make.status; dead = dead_beside e o.columns c.in-Err-make.status }) dead in
     inl (subst (λ (r : Refused). IsWanted w (Err r) ⊎ WantsMemory w r) (sym made)
-    (refused_after w (admitted_with k o) c.in-Err-make.status (array_is k c.args.sizes.now c.args.fronts.now o (opened_is k c.args.sizes.now c.args.fronts.now o c.in-Ok.ensures)) c.in-Err-make.ensures.refused))
+    (refused_after w (admitted_with k o c.start_in-start.result) c.in-Err-make.status (array_is k c.args.sizes.now c.args.fronts.now o c.start_in-start.result c.in-Ok.ensures c.start_in-start.ensures) c.in-Err-make.ensures.refused))
 
 pub returns-in-Ok-make-clause-prepared : goal.returns-in-Ok-make-clause-prepared
 returns-in-Ok-make-clause-prepared c =
     let k = asked_seen c.args.asked.now in
     let o = opened_seen c.in-Ok.opened in
     record {
-      ready = record { opened = opened_is k c.args.sizes.now c.args.fronts.now o c.in-Ok.ensures; kept = c.in-Ok-make.ensures.kept; bound = c.in-Ok-make.ensures.bound };
+      ready = record { opened = c.in-Ok.ensures; starts = c.start_in-start.ensures; kept = c.in-Ok-make.ensures.may.kept; found = c.in-Ok-make.ensures.may.found; bound = c.in-Ok-make.ensures.may.bound };
+      failed = c.has_failed.ensures;
       rows = opened_rows k c.args.sizes.now c.args.fronts.now o c.requires.asked.conf c.in-Ok.ensures;
       made = c.in-Ok-make.ensures.made;
     }

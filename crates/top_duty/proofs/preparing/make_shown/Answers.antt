@@ -1,17 +1,12 @@
 use Rattle.std.proofs.Common.{◌∙◌, ap, subst, sym}
 use Rattle.top_bay.specs.Views.{asked_seen}
-use Rattle.top_open.specs.Opening.{opened_seen}
 use Rattle.top_status.specs.declared.status.Status.{Status}
 use Rattle.top_status.specs.Refusals.{Refused, only}
 use Rattle.top_duty.specs.declared.kind.Kind.TheVariants as kind
 use Rattle.top_duty.specs.Duty.{duty_for}
 use Rattle.top_duty.specs.Views.{RefusedHere}
-use Rattle.top_duty.proofs.Opens.{opened_is}
 use Rattle.top_duty.proofs.Wanting.{refused_showing}
 use Rattle.top_duty.proofs.preparing.make_shown.Goals as goal
-
-pub returns-in-Ok-clause-opened : goal.returns-in-Ok-clause-opened
-returns-in-Ok-clause-opened c = opened_is (asked_seen c.args.asked.now) c.args.sizes.now c.args.fronts.now (opened_seen c.in-Ok.opened) c.in-Ok.ensures
 
 pub returns-in-Err-clause-refused : goal.returns-in-Err-clause-refused
 returns-in-Err-clause-refused c =
