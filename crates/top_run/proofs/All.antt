@@ -1,11 +1,12 @@
 -- All that is said of a run.
-use Rattle.std.proofs.Common.{◌≡◌, List, length, Option, refl, sym, ◌∙◌, subst}
+use Rattle.std.proofs.Common.{◌≡◌, List, length, Option, None, refl, ap, sym, ◌∙◌, subst}
 use Rattle.blk_disk.specs.declared.disk.Disk.{Ghosts as DiskGhosts}
 use Rattle.lay_core.specs.declared.layout.Layout.{Ghosts as LayoutGhosts}
 use Rattle.eng_events.specs.Opened.{IsSetup}
 use Rattle.eng_parts.specs.declared.setup.Setup.{Setup}
 use Rattle.eng_parts.specs.declared.setup.Closed.{Closed}
 use Rattle.raid_script.specs.Replies.{StandFor}
+use Rattle.eng_array.specs.declared.start.Start.{Start}
 use Rattle.top_serve.specs.Setups.{IsFew, graphs_in}
 use Rattle.top_serve.specs.Served as served
 use Rattle.top_run.specs.Work.{Service}
@@ -14,48 +15,49 @@ use Rattle.top_run.specs.Ends.{IsEnded, EndsSo}
 use Rattle.top_run.specs.Ran.{Rests, Tells, Ran, Runs}
 use Rattle.top_run.proofs.FromServed.{opens-from, rests-from, tells-from, stands-from}
 use Rattle.top_run.proofs.Finishing.{ends-so, finishes}
-use Rattle.top_run.proofs.AtEnd.{columns-end}
+use Rattle.top_run.proofs.AtEnd.{columns-end, ends-kept}
 use Rattle.top_run.proofs.Meaning.{means}
 use Rattle.top_run.proofs.Causing.{causes}
 
-module _ {L D : Type 0} (lay : LayoutGhosts L) (disk : DiskGhosts D) (setup : Setup L D) (closed : Closed L D) (given : IsSetup lay disk setup) (few : IsFew setup) (s : served.IsServed lay disk setup closed) (v : Service) (back : List (Option D)) (e : IsEnded lay closed disk v back) where
+module _ {L D : Type 0} (lay : LayoutGhosts L) (disk : DiskGhosts D) (setup : Setup L D) (closed : Closed L D) (given : IsSetup lay disk setup) (few : IsFew setup) (s : served.IsServed lay disk setup None closed) (v : Service) (back : List (Option D)) (e : IsEnded lay closed disk v back) where
   abbrev so : EndsSo lay closed disk v back
   so = ends-so lay closed disk v back e
 
-  pub has-run : Ran disk (work_of lay setup) setup.devices.items v back
+  pub has-run : Ran disk (work_of lay setup None) setup.devices.items v back
   has-run = record {
     graphs = graphs_in setup;
     start = s.start;
     events = s.events;
     now = s.now;
-    opens = opens-from lay disk setup closed few.clients s v.ending;
-    rests = subst (λ u. Rests disk (work_of lay setup) setup.devices.items u (graphs_in setup) s.start s.events s.now) (sym e.told) (rests-from lay disk setup closed few.clients s v.ending);
-    tells = subst (λ u. Tells disk (work_of lay setup) setup.devices.items u s.events s.now) (sym e.told) (tells-from lay disk setup closed few.clients s v.ending);
-    means = means lay disk setup closed given s v back so;
+    opens = opens-from lay disk setup None closed few.clients s v.line v.ending;
+    rests = subst (λ u. Rests disk (work_of lay setup None) setup.devices.items u (graphs_in setup) s.start s.events s.now) (sym so.told) (rests-from lay disk setup None closed few.clients s v.line v.ending);
+    tells = subst (λ u. Tells disk (work_of lay setup None) setup.devices.items u s.events s.now) (sym so.told) (tells-from lay disk setup None closed few.clients s v.line v.ending);
+    means = means lay disk setup None closed given s v back so;
     ends = finishes lay disk setup closed given s v back e;
-    causes = causes lay disk setup closed given s v back so;
+    causes = causes lay disk setup None closed given s v back so;
+    none = (refl, ap (λ (u : Service). u.line) e.told);
   }
 
   pub stands : StandFor v.clients v.replies v.sectors
-  stands = subst (λ (u : Service). StandFor u.clients u.replies u.sectors) (sym e.told) (stands-from lay disk setup closed few.clients s v.ending)
+  stands = subst (λ (u : Service). StandFor u.clients u.replies u.sectors) (sym so.told) (stands-from lay disk setup None closed few.clients s v.line v.ending)
 
   pub as-many : length back ≡ length setup.devices.items
   as-many = e.settled.frame.count ∙ s.leaves.frame.count
 
 -- The run of what ended so, whatever its end has called and written into first sectors.
-module _ {L D : Type 0} (lay : LayoutGhosts L) (disk : DiskGhosts D) (setup : Setup L D) (closed : Closed L D) (given : IsSetup lay disk setup) (few : IsFew setup) (s : served.IsServed lay disk setup closed) (v : Service) (back : List (Option D)) (e : EndsSo lay closed disk v back) where
-  pub runs : Runs disk (work_of lay setup) setup.devices.items v back
+module _ {L D : Type 0} (lay : LayoutGhosts L) (disk : DiskGhosts D) (setup : Setup L D) (how : Option Start) (closed : Closed L D) (given : IsSetup lay disk setup) (few : IsFew setup) (s : served.IsServed lay disk setup how closed) (v : Service) (back : List (Option D)) (e : EndsSo lay closed disk v back) where
+  pub runs : Runs disk (work_of lay setup how) setup.devices.items v back
   runs = record {
     graphs = graphs_in setup;
     start = s.start;
     events = s.events;
     now = s.now;
-    opens = opens-from lay disk setup closed few.clients s v.ending;
-    rests = subst (λ u. Rests disk (work_of lay setup) setup.devices.items u (graphs_in setup) s.start s.events s.now) (sym e.told) (rests-from lay disk setup closed few.clients s v.ending);
-    tells = subst (λ u. Tells disk (work_of lay setup) setup.devices.items u s.events s.now) (sym e.told) (tells-from lay disk setup closed few.clients s v.ending);
-    means = means lay disk setup closed given s v back e;
-    ends = columns-end lay disk setup closed given s v back e;
-    causes = causes lay disk setup closed given s v back e;
+    opens = opens-from lay disk setup how closed few.clients s v.line v.ending;
+    rests = subst (λ u. Rests disk (work_of lay setup how) setup.devices.items u (graphs_in setup) s.start s.events s.now) (sym e.told) (rests-from lay disk setup how closed few.clients s v.line v.ending);
+    tells = subst (λ u. Tells disk (work_of lay setup how) setup.devices.items u s.events s.now) (sym e.told) (tells-from lay disk setup how closed few.clients s v.line v.ending);
+    means = means lay disk setup how closed given s v back e;
+    ends = columns-end lay disk setup how closed given s v back e;
+    causes = causes lay disk setup how closed given s v back e;
   }
 
   -- its last world is that of what was served
@@ -63,5 +65,10 @@ module _ {L D : Type 0} (lay : LayoutGhosts L) (disk : DiskGhosts D) (setup : Se
   unfolding runs
   runs-now = refl
 
+  -- and its columns as the core was closed are those that came back
+  pub runs-kept : runs.ends.kept ≡ closed.columns.items
+  unfolding runs
+  runs-kept = ends-kept lay disk setup how closed given s v back e
+
   pub runs-stand : StandFor v.clients v.replies v.sectors
-  runs-stand = subst (λ (u : Service). StandFor u.clients u.replies u.sectors) (sym e.told) (stands-from lay disk setup closed few.clients s v.ending)
+  runs-stand = subst (λ (u : Service). StandFor u.clients u.replies u.sectors) (sym e.told) (stands-from lay disk setup how closed few.clients s v.line v.ending)

@@ -1,5 +1,5 @@
 -- How the columns end, and the loss.
-use Rattle.std.proofs.Common.{◌≡◌, ◌≢◌, ◌⊎◌, inl, inr, ℕ, List, Option, Some, None, sym, ◌∙◌, ap, subst}
+use Rattle.std.proofs.Common.{◌≡◌, ◌≢◌, ◌⊎◌, inl, inr, ℕ, List, Option, Some, None, refl, sym, ◌∙◌, ap, subst}
 use Rattle.std.specs.Prelude.{slice_index}
 use Rattle.blk_disk.specs.declared.disk.Disk.{Ghosts as DiskGhosts}
 use Rattle.blk_disk.specs.Devices.{contents_of}
@@ -12,16 +12,19 @@ use Rattle.eng_world.specs.World.{World}
 use Rattle.eng_events.specs.Opened.{IsSetup, states_of}
 use Rattle.eng_parts.specs.declared.setup.Setup.{Setup}
 use Rattle.eng_parts.specs.declared.setup.Closed.{Closed}
+use Rattle.eng_array.specs.declared.start.Start.{Start}
 use Rattle.top_close.specs.Ended as ended
 use Rattle.top_close.specs.Settled.{IsLiveOn}
 use Rattle.top_close.proofs.DyingLaws.{columns_die}
+use Rattle.top_serve.specs.Setups.{with_rebuilt}
 use Rattle.top_serve.specs.Caused.{WasLostBy}
 use Rattle.top_serve.specs.Served as served
 use Rattle.top_run.specs.Work.{Service}
 use Rattle.top_run.specs.Works.{work_of}
 use Rattle.top_run.specs.Ends.{EndsSo}
-use Rattle.top_run.specs.Ran.{IsLossAtEnd, ColumnsEnd}
-use Rattle.top_run.proofs.Columns.{was-live, none-filling, ending-dies}
+use Rattle.top_run.specs.Ran.{IsLossAtEnd, IsStoppedBy, ColumnsEnd}
+use Rattle.top_run.proofs.Columns.{was-live, none-filling-rebuilt, ending-dies}
+use Rattle.top_run.proofs.Causing.{came, dead-by}
 
 -- the loss of before, or that of the columns in the end
 pub loss-at-end : (y : Shape) (now : World) (before lost : Option Loss) (columns : List ColumnState) → now.lost ≡ before → served.IsLossIn y now before → ended.IsLossOf y before columns lost → IsLossAtEnd y now columns lost
@@ -33,7 +36,7 @@ loss-at-end y now (Some loss) (Some other) columns is why h =
 loss-at-end y now None None columns is why h = h
 loss-at-end y now None (Some loss) columns is why h = inr (is, h)
 
-module _ {L D : Type 0} (lay : LayoutGhosts L) (disk : DiskGhosts D) (setup : Setup L D) (closed : Closed L D) (given : IsSetup lay disk setup) (s : served.IsServed lay disk setup closed) (v : Service) (back : List (Option D)) (e : EndsSo lay closed disk v back) where
+module _ {L D : Type 0} (lay : LayoutGhosts L) (disk : DiskGhosts D) (setup : Setup L D) (how : Option Start) (closed : Closed L D) (given : IsSetup lay disk setup) (s : served.IsServed lay disk setup how closed) (v : Service) (back : List (Option D)) (e : EndsSo lay closed disk v back) where
   abbrev y : Shape
   y = lay.shape setup.layout
 
@@ -49,17 +52,29 @@ module _ {L D : Type 0} (lay : LayoutGhosts L) (disk : DiskGhosts D) (setup : Se
   live-in-end c d (inl live) = was-live y.stripes v.ending.columns c d live
   live-in-end c d (inr filling) = absurd (
       let one = columns_die _ y closed.columns.items v.ending.columns e.dies in
-      let two = columns_die _ y setup.columns.items closed.columns.items s.causes.dies in
-      not-dead (one.each c) (λ same. not-dead (two.each c) (λ too. none-filling y.stripes setup.columns.items given.filling c d filling.0 (sym too ∙ (sym same ∙ filling.1))) (sym same ∙ filling.1)) filling.1)
+      let two = columns_die _ y (with_rebuilt how setup.columns.items) closed.columns.items s.causes.dies in
+      not-dead (one.each c) (λ same. not-dead (two.each c) (λ too. none-filling-rebuilt y.stripes how setup.columns.items given.filling c d filling.0 (sym too ∙ (sym same ∙ filling.1))) (sym same ∙ filling.1)) filling.1)
     where
       not-dead : {o p : Option ColumnState} → (o ≡ p) ⊎ (o ≡ Some Dead) → (o ≡ p → ⊥) → o ≡ Some (Filling d filling.0) → ⊥
       not-dead (inl same) other is = other same
       not-dead (inr dead) other is = let z : Some Dead ≡ Some (Filling d filling.0) = sym dead ∙ is in let u : ⊥ = cc in u
 
-  pub columns-end : ColumnsEnd disk (work_of lay setup) setup.devices.items v back s.now
+  stopped-by : (rebuild : Start) → served.IsStoppedBy lay disk setup how closed s.now rebuild → IsStoppedBy disk (work_of lay setup how) setup.devices.items v back s.now rebuild
+  stopped-by rebuild (inl lost) = inl lost
+  stopped-by rebuild (inr (k, rests, inl dead)) = inr (k, rests, inl dead)
+  stopped-by rebuild (inr (k, rests, inr died)) = inr (k, rests, inr (dead-by lay disk setup how closed given s v back e k died))
+
+  pub columns-end : ColumnsEnd disk (work_of lay setup how) setup.devices.items v back s.now
   columns-end = record {
     kept = closed.columns.items;
-    columns = s.tells.states;
-    dies = ending-dies lay disk setup closed given s v back e;
+    closes = s.tells.closes;
+    came = came lay disk setup how closed given s v back e;
+    stopped = λ rebuild is dead. stopped-by rebuild (s.causes.stopped rebuild is dead);
+    dies = ending-dies lay disk setup how closed given s v back e;
     lost = loss-at-end y s.now closed.lost v.ending.lost (states_of y v.ending.columns) (sym s.tells.lost) s.causes.loss lost-as;
   }
+
+  -- the columns that it says were kept are those that came back
+  pub ends-kept : columns-end.kept ≡ closed.columns.items
+  unfolding columns-end
+  ends-kept = refl

@@ -13,7 +13,7 @@ use Rattle.eng_parts.specs.declared.setup.Closed.{Closed}
 use Rattle.top_close.specs.Calls.{IsSettle, SettlesOn}
 use Rattle.top_serve.specs.Served as served
 use Rattle.top_run.specs.Work.{Service}
-use Rattle.top_run.specs.Works.{work_of}
+use Rattle.top_run.specs.Works.{service_of, work_of}
 use Rattle.top_run.specs.Ends.{IsEnded, EndsSo}
 use Rattle.top_run.specs.Ran.{MayChange, ColumnsEnd, Finishes}
 use Rattle.top_run.proofs.AtEnd.{columns-end, live-in-end}
@@ -26,18 +26,18 @@ settles-behind g (Some before) calls told are on = (on.0, on.1 ∙ ap (λ l. l +
 -- devices that were settled have changed nowhere
 pub ends-so : {L D : Type 0} (lay : LayoutGhosts L) (closed : Closed L D) (disk : DiskGhosts D) (v : Service) (back : List (Option D)) → IsEnded lay closed disk v back → EndsSo lay closed disk v back
 ends-so lay closed disk v back e = record {
-  told = e.told;
+  told = e.told ∙ ap (λ line. service_of closed line v.ending) (sym (ap (λ (u : Service). u.line) e.told));
   frame = changes-more disk (λ _ _. ⊥) (λ d n. n ≡ 0) closed.devices.items back (λ d n never. absurd never) e.settled.frame;
   dies = e.settled.dies;
   lost = e.lost;
 }
 
-module _ {L D : Type 0} (lay : LayoutGhosts L) (disk : DiskGhosts D) (setup : Setup L D) (closed : Closed L D) (given : IsSetup lay disk setup) (s : served.IsServed lay disk setup closed) (v : Service) (back : List (Option D)) (e : IsEnded lay closed disk v back) where
+module _ {L D : Type 0} (lay : LayoutGhosts L) (disk : DiskGhosts D) (setup : Setup L D) (closed : Closed L D) (given : IsSetup lay disk setup) (s : served.IsServed lay disk setup None closed) (v : Service) (back : List (Option D)) (e : IsEnded lay closed disk v back) where
   abbrev so : EndsSo lay closed disk v back
   so = ends-so lay closed disk v back e
 
-  abbrev ends : ColumnsEnd disk (work_of lay setup) setup.devices.items v back s.now
-  ends = columns-end lay disk setup closed given s v back so
+  abbrev ends : ColumnsEnd disk (work_of lay setup None) setup.devices.items v back s.now
+  ends = columns-end lay disk setup None closed given s v back so
 
   -- no sector changes at the end
   same-contents : disk.tells → (d n k : ℕ) → contents_of disk back d n k ≡ contents_of disk closed.devices.items d n k
@@ -47,16 +47,18 @@ module _ {L D : Type 0} (lay : LayoutGhosts L) (disk : DiskGhosts D) (setup : Se
   told-behind d told is = settles-behind disk (calls_of disk closed.devices.items d) (s.now.calls d) told (s.leaves.calls d) (subst (λ o. SettlesOn (calls_of disk closed.devices.items d) o) is (e.settled.told d))
 
   abbrev May : ℕ → ℕ → Type 0
-  May = MayChange disk (work_of lay setup) setup.devices.items v back
+  May = MayChange disk (work_of lay setup None) setup.devices.items v back
 
-  pub finishes : Finishes disk (work_of lay setup) setup.devices.items v back s.now
+  pub finishes : Finishes disk (work_of lay setup None) setup.devices.items v back s.now
   finishes = record {
     kept = ends.kept;
-    columns = ends.columns;
+    closes = ends.closes;
+    came = ends.came;
+    stopped = ends.stopped;
     dies = ends.dies;
     lost = ends.lost;
     contents = λ tells d n k kb. same-contents tells d n k ∙ sym (s.leaves.contents tells d n k kb);
     calls = told-behind;
-    settled = λ c d has. e.last c d (live-in-end lay disk setup closed given s v back so c d has);
+    settled = λ c d has. e.last c d (live-in-end lay disk setup None closed given s v back so c d has);
     frame = changes-then disk May setup.devices.items closed.devices.items back s.leaves.frame (changes-more disk (λ _ _. ⊥) May closed.devices.items back (λ d n never. absurd never) e.settled.frame);
   }

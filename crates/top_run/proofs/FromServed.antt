@@ -1,5 +1,5 @@
 -- What was served is a run of what was asked: its opening, its rest, what it tells and what it means.
-use Rattle.std.proofs.Common.{◌≡◌, inl, inr, ℕ, zero, suc, ◌<◌, ◌≤◌, ◌+◌, ◌*◌, List, [], ◌∷◌, length, map, take, drop, get_or, Bool, true, false, Option, Some, None, refl, sym, ◌∙◌, ap, arith}
+use Rattle.std.proofs.Common.{◌≡◌, ◌≢◌, inl, inr, ℕ, zero, suc, ◌<◌, ◌≤◌, ◌+◌, ◌*◌, List, [], ◌∷◌, length, map, take, drop, get_or, Bool, true, false, Option, Some, None, refl, sym, ◌∙◌, ap, arith}
 use Rattle.std.specs.Prelude.{Vec, slice_get, slice_index_or, sum_by}
 use Rattle.std.specs.declared.alloc.Global.{Global}
 use Rattle.std.proofs.lemmas.Bool.{cases_lt}
@@ -24,12 +24,14 @@ use Rattle.eng_parts.specs.Given.{items_in, items_at}
 use Rattle.eng_parts.specs.Handed.{region_at}
 use Rattle.eng_parts.specs.Laid as laid
 use Rattle.eng_parts.specs.Replied.{replies_in}
+use Rattle.eng_array.specs.declared.start.Start.{Start}
 use Rattle.raid_script.specs.Asked.{seen}
 use Rattle.raid_script.specs.Replies as told
 use Rattle.top_bound.proofs.Below.{below-get, below-same}
 use Rattle.top_bound.proofs.Limits.{sum-same, sectors-alike}
 use Rattle.top_serve.specs.Setups.{graphs_in}
 use Rattle.top_serve.specs.Served as served
+use Rattle.top_run.specs.declared.service.Line.{Line}
 use Rattle.top_run.specs.Work.{Work, Ending, Service}
 use Rattle.top_run.specs.Works.{work_of, service_of}
 use Rattle.top_run.specs.Ran.{AreGraphsOf, trace_of, told_byte, Opens, Rests, Tells}
@@ -104,12 +106,12 @@ item-byte bytes items before i count j within =
     ∙ (get_or-drop (512 * told.row_sectors (take i items)) (drop before bytes) j 0
     ∙ get_or-drop before bytes (512 * told.row_sectors (take i items) + j) 0)
 
-module _ {L D : Type 0} (lay : LayoutGhosts L) (disk : DiskGhosts D) (setup : Setup L D) (closed : Closed L D) (few : length setup.clients.items ≤ 16) (s : served.IsServed lay disk setup closed) (ending : Ending) where
+module _ {L D : Type 0} (lay : LayoutGhosts L) (disk : DiskGhosts D) (setup : Setup L D) (how : Option Start) (closed : Closed L D) (few : length setup.clients.items ≤ 16) (s : served.IsServed lay disk setup how closed) (line : Option Line) (ending : Ending) where
   abbrev a : Work
-  a = work_of lay setup
+  a = work_of lay setup how
 
   abbrev service : Service
-  service = service_of closed ending
+  service = service_of closed line ending
 
   pub opens-from : Opens disk a setup.devices.items s.start
   opens-from = record {
@@ -130,8 +132,9 @@ module _ {L D : Type 0} (lay : LayoutGhosts L) (disk : DiskGhosts D) (setup : Se
   pub rests-from : Rests disk a setup.devices.items service (graphs_in setup) s.start s.events s.now
   rests-from = record {
     graphs_are = graphs-from;
-    own = s.rests.own;
+    begins = s.rests.begins;
     run = s.rests.run;
+    rebuilds = s.rests.rebuilds;
     replied = s.rests.replied;
     out = s.rests.out;
   }
@@ -139,32 +142,38 @@ module _ {L D : Type 0} (lay : LayoutGhosts L) (disk : DiskGhosts D) (setup : Se
   told-items : (c : ℕ) → told.items_at closed.clients.items c ≡ items_at setup.clients.items c
   told-items c = items-alike (slice_get closed.clients.items c) ∙ s.tells.items c
 
-  -- a client with a reply is one of sixteen, and the reply is to an item
-  is-client : (c i : ℕ) (r : Reply) → slice_get (s.now.clients c).replies i ≡ Some r → (c < 16) × (i < length (items_at setup.clients.items c))
-  is-client c i r is = (elim (cases_lt c 16) [ inl lt ↦ lt | inr past ↦ absurd (none past) ], among)
-    where
-      among : i < length (items_at setup.clients.items c)
-      among =
-          let within = slice_get_within (s.now.clients c).replies i r is in
-          let all = s.rests.replied c in
-          let same = ap (λ (l : List Item). length l) (s.rests.items c) in
-          omega (arith, within, all, same)
+  -- one of sixteen isn't the client that rebuilds
+  not-last : (c : ℕ) → c < 16 → c ≢ 16
+  not-last c lt is = omega (arith, lt, is)
 
-      none : 16 ≤ c → ⊥
-      none past =
-          let e = ap (λ (l : List Item). length l) (ap items_in (slice_get_past setup.clients.items c (omega (arith, few, past)))) in
-          let n = among in
-          omega (arith, e, n)
+  -- a reply of one of sixteen is to an item
+  among : (c i : ℕ) (r : Reply) → c < 16 → slice_get (s.now.clients c).replies i ≡ Some r → i < length (items_at setup.clients.items c)
+  among c i r lt is =
+      let within = slice_get_within (s.now.clients c).replies i r is in
+      let all = s.rests.replied c in
+      let same = ap (λ (l : List Item). length l) (s.rests.items c (not-last c lt)) in
+      omega (arith, within, all, same)
+
+  -- what is handed a block is one of sixteen
+  is-client : (c i b : ℕ) → b < told.item_sectors (slice_index_or (told.items_at service.clients c) i told.no_item) → c < 16
+  is-client c i b within = elim (cases_lt c 16) [
+    | inl lt ↦ lt
+    | inr past ↦
+        let none = told-items c ∙ ap items_in (slice_get_past setup.clients.items c (omega (arith, few, past))) in
+        let sectors : told.item_sectors (slice_index_or (told.items_at service.clients c) i told.no_item) ≡ 0 = ap (λ (l : List Item). told.item_sectors (slice_index_or l i told.no_item)) none in
+        absurd (omega (arith, within, sectors))
+  ]
 
   byte-from : disk.tells → (c i b k : ℕ) → slice_get (s.now.clients c).replies i ≡ Some reply.Data → b < told.item_sectors (slice_index_or (told.items_at service.clients c) i told.no_item) → k < 512 → (s.now.clients c).handed i b k ≡ told_byte service c i b k
   byte-from tells c i b k is within kb =
-      let here = is-client c i reply.Data is in
+      let lt = is-client c i b within in
+      let here = among c i reply.Data lt is in
       let items : List Item = items_at setup.clients.items c in
-      let row = (s.hands.rows c here.0).each i here.1 in
+      let row = (s.hands.rows c lt).each i here in
       let first : (region_at (served.handed_in closed) c i).first ≡ laid.sectors_before setup.clients.items c + below (laid.sectors_at items) i = ap (λ (r : Region). r.first) row in
       let count : (region_at (served.handed_in closed) c i).count ≡ laid.sectors_at items i = ap (λ (r : Region). r.count) row in
       let asked : told.item_sectors (slice_index_or (told.items_at closed.clients.items c) i told.no_item) ≡ laid.sectors_at items i =
-      ap (λ (l : List Item). told.item_sectors (slice_index_or l i told.no_item)) (told-items c) ∙ item-count items i here.1 in
+      ap (λ (l : List Item). told.item_sectors (slice_index_or l i told.no_item)) (told-items c) ∙ item-count items i here in
       let clients : told.sectors_before closed.clients.items c ≡ laid.sectors_before setup.clients.items c =
       sectors-alike closed.clients.items c ∙ before-same closed.clients.items setup.clients.items s.tells.items c in
       let behind : told.row_sectors (take i (told.items_at closed.clients.items c)) ≡ below (laid.sectors_at items) i =
@@ -178,9 +187,10 @@ module _ {L D : Type 0} (lay : LayoutGhosts L) (disk : DiskGhosts D) (setup : Se
   pub tells-from : Tells disk a setup.devices.items service s.events s.now
   tells-from = record {
     asked = asked-same closed.clients.items setup.clients.items s.tells.clients s.tells.items;
-    items = λ c. told-items c ∙ sym (s.rests.items c);
+    few = s.tells.few;
+    items = λ c other. told-items c ∙ sym (s.rests.items c other);
     rows = s.tells.rows ∙ sym s.tells.clients;
-    replies = λ c. replies-alike (slice_get closed.replies.items c) ∙ s.tells.replies c;
+    replies = λ c other. replies-alike (slice_get closed.replies.items c) ∙ s.tells.replies c other;
     history = s.tells.history;
     trace = s.tells.trace ∙ trace-alike setup.trace s.events;
     handed = byte-from;
@@ -191,7 +201,10 @@ module _ {L D : Type 0} (lay : LayoutGhosts L) (disk : DiskGhosts D) (setup : Se
   pub stands-from : told.StandFor service.clients service.replies service.sectors
   stands-from = record {
     clients_answered = let e = s.tells.rows in let f = s.tells.clients in omega (arith, e, f);
-    items_answered = λ c lt. ap (λ (l : List Reply). length l) (tells-from.replies c) ∙ (s.rests.replied c ∙ ap (λ (l : List Item). length l) (sym (tells-from.items c)));
+    items_answered = λ c lt.
+        let most = s.tells.few in
+        let other = not-last c (omega (arith, lt, most)) in
+        ap (λ (l : List Reply). length l) (tells-from.replies c other) ∙ (s.rests.replied c ∙ ap (λ (l : List Item). length l) (sym (tells-from.items c other)));
     enough =
         let count = s.tells.clients in
         let all : take 16 closed.clients.items ≡ closed.clients.items = take_all 16 closed.clients.items (omega (arith, few, count)) in

@@ -26,6 +26,8 @@ use Rattle.top_sweep.specs.Apart.{Touches, IsApart, id_of}
 use Rattle.top_run.specs.Work.{Work, Service}
 use Rattle.top_run.specs.Ran.{IsLossAtEnd, Runs}
 use Rattle.top_run.specs.InTurn.{plain_reply}
+use Rattle.top_run.proofs.Closing.{closing-lost}
+use Rattle.top_run.proofs.InTurnAlone.{items-all}
 use Rattle.top_run.proofs.InTurnOps.{EachRuns, AllRun, own_of, row_asks, ops-at, item-of}
 use Rattle.top_run.proofs.InTurnLost.{never-lost}
 use Rattle.top_run.proofs.InTurnReplies.{replied-so, commits-so}
@@ -36,7 +38,7 @@ touched (Read span) b h = h
 touched (Rebuild stripe) b h = absurd h
 touched (Sync stripe) b h = absurd h
 
-module _ {D : Type 0} (g : Ghosts D) (a : Work) (taken : List (Option D)) (s : Service) (back : List (Option D)) (r : Runs g a taken s back) (count ops wide blocks : ℕ) (apart : AreApart count ops wide blocks a.clients) (within : blocks ≤ blocks_in a.layout) (none : s.ending.lost ≡ None) where
+module _ {D : Type 0} (g : Ghosts D) (a : Work) (taken : List (Option D)) (s : Service) (back : List (Option D)) (r : Runs g a taken s back) (alone : a.start ≡ None) (count ops wide blocks : ℕ) (apart : AreApart count ops wide blocks a.clients) (within : blocks ≤ blocks_in a.layout) (none : s.ending.lost ≡ None) where
   -- ## The array isn't lost
 
   not-at-end : NotLost a.layout (states_of a.layout s.ending.columns)
@@ -44,7 +46,7 @@ module _ {D : Type 0} (g : Ghosts D) (a : Work) (taken : List (Option D)) (s : S
 
   not-now : NotLost a.layout r.now.columns
   not-now =
-      subst (NotLost a.layout) (sym r.ends.columns)
+      closing-lost a.layout r.now.columns r.ends.kept r.ends.closes
       (lost_no_less a.layout (states_of a.layout r.ends.kept) (states_of a.layout s.ending.columns) (columns_die _ a.layout r.ends.kept s.ending.columns r.ends.dies) not-at-end)
 
   no-loss : r.now.lost ≡ None
@@ -80,7 +82,7 @@ module _ {D : Type 0} (g : Ghosts D) (a : Work) (taken : List (Option D)) (s : S
   owner b = b / wide
 
   item-now : (c i : ℕ) (o : Op) → slice_get (own c) i ≡ Some o → ItemAt r.now (id_of c i) (item.Run o None)
-  item-now c i o h = ap (λ l. slice_get l i) (sym (r.tells.items c)) ∙ item-of (items_at s.clients c) (runs c) i o h
+  item-now c i o h = ap (λ l. slice_get l i) (sym (items-all g a taken s back r alone c)) ∙ item-of (items_at s.clients c) (runs c) i o h
 
   has-reply : (c i : ℕ) (x : Item) → slice_get (r.now.clients c).items i ≡ Some x → (e : Reply) × ReplyOf r.now (id_of c i) e
   has-reply c i x h = elim (slice_get_cases (r.now.clients c).replies i).1 [
@@ -102,7 +104,7 @@ module _ {D : Type 0} (g : Ghosts D) (a : Work) (taken : List (Option D)) (s : S
 
   pub is-apart : IsApart r.now own owner
   is-apart = record {
-    lists = λ c i. ap (λ l. op_of (slice_get l i)) (sym (r.tells.items c)) ∙ ops-at (items_at s.clients c) (runs c) i;
+    lists = λ c i. ap (λ l. op_of (slice_get l i)) (sym (items-all g a taken s back r alone c)) ∙ ops-at (items_at s.clients c) (runs c) i;
     done = λ c i o h. (plain_reply o, replied-as c i o h, commits-so o);
     apart = λ c i o b h touch.
         let at = item-of (items_at s.clients c) (runs c) i o h in

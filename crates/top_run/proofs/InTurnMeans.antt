@@ -27,6 +27,7 @@ use Rattle.top_sweep.proofs.InAnyOrder.{leaves_in_turn, reads_in_turn}
 use Rattle.top_run.specs.Work.{Work, Service}
 use Rattle.top_run.specs.Ran.{WasInSync, Runs, told_byte}
 use Rattle.top_run.specs.InTurn.{asks, one_after_another, place_of, HasOp, plain_reply}
+use Rattle.top_run.proofs.InTurnAlone.{replies-all}
 use Rattle.top_run.proofs.InTurnOps.{ops-many, item-of, turn_of, all-in-turn, first-in-turn, none-behind, turn-asks, first-many, asked-by}
 use Rattle.top_run.proofs.InTurnApart as apart
 
@@ -38,12 +39,12 @@ are_ops-take w [] (o ∷ ops) (suc n) are = absurd are
 are_ops-take w (id ∷ ids) [] (suc n) are = absurd are
 are_ops-take w (id ∷ ids) (o ∷ ops) (suc n) are = (are.0, are_ops-take w ids ops n are.1)
 
-module _ {D : Type 0} (g : Ghosts D) (a : Work) (taken : List (Option D)) (s : Service) (back : List (Option D)) (r : Runs g a taken s back) (count ops wide blocks : ℕ) (given : AreApart count ops wide blocks a.clients) (within : blocks ≤ blocks_in a.layout) (none : s.ending.lost ≡ None) where
+module _ {D : Type 0} (g : Ghosts D) (a : Work) (taken : List (Option D)) (s : Service) (back : List (Option D)) (r : Runs g a taken s back) (alone : a.start ≡ None) (count ops wide blocks : ℕ) (given : AreApart count ops wide blocks a.clients) (within : blocks ≤ blocks_in a.layout) (none : s.ending.lost ≡ None) where
   abbrev own : ℕ → List Op
-  own = apart.own g a taken s back r count ops wide blocks given within none
+  own = apart.own g a taken s back r alone count ops wide blocks given within none
 
   abbrev owner : ℕ → ℕ
-  owner = apart.owner g a taken s back r count ops wide blocks given within none
+  owner = apart.owner g a taken s back r alone count ops wide blocks given within none
 
   abbrev pub turn : List Op
   turn = turn_of s.clients
@@ -55,7 +56,7 @@ module _ {D : Type 0} (g : Ghosts D) (a : Work) (taken : List (Option D)) (s : S
   whole = all-in-turn s.clients
 
   pub asked : map asks turn ≡ one_after_another a.clients
-  asked = turn-asks s.clients (apart.all-run g a taken s back r count ops wide blocks given within none) ∙ ap one_after_another r.tells.asked
+  asked = turn-asks s.clients (apart.all-run g a taken s back r alone count ops wide blocks given within none) ∙ ap one_after_another r.tells.asked
 
   -- ## Places
 
@@ -66,7 +67,7 @@ module _ {D : Type 0} (g : Ghosts D) (a : Work) (taken : List (Option D)) (s : S
       let two = length-map (items_at s.clients c) seen in
       let three = ap (λ l. length (slice_index_or l c [])) r.tells.asked in
       omega (arith, inside, one, two, three)) in
-      let as_many = ops-many (items_at s.clients c) (apart.runs g a taken s back r count ops wide blocks given within none c) in (
+      let as_many = ops-many (items_at s.clients c) (apart.runs g a taken s back r alone count ops wide blocks given within none c) in (
         elim (cases_lt c many) [
           | inl less ↦ less
           | inr past ↦
@@ -79,7 +80,7 @@ module _ {D : Type 0} (g : Ghosts D) (a : Work) (taken : List (Option D)) (s : S
   place-is : (c i : ℕ) → c < many → place_of a.clients c i ≡ length (in_turn own c) + i
   place-is c i less =
       let one = ap (λ l. length l) (first-in-turn s.clients c (omega (arith, less))) in
-      let two = first-many s.clients (apart.all-run g a taken s back r count ops wide blocks given within none) c in
+      let two = first-many s.clients (apart.all-run g a taken s back r alone count ops wide blocks given within none) c in
       let three = ap (λ l. length (one_after_another (take c l))) r.tells.asked in
       omega (arith, one, two, three)
 
@@ -93,8 +94,8 @@ module _ {D : Type 0} (g : Ghosts D) (a : Work) (taken : List (Option D)) (s : S
 
   pub replied : (c i : ℕ) (o : Op) → HasOp a.clients turn c i o → slice_get (replies_at s.replies c) i ≡ Some (plain_reply o)
   replied c i o has =
-      ap (λ l. slice_get l i) (r.tells.replies c)
-      ∙ apart.replied-as g a taken s back r count ops wide blocks given within none c i o (own-at c i o has)
+      ap (λ l. slice_get l i) (replies-all g a taken s back r alone c)
+      ∙ apart.replied-as g a taken s back r alone count ops wide blocks given within none c i o (own-at c i o has)
 
   -- ## Blocks
 
@@ -103,7 +104,7 @@ module _ {D : Type 0} (g : Ghosts D) (a : Work) (taken : List (Option D)) (s : S
       let was = r.means.agrees tells sync none in
       let same : (b k : ℕ) → replay r.start.blocks was.0 b k ≡ replay r.start.blocks turn b k =
       λ b k.
-      leaves_in_turn r.now r.start.blocks own owner was.0 many (apart.is-apart g a taken s back r count ops wide blocks given within none) r.means.legal.legal was.1 (none-behind s.clients) b k
+      leaves_in_turn r.now r.start.blocks own owner was.0 many (apart.is-apart g a taken s back r alone count ops wide blocks given within none) r.means.legal.legal was.1 (none-behind s.clients) b k
       ∙ ap (λ (l : List Op). replay r.start.blocks l b k) whole in
       subst (λ (bs : Blocks). Agrees a.layout (contents_of g back) (states_of a.layout s.ending.columns) bs AnyStripe) (λ i b k. same b k i) was.2
 
@@ -112,10 +113,10 @@ module _ {D : Type 0} (g : Ghosts D) (a : Work) (taken : List (Option D)) (s : S
   pub read-own : g.tells → WasInSync g a taken → (c i : ℕ) (span : Span) → c < many → slice_get (own c) i ≡ Some (Read span) → (j k : ℕ) → j < span.count → k < 512
       → told_byte s c i j k ≡ replay r.start.blocks (take (length (in_turn own c) + i) (in_turn own many)) (span.first + j) k
   read-own tells sync c i span less there j k jl kl =
-      let is-apart = apart.is-apart g a taken s back r count ops wide blocks given within none in
-      let told : ReplyOf r.now (id_of c i) reply.Data = apart.replied-as g a taken s back r count ops wide blocks given within none c i (Read span) there in
+      let is-apart = apart.is-apart g a taken s back r alone count ops wide blocks given within none in
+      let told : ReplyOf r.now (id_of c i) reply.Data = apart.replied-as g a taken s back r alone count ops wide blocks given within none c i (Read span) there in
       let at = r.means.legal.legal.committed (id_of c i) reply.Data told tt in
-      let asks_for = item-of (items_at s.clients c) (apart.runs g a taken s back r count ops wide blocks given within none c) i (Read span) there in
+      let asks_for = item-of (items_at s.clients c) (apart.runs g a taken s back r alone count ops wide blocks given within none c) i (Read span) there in
       let long : item_sectors (slice_index_or (items_at s.clients c) i no_item) ≡ span.count = ap item_sectors (get_or_from_slice_get (items_at s.clients c) i (item.Run (Read span) None) no_item asks_for) in
       sym (r.tells.handed tells c i j k told (omega (arith, jl, long)) kl)
       ∙ reads_in_turn r.now r.start.blocks own owner many is-apart r.means.legal.legal (r.means.fits tells sync) (id_of c i) span at.0 (take at.0 r.means.legal.ops)

@@ -1,4 +1,6 @@
 pub mod Settled
+pub mod Starting
+mod Closing
 pub mod Columns
 mod FromServed
 pub mod AtEnd
@@ -6,11 +8,14 @@ mod Finishing
 mod Meaning
 mod Causing
 pub mod Outlived
+mod Ordered
+pub mod Rebuilt
 pub mod All
 mod InTurnOps
 mod InTurnSums
 mod InTurnLost
 mod InTurnReplies
+mod InTurnAlone
 mod InTurnApart
 mod InTurnMeans
 mod InTurnSummary

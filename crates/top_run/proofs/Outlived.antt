@@ -1,8 +1,10 @@
 -- A run that the array outlives isn't lost, and in one that isn't lost each item has the reply that it ought to.
-use Rattle.std.proofs.Common.{◌≡◌, ◌⊎◌, inl, inr, ℕ, List, map, Bool, Option, Some, None, option_map, slice_get, refl, sym, ◌∙◌, ap, subst, arith}
+use Rattle.std.proofs.Common.{◌≡◌, ◌≢◌, ◌⊎◌, inl, inr, ℕ, List, length, map, Bool, Option, Some, None, option_map, slice_get, slice_set, refl, sym, ◌∙◌, ap, subst, arith}
 use Rattle.std.specs.Prelude.{Contains, Vec}
 use Rattle.std.specs.declared.alloc.Global.{Global}
-use Rattle.std.proofs.lemmas.Option.{slice_get-map, slice_get_within, get_or_from_slice_get}
+use Rattle.std.proofs.lemmas.Bool.{cases_eq}
+use Rattle.std.proofs.lemmas.List.{length-set}
+use Rattle.std.proofs.lemmas.Option.{slice_get-map, slice_get_past, slice_get_within, get_or_from_slice_get}
 use Rattle.blk_plain.specs.declared.op.Op.{Op}
 use Rattle.blk_plain.specs.declared.op.Op.TheVariants as op
 use Rattle.blk_plain.specs.declared.op.OpId.{OpId}
@@ -14,39 +16,39 @@ use Rattle.eng_cols.specs.declared.spot.Loss.{Loss}
 use Rattle.eng_cols.specs.Cols.{ColumnState, Live, Dead, Filling, Spread, HasDevice, all_done, none_done, state_set}
 use Rattle.eng_cols.specs.Deaths.{Dies}
 use Rattle.eng_cols.specs.Lost.{NotLost}
-use Rattle.eng_cols.proofs.DeathLaws.{dies-more}
+use Rattle.eng_cols.proofs.DeathLaws.{dies-more, dies-refl}
+use Rattle.eng_cols.proofs.Lists.{get_set_either, get_set_other, get_set_same}
 use Rattle.eng_cols.proofs.Losing.{lost-excludes}
 use Rattle.eng_world.specs.declared.item.Item.{Item as AnyItem}
 use Rattle.eng_world.specs.declared.item.Item.TheVariants as item
 use Rattle.eng_world.specs.declared.item.Reply.{Reply}
 use Rattle.eng_world.specs.declared.item.Reply.TheVariants as reply
-use Rattle.eng_world.specs.declared.item.Traced.TheVariants as event
-use Rattle.eng_world.specs.World.{IsRead}
+use Rattle.eng_world.specs.World.{IsRead, World}
 use Rattle.eng_world.specs.Legal.{StandsAt}
 use Rattle.eng_world.specs.Causes.{ItemAt, WasSpread, IsGone, IsCause}
 use Rattle.eng_world.proofs.Caused.{some-get}
 use Rattle.eng_events.specs.Opened.{states_of}
+use Rattle.eng_array.specs.Starts.{column_of}
+use Rattle.eng_array.specs.declared.start.Start.{Start}
+use Rattle.eng_array.specs.declared.start.Start.TheVariants as start
 use Rattle.raid_script.specs.Asked.{seen, Fails}
 use Rattle.raid_script.specs.Replies.{items_in, items_at}
+use Rattle.top_close.specs.Dying.{AnyCause}
 use Rattle.top_close.proofs.DyingLaws.{lost_no_less, columns_die}
 use Rattle.top_serve.specs.Caused.{WasLostBy}
-use Rattle.top_serve.proofs.Between.{all-own}
+use Rattle.top_serve.specs.Served.{IsUnbuilt}
+use Rattle.top_serve.specs.Setups.{with_rebuilt, with_start}
 use Rattle.top_serve.proofs.Losing.{lost-by}
 use Rattle.top_run.specs.Work.{Work, Service}
-use Rattle.top_run.specs.Ran.{WasFailed, IsLossAtEnd, RisesAt, IsFailedBy, states_in, Ran, Runs, runs_of}
+use Rattle.top_run.specs.Ran.{WasFailed, IsLossAtEnd, RisesAt, IsFailedBy, begun_in, Ran, Runs, runs_of}
 use Rattle.top_run.specs.Outliving.{HasFail, done_reply, MayDie, Outlives, HasFaulted, IsAnswered, IsReplyTo, AllAnswered}
+use Rattle.top_run.proofs.Closing.{closing-dead, closing-lost}
+use Rattle.top_run.proofs.Starting.{IsDeadBefore, dead-then, device-same, rebuilds-none, rebuilt-other, spread-by, spread-rebuilt, spread-started, started-other}
 
 -- ## Lists and columns
 
 at-place : {A : Type 0} (l : List A) (k : ℕ) (x : A) → slice_get l k ≡ Some x → Contains l x
 at-place l k x is = (k, slice_get_within l k x is, get_or_from_slice_get l k x x is)
-
-dead-back : (n : ℕ) (o : Option Column) → option_map (state_set n) o ≡ Some Dead → o ≡ Some set.Dead
-dead-back n None h = let z : None ≡ Some Dead = h in absurd (let u : ⊥ = cc in u)
-dead-back n (Some (set.Live d)) h = let z : Some (Live d) ≡ Some Dead = h in absurd (let u : ⊥ = cc in u)
-dead-back n (Some set.Dead) h = refl
-dead-back n (Some (set.Filling d)) h = let z : Some (Filling d (none_done n)) ≡ Some Dead = h in absurd (let u : ⊥ = cc in u)
-dead-back n (Some set.Spread) h = let z : Some (Spread (all_done n)) ≡ Some Dead = h in absurd (let u : ⊥ = cc in u)
 
 spread-back : (n : ℕ) (o : Option Column) (done : List Bool) → option_map (state_set n) o ≡ Some (Spread done) → o ≡ Some set.Spread
 spread-back n None done h = let z : None ≡ Some (Spread done) = h in absurd (let u : ⊥ = cc in u)
@@ -59,6 +61,11 @@ spread-back n (Some set.Spread) done h = refl
 spread-none : {A : Type 0} (cols : List ColumnState) (c d : ℕ) (done : List Bool) → slice_get cols c ≡ Some (Spread done) → HasDevice cols c d → A
 spread-none cols c d done is (inl h) = let z : Some (Spread done) ≡ Some (Live d) = sym is ∙ h in absurd (let u : ⊥ = cc in u)
 spread-none cols c d done is (inr h) = let z : Some (Spread done) ≡ Some (Filling d h.0) = sym is ∙ h.1 in absurd (let u : ⊥ = cc in u)
+
+-- a column that isn't whole isn't dead as the run ends
+unbuilt-lives : (y : Shape) (now : World) (how : Option Start) (c : ℕ) → IsUnbuilt y how now c → slice_get now.columns c ≡ Some Dead → ⊥
+unbuilt-lives y now None c unbuilt dead = unbuilt
+unbuilt-lives y now (Some h) c unbuilt dead = unbuilt.1 dead
 
 done-by : (o : Op) → (IsRead (Some o) → ⊥) → reply.Done ≡ done_reply o
 done-by (op.Write span pattern) h = refl
@@ -79,8 +86,11 @@ module _ {D : Type 0} (g : Ghosts D) (a : Work) (taken back : List (Option D)) (
   asked-fail : (c : ℕ) → WasFailed ran.now c → HasFail a c
   asked-fail c w = by (slice_get s.clients w.id.client) refl
     where
+      other : w.id.client ≢ 16
+      other is = rebuilds-none y (begun_in a) a.start (ran.now.clients 16).items w.id.index c ran.rests.rebuilds (ap (λ k. slice_get (ran.now.clients k).items w.id.index) (sym is) ∙ w.asked)
+
       at : slice_get (items_at s.clients w.id.client) w.id.index ≡ Some (item.Fail c)
-      at = ap (λ (l : List AnyItem). slice_get l w.id.index) (ran.tells.items w.id.client) ∙ w.asked
+      at = ap (λ (l : List AnyItem). slice_get l w.id.index) (ran.tells.items w.id.client other) ∙ w.asked
 
       by : (o : Option (Vec AnyItem Global)) → slice_get s.clients w.id.client ≡ o → HasFail a c
       by None is = let z : None ≡ Some (item.Fail c) = ap (λ (o : Option (Vec AnyItem Global)). slice_get (items_in o) w.id.index) (sym is) ∙ at in absurd (let u : ⊥ = cc in u)
@@ -96,12 +106,70 @@ module _ {D : Type 0} (g : Ghosts D) (a : Work) (taken back : List (Option D)) (
             fails = at-place (map seen row.items) w.id.index (Fails c) (slice_get-map seen row.items w.id.index ∙ ap (option_map seen) here);
           }
 
-  may-die : (c : ℕ) → WasFailed ran.now c ⊎ RisesAt g a taken s back c → MayDie g a taken back c
-  may-die c (inl w) = inl (asked-fail c w)
-  may-die c (inr rose) = inr rose
+  -- a column that is rebuilt was dead
+  dead-first : IsDeadBefore a.start a.columns
+  dead-first = dead-then y ran.graphs ran.start ran.now ran.events ran.opens.opening ran.rests.run a.columns ran.opens.columns a.start ran.rests.begins
 
-  died-so : Dies (MayDie g a taken back) a.columns s.ending.columns
-  died-so = dies-more (λ c. WasFailed ran.now c ⊎ RisesAt g a taken s back c) (MayDie g a taken back) a.columns s.ending.columns may-die ran.causes.dies
+  -- the cause of another column that died
+  may-die : (how : Option Start) → a.start ≡ how → (c : ℕ) → ((h : Start) → how ≡ Some h → c ≢ column_of h) → WasFailed ran.now c ⊎ (RisesAt g a taken s back c ⊎ IsUnbuilt y how ran.now c) → MayDie g a taken back c
+  may-die how is c other (inl w) = inl (asked-fail c w)
+  may-die None is c other (inr (inl rose)) = inr (inr (rose.0, subst (λ h. HasDevice (states_of y (with_start h a.columns)) c rose.0) is rose.1, rose.2))
+  may-die (Some h) is c other (inr (inl rose)) =
+      inr (inr (rose.0, device-same y.stripes (with_start (Some h) a.columns) a.columns c rose.0 (started-other h a.columns c (other h refl)) (subst (λ x. HasDevice (states_of y (with_start x a.columns)) c rose.0) is rose.1), rose.2))
+  may-die None is c other (inr (inr unbuilt)) = absurd unbuilt
+  may-die (Some h) is c other (inr (inr unbuilt)) = absurd (other h refl (sym unbuilt.0))
+
+  -- the columns in the end, without the one that was rebuilt
+  without : Option Start → List Column
+  without None = s.ending.columns
+  without (Some h) = slice_set s.ending.columns (column_of h) set.Dead
+
+  abbrev Why : Option Start → ℕ → Type 0
+  Why how c = WasFailed ran.now c ⊎ (RisesAt g a taken s back c ⊎ IsUnbuilt y how ran.now c)
+
+  rebuilt-count : (how : Option Start) (columns : List Column) → length (with_rebuilt how columns) ≡ length columns
+  rebuilt-count None columns = refl
+  rebuilt-count (Some (start.Fill c d)) columns = length-set columns c (set.Live d)
+  rebuilt-count (Some (start.Spread c)) columns = length-set columns c set.Spread
+
+  died-without : (how : Option Start) → a.start ≡ how → Dies (Why how) (with_rebuilt how a.columns) s.ending.columns → Dies (MayDie g a taken back) a.columns (without how)
+  unfolding without
+  died-without None is dies = dies-more (Why None) (MayDie g a taken back) a.columns s.ending.columns (λ c why. may-die None is c (λ h none. let z : None ≡ Some h = none in absurd (let u : ⊥ = cc in u)) why) dies
+  died-without (Some h) is dies = record { count = length-set s.ending.columns k set.Dead ∙ (dies.count ∙ rebuilt-count (Some h) a.columns); each = λ c. by c (cases_eq c k) }
+    where
+      k : ℕ
+      k = column_of h
+
+      was-dead : slice_get a.columns k ≡ Some set.Dead
+      was-dead = dead-first h is
+
+      now-dead : slice_get (slice_set s.ending.columns k set.Dead) k ≡ Some set.Dead
+      now-dead =
+          let within = slice_get_within a.columns k set.Dead was-dead in
+          let many = dies.count ∙ rebuilt-count (Some h) a.columns in
+          let got = some-get s.ending.columns k (omega (arith, within, many)) in
+          get_set_same s.ending.columns k got.0 set.Dead got.1
+
+      by : (c : ℕ) → (c ≡ k) ⊎ (c ≡ k → ⊥) → (slice_get (slice_set s.ending.columns k set.Dead) c ≡ slice_get a.columns c) ⊎ ((slice_get (slice_set s.ending.columns k set.Dead) c ≡ Some set.Dead) × MayDie g a taken back c)
+      by c (inl here) = inl (ap (slice_get (slice_set s.ending.columns k set.Dead)) here ∙ (now-dead ∙ (sym was-dead ∙ ap (slice_get a.columns) (sym here))))
+      by c (inr other) =
+          let same = get_set_other s.ending.columns k c set.Dead other in
+          elim (dies.each c) [
+            | inl still ↦ inl (same ∙ (still ∙ rebuilt-other h a.columns c other))
+            | inr died ↦ inr (same ∙ died.0, may-die (Some h) is c (λ x eq. let z : Some h ≡ Some x = eq in let one : h ≡ x = cc in subst (λ w. c ≢ column_of w) one other) died.1)
+          ]
+
+  died-so : Dies (MayDie g a taken back) a.columns (without a.start)
+  died-so = died-without a.start refl ran.causes.dies
+
+  -- it has died since the end, or is as it was
+  only-dead : (how : Option Start) → Dies AnyCause s.ending.columns (without how)
+  unfolding without
+  only-dead None = dies-refl AnyCause s.ending.columns
+  only-dead (Some h) = record {
+    count = length-set s.ending.columns (column_of h) set.Dead;
+    each = λ c. elim (get_set_either s.ending.columns (column_of h) c set.Dead) [ inl dead ↦ inr (dead, tt) | inr same ↦ inl same ];
+  }
 
   -- ## The loss
 
@@ -109,14 +177,14 @@ module _ {D : Type 0} (g : Ghosts D) (a : Work) (taken back : List (Option D)) (
   lost-still : (loss : Loss) → WasLostBy y ran.now loss → NotLost y last → ⊥
   lost-still loss was kept =
       let ended : NotLost y (states_of y ran.ends.kept) = lost_no_less y (states_of y ran.ends.kept) last (columns_die (RisesAt g a taken s back) y ran.ends.kept s.ending.columns ran.ends.dies) kept in
-      let now : NotLost y ran.now.columns = subst (NotLost y) (sym ran.ends.columns) ended in
+      let now : NotLost y ran.now.columns = closing-lost y ran.now.columns ran.ends.kept ran.ends.closes ended in
       lost-excludes y was.columns loss was.is_lost (lost_no_less y was.columns ran.now.columns (record { count = was.count; each = was.each }) now)
 
   pub runs-outlived : Outlives g a taken back → s.ending.lost ≡ None
   runs-outlived outlives = by s.ending.lost refl ran.ends.lost
     where
       kept : NotLost y last
-      kept = outlives s.ending.columns died-so
+      kept = lost_no_less y last (states_of y (without a.start)) (columns_die AnyCause y s.ending.columns (without a.start) (only-dead a.start)) (outlives (without a.start) died-so)
 
       by : (o : Option Loss) → s.ending.lost ≡ o → IsLossAtEnd y ran.now last o → s.ending.lost ≡ None
       by None is h = is
@@ -131,22 +199,28 @@ module _ {D : Type 0} (g : Ghosts D) (a : Work) (taken back : List (Option D)) (
 
   dead-in-end : (c : ℕ) → slice_get ran.now.columns c ≡ Some Dead → slice_get s.ending.columns c ≡ Some set.Dead
   dead-in-end c dead =
-      let kept : slice_get ran.ends.kept c ≡ Some set.Dead =
-      dead-back y.stripes (slice_get ran.ends.kept c) (sym (slice_get-map (state_set y.stripes) ran.ends.kept c) ∙ (ap (λ (l : List ColumnState). slice_get l c) (sym ran.ends.columns) ∙ dead)) in
+      let kept = closing-dead y ran.now.columns ran.ends.kept ran.ends.closes c dead in
       elim (ran.ends.dies.each c) [ inl same ↦ same ∙ kept | inr died ↦ died.0 ]
 
-  was-spread : (c : ℕ) → WasSpread ran.start ran.events c → slice_get a.columns c ≡ Some set.Spread
+  was-spread : (c : ℕ) → WasSpread ran.start ran.events c → slice_get (with_start a.start a.columns) c ≡ Some set.Spread
   was-spread c (inl h) =
-      spread-back y.stripes (slice_get a.columns c) h.0 (sym (slice_get-map (state_set y.stripes) a.columns c) ∙ (ap (λ (l : List ColumnState). slice_get l c) (sym ran.opens.columns) ∙ h.1))
-  was-spread c (inr h) = absurd (all-own ran.events ran.rests.own (event.Spread c) h)
+      spread-started a.start a.columns c dead-first
+      (spread-back y.stripes (slice_get a.columns c) h.0 (sym (slice_get-map (state_set y.stripes) a.columns c) ∙ (ap (λ (l : List ColumnState). slice_get l c) (sym ran.opens.columns) ∙ h.1)))
+  was-spread c (inr h) =
+      let is = spread-by a.start ran.events c ran.rests.begins h in
+      let dead = dead-first (start.Spread c) is in
+      subst (λ how. slice_get (with_start how a.columns) c ≡ Some set.Spread) (sym is) (get_set_same a.columns c set.Dead set.Spread dead)
 
   -- a spread column that has died did by an item
-  spread-failed : (c : ℕ) → slice_get a.columns c ≡ Some set.Spread → slice_get s.ending.columns c ≡ Some set.Dead → HasFail a c
-  spread-failed c was dead = elim (died-so.each c) [
-    | inl same ↦ let z : Some set.Dead ≡ Some set.Spread = sym dead ∙ (same ∙ was) in absurd (let u : ⊥ = cc in u)
+  spread-failed : (c : ℕ) → slice_get (with_start a.start a.columns) c ≡ Some set.Spread → slice_get ran.now.columns c ≡ Some Dead → HasFail a c
+  spread-failed c was dead = elim (ran.causes.dies.each c) [
+    | inl same ↦ let z : Some set.Dead ≡ Some set.Spread = sym (dead-in-end c dead) ∙ (same ∙ spread-rebuilt a.start a.columns c dead-first was) in absurd (let u : ⊥ = cc in u)
     | inr died ↦ elim died.1 [
-      | inl asked ↦ asked
-      | inr rose ↦ spread-none (states_in a) c rose.0 (all_done y.stripes) (slice_get-map (state_set y.stripes) a.columns c ∙ ap (option_map (state_set y.stripes)) was) rose.1
+      | inl failed ↦ asked-fail c failed
+      | inr other ↦ elim other [
+        | inl rose ↦ spread-none (begun_in a) c rose.0 (all_done y.stripes) (slice_get-map (state_set y.stripes) (with_start a.start a.columns) c ∙ ap (option_map (state_set y.stripes)) was) rose.1
+        | inr unbuilt ↦ absurd (unbuilt-lives y ran.now a.start c unbuilt dead)
+      ]
     ]
   ]
 
@@ -156,7 +230,7 @@ module _ {D : Type 0} (g : Ghosts D) (a : Work) (taken back : List (Option D)) (
       by : IsFailedBy g a taken s back ran.now d → HasFaulted g a taken back d
       by (inl rose) = inl rose
       by (inr why) = inr (inl (why.0, why.1, asked-fail why.0 why.2))
-  faulted d (inr gone) = let was = was-spread d gone.0 in inr (inr (was, spread-failed d was (dead-in-end d gone.1)))
+  faulted d (inr gone) = let was = was-spread d gone.0 in inr (inr (was, spread-failed d was gone.1))
 
   -- ## Replies
 
@@ -206,9 +280,18 @@ module _ {D : Type 0} (g : Ghosts D) (a : Work) (taken back : List (Option D)) (
     not-lost : (id : OpId) (told : Reply) (asked : AnyItem) → IsCause y ran.graphs ran.start ran.events ran.now id told asked → told ≡ reply.Lost → ⊥
     not-lost id told asked h is = let lost = subst (λ r. IsCause y ran.graphs ran.start ran.events ran.now id r asked) is h in never-lost none lost.0 lost.1
 
+    -- what is told is asked of one of sixteen
+    told-client : (id : OpId) (asked : AnyItem) → slice_get (items_at s.clients id.client) id.index ≡ Some asked → id.client ≢ 16
+    told-client id asked is last =
+        let few = ran.tells.few in
+        let none = ap (λ (o : Option (Vec AnyItem Global)). slice_get (items_in o) id.index) (slice_get_past s.clients id.client (omega (arith, few, last))) in
+        let z : None ≡ Some asked = sym none ∙ is in
+        let u : ⊥ = cc in u
+
     pub runs-answered : AllAnswered g a taken back s ran
     runs-answered id asked is =
-        let item : ItemAt ran.now id asked = ap (λ (l : List AnyItem). slice_get l id.index) (sym (ran.tells.items id.client)) ∙ is in
+        let other = told-client id asked is in
+        let item : ItemAt ran.now id asked = ap (λ (l : List AnyItem). slice_get l id.index) (sym (ran.tells.items id.client other)) ∙ is in
         let within = slice_get_within (ran.now.clients id.client).items id.index asked item in
         let all = ran.rests.replied id.client in
         let got = some-get (ran.now.clients id.client).replies id.index (omega (arith, within, all)) in
@@ -216,7 +299,7 @@ module _ {D : Type 0} (g : Ghosts D) (a : Work) (taken back : List (Option D)) (
         let both : Some why.0 ≡ Some asked = sym why.1 ∙ item in
         let same : why.0 ≡ asked = cc in
         let cause = subst (λ (x : AnyItem). IsCause y ran.graphs ran.start ran.events ran.now id got.0 x) same why.2 in
-        (got.0, ap (λ (l : List Reply). slice_get l id.index) (ran.tells.replies id.client) ∙ got.1, not-lost id got.0 asked cause, reply-to id got.0 asked cause)
+        (got.0, ap (λ (l : List Reply). slice_get l id.index) (ran.tells.replies id.client other) ∙ got.1, not-lost id got.0 asked cause, reply-to id got.0 asked cause)
 
 -- ## Of an array without labels
 

@@ -1,5 +1,5 @@
 -- What was served, once its devices are settled.
-use Rattle.std.proofs.Common.{◌≡◌, ◌++◌, ℕ, List, length, take, drop, Option, subst}
+use Rattle.std.proofs.Common.{◌≡◌, ◌++◌, ℕ, List, length, take, drop, Option, None, subst}
 use Rattle.std.proofs.Math.Seq.{take-append_seam}
 use Rattle.blk_disk.specs.declared.disk.Disk.{Ghosts as DiskGhosts}
 use Rattle.blk_disk.specs.Devices.{calls_of}
@@ -17,7 +17,7 @@ pub lent-back : {X : Type 0} (old new : List X) (len : ℕ) → length new ≡ l
 lent-back old new len e = subst (λ n. take n (new ++ drop (length new) old) ≡ new) e (take-append_seam new (drop (length new) old))
 
 pub is-ended : {L D : Type 0} (lay : LayoutGhosts L) (closed : Closed L D) (disk : DiskGhosts D) (v : Service) (lent back : List (Option D))
-    → v ≡ service_of closed v.ending → lent ≡ closed.devices.items
+    → v ≡ service_of closed None v.ending → lent ≡ closed.devices.items
     → AreSettled disk (length closed.columns.items) closed.columns.items v.ending.columns lent back
     → ((c d : ℕ) → IsLiveOn v.ending.columns c d → EndsSettled (calls_of disk back d))
     → IsLossOf (lay.shape closed.layout) closed.lost (states_of (lay.shape closed.layout) v.ending.columns) v.ending.lost

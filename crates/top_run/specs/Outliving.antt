@@ -19,10 +19,13 @@ use Rattle.eng_world.specs.Planning.{IsOut, IsLong, InReach}
 use Rattle.eng_world.specs.Legal.{StandsAt}
 use Rattle.eng_world.specs.Causes.{WasRefused}
 use Rattle.eng_events.specs.Opened.{states_of}
+use Rattle.eng_array.specs.Starts.{column_of}
+use Rattle.eng_array.specs.declared.start.Start.{Start}
 use Rattle.raid_script.specs.Asked.{Asked as Item, Fails}
 use Rattle.raid_script.specs.Replies.{items_at, replies_at}
 use Rattle.top_run.specs.Work.{Work, Service}
-use Rattle.top_run.specs.Ran.{states_in, Runs}
+use Rattle.top_serve.specs.Setups.{with_start}
+use Rattle.top_run.specs.Ran.{states_in, begun_in, Runs}
 
 -- ## The array
 
@@ -32,6 +35,10 @@ pub record HasFail (a : Work) (c : ℕ) : Type 0 where
   pub client : Contains a.clients row
   pub fails : Contains row (Fails c)
 
+-- it is rebuilt
+abbrev pub IsRebuilt : Work → ℕ → Type 0
+IsRebuilt a c = (start : Start) × (a.start ≡ Some start) × (column_of start ≡ c)
+
 -- the reply to an operation that is done
 abbrev pub done_reply : Op → Reply
 done_reply (op.Write span pattern) = reply.Done
@@ -40,9 +47,9 @@ done_reply (op.Rebuild stripe) = reply.Done
 done_reply (op.Sync stripe) = reply.Done
 
 module _ {D : Type 0} (g : Ghosts D) (a : Work) (taken back : List (Option D)) where
-  -- an item asks that the column fail, or its device's count of faults rose
+  -- an item asks that the column fail, or it is rebuilt, or its device's count of faults rose
   abbrev pub MayDie : ℕ → Type 0
-  MayDie c = HasFail a c ⊎ ((d : ℕ) × HasDevice (states_in a) c d × RisesOn g taken back d)
+  MayDie c = HasFail a c ⊎ (IsRebuilt a c ⊎ ((d : ℕ) × HasDevice (states_in a) c d × RisesOn g taken back d))
 
   -- The array outlives the call: it isn't lost, whichever of these columns be dead.
   abbrev pub Outlives : Type 0
@@ -52,7 +59,7 @@ module _ {D : Type 0} (g : Ghosts D) (a : Work) (taken back : List (Option D)) w
 
   -- the device's count of faults rose, or an item asks that a column fail which has it, or a spread column of this number
   abbrev pub HasFaulted : ℕ → Type 0
-  HasFaulted d = RisesOn g taken back d ⊎ (((c : ℕ) × HasDevice (states_in a) c d × HasFail a c) ⊎ ((slice_get a.columns d ≡ Some column.Spread) × HasFail a d))
+  HasFaulted d = RisesOn g taken back d ⊎ (((c : ℕ) × HasDevice (begun_in a) c d × HasFail a c) ⊎ ((slice_get (with_start a.start a.columns) d ≡ Some column.Spread) × HasFail a d))
 
   module _ (s : Service) (ran : Runs g a taken s back) where
     -- it stands in the history, and a read is replied its data, any other operation done

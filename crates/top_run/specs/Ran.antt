@@ -1,5 +1,5 @@
 -- What a run of clients is, and what it leaves.
-use Rattle.std.specs.Prelude.{◌≡◌, ◌⊎◌, ◌<◌, ◌≤◌, ◌+◌, ◌*◌, ℕ, List, [], ◌∷◌, ◌++◌, length, Bool, true, false, Option, Some, None, All, map, drop, reverse, slice_get, slice_index, slice_index_or}
+use Rattle.std.specs.Prelude.{◌≡◌, ◌≢◌, ◌⊎◌, ◌<◌, ◌≤◌, ◌+◌, ◌*◌, ℕ, List, [], ◌∷◌, ◌++◌, length, Bool, true, false, Option, Some, None, All, map, drop, reverse, slice_get, slice_index, slice_index_or}
 use Rattle.blk_plain.specs.declared.op.Op.{Op}
 use Rattle.blk_plain.specs.declared.op.OpId.{OpId}
 use Rattle.blk_disk.specs.declared.disk.Call.{Call}
@@ -10,6 +10,7 @@ use Rattle.graph_lib.specs.Library.{library}
 use Rattle.graph_mean.specs.Task.{Aim, Missing}
 use Rattle.graph_mean.specs.Graph.{View}
 use Rattle.eng_cols.specs.declared.column.Column.{Column}
+use Rattle.eng_cols.specs.declared.column.Column.TheVariants as column
 use Rattle.eng_cols.specs.declared.spot.Loss.{Loss}
 use Rattle.eng_cols.specs.Cols.{ColumnState, HasDevice}
 use Rattle.eng_cols.specs.Contents.{Agrees, AnyStripe, InSync}
@@ -27,14 +28,17 @@ use Rattle.eng_world.specs.Legal.{AreOps, ReplyOf, RepliesFit}
 use Rattle.eng_world.specs.Invariant.{IsTold, AllReplied}
 use Rattle.eng_world.specs.Causes.{ItemAt, HaveCauses}
 use Rattle.eng_world.specs.Rows.{IsInRows}
-use Rattle.eng_rest.specs.Left.{IsOwn}
 use Rattle.eng_events.specs.Opened.{states_of}
 use Rattle.eng_events.specs.Shows.{AreTold}
-use Rattle.eng_array.specs.Tickets.{AllOf}
+use Rattle.eng_array.specs.Starts.{column_of}
+use Rattle.eng_array.specs.declared.start.Start.{Start}
 use Rattle.raid_script.specs.Asked.{seen}
 use Rattle.raid_script.specs.Replies.{item_bytes, item_sectors, items_at, no_item, replies_at, sectors_before}
-use Rattle.top_serve.specs.Caused.{WentBadOn, WasLostBy}
+use Rattle.top_serve.specs.Setups.{with_rebuilt, with_start}
+use Rattle.top_serve.specs.Caused.{RestsOn, WentBadOn, WasLostBy}
+use Rattle.top_serve.specs.Served.{BeginsBy, IsRebuiltBy, IsUnbuilt}
 use Rattle.top_close.specs.Calls.{IsSettle, EndsSettled}
+use Rattle.top_close.specs.Closes.{ClosesAs}
 use Rattle.top_run.specs.Work.{Work, Service}
 
 -- ## Words of a run
@@ -68,6 +72,10 @@ IsLossAtEnd y now cols (Some loss) = ((now.lost ≡ Some loss) × WasLostBy y no
 abbrev pub states_in : Work → List ColumnState
 states_in a = states_of a.layout a.columns
 
+-- and once a rebuild has begun, if one does; only which columns there are is meant by these, and not which stripes are done
+abbrev pub begun_in : Work → List ColumnState
+begun_in a = states_of a.layout (with_start a.start a.columns)
+
 module _ {D : Type 0} (g : Ghosts D) (a : Work) (taken : List (Option D)) where
   -- the check units of the array fit its data, by what its devices hold as they are taken
   abbrev pub WasInSync : Type 0
@@ -85,20 +93,22 @@ module _ {D : Type 0} (g : Ghosts D) (a : Work) (taken : List (Option D)) where
     pub calls : (d : ℕ) → AreTold g (calls_of g taken d) (w.calls d)
 
   module _ (s : Service) where
-    -- The clients' own events, the newest first, lead to rest: each item has its reply, and no job is out.
+    -- The events, the newest first, lead to rest: each item has its reply, and no job is out. All are the clients' own, but for the start of a rebuild, if there is one, which is the first; then client 16 has a rebuild of each of the column's stripes, and nothing else.
     pub record Rests (graphs : Graphs) (start : World) (events : List Traced) (now : World) : Type 0 where
       pub graphs_are : AreGraphsOf a.graphs graphs
-      pub own : AllOf IsOwn events
+      pub begins : BeginsBy a.start events
       pub run : Run a.layout graphs start events now
+      pub rebuilds : IsRebuiltBy a.layout (begun_in a) a.start (now.clients 16).items
       pub replied : AllReplied now
       pub out : now.out ≡ 0
 
-    -- What is told of it: the items that were asked, the replies, the history and the events, and what reads hand out, where devices tell what they hold.
+    -- What is told of it: the items that were asked of at most sixteen clients, the replies, the history and the events, and what reads hand out, where devices tell what they hold. Of client 16, which rebuilds, neither items nor replies are told.
     pub record Tells (events : List Traced) (now : World) : Type 0 where
       pub asked : map (λ items. map seen items.items) s.clients ≡ a.clients
-      pub items : (c : ℕ) → items_at s.clients c ≡ (now.clients c).items
+      pub few : length s.clients ≤ 16
+      pub items : (c : ℕ) → c ≢ 16 → items_at s.clients c ≡ (now.clients c).items
       pub rows : length s.replies ≡ length s.clients
-      pub replies : (c : ℕ) → replies_at s.replies c ≡ (now.clients c).replies
+      pub replies : (c : ℕ) → c ≢ 16 → replies_at s.replies c ≡ (now.clients c).replies
       pub history : s.history ≡ now.history
       pub trace : s.trace ≡ trace_of a.trace events
       pub handed : g.tells → (c i b k : ℕ) → slice_get (now.clients c).replies i ≡ Some reply.Data → b < item_sectors (slice_index_or (items_at s.clients c) i no_item) → k < 512 → (now.clients c).handed i b k ≡ told_byte s c i b k
@@ -115,18 +125,32 @@ module _ {D : Type 0} (g : Ghosts D) (a : Work) (taken : List (Option D)) where
 
       -- ## How it ends
 
-      -- the sector may have changed: it is one of the array's rows, on a device that was in a column; or the device has no such sector
+      -- the sector may have changed: it is one of the array's rows, on a device that was in a column or that a column was rebuilt onto; or the device has no such sector
       abbrev pub MayChange : ℕ → ℕ → Type 0
-      MayChange d n = (((c : ℕ) × HasDevice (states_in a) c d) × IsInRows a.layout n) ⊎ (size_of g taken d ≤ n)
+      MayChange d n = (((c : ℕ) × HasDevice (begun_in a) c d) × IsInRows a.layout n) ⊎ (size_of g taken d ≤ n)
 
       -- the device of the column had its count of faults rise
       abbrev pub RisesAt : ℕ → Type 0
-      RisesAt c = (d : ℕ) × HasDevice (states_in a) c d × RisesOn g taken back d
+      RisesAt c = (d : ℕ) × HasDevice (begun_in a) c d × RisesOn g taken back d
 
-      -- The columns are those of the run's end, but for some that died as their devices were settled; and the loss is the run's, or that of the columns in the end. Devices hold what they do at the run's end, and have changed nowhere else; of the calls that they tell those behind the run's are settles; and each device of a column in the end has been settled last.
+      -- The array was lost in the run; or a column that the rebuild rests on was dead as it started, or an item was replied ok by which it failed, or its device's count of faults rose.
+      abbrev pub IsStoppedBy : World → Start → Type 0
+      IsStoppedBy now start = ((loss : Loss) × (now.lost ≡ Some loss)) ⊎ ((c : ℕ) × RestsOn a.layout start c × ((slice_get (with_start a.start a.columns) c ≡ Some column.Dead) ⊎ (WasFailed now c ⊎ RisesAt c)))
+
+      -- an item was replied ok by which the column failed, or its device's count of faults rose, or not all of its stripes were rebuilt
+      abbrev pub IsDeadBy : World → ℕ → Type 0
+      IsDeadBy now c = WasFailed now c ⊎ (RisesAt c ⊎ IsUnbuilt a.layout a.start now c)
+
+      -- where a rebuild began and left its column dead, it was stopped by something
+      abbrev pub HasStopped : World → List Column → Type 0
+      HasStopped now kept = (start : Start) → a.start ≡ Some start → slice_get kept (column_of start) ≡ Some column.Dead → IsStoppedBy now start
+
+      -- The columns are those of the run's end, where a column that was being rebuilt is kept if it is whole and else is dead, but for some that died as their devices were settled; and the loss is the run's, or that of the columns in the end. Devices hold what they do at the run's end, and have changed nowhere else; of the calls that they tell those behind the run's are settles; and each device of a column in the end has been settled last.
       pub record Finishes (now : World) : Type 0 where
         pub kept : List Column
-        pub columns : now.columns ≡ states_of a.layout kept
+        pub closes : ClosesAs a.layout now.columns kept
+        pub came : Dies (IsDeadBy now) (with_rebuilt a.start a.columns) kept
+        pub stopped : HasStopped now kept
         pub dies : Dies RisesAt kept s.ending.columns
         pub lost : IsLossAtEnd a.layout now (states_of a.layout s.ending.columns) s.ending.lost
         pub contents : g.tells → (d n k : ℕ) → k < 512 → contents_of g back d n k ≡ now.contents d n k
@@ -138,18 +162,18 @@ module _ {D : Type 0} (g : Ghosts D) (a : Work) (taken : List (Option D)) where
 
       -- its count of faults rose, or an item was replied ok by which a column failed that had it
       abbrev pub IsFailedBy : World → ℕ → Type 0
-      IsFailedBy now d = RisesOn g taken back d ⊎ ((c : ℕ) × HasDevice (states_in a) c d × WasFailed now c)
+      IsFailedBy now d = RisesOn g taken back d ⊎ ((c : ℕ) × HasDevice (begun_in a) c d × WasFailed now c)
 
-      -- Each reply has its cause. Each column in the end is what it was as the array was opened, or is dead since an item was replied ok by which it failed, or its device's count of faults rose; and each device that failed in the run failed for one of these, as each did on which a node went bad.
+      -- Each reply has its cause. Each column in the end is what it was as the array was opened, or what its rebuild makes it, or is dead since an item was replied ok by which it failed, or its device's count of faults rose, or not all of its stripes were rebuilt; and each device that failed in the run failed for one of these, as each did on which a node went bad.
       pub record Causes (graphs : Graphs) (start : World) (events : List Traced) (now : World) : Type 0 where
         pub replies : HaveCauses a.layout graphs start events now
-        pub dies : Dies (λ c. WasFailed now c ⊎ RisesAt c) a.columns s.ending.columns
+        pub dies : Dies (IsDeadBy now) (with_rebuilt a.start a.columns) s.ending.columns
         pub failed : (d : ℕ) → now.failed d ≡ true → IsFailedBy now d
-        pub bad : (later before : List Traced) (id : OpId) (node : ℕ) → events ≡ later ++ event.Bad id node ∷ before → (d : ℕ) × WentBadOn a.layout graphs start before id node later now d × IsFailedBy now d
+        pub bad : (later before : List Traced) (id : OpId) (node : ℕ) → events ≡ later ++ event.Bad id node ∷ before → (d : ℕ) × WentBadOn a.layout graphs (begun_in a) start before id node later now d × IsFailedBy now d
 
       -- ## All of it
 
-      -- A run of what is asked, over the devices as they were taken, that tells this and leaves the devices as they are put back: there are graphs, worlds and events such that all of this holds.
+      -- A run of what is asked, where nothing is rebuilt, over the devices as they were taken, that tells this and leaves the devices as they are put back: there are graphs, worlds and events such that all of this holds.
       pub record Ran : Type 0 where
         pub graphs : Graphs
         pub start : World
@@ -161,13 +185,16 @@ module _ {D : Type 0} (g : Ghosts D) (a : Work) (taken : List (Option D)) where
         pub means : Means start now
         pub ends : Finishes now
         pub causes : Causes graphs start events now
+        pub none : (a.start ≡ None) × (s.line ≡ None)
 
       -- ## Whatever the end leaves on devices
 
       -- what `Finishes` says of the columns and the loss
       pub record ColumnsEnd (now : World) : Type 0 where
         pub kept : List Column
-        pub columns : now.columns ≡ states_of a.layout kept
+        pub closes : ClosesAs a.layout now.columns kept
+        pub came : Dies (IsDeadBy now) (with_rebuilt a.start a.columns) kept
+        pub stopped : HasStopped now kept
         pub dies : Dies RisesAt kept s.ending.columns
         pub lost : IsLossAtEnd a.layout now (states_of a.layout s.ending.columns) s.ending.lost
 
@@ -194,6 +221,6 @@ module _ {D : Type 0} (g : Ghosts D) (a : Work) (taken : List (Option D)) where
         rests = r.rests;
         tells = r.tells;
         means = r.means;
-        ends = record { kept = r.ends.kept; columns = r.ends.columns; dies = r.ends.dies; lost = r.ends.lost };
+        ends = record { kept = r.ends.kept; closes = r.ends.closes; came = r.ends.came; stopped = r.ends.stopped; dies = r.ends.dies; lost = r.ends.lost };
         causes = r.causes;
       }

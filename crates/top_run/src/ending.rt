@@ -10,7 +10,7 @@ use eng_cols::Cols;
 use lay_core::Layout;
 use top_close::{Ending, end_unlabelled};
 
-/// Settles the devices in use, and tells of the run with its end.
+/// Settles the devices in use, and tells of the run with its end. Nothing was rebuilt.
 pub(crate) fn ended<L: Layout + Drop, D: Disk + Drop>(
     closed: Closed<L, D>,
     mut judge: Cols,
@@ -39,6 +39,7 @@ pub(crate) fn ended<L: Layout + Drop, D: Disk + Drop>(
         sectors,
         history,
         trace,
+        line: None,
         columns: ending.columns,
         lost: ending.lost,
     };

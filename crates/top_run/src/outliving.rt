@@ -7,7 +7,7 @@ ghost use Rattle.top_run.specs.Outliving.{Outlives, AllAnswered};
 use blk_disk::Disk;
 
 /// A run isn't lost where the array isn't, whichever columns be dead of which an item asks that they fail, or whose
-/// device's count of faults rose.
+/// device's count of faults rose, or which is rebuilt.
 pub fn what_is_outlived_is_not_lost<D: Disk>()
     ensures { (a : Work) (taken back : List (Option D)) (s : Service) → Ran D.Disk a taken s back
         → Outlives D.Disk a taken back → s.ending.lost ≡ None }

@@ -1,5 +1,5 @@
 //! Clients are served, and the run is ended.
-ghost use Rattle.std.specs.Prelude.{◌≡◌, ◌≤◌, IfOk, IfErr, IfSome, length};
+ghost use Rattle.std.specs.Prelude.{◌≡◌, ◌≤◌, IfOk, IfErr, IfSome, None, length};
 ghost use Rattle.eng_cols.specs.Cols.{IsFor};
 ghost use Rattle.eng_events.specs.Opened.{IsSetup};
 ghost use Rattle.eng_array.specs.Fitting.{FitsTrace};
@@ -43,7 +43,7 @@ pub fn run_clients<L: Layout + Drop + Send, D: Disk + Drop + Send, R: Threads + 
     requires few { IsFew setup }
     requires trace { FitsTrace L.Layout setup }
     ensures kept { IfOk result (λ r. IsNotLost L.Layout setup) }
-    ensures ran { IfOk result (λ r. Ran D.Disk (work_of L.Layout setup) setup.devices.items (service_seen r.0) r.1.items) }
+    ensures ran { IfOk result (λ r. Ran D.Disk (work_of L.Layout setup None) setup.devices.items (service_seen r.0) r.1.items) }
     ensures stands { IfOk result (λ r. StandFor r.0.clients.items r.0.replies.items r.0.sectors.items) }
     ensures many { IfOk result (λ r. length r.1.items ≡ length setup.devices.items) }
     ensures fault { IfErr result (λ refused. IsRefusal L.Layout setup refused.fault) }

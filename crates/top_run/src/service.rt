@@ -2,8 +2,20 @@
 use blk_plain::OpId;
 use eng_array::{Column, Item, Loss, Reply, Traced};
 
+/// What became of the rebuild of a column.
+#[derive(Clone, Copy, Debug, PartialEq, Eq)]
+pub struct Line {
+    /// The column.
+    pub column: u32,
+    /// The device that it was rebuilt onto; `None` is into the spare places.
+    pub device: Option<u32>,
+    /// The number of the column's stripes, once all are rebuilt; `None` where the rebuild stopped.
+    pub done: Option<u32>,
+}
+
 /// What is told of a run: of each client its items and their replies, the bytes of the sectors of all items, the
-/// history, the trace where it is kept, the columns in the end, and by what the array was lost, if it was.
+/// history, the trace where it is kept, what became of a rebuild, if one was asked for, the columns in the end, and by
+/// what the array was lost, if it was.
 #[derive(Drop)]
 pub struct Service {
     pub clients: Vec<Vec<Item>>,
@@ -11,6 +23,7 @@ pub struct Service {
     pub sectors: Vec<u8>,
     pub history: Vec<OpId>,
     pub trace: Vec<Traced>,
+    pub line: Option<Line>,
     pub columns: Vec<Column>,
     pub lost: Option<Loss>,
 }

@@ -21,7 +21,7 @@ use Rattle.top_serve.proofs.Meaning.{invariant}
 
 -- it went bad on a device that has failed since
 abbrev pub WentBad : Shape → Graphs → World → List Traced → OpId → ℕ → List Traced → World → Type 0
-WentBad y graphs start before id node later now = (d : ℕ) × WentBadOn y graphs start before id node later now d × (now.failed d ≡ true)
+WentBad y graphs start before id node later now = (d : ℕ) × WentBadOn y graphs start.columns start before id node later now d × (now.failed d ≡ true)
 
 module _ (y : Shape) (graphs : Graphs) (layout : IsLayout y) (promises : Promises graphs) (start : World) (opening : IsOpening y start) (before : List Traced) (own : AreOwn before) (id : OpId) (node : ℕ) where
   module _ (old : World) (run : Run y graphs start before old) (now : World) (step : Step y graphs (event.Bad id node) old now) where

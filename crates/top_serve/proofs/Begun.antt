@@ -10,7 +10,7 @@ use Rattle.eng_world.specs.declared.item.Reply.{Reply}
 use Rattle.eng_world.specs.declared.item.Reply.TheVariants as reply
 use Rattle.eng_world.specs.declared.item.Traced.{Traced}
 use Rattle.eng_world.specs.declared.item.Traced.TheVariants as event
-use Rattle.eng_world.specs.World.{World, item_now}
+use Rattle.eng_world.specs.World.{World}
 use Rattle.eng_world.specs.Planning.{Graphs}
 use Rattle.eng_world.specs.Failing.{device_on, FailsColumn, FailsIfAlive, Loses, Survives}
 use Rattle.eng_world.specs.Serving.{Begins, Begun}
@@ -19,7 +19,7 @@ use Rattle.eng_world.specs.Step.{StepBy, Step, Run}
 use Rattle.eng_world.specs.Causes.{ItemAt}
 use Rattle.eng_world.specs.Continuing.{Continues}
 use Rattle.eng_world.proofs.Caused.{front-get, item-still}
-use Rattle.eng_world.proofs.Continuing.{step-continues, run-continues}
+use Rattle.eng_world.proofs.Continuing.{step-continues}
 use Rattle.top_serve.specs.Served.{WasFailed}
 
 push-get : {A : Type 0} (l : List A) (x : A) → slice_get (l ++ x ∷ []) (length l) ≡ Some x

@@ -1,15 +1,14 @@
 -- A core from its opening over a setup to its close at rest, and the run of worlds that lies between.
-use Rattle.std.proofs.Common.{◌≡◌, inl, inr, ℕ, zero, suc, ◌<◌, ◌≤◌, ◌+◌, List, [], ◌∷◌, length, Option, Some, None, slice_get, refl, sym, ◌∙◌, ap, subst, arith}
-use Rattle.std.specs.Prelude.{Contains, Vec, replicate, slice_index_or}
+use Rattle.std.proofs.Common.{◌≡◌, ◌≢◌, ◌++◌, inl, inr, ℕ, zero, suc, ◌≤◌, List, [], ◌∷◌, length, Option, Some, None, refl, sym, ◌∙◌, ap, subst, arith}
+use Rattle.std.specs.Prelude.{Vec}
 use Rattle.std.specs.declared.alloc.Global.{Global}
 use Rattle.std.proofs.lemmas.Bool.{cases_lt}
 use Rattle.std.proofs.lemmas.Option.{slice_get_past}
-use Rattle.std.proofs.lemmas.List.{get_or_past}
+use Rattle.std.proofs.lemmas.List.{append-nil, get_or_past}
 use Rattle.blk_disk.specs.declared.disk.Disk.{Ghosts as DiskGhosts}
 use Rattle.lay_core.specs.Layout.{Shape, IsLayout}
 use Rattle.lay_core.specs.declared.layout.Layout.{Ghosts as LayoutGhosts}
-use Rattle.graph_mean.specs.Graph.{Held}
-use Rattle.eng_cols.specs.Cols.{ColumnState, Columns}
+use Rattle.eng_cols.specs.Cols.{Columns}
 use Rattle.eng_world.specs.declared.item.Item.{Item}
 use Rattle.eng_world.specs.declared.item.Traced.{Traced}
 use Rattle.eng_world.specs.World.{World}
@@ -22,28 +21,38 @@ use Rattle.eng_parts.specs.Desk.{Desk, desk_at, no_desk}
 use Rattle.eng_parts.specs.Handed.{AreRegions}
 use Rattle.eng_parts.specs.Given.{items_in, items_at}
 use Rattle.eng_events.specs.declared.array.Array.{Array}
-use Rattle.eng_events.specs.Closed.{IsClosed}
 use Rattle.eng_events.specs.Opened.{IsSetup, IsOpened, NoneOut, OpensWorlds}
 use Rattle.eng_events.specs.Picked.{IsResting}
+use Rattle.eng_events.specs.Rebuilding.{with_items}
 use Rattle.eng_events.specs.Shows.{Shows}
 use Rattle.eng_events.specs.Steps as steps
+use Rattle.eng_events.proofs.Shown.{desk-else}
+use Rattle.eng_array.specs.declared.start.Start.{Start}
+use Rattle.eng_array.specs.declared.start.Start.TheVariants as at
 use Rattle.eng_array.specs.Steady.{IsSteady}
 use Rattle.eng_array.specs.Tickets.{AllOf, items_of, Goes, Same, After}
-use Rattle.eng_array.proofs.Chains.{goes-same, goes-leads}
+use Rattle.eng_array.proofs.Chains.{goes-append, goes-same, goes-leads}
 use Rattle.eng_array.proofs.Promised.{library-promises}
-use Rattle.top_serve.specs.Setups.{shape_in, states_in, graphs_in, SectorsAreLong}
+use Rattle.top_serve.specs.Judged.{HasBegun, IsClosedBy}
+use Rattle.top_serve.specs.Served.{BeginsBy}
+use Rattle.top_serve.specs.Setups.{shape_in, states_in, graphs_in, MayStart, SectorsAreLong}
 use Rattle.top_serve.proofs.Columns.{AreOwn}
+use Rattle.top_serve.proofs.Alike.{AreBegun}
+use Rattle.top_serve.proofs.Starting.{first_of, opens-behind, started-columns, run-append}
 
--- the core of an opening, at rest after events of the clients alone, and closed
-pub record Between {L D : Type 0} (lay : LayoutGhosts L) (disk : DiskGhosts D) (setup : Setup L D) (first last : Array L D) (closed : Closed L D) : Type 0 where
+-- the core of an opening; behind the start of a rebuild, where one starts; at rest after events of the clients alone; and closed
+pub record Between {L D : Type 0} (lay : LayoutGhosts L) (disk : DiskGhosts D) (setup : Setup L D) (how : Option Start) (first last : Array L D) (closed : Closed L D) : Type 0 where
   pub given : IsSetup lay disk setup
+  pub may : MayStart lay disk setup how
   pub opened : IsOpened lay disk setup first
   pub worlds : OpensWorlds lay disk first
-  pub after : After lay disk first last
+  pub begun : Array L D
+  pub begins : HasBegun lay disk first how begun
+  pub after : After lay disk begun last
   pub steady : IsSteady lay disk last
   pub home : NoneOut last.clients
   pub rest : IsResting last
-  pub is_closed : IsClosed last closed
+  pub closes : IsClosedBy lay last how closed
   pub regions : AreRegions last.log.handed
   pub long : SectorsAreLong disk
 
@@ -63,21 +72,47 @@ module _ {L D : Type 0} (lay : LayoutGhosts L) (disk : DiskGhosts D) where
   goes-items old new [] own g c = ap (λ (core : Array L D). items_of core c) g
   goes-items old new (e ∷ events) own g c = g.2.items own.0 c ∙ goes-items old g.0 events own.1 g.1 c
 
-module _ {L D : Type 0} (lay : LayoutGhosts L) (disk : DiskGhosts D) (setup : Setup L D) (first last : Array L D) (closed : Closed L D) (p : Between lay disk setup first last closed) where
+  -- the start of a rebuild is a chain
+  goes-first : (how : Option Start) (old new : Array L D) → HasBegun lay disk old how new → Goes lay disk old (first_of how) new
+  goes-first None old new h = h
+  goes-first (Some how) old new h = (old, refl, h.0)
+
+  -- it leaves each client's items, but for those of client 16
+  first-items : (how : Option Start) (old new : Array L D) → HasBegun lay disk old how new → (c : ℕ) → c ≢ 16 → items_of new c ≡ items_of old c
+  first-items None old new h c ne = ap (λ (core : Array L D). items_of core c) h
+  first-items (Some how) old new h c ne = ap (λ (core : Array L D). items_of core c) h.1.is ∙ ap (λ (d : Desk). d.items) (desk-else old.clients 16 c (with_items (desk_at old.clients 16) h.1.items) ne)
+
+begins-by : (how : Option Start) (own : List Traced) → AllOf IsOwn own → BeginsBy how (own ++ first_of how)
+begins-by None own all = subst (AllOf IsOwn) (sym (append-nil own)) all
+begins-by (Some how) own all = (own, refl, all)
+
+module _ {L D : Type 0} (lay : LayoutGhosts L) (disk : DiskGhosts D) (setup : Setup L D) (how : Option Start) (first last : Array L D) (closed : Closed L D) (p : Between lay disk setup how first last closed) where
   abbrev y : Shape
   y = shape_in lay setup
 
   abbrev graphs : Graphs
   graphs = graphs_in setup
 
+  abbrev own : List Traced
+  own = p.after.events
+
   abbrev events : List Traced
-  events = p.after.events
+  events = own ++ first_of how
 
   abbrev start : World
   start = p.worlds.one.0
 
+  goes-begun : Goes lay disk first (first_of how) p.begun
+  goes-begun = goes-first lay disk how first p.begun p.begins
+
+  goes : Goes lay disk first events last
+  goes = goes-append lay disk first p.begun last (first_of how) own goes-begun p.after.goes
+
   same : Same lay disk first last
-  same = goes-same lay disk first last events p.after.goes
+  same = goes-same lay disk first last events goes
+
+  same-begun : Same lay disk first p.begun
+  same-begun = goes-same lay disk first p.begun (first_of how) goes-begun
 
   shape-first : lay.shape first.layout ≡ y
   shape-first = ap (λ l. lay.shape l) p.opened.layout
@@ -88,20 +123,26 @@ module _ {L D : Type 0} (lay : LayoutGhosts L) (disk : DiskGhosts D) (setup : Se
   graphs-first : steps.graphs_of first.graphs.items ≡ graphs
   graphs-first = ap (λ gs. steps.graphs_of gs.items) p.opened.graphs
 
-  lead : (x : World) × Shows disk last x × Run (lay.shape first.layout) (steps.graphs_of first.graphs.items) start events x
-  lead = goes-leads lay disk first last events p.after.goes start p.worlds.one.1
+  lead-begun : (x : World) × Shows disk p.begun x × Run (lay.shape first.layout) (steps.graphs_of first.graphs.items) start (first_of how) x
+  lead-begun = goes-leads lay disk first p.begun (first_of how) goes-begun start p.worlds.one.1
+
+  abbrev mid : World
+  mid = lead-begun.0
+
+  lead : (x : World) × Shows disk last x × Run (lay.shape p.begun.layout) (steps.graphs_of p.begun.graphs.items) mid own x
+  lead = goes-leads lay disk p.begun last own p.after.goes mid lead-begun.1
 
   abbrev now : World
   now = lead.0
 
-  shows-start : Shows disk first start
-  shows-start = p.worlds.one.1
+  run-begun : Run y graphs start (first_of how) mid
+  run-begun = subst (λ (s : Shape). Run s graphs start (first_of how) mid) shape-first (subst (λ (gs : Graphs). Run (lay.shape first.layout) gs start (first_of how) mid) graphs-first lead-begun.2)
 
-  shows-now : Shows disk last now
-  shows-now = lead.1
+  run-own : Run y graphs mid own now
+  run-own = subst (λ (s : Shape). Run s graphs mid own now) (same-begun.shape ∙ shape-first) (subst (λ (gs : Graphs). Run (lay.shape p.begun.layout) gs mid own now) (same-begun.graphs ∙ graphs-first) lead.2)
 
   run : Run y graphs start events now
-  run = subst (λ (s : Shape). Run s graphs start events now) shape-first (subst (λ (gs : Graphs). Run (lay.shape first.layout) gs start events now) graphs-first lead.2)
+  run = run-append y graphs start mid now (first_of how) own run-begun run-own
 
   opening : IsOpening y start
   opening = subst (λ (s : Shape). IsOpening s start) shape-first p.worlds.one.2
@@ -112,19 +153,27 @@ module _ {L D : Type 0} (lay : LayoutGhosts L) (disk : DiskGhosts D) (setup : Se
   promises : Promises graphs
   promises = library-promises setup.graphs.items
 
-  own : AreOwn events
-  own = all-own events p.after.own
+  opening-begun : IsOpening y mid
+  opening-begun = opens-behind y graphs layout promises start opening how mid run-begun
 
   start-columns : start.columns ≡ states_in lay setup
-  start-columns = shows-start.columns ∙ ap (λ (v : Columns). v.states) p.opened.cols
+  start-columns = p.worlds.one.1.columns ∙ ap (λ (v : Columns). v.states) p.opened.cols
+
+  begun-columns : AreBegun y.stripes how start.columns mid.columns
+  begun-columns = by how mid run-begun
+    where
+      by : (how : Option Start) (w : World) → Run y graphs start (first_of how) w → AreBegun y.stripes how start.columns w.columns
+      by None w r = ap (λ (v : World). v.columns) r
+      by (Some (at.Fill c device)) w r = started-columns y graphs layout promises start opening (at.Fill c device) w r
+      by (Some (at.Spread c)) w r = started-columns y graphs layout promises start opening (at.Spread c) w r
 
   -- ## Items
 
   few-clients : length setup.clients.items ≤ 16
   few-clients = p.opened.laid.few
 
-  first-items : (c : ℕ) → (desk_at first.clients c).items ≡ items_at setup.clients.items c
-  first-items c = elim (cases_lt c 17) [
+  opened-items : (c : ℕ) → (desk_at first.clients c).items ≡ items_at setup.clients.items c
+  opened-items c = elim (cases_lt c 17) [
     | inl lt ↦ ap (λ (d : Desk). d.items) (p.opened.clients c lt)
     | inr past ↦
         let count = p.opened.count in
@@ -132,58 +181,75 @@ module _ {L D : Type 0} (lay : LayoutGhosts L) (disk : DiskGhosts D) (setup : Se
         ap (λ (d : Desk). d.items) (get_or_past first.clients c no_desk (omega (arith, past, count))) ∙ sym (no-items setup.clients.items c (omega (arith, past, few)))
   ]
 
-  last-items : (c : ℕ) → (desk_at last.clients c).items ≡ items_at setup.clients.items c
-  last-items c = goes-items lay disk first last events p.after.own p.after.goes c ∙ first-items c
+  last-begun : (c : ℕ) → (desk_at last.clients c).items ≡ (desk_at p.begun.clients c).items
+  last-begun c = goes-items lay disk p.begun last own p.after.own p.after.goes c
+
+  last-items : (c : ℕ) → c ≢ 16 → (desk_at last.clients c).items ≡ items_at setup.clients.items c
+  last-items c ne = last-begun c ∙ (first-items lay disk how first p.begun p.begins c ne ∙ opened-items c)
 
   start-items : (c : ℕ) → (start.clients c).items ≡ items_at setup.clients.items c
-  start-items c = (shows-start.clients c).items ∙ first-items c
+  start-items c = (p.worlds.one.1.clients c).items ∙ opened-items c
 
-  now-items : (c : ℕ) → (now.clients c).items ≡ items_at setup.clients.items c
-  now-items c = (shows-now.clients c).items ∙ last-items c
+  now-items : (c : ℕ) → c ≢ 16 → (now.clients c).items ≡ items_at setup.clients.items c
+  now-items c ne = (lead.1.clients c).items ∙ last-items c ne
 
--- All of it: the worlds of the opening and of the close, and the run that led from one to the other.
-pub record Course {L D : Type 0} (lay : LayoutGhosts L) (disk : DiskGhosts D) (setup : Setup L D) (first last : Array L D) (closed : Closed L D) : Type 0 where
-  pub between : Between lay disk setup first last closed
+-- All of it: the worlds of the opening, of the start and of the close, and the runs that led from one to the next.
+pub record Course {L D : Type 0} (lay : LayoutGhosts L) (disk : DiskGhosts D) (setup : Setup L D) (how : Option Start) (first last : Array L D) (closed : Closed L D) : Type 0 where
+  pub between : Between lay disk setup how first last closed
   pub start : World
-  pub events : List Traced
+  pub mid : World
+  pub own : List Traced
   pub now : World
   pub shows_start : Shows disk first start
+  pub shows_mid : Shows disk between.begun mid
   pub shows_now : Shows disk last now
-  pub goes : Goes lay disk first events last
-  pub all_own : AllOf IsOwn events
-  pub own : AreOwn events
-  pub run : Run (shape_in lay setup) (graphs_in setup) start events now
+  pub goes : Goes lay disk first (own ++ first_of how) last
+  pub begins : BeginsBy how (own ++ first_of how)
+  pub are_own : AreOwn own
+  pub run_begun : Run (shape_in lay setup) (graphs_in setup) start (first_of how) mid
+  pub run_own : Run (shape_in lay setup) (graphs_in setup) mid own now
+  pub run : Run (shape_in lay setup) (graphs_in setup) start (own ++ first_of how) now
   pub opening : IsOpening (shape_in lay setup) start
+  pub opening_begun : IsOpening (shape_in lay setup) mid
   pub layout : IsLayout (shape_in lay setup)
   pub promises : Promises (graphs_in setup)
   pub columns : start.columns ≡ states_in lay setup
+  pub begun_columns : AreBegun (shape_in lay setup).stripes how start.columns mid.columns
   pub start_items : (c : ℕ) → (start.clients c).items ≡ items_at setup.clients.items c
-  pub now_items : (c : ℕ) → (now.clients c).items ≡ items_at setup.clients.items c
-  pub last_items : (c : ℕ) → (desk_at last.clients c).items ≡ items_at setup.clients.items c
+  pub now_items : (c : ℕ) → c ≢ 16 → (now.clients c).items ≡ items_at setup.clients.items c
+  pub last_items : (c : ℕ) → c ≢ 16 → (desk_at last.clients c).items ≡ items_at setup.clients.items c
+  pub last_begun : (c : ℕ) → (desk_at last.clients c).items ≡ (desk_at between.begun.clients c).items
   pub few : length setup.clients.items ≤ 16
   pub shape_last : lay.shape last.layout ≡ shape_in lay setup
   pub same : Same lay disk first last
 
-pub course : {L D : Type 0} (lay : LayoutGhosts L) (disk : DiskGhosts D) (setup : Setup L D) (first last : Array L D) (closed : Closed L D) → Between lay disk setup first last closed → Course lay disk setup first last closed
-course lay disk setup first last closed p = record {
+pub course : {L D : Type 0} (lay : LayoutGhosts L) (disk : DiskGhosts D) (setup : Setup L D) (how : Option Start) (first last : Array L D) (closed : Closed L D) → Between lay disk setup how first last closed → Course lay disk setup how first last closed
+course lay disk setup how first last closed p = record {
   between = p;
   start = p.worlds.one.0;
-  events = p.after.events;
-  now = now lay disk setup first last closed p;
+  mid = mid lay disk setup how first last closed p;
+  own = p.after.events;
+  now = now lay disk setup how first last closed p;
   shows_start = p.worlds.one.1;
-  shows_now = shows-now lay disk setup first last closed p;
-  goes = p.after.goes;
-  all_own = p.after.own;
-  own = own lay disk setup first last closed p;
-  run = run lay disk setup first last closed p;
-  opening = opening lay disk setup first last closed p;
-  layout = layout lay disk setup first last closed p;
-  promises = promises lay disk setup first last closed p;
-  columns = start-columns lay disk setup first last closed p;
-  start_items = start-items lay disk setup first last closed p;
-  now_items = now-items lay disk setup first last closed p;
-  last_items = last-items lay disk setup first last closed p;
-  few = few-clients lay disk setup first last closed p;
-  shape_last = shape-last lay disk setup first last closed p;
-  same = same lay disk setup first last closed p;
+  shows_mid = (lead-begun lay disk setup how first last closed p).1;
+  shows_now = (lead lay disk setup how first last closed p).1;
+  goes = goes lay disk setup how first last closed p;
+  begins = begins-by how p.after.events p.after.own;
+  are_own = all-own p.after.events p.after.own;
+  run_begun = run-begun lay disk setup how first last closed p;
+  run_own = run-own lay disk setup how first last closed p;
+  run = run lay disk setup how first last closed p;
+  opening = opening lay disk setup how first last closed p;
+  opening_begun = opening-begun lay disk setup how first last closed p;
+  layout = layout lay disk setup how first last closed p;
+  promises = promises lay disk setup how first last closed p;
+  columns = start-columns lay disk setup how first last closed p;
+  begun_columns = begun-columns lay disk setup how first last closed p;
+  start_items = start-items lay disk setup how first last closed p;
+  now_items = now-items lay disk setup how first last closed p;
+  last_items = last-items lay disk setup how first last closed p;
+  last_begun = last-begun lay disk setup how first last closed p;
+  few = few-clients lay disk setup how first last closed p;
+  shape_last = shape-last lay disk setup how first last closed p;
+  same = same lay disk setup how first last closed p;
 }

@@ -1,7 +1,7 @@
--- The causes of replies, of dead columns, of failed devices and of a loss.
-use Rattle.std.proofs.Common.{◌≡◌, ◌⊎◌, inl, inr, ℕ, List, [], ◌∷◌, ◌++◌, length, true, Option, option_map, Some, None, slice_get, refl, sym, ◌∙◌, ap, subst}
+-- The causes of replies, of failed devices, of dead columns and of a loss.
+use Rattle.std.proofs.Common.{◌≡◌, ◌⊎◌, inl, inr, ℕ, List, [], ◌∷◌, ◌++◌, length, Bool, true, false, Option, Some, None, slice_get, slice_set, refl, sym, ◌∙◌, ap, subst}
+use Rattle.std.specs.Prelude.{Contains}
 use Rattle.std.proofs.lemmas.List.{length-map}
-use Rattle.std.proofs.lemmas.Option.{slice_get-map}
 use Rattle.blk_plain.specs.declared.op.OpId.{OpId}
 use Rattle.blk_disk.specs.declared.disk.Disk.{Ghosts as DiskGhosts}
 use Rattle.lay_core.specs.Layout.{Shape}
@@ -9,118 +9,176 @@ use Rattle.lay_core.specs.declared.layout.Layout.{Ghosts as LayoutGhosts}
 use Rattle.eng_cols.specs.declared.spot.Loss.{Loss}
 use Rattle.eng_cols.specs.declared.column.Column.{Column}
 use Rattle.eng_cols.specs.declared.column.Column.TheVariants as set
-use Rattle.eng_cols.specs.Cols.{ColumnState, Dead, HasDevice, column_of, state_set}
+use Rattle.eng_cols.specs.Cols.{ColumnState, Dead, column_of}
 use Rattle.eng_cols.specs.Deaths.{Dies}
+use Rattle.eng_cols.specs.Seats.{HasStripeLeft}
 use Rattle.eng_world.specs.declared.item.Traced.{Traced}
 use Rattle.eng_world.specs.declared.item.Traced.TheVariants as event
 use Rattle.eng_world.specs.Step.{Run}
+use Rattle.eng_world.proofs.Caused.{head-has, tail-has}
 use Rattle.eng_world.proofs.Answered.{run-causes}
 use Rattle.eng_parts.specs.declared.setup.Setup.{Setup}
 use Rattle.eng_parts.specs.declared.setup.Closed.{Closed}
 use Rattle.eng_events.specs.declared.array.Array.{Array}
-use Rattle.eng_array.specs.Blamed.{IsBlamed, rose, asked, outside}
-use Rattle.eng_array.proofs.ChainBlames.{blamed-in}
-use Rattle.top_serve.specs.Setups.{shape_in, states_in, graphs_in}
+use Rattle.eng_array.specs.declared.start.Start.{Start}
+use Rattle.eng_array.specs.declared.start.Start.TheVariants as start
+use Rattle.eng_array.specs.Starts as starts
+use Rattle.top_serve.specs.Judged.{judged, IsJudged}
+use Rattle.top_serve.specs.Setups.{shape_in, graphs_in, begun_in, with_start, with_rebuilt}
 use Rattle.top_serve.specs.Caused.{WentBadOn}
-use Rattle.top_serve.specs.Served.{WasFailed, IsLossIn, IsFailedBy, IsDeadBy, Causes}
+use Rattle.top_serve.specs.Served.{IsUnbuilt, IsLossIn, IsFailedBy, IsDeadBy, Causes}
 use Rattle.top_serve.proofs.BadNodes.{went-bad}
-use Rattle.top_serve.proofs.Begins.{first-failed}
+use Rattle.top_serve.proofs.Behind.{was-dead, start-here, mid-had, kinds-now, now-here}
 use Rattle.top_serve.proofs.Between.{Course}
+use Rattle.top_serve.proofs.Blames.{dead-by, failed}
 use Rattle.top_serve.proofs.Columns.{AreOwn, own-rest}
-use Rattle.top_serve.proofs.Died.{DiedBy, was_dead, was_asked, device_failed, died-by, own-had}
-use Rattle.top_serve.proofs.Framed.{rises}
-use Rattle.top_serve.proofs.Hands.{keeps, columns-back}
+use Rattle.top_serve.proofs.Hands.{were-now, judged-now}
+use Rattle.top_serve.proofs.Closings.{begun_kind, done_kind, judged-done, done-here, judged-other, judged-here, judged-dead, judged-count, not-dead}
+use Rattle.top_serve.proofs.Alike.{IsOther, kind, rebuilt-other, start-other, other-or-not, first-is, rebuilt-count}
 use Rattle.top_serve.proofs.Losing.{lost-by}
 use Rattle.top_serve.proofs.Meaning.{keeps-all}
-
--- a column that is set is what it is set to
-column-set : (n : ℕ) (o : Option Column) → option_map column_of (option_map (state_set n) o) ≡ o
-column-set n None = refl
-column-set n (Some (set.Live device)) = refl
-column-set n (Some set.Dead) = refl
-column-set n (Some (set.Filling device)) = refl
-column-set n (Some set.Spread) = refl
+use Rattle.top_serve.proofs.Starting.{first_of, run-append}
+use Rattle.top_serve.proofs.Stopping.{stopped}
 
 -- events behind these are own, if all are
 own-behind : (later : List Traced) (e : Traced) (before : List Traced) → AreOwn (later ++ e ∷ before) → AreOwn before
 own-behind [] e before own = own-rest e before own
 own-behind (x ∷ later) e before own = own-behind later e before (own-rest x (later ++ e ∷ before) own)
 
-module _ {L D : Type 0} (lay : LayoutGhosts L) (disk : DiskGhosts D) (setup : Setup L D) (first last : Array L D) (closed : Closed L D) (p : Course lay disk setup first last closed) where
-  -- ## Devices
+-- the event between lists is in both together
+between-has : (later : List Traced) (e : Traced) (before : List Traced) → Contains (later ++ e ∷ before) e
+between-has [] e before = head-has e before
+between-has (x ∷ later) e before = tail-has x (later ++ e ∷ before) e (between-has later e before)
 
-  had-device : (c d : ℕ) → HasDevice p.start.columns c d → HasDevice (states_in lay setup) c d
-  had-device c d has = subst (λ (cols : List ColumnState). HasDevice cols c d) p.columns has
+-- an event that is none of the first ones is one of the others
+split-own : (own first later : List Traced) (e : Traced) (before : List Traced) → (Contains first e → ⊥) → own ++ first ≡ later ++ e ∷ before → (b : List Traced) × (own ≡ later ++ e ∷ b) × (before ≡ b ++ first)
+split-own [] first later e before none is = absurd (none (subst (λ l. Contains l e) (sym is) (between-has later e before)))
+split-own (x ∷ own) first [] e before none is =
+    let z : x ∷ (own ++ first) ≡ e ∷ before = is in
+    let a : x ≡ e = cc in
+    let b : own ++ first ≡ before = cc in
+    (own, ap (λ h. h ∷ own) a, sym b)
+split-own (x ∷ own) first (w ∷ later) e before none is =
+    let z : x ∷ (own ++ first) ≡ w ∷ (later ++ e ∷ before) = is in
+    let a : x ≡ w = cc in
+    let rest : own ++ first ≡ later ++ e ∷ before = cc in
+    let s = split-own own first later e before none rest in
+    (s.0, ap (λ h. h ∷ own) a ∙ ap (λ l. w ∷ l) s.1, s.2)
 
-  failed : (d : ℕ) → p.now.failed d ≡ true → IsFailedBy lay disk setup closed p.now d
-  failed d is = by (blamed-in lay disk first last p.events p.goes p.start p.now p.shows_start p.shows_now d (first-failed lay disk setup first last closed p d) (sym (p.shows_now.failed d) ∙ is))
-    where
-      by : IsBlamed lay disk first last p.events p.start p.now d → IsFailedBy lay disk setup closed p.now d
-      by (rose up) = inl (rises lay disk setup first last closed p d up)
-      by (asked id c has it reply had) = inr (c, had-device c d (own-had p.start p.events p.own c d had), record { id = id; asked = it; replied = reply })
-      by (outside c has had) = absurd (p.own (event.Fail c) has)
+none-first : (how : Option Start) (id : OpId) (node : ℕ) → Contains (first_of how) (event.Bad id node) → ⊥
+none-first how id node has = let s = first-is how (event.Bad id node) has in by s.0 s.2
+  where
+    by : (rebuild : Start) → starts.event_of rebuild ≡ event.Bad id node → ⊥
+    by (start.Fill k device) e = let z : event.Fill k device ≡ event.Bad id node = e in let u : ⊥ = cc in u
+    by (start.Spread k) e = let z : event.Spread k ≡ event.Bad id node = e in let u : ⊥ = cc in u
 
-  bad : (later before : List Traced) (id : OpId) (node : ℕ) → p.events ≡ later ++ event.Bad id node ∷ before → (d : ℕ) × WentBadOn (shape_in lay setup) (graphs_in setup) p.start before id node later p.now d × IsFailedBy lay disk setup closed p.now d
+module _ {L D : Type 0} (lay : LayoutGhosts L) (disk : DiskGhosts D) (setup : Setup L D) (how : Option Start) (first last : Array L D) (closed : Closed L D) (p : Course lay disk setup how first last closed) where
+  -- ## Nodes that went bad
+
+  bad : (later before : List Traced) (id : OpId) (node : ℕ) → p.own ++ first_of how ≡ later ++ event.Bad id node ∷ before → (d : ℕ) × WentBadOn (shape_in lay setup) (graphs_in setup) (begun_in lay setup how) p.start before id node later p.now d × IsFailedBy lay disk setup how closed p.now d
   bad later before id node split =
-      let own = subst AreOwn split p.own in
-      let run = subst (λ (events : List Traced). Run (shape_in lay setup) (graphs_in setup) p.start events p.now) split p.run in
-      let went = went-bad (shape_in lay setup) (graphs_in setup) p.layout p.promises p.start p.opening before (own-behind later (event.Bad id node) before own) id node later p.now run in
-      (went.0, went.1, failed went.0 went.2)
+      let s = split-own p.own (first_of how) later (event.Bad id node) before (none-first how id node) split in
+      let own = subst AreOwn s.1 p.are_own in
+      let run = subst (λ (events : List Traced). Run (shape_in lay setup) (graphs_in setup) p.mid events p.now) s.1 p.run_own in
+      let went = went-bad (shape_in lay setup) (graphs_in setup) p.layout p.promises p.mid p.opening_begun s.0 (own-behind later (event.Bad id node) s.0 own) id node later p.now run in
+      (went.0, subst (λ (b : List Traced). WentBadOn (shape_in lay setup) (graphs_in setup) (begun_in lay setup how) p.start b id node later p.now went.0) (sym s.2) (whole s.0 went.0 went.1), failed lay disk setup how first last closed p went.0 went.2)
+    where
+      -- seen from the opening
+      whole : (b : List Traced) (d : ℕ) → WentBadOn (shape_in lay setup) (graphs_in setup) p.mid.columns p.mid b id node later p.now d → WentBadOn (shape_in lay setup) (graphs_in setup) (begun_in lay setup how) p.start (b ++ first_of how) id node later p.now d
+      whole b d w = record {
+        world = w.world;
+        reached = run-append (shape_in lay setup) (graphs_in setup) p.start p.mid w.world (first_of how) b p.run_begun w.reached;
+        leads = w.leads;
+        was = w.was;
+        runs = w.runs;
+        index = w.index;
+        call = w.call;
+        at = w.at;
+        fired = w.fired;
+        device = w.device;
+        column = mid-had lay disk setup how first last closed p w.at.column d w.column;
+      }
 
   -- ## Columns
 
-  dead-by : (c : ℕ) → slice_get p.now.columns c ≡ Some Dead → (slice_get p.start.columns c ≡ Some Dead) ⊎ IsDeadBy lay disk setup closed p.now c
-  dead-by c dead = by (died-by (shape_in lay setup) (graphs_in setup) p.layout p.promises p.start p.opening p.events p.now p.own p.run c dead)
+  abbrev Ends : ℕ → Type 0
+  Ends c = (slice_get closed.columns.items c ≡ slice_get (with_rebuilt how setup.columns.items) c) ⊎ ((slice_get closed.columns.items c ≡ Some set.Dead) × (IsDeadBy lay disk setup how closed p.now c ⊎ IsUnbuilt (shape_in lay setup) how p.now c))
+
+  other-ends : (c : ℕ) → IsOther how c → Ends c
+  other-ends c other = elim (kinds-now lay disk setup how first last closed p c) [
+    | inl same ↦ inl (here ∙ (same ∙ set-same))
+    | inr dead ↦ elim (dead-by lay disk setup how first last closed p c dead) [
+      | inl was ↦ inl (here ∙ (ap kind dead ∙ (sym was ∙ set-same)))
+      | inr why ↦ inr (here ∙ ap kind dead, inl why)
+    ]
+  ]
     where
-      blamed : (d : ℕ) → HasDevice (states_in lay setup) c d → IsFailedBy lay disk setup closed p.now d → IsDeadBy lay disk setup closed p.now c
-      blamed d has (inl up) = inr (d, has, up)
-      blamed d has (inr (k, other, was)) = inl (subst (WasFailed p.now) (p.between.given.one_column k c d other has) was)
+      here : slice_get closed.columns.items c ≡ kind (slice_get p.now.columns c)
+      here = judged-other (shape_in lay setup) p.now.columns p.between.closes.were.items closed.columns.items (were-now lay disk setup how first last closed p) how (judged-now lay disk setup how first last closed p) c other
 
-      by : DiedBy (shape_in lay setup) (graphs_in setup) p.layout p.promises p.start p.opening p.now c → (slice_get p.start.columns c ≡ Some Dead) ⊎ IsDeadBy lay disk setup closed p.now c
-      by (was_dead h) = inl h
-      by (was_asked h) = inr (inl h)
-      by (device_failed d has is) = inr (blamed d (had-device c d has) (failed d is))
+      set-same : slice_get (with_start how setup.columns.items) c ≡ slice_get (with_rebuilt how setup.columns.items) c
+      set-same = start-other how setup.columns.items c other ∙ sym (rebuilt-other how setup.columns.items c other)
 
-  -- the columns as they are handed in and back, by their states
-  column-now : (c : ℕ) → slice_get closed.columns.items c ≡ option_map column_of (slice_get p.now.columns c)
-  column-now c = ap (λ (cols : List Column). slice_get cols c) (columns-back lay disk setup first last closed p) ∙ slice_get-map column_of p.now.columns c
+  -- the one that is rebuilt
+  its-ends : (rebuild : Start) → how ≡ Some rebuild → Ends (starts.column_of rebuild)
+  its-ends rebuild is = by (subst (λ h. IsJudged (shape_in lay setup) p.now.columns h p.between.closes.were.items closed.columns.items) is (judged-now lay disk setup how first last closed p)) (now-here lay disk setup how first last closed p rebuild is)
+    where
+      unbuilt : (slice_get p.now.columns (starts.column_of rebuild) ≡ Some Dead → ⊥) → HasStripeLeft (shape_in lay setup) p.now.columns (starts.column_of rebuild) → IsUnbuilt (shape_in lay setup) how p.now (starts.column_of rebuild)
+      unbuilt alive left = subst (λ h. IsUnbuilt (shape_in lay setup) h p.now (starts.column_of rebuild)) (sym is) (refl, alive, left)
 
-  column-then : (c : ℕ) → slice_get setup.columns.items c ≡ option_map column_of (slice_get p.start.columns c)
-  column-then c = sym (column-set (shape_in lay setup).stripes (slice_get setup.columns.items c)) ∙ (ap (option_map column_of) (sym (slice_get-map (state_set (shape_in lay setup).stripes) setup.columns.items c)) ∙ ap (λ (cols : List ColumnState). option_map column_of (slice_get cols c)) (sym p.columns))
+      done : slice_get (with_rebuilt how setup.columns.items) (starts.column_of rebuild) ≡ Some (done_kind rebuild)
+      done = subst (λ h. slice_get (with_rebuilt h setup.columns.items) (starts.column_of rebuild) ≡ Some (done_kind rebuild)) (sym is) (done-here setup.columns.items rebuild (was-dead lay disk setup how first last closed p rebuild is))
 
-  dies : Dies (IsDeadBy lay disk setup closed p.now) setup.columns.items closed.columns.items
+      at : (whole : Bool) → closed.columns.items ≡ slice_set p.between.closes.were.items (starts.column_of rebuild) (judged whole (slice_get p.between.closes.were.items (starts.column_of rebuild))) → (x : Column) → kind (slice_get p.now.columns (starts.column_of rebuild)) ≡ Some x → slice_get closed.columns.items (starts.column_of rebuild) ≡ Some (judged whole (kind (slice_get p.now.columns (starts.column_of rebuild))))
+      at whole so x kinds = judged-here (shape_in lay setup) p.now.columns p.between.closes.were.items closed.columns.items (were-now lay disk setup how first last closed p) rebuild whole so x kinds
+
+      by : IsJudged (shape_in lay setup) p.now.columns (Some rebuild) p.between.closes.were.items closed.columns.items → ((kind (slice_get p.now.columns (starts.column_of rebuild)) ≡ Some (begun_kind rebuild)) ⊎ (slice_get p.now.columns (starts.column_of rebuild) ≡ Some Dead)) → Ends (starts.column_of rebuild)
+      by (true, whole, so) (inl kinds) = inl (at true so (begun_kind rebuild) kinds ∙ (ap (λ x. Some x) (judged-done rebuild true (kind (slice_get p.now.columns (starts.column_of rebuild))) kinds refl) ∙ sym done))
+      by (false, left, so) (inl kinds) = inr (at false so (begun_kind rebuild) kinds, inr (unbuilt (λ dead. not-dead rebuild (sym kinds ∙ ap kind dead)) left))
+      by (whole, match, so) (inr dead) = inr (
+        at whole so set.Dead (ap kind dead) ∙ (ap (λ o. Some (judged whole o)) (ap kind dead) ∙ ap (λ x. Some x) (judged-dead whole)),
+        elim (dead-by lay disk setup how first last closed p (starts.column_of rebuild) dead) [
+          | inl was ↦ absurd (not-dead rebuild (sym (start-here lay disk setup how first last closed p rebuild is) ∙ was))
+          | inr why ↦ inl why
+        ],
+      )
+
+  dies : Dies (λ c. IsDeadBy lay disk setup how closed p.now c ⊎ IsUnbuilt (shape_in lay setup) how p.now c) (with_rebuilt how setup.columns.items) closed.columns.items
   dies = record { count = count; each = each }
     where
-      count : length closed.columns.items ≡ length setup.columns.items
-      count =
-          ap (λ (cols : List Column). length cols) (columns-back lay disk setup first last closed p)
-          ∙ (length-map p.now.columns column_of
-          ∙ (ap (λ (cols : List ColumnState). length cols) p.shows_now.columns
-          ∙ (p.between.steady.sound.seated.fit.columns ∙ (ap (λ (y : Shape). y.columns) p.shape_last ∙ sym p.between.given.entries))))
+      count-now : length p.now.columns ≡ length setup.columns.items
+      count-now =
+          ap (λ (cols : List ColumnState). length cols) p.shows_now.columns
+          ∙ (p.between.steady.sound.seated.fit.columns ∙ (ap (λ (y : Shape). y.columns) p.shape_last ∙ sym p.between.given.entries))
 
-      each : (c : ℕ) → (slice_get closed.columns.items c ≡ slice_get setup.columns.items c) ⊎ ((slice_get closed.columns.items c ≡ Some set.Dead) × IsDeadBy lay disk setup closed p.now c)
-      each c = elim (keeps lay disk setup first last closed p c) [
-        | inl same ↦ inl (column-now c ∙ (ap (option_map column_of) same ∙ sym (column-then c)))
-        | inr dead ↦ elim (dead-by c dead) [
-          | inl was ↦ inl (column-now c ∙ (ap (option_map column_of) (dead ∙ sym was) ∙ sym (column-then c)))
-          | inr why ↦ inr (column-now c ∙ ap (option_map column_of) dead, why)
-        ]
+      count : length closed.columns.items ≡ length (with_rebuilt how setup.columns.items)
+      count =
+          judged-count (shape_in lay setup) p.now.columns how p.between.closes.were.items closed.columns.items (judged-now lay disk setup how first last closed p)
+          ∙ (ap (λ (l : List Column). length l) (were-now lay disk setup how first last closed p)
+          ∙ (length-map p.now.columns column_of
+          ∙ (count-now ∙ sym (rebuilt-count how setup.columns.items))))
+
+      each : (c : ℕ) → Ends c
+      each c = elim (other-or-not how c) [
+        | inl other ↦ other-ends c other
+        | inr (rebuild, is, e) ↦ subst Ends (sym e) (its-ends rebuild is)
       ]
 
   -- ## The loss
 
   loss : IsLossIn (shape_in lay setup) p.now closed.lost
-  loss = by closed.lost (p.shows_now.lost ∙ sym p.between.is_closed.lost)
+  loss = by closed.lost (p.shows_now.lost ∙ sym p.between.closes.is_closed.lost)
     where
       by : (o : Option Loss) → p.now.lost ≡ o → IsLossIn (shape_in lay setup) p.now o
-      by None is = keeps-all (shape_in lay setup) (graphs_in setup) p.layout p.promises p.start p.opening p.events p.now p.run is
-      by (Some l) is = lost-by (shape_in lay setup) (graphs_in setup) p.start p.events p.now p.opening p.run l is
+      by None is = keeps-all (shape_in lay setup) (graphs_in setup) p.layout p.promises p.start p.opening (p.own ++ first_of how) p.now p.run is
+      by (Some l) is = lost-by (shape_in lay setup) (graphs_in setup) p.start (p.own ++ first_of how) p.now p.opening p.run l is
 
-  pub causes : Causes lay disk setup closed p.start p.events p.now
+  pub causes : Causes lay disk setup how closed p.start (p.own ++ first_of how) p.now
   causes = record {
-    replies = run-causes (shape_in lay setup) (graphs_in setup) p.start p.layout p.promises p.opening p.events p.now p.run;
+    replies = run-causes (shape_in lay setup) (graphs_in setup) p.start p.layout p.promises p.opening (p.own ++ first_of how) p.now p.run;
     dies = dies;
-    failed = failed;
+    stopped = stopped lay disk setup how first last closed p;
+    failed = failed lay disk setup how first last closed p;
     bad = bad;
     loss = loss;
   }

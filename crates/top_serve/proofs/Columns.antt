@@ -1,5 +1,5 @@
 -- In a run of the clients' own events each column stays what it was, or dies.
-use Rattle.std.proofs.Common.{◌≡◌, ◌⊎◌, inl, inr, ℕ, zero, suc, List, [], ◌∷◌, length, Bool, true, false, Option, Some, None, slice_get, slice_set, refl, sym, ◌∙◌, ap, subst, arith, if◌then◌else◌}
+use Rattle.std.proofs.Common.{◌≡◌, ◌⊎◌, inl, inr, ℕ, zero, suc, List, [], ◌∷◌, true, false, Option, option_map, Some, None, slice_get, slice_set, refl, sym, ◌∙◌, ap, subst, arith}
 use Rattle.std.specs.Prelude.{Contains, map, replicate, count_by, cond}
 use Rattle.std.proofs.lemmas.List.Sums.{sum_by-cons}
 use Rattle.std.proofs.lemmas.Bool.{cases_Bool, cond-true, cond-false}
@@ -44,7 +44,7 @@ IsSet n (Spread done) = done ≡ all_done n
 abbrev pub AreSet : ℕ → List ColumnState → Type 0
 AreSet n cols = (c : ℕ) (x : ColumnState) → slice_get cols c ≡ Some x → IsSet n x
 
-abbrev SetIn : ℕ → Option ColumnState → Type 0
+abbrev pub SetIn : ℕ → Option ColumnState → Type 0
 SetIn n o = (x : ColumnState) → o ≡ Some x → IsSet n x
 
 set-done : (n s : ℕ) → slice_set (replicate n true) s true ≡ replicate n true
@@ -96,72 +96,89 @@ set-states n (k ∷ cols) h (suc c) x is = set-states n cols (count-first k cols
 
 -- ## Each event
 
--- the column is what it was, or dead
-abbrev pub Keeps : List ColumnState → List ColumnState → Type 0
-Keeps old new = (c : ℕ) → (slice_get new c ≡ slice_get old c) ⊎ (slice_get new c ≡ Some Dead)
+-- What is so of column c, and of a dead one, and stays so as a stripe is done there, is so after every event.
+module _ (y : Shape) (graphs : Graphs) (c : ℕ) (Holds : Option ColumnState → Type 0) (dead : Holds (Some Dead)) (done : (s : ℕ) (o : Option ColumnState) → Holds o → Holds (done_on o s)) where
+  abbrev HoldsIn : List ColumnState → Type 0
+  HoldsIn cols = Holds (slice_get cols c)
 
-keeps-killed : (first cols : List ColumnState) (k : ℕ) → Keeps first cols → Keeps first (killed cols k)
-keeps-killed first cols k keep c = elim (get_set_either cols k c Dead) [
-  | inl dead ↦ inr dead
-  | inr same ↦ elim (keep c) [ inl was ↦ inl (same ∙ was) | inr dead ↦ inr (same ∙ dead) ]
-]
+  holds-same : (cols more : List ColumnState) → more ≡ cols → HoldsIn cols → HoldsIn more
+  holds-same cols more e h = subst HoldsIn (sym e) h
 
-keeps-same : (first cols more : List ColumnState) → more ≡ cols → Keeps first cols → Keeps first more
-keeps-same first cols more e keep = subst (Keeps first) (sym e) keep
+  holds-killed : (cols more : List ColumnState) (k : ℕ) → more ≡ killed cols k → HoldsIn cols → HoldsIn more
+  holds-killed cols more k e h = subst HoldsIn (sym e) (elim (get_set_either cols k c Dead) [ inl is ↦ subst Holds (sym is) dead | inr same ↦ subst Holds (sym same) h ])
 
-pub set-kept : (n : ℕ) (first cols : List ColumnState) → AreSet n first → Keeps first cols → AreSet n cols
-set-kept n first cols set keep c x is = elim (keep c) [
-  | inl same ↦ set c x (sym same ∙ is)
-  | inr dead ↦ let e : Some Dead ≡ Some x = sym dead ∙ is in let q : Dead ≡ x = cc in subst (IsSet n) q tt
-]
+  holds-ended : (s i : ℕ) (old new : List ColumnState) → IsEnded y s i old new → HoldsIn old → HoldsIn new
+  holds-ended s i old new e h = elim (cases_Bool (is_unit_of y old s i c)) [
+    | inl q ↦ subst Holds (sym (e c ∙ cond-true (is_unit_of y old s i c) _ _ q)) (done s (slice_get old c) h)
+    | inr q ↦ subst Holds (sym (e c ∙ cond-false (is_unit_of y old s i c) _ _ q)) h
+  ]
 
-module _ (y : Shape) (graphs : Graphs) (n : ℕ) (first : List ColumnState) (set : AreSet n first) where
-  keeps-ended : (s i : ℕ) (old new : List ColumnState) → IsEnded y s i old new → Keeps first old → Keeps first new
-  keeps-ended s i old new e keep c =
-      let same : slice_get new c ≡ slice_get old c = elim (cases_Bool (is_unit_of y old s i c)) [
-        | inl q ↦ e c ∙ (cond-true (is_unit_of y old s i c) _ _ q ∙ done-same n s (slice_get old c) (λ x is. set-kept n first old set keep c x is))
-        | inr q ↦ e c ∙ cond-false (is_unit_of y old s i c) _ _ q
-      ] in elim (keep c) [ inl was ↦ inl (same ∙ was) | inr dead ↦ inr (same ∙ dead) ]
-
-  keeps-after : (o : Op) (r : Running) (old new : World) → ColumnsAfter y o r old new → Keeps first old.columns → Keeps first new.columns
-  keeps-after (op.Write span pattern) r old new h keep = keeps-same first old.columns new.columns h.0 keep
-  keeps-after (op.Read span) r old new h keep = keeps-same first old.columns new.columns h.0 keep
-  keeps-after (op.Sync stripe) r old new h keep = keeps-same first old.columns new.columns h.0 keep
-  keeps-after (op.Rebuild stripe) r old new (inl h) keep = keeps-ended stripe h.0 old.columns new.columns h.4 keep
-  keeps-after (op.Rebuild stripe) r old new (inr h) keep = keeps-same first old.columns new.columns h.1.0 keep
+  holds-after : (o : Op) (r : Running) (old new : World) → ColumnsAfter y o r old new → HoldsIn old.columns → HoldsIn new.columns
+  holds-after (op.Write span pattern) r old new h keep = holds-same old.columns new.columns h.0 keep
+  holds-after (op.Read span) r old new h keep = holds-same old.columns new.columns h.0 keep
+  holds-after (op.Sync stripe) r old new h keep = holds-same old.columns new.columns h.0 keep
+  holds-after (op.Rebuild stripe) r old new (inl h) keep = holds-ended stripe h.0 old.columns new.columns h.4 keep
+  holds-after (op.Rebuild stripe) r old new (inr h) keep = holds-same old.columns new.columns h.1.0 keep
 
   module _ (e : Traced) (own : IsOwn e) (old new : World) where
     abbrev Any : World → Type 0
     Any w = Unit {0}
 
-    not-started : {A : Type 0} (c : ℕ) → ((device : ℕ) × (e ≡ event.Fill c device)) ⊎ (e ≡ event.Spread c) → A
-    not-started c (inl h) = absurd (subst IsOwn h.1 own)
-    not-started c (inr h) = absurd (subst IsOwn h own)
+    not-started : {A : Type 0} (k : ℕ) → ((device : ℕ) × (e ≡ event.Fill k device)) ⊎ (e ≡ event.Spread k) → A
+    not-started k (inl h) = absurd (subst IsOwn h.1 own)
+    not-started k (inr h) = absurd (subst IsOwn h own)
 
-    move-keeps : Move y graphs Any e old new → Keeps first old.columns → Keeps first new.columns
-    move-keeps (replies k q asked known is ne idle f) keep = keeps-same first old.columns new.columns f.only.columns.columns keep
-    move-keeps (waits k a way known asks nothing g only pool) keep = keeps-same first old.columns new.columns only.columns.columns keep
-    move-keeps (takes k known f) keep = keeps-same first old.columns new.columns f.only.columns.columns keep
-    move-keeps (fires k m known f) keep = keeps-same first old.columns new.columns f.only.columns.columns keep
-    move-keeps (skips k m known f) keep = keeps-same first old.columns new.columns f.only.columns.columns keep
-    move-keeps (works k m known f) keep = keeps-same first old.columns new.columns f.columns.columns keep
-    move-keeps (commits k m known f) keep = keeps-same first old.columns new.columns f.columns.columns keep
-    move-keeps (ends k m known f) keep = keeps-after f.op f.was old new f.after keep
-    move-keeps (fails k m at bad known f) keep = keeps-same first old.columns new.columns f.columns.columns keep
-    move-keeps (anew k p known can is b) keep = keeps-same first old.columns new.columns b.only.columns.columns keep
-    move-keeps (gives k p g known can is b) keep = keeps-same first old.columns new.columns b.only.columns.columns keep
-    move-keeps (dies k none alive f) keep = keeps-same first (killed old.columns k) new.columns f.columns (keeps-killed first old.columns k keep)
-    move-keeps (starts k begun why known f had spread) keep = not-started k why
-    move-keeps (home k m good was loss is f failed (inl same)) keep = keeps-same first old.columns new.columns same keep
-    move-keeps (home k m good was loss is f failed (inr dead)) keep = keeps-same first (killed old.columns dead.0) new.columns dead.1 (keeps-killed first old.columns dead.0 keep)
+    move-holds : Move y graphs Any e old new → HoldsIn old.columns → HoldsIn new.columns
+    move-holds (replies k q asked known is ne idle f) keep = holds-same old.columns new.columns f.only.columns.columns keep
+    move-holds (waits k a way known asks nothing g only pool) keep = holds-same old.columns new.columns only.columns.columns keep
+    move-holds (takes k known f) keep = holds-same old.columns new.columns f.only.columns.columns keep
+    move-holds (fires k m known f) keep = holds-same old.columns new.columns f.only.columns.columns keep
+    move-holds (skips k m known f) keep = holds-same old.columns new.columns f.only.columns.columns keep
+    move-holds (works k m known f) keep = holds-same old.columns new.columns f.columns.columns keep
+    move-holds (commits k m known f) keep = holds-same old.columns new.columns f.columns.columns keep
+    move-holds (ends k m known f) keep = holds-after f.op f.was old new f.after keep
+    move-holds (fails k m at bad known f) keep = holds-same old.columns new.columns f.columns.columns keep
+    move-holds (anew k p known can is b) keep = holds-same old.columns new.columns b.only.columns.columns keep
+    move-holds (gives k p g known can is b) keep = holds-same old.columns new.columns b.only.columns.columns keep
+    move-holds (dies k none alive f) keep = holds-killed old.columns new.columns k f.columns keep
+    move-holds (starts k begun why known f had spread) keep = not-started k why
+    move-holds (home k m good was loss is f failed (inl same)) keep = holds-same old.columns new.columns same keep
+    move-holds (home k m good was loss is f failed (inr gone)) keep = holds-killed old.columns new.columns gone.0 gone.1 keep
 
-  step-keeps : (e : Traced) → IsOwn e → (old new : World) → Step y graphs e old new → Keeps first old.columns → Keeps first new.columns
-  step-keeps e own old new s keep = by (moves y graphs (λ w. Unit {0}) e old new (λ none. tt) s)
+  step-holds : (e : Traced) → IsOwn e → (old new : World) → Step y graphs e old new → HoldsIn old.columns → HoldsIn new.columns
+  step-holds e own old new s keep = by (moves y graphs (λ w. Unit {0}) e old new (λ none. tt) s)
     where
-      by : Moves y graphs (λ w. Unit {0}) e old new → Keeps first new.columns
-      by (one m) = move-keeps e own old new m keep
-      by (two mid m k none alive f) = keeps-same first (killed mid.columns k) new.columns f.columns (keeps-killed first mid.columns k (move-keeps e own old mid m keep))
+      by : Moves y graphs (λ w. Unit {0}) e old new → HoldsIn new.columns
+      by (one m) = move-holds e own old new m keep
+      by (two mid m k none alive f) = holds-killed mid.columns new.columns k f.columns (move-holds e own old mid m keep)
 
-  pub run-keeps : (start : World) (events : List Traced) (now : World) → AreOwn events → Run y graphs start events now → Keeps first start.columns → Keeps first now.columns
-  run-keeps start [] now own run keep = keeps-same first start.columns now.columns (ap (λ (w : World). w.columns) run) keep
-  run-keeps start (e ∷ events) now own run keep = step-keeps e (own-first e events own) run.0 now run.2 (run-keeps start events run.0 (own-rest e events own) run.1 keep)
+  pub run-holds : (start : World) (events : List Traced) (now : World) → AreOwn events → Run y graphs start events now → HoldsIn start.columns → HoldsIn now.columns
+  run-holds start [] now own run keep = holds-same start.columns now.columns (ap (λ (w : World). w.columns) run) keep
+  run-holds start (e ∷ events) now own run keep = step-holds e (own-first e events own) run.0 now run.2 (run-holds start events run.0 (own-rest e events own) run.1 keep)
+
+-- ## What becomes of a column
+
+-- a column that is set is what it was, or dead
+pub run-keeps : (y : Shape) (graphs : Graphs) (n : ℕ) (start : World) (events : List Traced) (now : World) → AreOwn events → Run y graphs start events now → (c : ℕ) → SetIn n (slice_get start.columns c) → (slice_get now.columns c ≡ slice_get start.columns c) ⊎ (slice_get now.columns c ≡ Some Dead)
+run-keeps y graphs n start events now own run c set =
+    run-holds y graphs c (λ o. (o ≡ slice_get start.columns c) ⊎ (o ≡ Some Dead)) (inr refl) done start events now own run (inl refl)
+  where
+    done : (s : ℕ) (o : Option ColumnState) → (o ≡ slice_get start.columns c) ⊎ (o ≡ Some Dead) → (done_on o s ≡ slice_get start.columns c) ⊎ (done_on o s ≡ Some Dead)
+    done s o (inl h) = inl (ap (λ z. done_on z s) h ∙ done-same n s (slice_get start.columns c) set)
+    done s o (inr h) = inr (ap (λ z. done_on z s) h)
+
+done-kind : (s : ℕ) (o : Option ColumnState) → option_map column_of (done_on o s) ≡ option_map column_of o
+done-kind s (Some (Live device)) = refl
+done-kind s (Some Dead) = refl
+done-kind s (Some (Filling device done)) = refl
+done-kind s (Some (Spread done)) = refl
+done-kind s None = refl
+
+-- any column is live, filling or spread as it was, or dead
+pub run-kinds : (y : Shape) (graphs : Graphs) (start : World) (events : List Traced) (now : World) → AreOwn events → Run y graphs start events now → (c : ℕ) → (option_map column_of (slice_get now.columns c) ≡ option_map column_of (slice_get start.columns c)) ⊎ (slice_get now.columns c ≡ Some Dead)
+run-kinds y graphs start events now own run c =
+    run-holds y graphs c (λ o. (option_map column_of o ≡ option_map column_of (slice_get start.columns c)) ⊎ (o ≡ Some Dead)) (inr refl) done start events now own run (inl refl)
+  where
+    done : (s : ℕ) (o : Option ColumnState) → (option_map column_of o ≡ option_map column_of (slice_get start.columns c)) ⊎ (o ≡ Some Dead) → (option_map column_of (done_on o s) ≡ option_map column_of (slice_get start.columns c)) ⊎ (done_on o s ≡ Some Dead)
+    done s o (inl h) = inl (done-kind s o ∙ h)
+    done s o (inr h) = inr (ap (λ z. done_on z s) h)

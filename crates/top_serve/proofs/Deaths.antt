@@ -1,8 +1,7 @@
 -- Between the taking of room and the run columns may die, and devices may change: what is asked of a setup is so still.
-use Rattle.std.proofs.Common.{◌≡◌, ◌⊎◌, inl, inr, ℕ, zero, suc, ◌+◌, ◌*◌, ◌≤◌, Bool, true, false, cond, List, [], ◌∷◌, length, map, Option, Some, None, refl, sym, ◌∙◌, ap, subst, arith}
+use Rattle.std.proofs.Common.{◌≡◌, ◌⊎◌, inl, inr, ℕ, zero, suc, ◌+◌, ◌*◌, ◌≤◌, Bool, false, cond, List, [], ◌∷◌, length, Option, Some, None, refl, sym, ◌∙◌, ap, subst, arith}
 use Rattle.std.specs.Prelude.{Vec, count_by, slice_get, option_map}
 use Rattle.std.specs.declared.alloc.Global.{Global}
-use Rattle.std.specs.Option.{option_map_or}
 use Rattle.std.proofs.Math.Nat.{mul-le-mul}
 use Rattle.std.proofs.lemmas.List.{length-map}
 use Rattle.std.proofs.lemmas.List.Sums.{sum_by-cons}
@@ -17,9 +16,8 @@ use Rattle.eng_cols.specs.declared.column.Column.{Column}
 use Rattle.eng_cols.specs.declared.column.Column.TheVariants as column
 use Rattle.eng_cols.specs.Cols.{ColumnState, Live, Dead, Filling, Spread, HasDevice, state_set, is_set_filling, is_set_spread}
 use Rattle.eng_cols.specs.Deaths.{Dies}
-use Rattle.eng_cols.specs.Laws.{HaveSpares}
 use Rattle.eng_world.specs.declared.item.Item.{Item}
-use Rattle.eng_rest.specs.Left.{below, alive, is_alive}
+use Rattle.eng_rest.specs.Left.{alive, is_alive}
 use Rattle.eng_rest.proofs.Summing.{below-le}
 use Rattle.eng_parts.specs.declared.core_room.CoreRoom.{CoreRoom}
 use Rattle.eng_parts.specs.declared.setup.Setup.{Setup}
@@ -76,7 +74,7 @@ alive-one x y h = elim h [
   | inr dead ↦ let e : is_alive y ≡ 0 = ap (λ o. is_alive (state-of o x)) dead in omega (arith, e)
 ]
 
-alive-less : (old new : List ColumnState) → length new ≡ length old → StatesDie old new → alive new ≤ alive old
+pub alive-less : (old new : List ColumnState) → length new ≡ length old → StatesDie old new → alive new ≤ alive old
 alive-less [] [] long each = omega arith
 alive-less [] (y ∷ ys) long each = absurd (omega (arith, long))
 alive-less (x ∷ xs) [] long each = absurd (omega (arith, long))
@@ -87,10 +85,10 @@ alive-less (x ∷ xs) (y ∷ ys) long each =
 
 -- ## Events
 
-events-less : (n m k : ℕ) → n ≤ k → item_events n m ≤ item_events k m
+pub events-less : (n m k : ℕ) → n ≤ k → item_events n m ≤ item_events k m
 events-less n m k le = let a : n * (2 * m + 1) ≤ k * (2 * m + 1) = mul-le-mul le (omega arith) in omega (arith, a)
 
-row-less : (y : Shape) (graphs : List Held) (n k : ℕ) (items : List Item) → n ≤ k → row_events y graphs n items ≤ row_events y graphs k items
+pub row-less : (y : Shape) (graphs : List Held) (n k : ℕ) (items : List Item) → n ≤ k → row_events y graphs n items ≤ row_events y graphs k items
 row-less y graphs n k items le = below-le (λ i. item_events k (most_in y graphs (slice_get items i))) (λ i. item_events n (most_in y graphs (slice_get items i))) (length items) (λ i l. events-less n (most_in y graphs (slice_get items i)) k le)
 
 opening-less : (y : Shape) (graphs : List Held) (old new : List ColumnState) (given : List (Vec Item Global)) → alive new ≤ alive old → opening_events y graphs new given ≤ opening_events y graphs old given
@@ -100,11 +98,11 @@ opening-less y graphs old new given le =
 
 -- ## Devices
 
-there-later : {D : Type 0} (g : DiskGhosts D) (may : ℕ → Type 0) (x : D) (z : Option D) → StaysIf g may (Some x) z → (after : D) × (z ≡ Some after) × (g.size after ≡ g.size x)
+pub there-later : {D : Type 0} (g : DiskGhosts D) (may : ℕ → Type 0) (x : D) (z : Option D) → StaysIf g may (Some x) z → (after : D) × (z ≡ Some after) × (g.size after ≡ g.size x)
 there-later g may x None stays = absurd stays
 there-later g may x (Some z) stays = (z, refl, stays.size)
 
-get-device : {D : Type 0} (ds : List (Option D)) (d : ℕ) (x : D) → device_at ds d ≡ Some x → slice_get ds d ≡ Some (Some x)
+pub get-device : {D : Type 0} (ds : List (Option D)) (d : ℕ) (x : D) → device_at ds d ≡ Some x → slice_get ds d ≡ Some (Some x)
 unfolding device_at
 get-device [] d x h = let z : None ≡ Some x = h in absurd (let u : ⊥ = cc in u)
 get-device (y ∷ ds) zero x h = ap (λ o. Some o) h
@@ -120,14 +118,14 @@ module _ {L D : Type 0} (lay : LayoutGhosts L) (disk : DiskGhosts D) (setup : Se
   only : (c : ℕ) → (slice_get columns.items c ≡ slice_get setup.columns.items c) ⊎ (slice_get columns.items c ≡ Some column.Dead)
   only c = elim (dies.each c) [ inl same ↦ inl same | inr dead ↦ inr dead.0 ]
 
-  states-die : (c : ℕ) → (slice_get (states_of y columns.items) c ≡ slice_get (states_of y setup.columns.items) c) ⊎ (slice_get (states_of y columns.items) c ≡ Some Dead)
+  pub states-die : (c : ℕ) → (slice_get (states_of y columns.items) c ≡ slice_get (states_of y setup.columns.items) c) ⊎ (slice_get (states_of y columns.items) c ≡ Some Dead)
   states-die c = elim (dies.each c) [
     | inl same ↦ inl (slice_get-map (state_set y.stripes) columns.items c ∙ (ap (option_map (state_set y.stripes)) same ∙ sym (slice_get-map (state_set y.stripes) setup.columns.items c)))
     | inr dead ↦ inr (slice_get-map (state_set y.stripes) columns.items c ∙ ap (option_map (state_set y.stripes)) dead.0)
   ]
 
   -- a column that has a device had it
-  had-device : (c d : ℕ) → HasDevice (states_of y columns.items) c d → HasDevice (states_of y setup.columns.items) c d
+  pub had-device : (c d : ℕ) → HasDevice (states_of y columns.items) c d → HasDevice (states_of y setup.columns.items) c d
   had-device c d (inl h) = elim (states-die c) [
     | inl same ↦ inl (sym same ∙ h)
     | inr dead ↦ let z : Some Dead ≡ Some (Live d) = sym dead ∙ h in absurd (let u : ⊥ = cc in u)

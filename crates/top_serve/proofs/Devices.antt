@@ -1,10 +1,8 @@
 -- The devices as they were handed in and as they are handed back, beside those that a core has.
-use Rattle.std.proofs.Common.{◌≡◌, ◌⊎◌, inl, inr, ℕ, zero, suc, ◌<◌, ◌≤◌, List, [], ◌∷◌, length, get_or, Option, Some, None, slice_get, refl, sym, ◌∙◌, ap, subst, arith}
-use Rattle.std.specs.Prelude.{map, slice_index_or, slice_index}
-use Rattle.std.specs.Option.{option_map_or}
+use Rattle.std.proofs.Common.{◌≡◌, inl, inr, ℕ, zero, suc, ◌<◌, ◌≤◌, List, [], ◌∷◌, length, Option, Some, None, slice_get, refl, arith}
+use Rattle.std.specs.Prelude.{map, slice_index_or}
 use Rattle.std.proofs.lemmas.Bool.{cases_lt}
-use Rattle.blk_disk.specs.declared.disk.Disk.{Ghosts as DiskGhosts}
-use Rattle.blk_disk.specs.Devices.{device_at, contents_of, calls_of}
+use Rattle.blk_disk.specs.Devices.{device_at}
 use Rattle.eng_parts.specs.Brought.{brought}
 use Rattle.eng_parts.specs.Shelf.{Seen, Shelved, seen_at}
 

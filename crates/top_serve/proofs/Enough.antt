@@ -6,7 +6,7 @@ use Rattle.eng_world.specs.declared.item.Item.{Item}
 use Rattle.eng_rest.specs.Left.{below}
 use Rattle.eng_parts.specs.declared.region.Region.{Region}
 use Rattle.eng_parts.specs.Given.{items_at}
-use Rattle.eng_parts.specs.Handed.{Handout, AreRegions, region_at}
+use Rattle.eng_parts.specs.Handed.{Handout, AreRegions}
 use Rattle.eng_parts.specs.Laid.{sectors_at, row_sectors, sectors_before, IsRow}
 
 below-more : (f : ℕ → ℕ) (n : ℕ) → below f (suc n) ≡ below f n + f n

@@ -1,5 +1,5 @@
 -- What no event changes, from the opening of a core to its close.
-use Rattle.std.proofs.Common.{◌≡◌, ℕ, List, length, Bool, false, sym, ◌∙◌}
+use Rattle.std.proofs.Common.{◌≡◌, ◌++◌, ℕ, length, false, Option, ◌∙◌}
 use Rattle.blk_disk.specs.declared.disk.Disk.{Ghosts as DiskGhosts}
 use Rattle.blk_disk.specs.Disk.{Rose}
 use Rattle.blk_disk.specs.Devices.{RisesOn, Changes}
@@ -7,15 +7,17 @@ use Rattle.lay_core.specs.declared.layout.Layout.{Ghosts as LayoutGhosts}
 use Rattle.eng_parts.specs.declared.setup.Setup.{Setup}
 use Rattle.eng_parts.specs.declared.setup.Closed.{Closed}
 use Rattle.eng_events.specs.declared.array.Array.{Array}
+use Rattle.eng_array.specs.declared.start.Start.{Start}
 use Rattle.eng_array.specs.HandedBack.{HandsBack}
 use Rattle.eng_array.specs.Tickets.{keeps_trace, traced, faults_at}
 use Rattle.eng_array.proofs.Chains.{goes-untold}
 use Rattle.eng_array.proofs.ComingBack.{handed-back, handed-rises}
 use Rattle.top_serve.proofs.Between.{Course}
+use Rattle.top_serve.proofs.Starting.{first_of}
 
-module _ {L D : Type 0} (lay : LayoutGhosts L) (disk : DiskGhosts D) (setup : Setup L D) (first last : Array L D) (closed : Closed L D) (p : Course lay disk setup first last closed) where
-  back : HandsBack disk setup closed
-  back = handed-back lay disk setup first last p.events closed p.between.opened p.goes p.between.is_closed
+module _ {L D : Type 0} (lay : LayoutGhosts L) (disk : DiskGhosts D) (setup : Setup L D) (how : Option Start) (first last : Array L D) (closed : Closed L D) (p : Course lay disk setup how first last closed) where
+  back : HandsBack disk setup (record closed { columns = p.between.closes.were })
+  back = handed-back lay disk setup first last (p.own ++ first_of how) (record closed { columns = p.between.closes.were }) p.between.opened p.goes p.between.closes.is_closed
 
   pub layout-back : closed.layout ≡ setup.layout
   layout-back = back.layout
@@ -24,7 +26,7 @@ module _ {L D : Type 0} (lay : LayoutGhosts L) (disk : DiskGhosts D) (setup : Se
   spare-back = p.same.spare ∙ p.between.opened.spare
 
   pub untraced : keeps_trace first ≡ false → traced last ≡ traced first
-  untraced off = goes-untold lay disk first last p.events p.goes off
+  untraced off = goes-untold lay disk first last (p.own ++ first_of how) p.goes off
 
   pub regions-same : last.log.handed.regions ≡ first.log.handed.regions
   regions-same = p.same.regions
@@ -34,4 +36,4 @@ module _ {L D : Type 0} (lay : LayoutGhosts L) (disk : DiskGhosts D) (setup : Se
   devices-back = back.devices
 
   pub rises : (d : ℕ) → Rose (faults_at lay disk first d) (faults_at lay disk last d) → RisesOn disk setup.devices.items closed.devices.items d
-  rises d rose = handed-rises lay disk setup first last p.events closed p.between.opened p.goes p.between.is_closed d rose
+  rises d rose = handed-rises lay disk setup first last (p.own ++ first_of how) (record closed { columns = p.between.closes.were }) p.between.opened p.goes p.between.closes.is_closed d rose

@@ -1,86 +1,80 @@
 -- What is handed back is what the run tells: items and replies, columns, history, trace, and what reads handed out.
-use Rattle.std.proofs.Common.{◌≡◌, inl, inr, ℕ, ◌<◌, ◌≤◌, ◌*◌, List, [], ◌∷◌, ◌++◌, length, Bool, true, false, Option, Some, None, slice_get, refl, sym, ◌∙◌, ap, subst, arith}
-use Rattle.std.specs.Prelude.{Vec, map, reverse, slice_index_or}
-use Rattle.std.specs.declared.alloc.Global.{Global}
+use Rattle.std.proofs.Common.{◌≡◌, ◌≢◌, inl, inr, ℕ, ◌<◌, List, [], ◌∷◌, ◌++◌, length, Bool, true, false, Option, refl, sym, ◌∙◌, ap, subst, arith}
+use Rattle.std.specs.Prelude.{map, reverse, slice_index_or}
 use Rattle.std.proofs.lemmas.Bool.{cases_lt}
 use Rattle.std.proofs.lemmas.Option.{slice_get_past}
 use Rattle.blk_disk.specs.declared.disk.Disk.{Ghosts as DiskGhosts}
+use Rattle.lay_core.specs.Layout.{Shape}
 use Rattle.lay_core.specs.declared.layout.Layout.{Ghosts as LayoutGhosts}
-use Rattle.eng_cols.specs.declared.column.Column.{Column}
-use Rattle.eng_cols.specs.declared.column.Column.TheVariants as set
-use Rattle.eng_cols.specs.Cols.{ColumnState, column_of, state_set, all_done, is_set_filling}
+use Rattle.eng_cols.specs.Cols.{ColumnState, column_of}
 use Rattle.eng_world.specs.declared.item.Item.{Item}
-use Rattle.eng_world.specs.declared.item.Reply.{Reply}
-use Rattle.eng_world.specs.declared.item.Reply.TheVariants as reply
 use Rattle.eng_world.specs.declared.item.Traced.{Traced}
-use Rattle.eng_world.specs.World.{World}
 use Rattle.eng_parts.specs.declared.region.Region.{Region}
 use Rattle.eng_parts.specs.declared.setup.Setup.{Setup}
 use Rattle.eng_parts.specs.declared.setup.Closed.{Closed}
-use Rattle.eng_parts.specs.Desk.{desk_at}
-use Rattle.eng_parts.specs.Given.{items_in, items_at}
+use Rattle.eng_parts.specs.Given.{items_at}
 use Rattle.eng_parts.specs.Handed.{Handout, AreRegions, region_at, handed_byte}
 use Rattle.eng_parts.specs.Laid.{sectors_before, IsRow}
 use Rattle.eng_parts.specs.Log.{Logged}
 use Rattle.eng_parts.specs.Replied.{replies_in, replies_at}
 use Rattle.eng_events.specs.declared.array.Array.{Array}
-use Rattle.eng_events.specs.Opened.{states_of}
+use Rattle.eng_array.specs.declared.start.Start.{Start}
 use Rattle.eng_array.specs.Tickets.{keeps_trace, traced}
 use Rattle.eng_array.proofs.Chains.{goes-told}
-use Rattle.top_serve.specs.Setups.{shape_in, states_in, graphs_in}
+use Rattle.top_close.specs.Closes.{ClosesAs}
+use Rattle.top_serve.specs.Judged.{IsJudged}
+use Rattle.top_serve.specs.Setups.{shape_in}
 use Rattle.top_serve.specs.Served.{trace_of, handed_in, Tells, HandsOut}
+use Rattle.top_serve.proofs.Behind.{now-set, now-here}
 use Rattle.top_serve.proofs.Between.{Course, no-items}
 use Rattle.top_serve.proofs.Begins.{replied}
-use Rattle.top_serve.proofs.Columns.{AreSet, Keeps, IsSet, states-back, set-states, set-kept, run-keeps}
 use Rattle.top_serve.proofs.Enough.{all-enough}
 use Rattle.top_serve.proofs.Framed.{layout-back, spare-back, untraced, regions-same}
+use Rattle.top_serve.proofs.Closings.{closes-judged}
+use Rattle.top_serve.proofs.Starting.{first_of}
 
 none-left : {A : Type 0} (l : List A) → length l ≡ 0 → l ≡ []
 none-left [] h = refl
 none-left (x ∷ l) h = absurd (omega (arith, h))
 
-module _ {L D : Type 0} (lay : LayoutGhosts L) (disk : DiskGhosts D) (setup : Setup L D) (first last : Array L D) (closed : Closed L D) (p : Course lay disk setup first last closed) where
+module _ {L D : Type 0} (lay : LayoutGhosts L) (disk : DiskGhosts D) (setup : Setup L D) (how : Option Start) (first last : Array L D) (closed : Closed L D) (p : Course lay disk setup how first last closed) where
   -- ## Columns
 
-  start-set : AreSet (shape_in lay setup).stripes p.start.columns
-  start-set = subst (AreSet (shape_in lay setup).stripes) (sym p.columns) (set-states (shape_in lay setup).stripes setup.columns.items p.between.given.filling)
+  pub were-now : p.between.closes.were.items ≡ map column_of p.now.columns
+  were-now = p.between.closes.is_closed.columns ∙ ap (λ (cols : List ColumnState). map column_of cols) (sym p.shows_now.columns)
 
-  pub keeps : Keeps p.start.columns p.now.columns
-  keeps = run-keeps (shape_in lay setup) (graphs_in setup) (shape_in lay setup).stripes p.start.columns start-set p.start p.events p.now p.own p.run (λ c. inl refl)
+  pub judged-now : IsJudged (shape_in lay setup) p.now.columns how p.between.closes.were.items closed.columns.items
+  judged-now = subst (λ (cols : List ColumnState). IsJudged (shape_in lay setup) cols how p.between.closes.were.items closed.columns.items) (sym p.shows_now.columns)
+      (subst (λ (y : Shape). IsJudged y last.cols.states how p.between.closes.were.items closed.columns.items) p.shape_last p.between.closes.judged)
 
-  pub columns-back : closed.columns.items ≡ map column_of p.now.columns
-  columns-back = p.between.is_closed.columns ∙ ap (λ (cols : List ColumnState). map column_of cols) (sym p.shows_now.columns)
-
-  states-now : p.now.columns ≡ states_of (shape_in lay setup) closed.columns.items
-  states-now =
-      sym (states-back (shape_in lay setup).stripes p.now.columns (set-kept (shape_in lay setup).stripes p.start.columns p.now.columns start-set keeps))
-      ∙ ap (λ (cols : List Column). map (state_set (shape_in lay setup).stripes) cols) (sym columns-back)
+  pub closes : ClosesAs (shape_in lay setup) p.now.columns closed.columns.items
+  closes = closes-judged (shape_in lay setup) p.now.columns p.between.closes.were.items closed.columns.items were-now how judged-now (now-set lay disk setup how first last closed p) (now-here lay disk setup how first last closed p)
 
   -- ## Clients
 
   items-count : length closed.clients.items ≡ length setup.clients.items
-  items-count = p.between.is_closed.clients.items_count ∙ spare-back lay disk setup first last closed p
+  items-count = p.between.closes.is_closed.clients.items_count ∙ spare-back lay disk setup how first last closed p
 
   replies-count : length closed.replies.items ≡ length setup.clients.items
-  replies-count = p.between.is_closed.clients.replies_count ∙ spare-back lay disk setup first last closed p
+  replies-count = p.between.closes.is_closed.clients.replies_count ∙ spare-back lay disk setup how first last closed p
 
   items-each : (c : ℕ) → items_at closed.clients.items c ≡ items_at setup.clients.items c
   items-each c = elim (cases_lt c last.spare) [
-    | inl lt ↦ p.between.is_closed.clients.items_each c lt ∙ p.last_items c
+    | inl lt ↦ p.between.closes.is_closed.clients.items_each c lt ∙ p.last_items c (let e = spare-back lay disk setup how first last closed p in let few = p.few in λ is. omega (arith, lt, e, few, is))
     | inr past ↦
-        let e = spare-back lay disk setup first last closed p in
+        let e = spare-back lay disk setup how first last closed p in
         let n = items-count in
         no-items closed.clients.items c (omega (arith, past, e, n)) ∙ sym (no-items setup.clients.items c (omega (arith, past, e)))
   ]
 
-  replies-each : (c : ℕ) → replies_at closed.replies.items c ≡ (p.now.clients c).replies
-  replies-each c = elim (cases_lt c last.spare) [
-    | inl lt ↦ p.between.is_closed.clients.replies_each c lt ∙ sym (p.shows_now.clients c).replies
+  replies-each : (c : ℕ) → c ≢ 16 → replies_at closed.replies.items c ≡ (p.now.clients c).replies
+  replies-each c ne = elim (cases_lt c last.spare) [
+    | inl lt ↦ p.between.closes.is_closed.clients.replies_each c lt ∙ sym (p.shows_now.clients c).replies
     | inr past ↦
-        let e = spare-back lay disk setup first last closed p in
+        let e = spare-back lay disk setup how first last closed p in
         let n = replies-count in
-        let none : (p.now.clients c).items ≡ [] = p.now_items c ∙ no-items setup.clients.items c (omega (arith, past, e)) in
-        let all = replied lay disk setup first last closed p c ∙ ap (λ (l : List Item). length l) none in
+        let none : (p.now.clients c).items ≡ [] = p.now_items c ne ∙ no-items setup.clients.items c (omega (arith, past, e)) in
+        let all = replied lay disk setup how first last closed p c ∙ ap (λ (l : List Item). length l) none in
         ap replies_in (slice_get_past closed.replies.items c (omega (arith, past, e, n))) ∙ sym (none-left (p.now.clients c).replies all)
   ]
 
@@ -92,42 +86,42 @@ module _ {L D : Type 0} (lay : LayoutGhosts L) (disk : DiskGhosts D) (setup : Se
   log-keeps : keeps_trace first ≡ setup.trace
   log-keeps = ap (λ (l : Logged). l.keeps) p.between.opened.log
 
-  trace-now : traced last ≡ trace_of setup.trace p.events
+  trace-now : traced last ≡ trace_of setup.trace (p.own ++ first_of how)
   trace-now = by setup.trace log-keeps
     where
-      by : (b : Bool) → keeps_trace first ≡ b → traced last ≡ trace_of b p.events
-      by true on = goes-told lay disk first last p.events p.goes on ∙ ap (λ (l : List Traced). l ++ reverse p.events) log-trace
-      by false off = untraced lay disk setup first last closed p off ∙ log-trace
+      by : (b : Bool) → keeps_trace first ≡ b → traced last ≡ trace_of b (p.own ++ first_of how)
+      by true on = goes-told lay disk first last (p.own ++ first_of how) p.goes on ∙ ap (λ (l : List Traced). l ++ reverse (p.own ++ first_of how)) log-trace
+      by false off = untraced lay disk setup how first last closed p off ∙ log-trace
 
-  pub tells : Tells lay disk setup closed p.events p.now
+  pub tells : Tells lay disk setup how closed (p.own ++ first_of how) p.now
   tells = record {
-    layout = layout-back lay disk setup first last closed p;
-    columns = columns-back;
-    states = states-now;
+    layout = layout-back lay disk setup how first last closed p;
+    closes = closes;
     clients = items-count;
+    few = let n = items-count in let few = p.few in omega (arith, n, few);
     items = items-each;
     rows = replies-count;
     replies = replies-each;
-    history = p.between.is_closed.history ∙ sym p.shows_now.history;
-    lost = p.between.is_closed.lost ∙ sym p.shows_now.lost;
-    trace = p.between.is_closed.trace ∙ trace-now;
+    history = p.between.closes.is_closed.history ∙ sym p.shows_now.history;
+    lost = p.between.closes.is_closed.lost ∙ sym p.shows_now.lost;
+    trace = p.between.closes.is_closed.trace ∙ trace-now;
   }
 
   -- ## What reads handed out
 
   handed-back : handed_in closed ≡ last.log.handed
   handed-back =
-      let a = p.between.is_closed.sectors in
-      let b = p.between.is_closed.regions in
+      let a = p.between.closes.is_closed.sectors in
+      let b = p.between.closes.is_closed.regions in
       ap (λ (bytes : List ℕ). record { bytes = bytes; regions = closed.regions.items }) a ∙ ap (λ (regions : List (List Region)). record { bytes = last.log.handed.bytes; regions = regions }) b
 
   regions-back : closed.regions.items ≡ first.log.handed.regions
-  regions-back = p.between.is_closed.regions ∙ regions-same lay disk setup first last closed p
+  regions-back = p.between.closes.is_closed.regions ∙ regions-same lay disk setup how first last closed p
 
   rows-back : (c : ℕ) → c < 16 → IsRow (items_at setup.clients.items c) (sectors_before setup.clients.items c) (length (items_at setup.clients.items c)) (slice_index_or closed.regions.items c [])
   rows-back c lt = subst (λ (rows : List (List Region)). IsRow (items_at setup.clients.items c) (sectors_before setup.clients.items c) (length (items_at setup.clients.items c)) (slice_index_or rows c [])) (sym regions-back) (p.between.opened.laid.rows c lt)
 
-  pub hands : HandsOut lay disk setup closed p.now
+  pub hands : HandsOut lay disk setup how closed p.now
   hands = record {
     rows = rows-back;
     enough = all-enough setup.clients.items (handed_in closed) (subst (λ (h : Handout). AreRegions h) (sym handed-back) p.between.regions) rows-back 16 (omega arith);

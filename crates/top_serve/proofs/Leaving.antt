@@ -1,37 +1,39 @@
 -- What the devices hold as they are handed back, and which of their sectors may have changed.
-use Rattle.std.proofs.Common.{◌≡◌, ◌⊎◌, inl, inr, ℕ, ◌<◌, ◌≤◌, List, [], length, get_or, Option, Some, None, refl, sym, ◌∙◌, ap, subst, arith}
+use Rattle.std.proofs.Common.{◌≡◌, ◌++◌, inl, inr, ℕ, ◌<◌, List, [], length, Option, Some, None, refl, sym, ◌∙◌, ap, subst, arith}
 use Rattle.std.specs.Prelude.{slice_index}
 use Rattle.std.specs.Option.{option_map_or}
 use Rattle.std.proofs.lemmas.Bool.{cases_lt}
 use Rattle.std.proofs.lemmas.List.{ext_get_or}
 use Rattle.blk_plain.specs.declared.op.Op.{Op}
 use Rattle.blk_disk.specs.declared.disk.Disk.{Ghosts as DiskGhosts}
-use Rattle.blk_disk.specs.Devices.{device_at, size_of, sector_of, contents_of, calls_of, StaysIf, Changes}
+use Rattle.blk_disk.specs.Devices.{device_at, size_of, contents_of, calls_of, StaysIf, Changes}
 use Rattle.lay_core.specs.declared.layout.Layout.{Ghosts as LayoutGhosts}
-use Rattle.eng_cols.specs.Cols.{ColumnState, HasDevice}
 use Rattle.eng_cols.specs.Contents.{InSync, Agrees, AnyStripe}
-use Rattle.eng_world.specs.World.{World}
 use Rattle.eng_world.specs.Plain.{replay}
-use Rattle.eng_world.specs.Legal.{AreOps, RepliesFit}
-use Rattle.eng_world.specs.Rows.{HasHad, IsInRows}
+use Rattle.eng_world.specs.Legal.{AreOps}
 use Rattle.eng_world.proofs.Placed.{only-rows}
 use Rattle.eng_parts.specs.declared.setup.Setup.{Setup}
 use Rattle.eng_parts.specs.declared.setup.Closed.{Closed}
 use Rattle.eng_parts.specs.Shelf.{seen_at}
 use Rattle.eng_events.specs.declared.array.Array.{Array}
+use Rattle.eng_events.specs.Opened.{states_of}
 use Rattle.eng_events.specs.Shows.{AreTold}
+use Rattle.eng_array.specs.declared.start.Start.{Start}
+use Rattle.top_close.proofs.ClosingLaws.{closing_agrees}
 use Rattle.top_serve.specs.Setups.{shape_in, states_in, graphs_in, WasInSync}
 use Rattle.top_serve.specs.Served.{Means, MayChange, Leaves}
 use Rattle.top_serve.proofs.Begins.{bytes-at, calls-at, start-contents, replied}
 use Rattle.top_serve.proofs.Between.{Course}
 use Rattle.top_serve.proofs.Devices.{device_of, closed-at}
-use Rattle.top_serve.proofs.Died.{own-had}
+use Rattle.top_serve.proofs.Behind.{had-begun}
 use Rattle.top_serve.proofs.Framed.{devices-back}
+use Rattle.top_serve.proofs.Hands.{closes}
+use Rattle.top_serve.proofs.Starting.{first_of}
 use Rattle.top_serve.proofs.Meaning.{sync-same, agrees-same, told, fits, agrees-all}
 
-module _ {L D : Type 0} (lay : LayoutGhosts L) (disk : DiskGhosts D) (setup : Setup L D) (first last : Array L D) (closed : Closed L D) (p : Course lay disk setup first last closed) where
+module _ {L D : Type 0} (lay : LayoutGhosts L) (disk : DiskGhosts D) (setup : Setup L D) (how : Option Start) (first last : Array L D) (closed : Closed L D) (p : Course lay disk setup how first last closed) where
   back-at : (d : ℕ) → device_at closed.devices.items d ≡ device_of (seen_at last.devices d)
-  back-at d = closed-at closed.devices.items last.devices p.between.is_closed.absent p.between.is_closed.devices d
+  back-at d = closed-at closed.devices.items last.devices p.between.closes.is_closed.absent p.between.closes.is_closed.devices d
 
   now-contents : disk.tells → (d n k : ℕ) → k < 512 → p.now.contents d n k ≡ contents_of disk closed.devices.items d n k
   now-contents tells d n k kb = p.shows_now.contents tells d n k kb ∙ bytes-at disk closed.devices.items last.devices d (back-at d) n k
@@ -42,14 +44,14 @@ module _ {L D : Type 0} (lay : LayoutGhosts L) (disk : DiskGhosts D) (setup : Se
   -- ## Where devices change
 
   -- byte by byte, by the run
-  byte-stays : disk.tells → (d n k : ℕ) → (MayChange lay disk setup closed d n → ⊥) → k < 512 → contents_of disk closed.devices.items d n k ≡ contents_of disk setup.devices.items d n k
+  byte-stays : disk.tells → (d n k : ℕ) → (MayChange lay disk setup how closed d n → ⊥) → k < 512 → contents_of disk closed.devices.items d n k ≡ contents_of disk setup.devices.items d n k
   byte-stays tells d n k not kb =
       sym (now-contents tells d n k kb)
-      ∙ ((only-rows (shape_in lay setup) p.layout (graphs_in setup) p.promises p.start p.events p.now p.opening p.run).contents d n k (λ c had rows. not (inl ((c, subst (λ (cols : List ColumnState). HasDevice cols c d) p.columns (own-had p.start p.events p.own c d had)), rows)))
-      ∙ start-contents lay disk setup first last closed p tells d n k kb)
+      ∙ ((only-rows (shape_in lay setup) p.layout (graphs_in setup) p.promises p.start (p.own ++ first_of how) p.now p.opening p.run).contents d n k (λ c had rows. not (inl ((c, had-begun lay disk setup how first last closed p c d had), rows)))
+      ∙ start-contents lay disk setup how first last closed p tells d n k kb)
 
   -- so sector by sector, where there is such a sector
-  sector-stays : disk.tells → (d n : ℕ) → (MayChange lay disk setup closed d n → ⊥) → (x z : D) → device_at setup.devices.items d ≡ Some x → device_at closed.devices.items d ≡ Some z → disk.size z ≡ disk.size x → disk.sector z n ≡ disk.sector x n
+  sector-stays : disk.tells → (d n : ℕ) → (MayChange lay disk setup how closed d n → ⊥) → (x z : D) → device_at setup.devices.items d ≡ Some x → device_at closed.devices.items d ≡ Some z → disk.size z ≡ disk.size x → disk.sector z n ≡ disk.sector x n
   sector-stays tells d n not x z was is size = elim (cases_lt n (disk.size x)) [
     | inl lt ↦
         let a : length (disk.sector z n) ≡ 512 = p.between.long z n tells (omega (arith, lt, size)) in
@@ -60,10 +62,10 @@ module _ {L D : Type 0} (lay : LayoutGhosts L) (disk : DiskGhosts D) (setup : Se
     | inr past ↦ absurd (not (inr (let e : size_of disk setup.devices.items d ≡ disk.size x = ap (λ (o : Option D). option_map_or disk.size o 0) was in omega (arith, past, e))))
   ]
 
-  frame : Changes disk (MayChange lay disk setup closed) setup.devices.items closed.devices.items
-  frame = record { count = (devices-back lay disk setup first last closed p).count; each = λ d. by d (device_at setup.devices.items d) (device_at closed.devices.items d) refl refl ((devices-back lay disk setup first last closed p).each d) }
+  frame : Changes disk (MayChange lay disk setup how closed) setup.devices.items closed.devices.items
+  frame = record { count = (devices-back lay disk setup how first last closed p).count; each = λ d. by d (device_at setup.devices.items d) (device_at closed.devices.items d) refl refl ((devices-back lay disk setup how first last closed p).each d) }
     where
-      by : (d : ℕ) (x z : Option D) → device_at setup.devices.items d ≡ x → device_at closed.devices.items d ≡ z → StaysIf disk (λ n. Unit {0}) x z → StaysIf disk (MayChange lay disk setup closed d) x z
+      by : (d : ℕ) (x z : Option D) → device_at setup.devices.items d ≡ x → device_at closed.devices.items d ≡ z → StaysIf disk (λ n. Unit {0}) x z → StaysIf disk (MayChange lay disk setup how closed d) x z
       by d None None was is h = tt
       by d None (Some z) was is h = absurd h
       by d (Some x) None was is h = absurd h
@@ -74,20 +76,24 @@ module _ {L D : Type 0} (lay : LayoutGhosts L) (disk : DiskGhosts D) (setup : Se
   start-sync : disk.tells → WasInSync lay disk setup → InSync (shape_in lay setup) p.start.contents p.start.columns
   start-sync tells sync =
       subst (InSync (shape_in lay setup) p.start.contents) (sym p.columns)
-      (sync-same (shape_in lay setup) (contents_of disk setup.devices.items) p.start.contents (λ d n k kb. sym (start-contents lay disk setup first last closed p tells d n k kb)) (states_in lay setup) sync)
+      (sync-same (shape_in lay setup) (contents_of disk setup.devices.items) p.start.contents (λ d n k kb. sym (start-contents lay disk setup how first last closed p tells d n k kb)) (states_in lay setup) sync)
 
   pub means : Means lay disk setup p.start p.now
   means = record {
-    legal = told (shape_in lay setup) (graphs_in setup) p.layout p.promises p.start p.opening p.events p.now p.run;
-    fits = λ tells sync. fits (shape_in lay setup) (graphs_in setup) p.layout p.promises p.start p.opening p.events p.now p.run (start-sync tells sync);
+    legal = told (shape_in lay setup) (graphs_in setup) p.layout p.promises p.start p.opening (p.own ++ first_of how) p.now p.run;
+    fits = λ tells sync. fits (shape_in lay setup) (graphs_in setup) p.layout p.promises p.start p.opening (p.own ++ first_of how) p.now p.run (start-sync tells sync);
   }
 
-  agrees : disk.tells → WasInSync lay disk setup → closed.lost ≡ None → (ops : List Op) × AreOps p.now p.now.history ops × Agrees (shape_in lay setup) (contents_of disk closed.devices.items) p.now.columns (replay p.start.blocks ops) AnyStripe
+  agrees : disk.tells → WasInSync lay disk setup → closed.lost ≡ None → (ops : List Op) × AreOps p.now p.now.history ops × Agrees (shape_in lay setup) (contents_of disk closed.devices.items) (states_of (shape_in lay setup) closed.columns.items) (replay p.start.blocks ops) AnyStripe
   agrees tells sync none =
-      let a = agrees-all (shape_in lay setup) (graphs_in setup) p.layout p.promises p.start p.opening p.events p.now p.run (p.shows_now.lost ∙ (sym p.between.is_closed.lost ∙ none)) (replied lay disk setup first last closed p) (start-sync tells sync) in
-      (a.0, a.1, agrees-same (shape_in lay setup) p.now.contents (contents_of disk closed.devices.items) (now-contents tells) p.now.columns (replay p.start.blocks a.0) AnyStripe a.2)
+      let a = agrees-all (shape_in lay setup) (graphs_in setup) p.layout p.promises p.start p.opening (p.own ++ first_of how) p.now p.run (p.shows_now.lost ∙ (sym p.between.closes.is_closed.lost ∙ none)) (replied lay disk setup how first last closed p) (start-sync tells sync) in (
+        a.0,
+        a.1,
+        closing_agrees (shape_in lay setup) p.now.columns closed.columns.items (closes lay disk setup how first last closed p) (contents_of disk closed.devices.items) (replay p.start.blocks a.0) AnyStripe
+            (agrees-same (shape_in lay setup) p.now.contents (contents_of disk closed.devices.items) (now-contents tells) p.now.columns (replay p.start.blocks a.0) AnyStripe a.2),
+      )
 
-  pub leaves : Leaves lay disk setup closed p.start p.now
+  pub leaves : Leaves lay disk setup how closed p.start p.now
   leaves = record {
     contents = now-contents;
     calls = now-calls;

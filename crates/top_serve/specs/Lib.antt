@@ -1,4 +1,5 @@
 pub mod Setups
 pub mod Caused
+pub mod Judged
 pub mod Served
 pub mod Trials

@@ -1,16 +1,19 @@
 -- What becomes of what was handed in, once it is served: a run of events from an opening to rest, and what is handed back.
-use Rattle.std.specs.Prelude.{◌≡◌, ◌<◌, ◌≤◌, ◌*◌, ◌⊎◌, ◌++◌, ℕ, List, [], ◌∷◌, length, Bool, true, false, Option, Some, None, slice_get, slice_index_or, map, reverse}
+use Rattle.std.specs.Prelude.{◌≡◌, ◌≢◌, ◌<◌, ◌≤◌, ◌*◌, ◌⊎◌, ◌++◌, ℕ, List, [], ◌∷◌, length, Bool, true, false, Option, Some, None, slice_get, slice_index_or, reverse}
 use Rattle.blk_plain.specs.declared.op.Op.{Op}
 use Rattle.blk_plain.specs.declared.op.OpId.{OpId}
 use Rattle.blk_disk.specs.declared.disk.Disk.{Ghosts as DiskGhosts}
 use Rattle.blk_disk.specs.Devices.{size_of, contents_of, calls_of, RisesOn, Changes}
 use Rattle.lay_core.specs.Layout.{Shape}
 use Rattle.lay_core.specs.declared.layout.Layout.{Ghosts as LayoutGhosts}
+use Rattle.eng_cols.specs.declared.column.Column.TheVariants as column
 use Rattle.eng_cols.specs.declared.spot.Loss.{Loss}
-use Rattle.eng_cols.specs.Cols.{column_of, HasDevice}
+use Rattle.eng_cols.specs.Cols.{ColumnState, Dead, HasDevice}
 use Rattle.eng_cols.specs.Contents.{Agrees, AnyStripe}
 use Rattle.eng_cols.specs.Deaths.{Dies}
 use Rattle.eng_cols.specs.Lost.{NotLost}
+use Rattle.eng_cols.specs.Seats.{HasStripeLeft}
+use Rattle.eng_world.specs.declared.item.Item.{Item}
 use Rattle.eng_world.specs.declared.item.Item.TheVariants as item
 use Rattle.eng_world.specs.declared.item.Reply.TheVariants as reply
 use Rattle.eng_world.specs.declared.item.Traced.{Traced}
@@ -30,10 +33,14 @@ use Rattle.eng_parts.specs.Handed.{Handout, region_at, handed_byte}
 use Rattle.eng_parts.specs.Laid.{sectors_before, IsRow}
 use Rattle.eng_parts.specs.Replied.{replies_at}
 use Rattle.eng_events.specs.Opened.{states_of}
+use Rattle.eng_events.specs.Rebuilding.{AreRebuildsBelow}
 use Rattle.eng_events.specs.Shows.{AreTold}
+use Rattle.eng_array.specs.declared.start.Start.{Start}
+use Rattle.eng_array.specs.Starts.{column_of, event_of}
 use Rattle.eng_array.specs.Tickets.{AllOf}
-use Rattle.top_serve.specs.Setups.{shape_in, states_in, graphs_in, WasInSync}
-use Rattle.top_serve.specs.Caused.{WentBadOn, WasLostBy}
+use Rattle.top_close.specs.Closes.{ClosesAs}
+use Rattle.top_serve.specs.Setups.{shape_in, states_in, graphs_in, begun_in, with_start, with_rebuilt, WasInSync}
+use Rattle.top_serve.specs.Caused.{WentBadOn, WasLostBy, RestsOn}
 
 -- the events of a run, the newest first, as a trace has them, if it is kept
 abbrev pub trace_of : Bool → List Traced → List Traced
@@ -50,6 +57,21 @@ pub record WasFailed (now : World) (c : ℕ) : Type 0 where
 abbrev pub IsLossIn : Shape → World → Option Loss → Type 0
 IsLossIn y now None = NotLost y now.columns
 IsLossIn y now (Some loss) = WasLostBy y now loss
+
+-- The events, the newest first, are the clients' own; where a rebuild starts, that comes before all of them.
+abbrev pub BeginsBy : Option Start → List Traced → Type 0
+BeginsBy None events = AllOf IsOwn events
+BeginsBy (Some how) events = (own : List Traced) × (events ≡ own ++ event_of how ∷ []) × AllOf IsOwn own
+
+-- the items of client 16: a rebuild of each stripe of the column that is rebuilt, if one is
+abbrev pub IsRebuiltBy : Shape → List ColumnState → Option Start → List Item → Type 0
+IsRebuiltBy y begun None items = items ≡ []
+IsRebuiltBy y begun (Some how) items = AreRebuildsBelow y begun (column_of how) y.stripes items
+
+-- it is the column that is rebuilt, it isn't dead, and one of its stripes is left to do
+abbrev pub IsUnbuilt : Shape → Option Start → World → ℕ → Type 0
+IsUnbuilt y None now c = ⊥
+IsUnbuilt y (Some how) now c = (column_of how ≡ c) × (slice_get now.columns c ≡ Some Dead → ⊥) × HasStripeLeft y now.columns c
 
 -- what reads handed out, with the region of each item
 abbrev pub handed_in : {L D : Type 0} → Closed L D → Handout
@@ -68,11 +90,12 @@ module _ {L D : Type 0} (lay : LayoutGhosts L) (disk : DiskGhosts D) (setup : Se
     pub contents : disk.tells → (d n k : ℕ) → k < 512 → w.contents d n k ≡ contents_of disk setup.devices.items d n k
     pub calls : (d : ℕ) → AreTold disk (calls_of disk setup.devices.items d) (w.calls d)
 
-  -- The events, the newest first, are the clients' own, and lead to rest: each item has its reply, and no job is out. No items have come or gone.
-  pub record Rests (start : World) (events : List Traced) (now : World) : Type 0 where
-    pub own : AllOf IsOwn events
+  -- The events, the newest first, are the clients' own, behind the start of the rebuild where there is one, and lead to rest: each item has its reply, and no job is out. No items have come or gone but those of client 16, which are the rebuilds.
+  pub record Rests (how : Option Start) (start : World) (events : List Traced) (now : World) : Type 0 where
+    pub begins : BeginsBy how events
     pub run : Run (shape_in lay setup) (graphs_in setup) start events now
-    pub items : (c : ℕ) → (now.clients c).items ≡ items_at setup.clients.items c
+    pub items : (c : ℕ) → c ≢ 16 → (now.clients c).items ≡ items_at setup.clients.items c
+    pub rebuilds : IsRebuiltBy (shape_in lay setup) (begun_in lay setup how) how (now.clients 16).items
     pub replied : AllReplied now
     pub out : now.out ≡ 0
 
@@ -83,16 +106,16 @@ module _ {L D : Type 0} (lay : LayoutGhosts L) (disk : DiskGhosts D) (setup : Se
 
   -- ## What is handed back
 
-  module _ (closed : Closed L D) where
-    -- layout and items as they were handed in; columns, replies, history, loss and trace are the run's
+  module _ (how : Option Start) (closed : Closed L D) where
+    -- Layout and items are as they were handed in; replies, history, loss and trace are the run's; and so are the columns, of which one that is rebuilt is judged by its stripes that are left.
     pub record Tells (events : List Traced) (now : World) : Type 0 where
       pub layout : closed.layout ≡ setup.layout
-      pub columns : closed.columns.items ≡ map column_of now.columns
-      pub states : now.columns ≡ states_of (shape_in lay setup) closed.columns.items
+      pub closes : ClosesAs (shape_in lay setup) now.columns closed.columns.items
       pub clients : length closed.clients.items ≡ length setup.clients.items
+      pub few : length closed.clients.items ≤ 16
       pub items : (c : ℕ) → items_at closed.clients.items c ≡ items_at setup.clients.items c
       pub rows : length closed.replies.items ≡ length setup.clients.items
-      pub replies : (c : ℕ) → replies_at closed.replies.items c ≡ (now.clients c).replies
+      pub replies : (c : ℕ) → c ≢ 16 → replies_at closed.replies.items c ≡ (now.clients c).replies
       pub history : closed.history.items ≡ now.history
       pub lost : closed.lost ≡ now.lost
       pub trace : closed.trace.items ≡ trace_of setup.trace events
@@ -103,34 +126,40 @@ module _ {L D : Type 0} (lay : LayoutGhosts L) (disk : DiskGhosts D) (setup : Se
       pub enough : 512 * sectors_before setup.clients.items 16 ≤ length closed.sectors.items
       pub handed : disk.tells → (c i b k : ℕ) → slice_get (now.clients c).replies i ≡ Some reply.Data → b < (region_at (handed_in closed) c i).count → k < 512 → (now.clients c).handed i b k ≡ handed_byte (handed_in closed) c i b k
 
-    -- the sector may have changed: it is one of the array's rows, on a device that was in a column; or the device has no such sector
+    -- the sector may have changed: it is one of the array's rows, on a device that was in a column or is filled; or the device has no such sector
     abbrev pub MayChange : ℕ → ℕ → Type 0
-    MayChange d n = (((c : ℕ) × HasDevice (states_in lay setup) c d) × IsInRows (shape_in lay setup) n) ⊎ (size_of disk setup.devices.items d ≤ n)
+    MayChange d n = (((c : ℕ) × HasDevice (begun_in lay setup how) c d) × IsInRows (shape_in lay setup) n) ⊎ (size_of disk setup.devices.items d ≤ n)
 
-    -- Devices hold and tell what they do in the run's last world, and have changed nowhere else. Where the array was in sync and isn't lost, the units that are left on them encode what the history makes of the opening's blocks.
+    -- Devices hold and tell what they do in the run's last world, and have changed nowhere else. Where the array was in sync and isn't lost, the units that are left on them, by the columns that are handed back, encode what the history makes of the opening's blocks.
     pub record Leaves (start now : World) : Type 0 where
       pub contents : disk.tells → (d n k : ℕ) → k < 512 → now.contents d n k ≡ contents_of disk closed.devices.items d n k
       pub calls : (d : ℕ) → AreTold disk (calls_of disk closed.devices.items d) (now.calls d)
       pub frame : Changes disk MayChange setup.devices.items closed.devices.items
       pub agrees : disk.tells → WasInSync lay disk setup → closed.lost ≡ None → (ops : List Op) × AreOps now now.history ops
-          × Agrees (shape_in lay setup) (contents_of disk closed.devices.items) now.columns (replay start.blocks ops) AnyStripe
+          × Agrees (shape_in lay setup) (contents_of disk closed.devices.items) (states_of (shape_in lay setup) closed.columns.items) (replay start.blocks ops) AnyStripe
 
     -- ## Causes
 
     -- its count of faults rose, or an item was replied ok by which a column failed that had it
     abbrev pub IsFailedBy : World → ℕ → Type 0
-    IsFailedBy now d = RisesOn disk setup.devices.items closed.devices.items d ⊎ ((c : ℕ) × HasDevice (states_in lay setup) c d × WasFailed now c)
+    IsFailedBy now d = RisesOn disk setup.devices.items closed.devices.items d ⊎ ((c : ℕ) × HasDevice (begun_in lay setup how) c d × WasFailed now c)
 
     -- the count of its device rose, or an item was replied ok by which it failed
     abbrev pub IsDeadBy : World → ℕ → Type 0
-    IsDeadBy now c = WasFailed now c ⊎ ((d : ℕ) × HasDevice (states_in lay setup) c d × RisesOn disk setup.devices.items closed.devices.items d)
+    IsDeadBy now c = WasFailed now c ⊎ ((d : ℕ) × HasDevice (begun_in lay setup how) c d × RisesOn disk setup.devices.items closed.devices.items d)
 
-    -- Each reply has its cause. Each column is what it was or is dead for a cause; each failed device has failed by something; so has each device on which a node went bad; and the loss is that of the columns as it came.
+    -- why a rebuild that started so isn't done: the array was lost, or a column that it rests on was dead as it started, or has died
+    abbrev pub IsStoppedBy : World → Start → Type 0
+    IsStoppedBy now rebuild = ((loss : Loss) × (now.lost ≡ Some loss))
+        ⊎ ((k : ℕ) × RestsOn (shape_in lay setup) rebuild k × ((slice_get (with_start how setup.columns.items) k ≡ Some column.Dead) ⊎ IsDeadBy now k))
+
+    -- Each reply has its cause. Each column is what it was, and the one that is rebuilt what it is once that is done; or it is dead for a cause, or as its rebuild isn't done, which has its own. Each failed device has failed by something; so has each device on which a node went bad; and the loss is that of the columns as it came.
     pub record Causes (start : World) (events : List Traced) (now : World) : Type 0 where
       pub replies : HaveCauses (shape_in lay setup) (graphs_in setup) start events now
-      pub dies : Dies (IsDeadBy now) setup.columns.items closed.columns.items
+      pub dies : Dies (λ c. IsDeadBy now c ⊎ IsUnbuilt (shape_in lay setup) how now c) (with_rebuilt how setup.columns.items) closed.columns.items
+      pub stopped : (rebuild : Start) → how ≡ Some rebuild → slice_get closed.columns.items (column_of rebuild) ≡ Some column.Dead → IsStoppedBy now rebuild
       pub failed : (d : ℕ) → now.failed d ≡ true → IsFailedBy now d
-      pub bad : (later before : List Traced) (id : OpId) (node : ℕ) → events ≡ later ++ event.Bad id node ∷ before → (d : ℕ) × WentBadOn (shape_in lay setup) (graphs_in setup) start before id node later now d × IsFailedBy now d
+      pub bad : (later before : List Traced) (id : OpId) (node : ℕ) → events ≡ later ++ event.Bad id node ∷ before → (d : ℕ) × WentBadOn (shape_in lay setup) (graphs_in setup) (begun_in lay setup how) start before id node later now d × IsFailedBy now d
       pub loss : IsLossIn (shape_in lay setup) now closed.lost
 
     -- ## All of it
@@ -140,7 +169,7 @@ module _ {L D : Type 0} (lay : LayoutGhosts L) (disk : DiskGhosts D) (setup : Se
       pub events : List Traced
       pub now : World
       pub opens : Opens start
-      pub rests : Rests start events now
+      pub rests : Rests how start events now
       pub means : Means start now
       pub tells : Tells events now
       pub hands : HandsOut now

@@ -6,9 +6,11 @@
 //! world's.
 //!
 //! Where something is done to the array before it is served, [`room_for`] takes all memory first, and [`serve_in`] can't
-//! be refused then. Columns may have died in between.
+//! be refused then. Columns may have died in between. A dead column may be rebuilt beside the clients: that starts before
+//! any of their events, and at the end the column is live or spread if all of it was rebuilt, and else dead.
 #![tactic(auto)]
 
+mod judging;
 mod opening;
 mod refused;
 mod serving;

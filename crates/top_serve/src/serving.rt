@@ -1,19 +1,20 @@
 //! A core is opened, served and closed.
-ghost use Rattle.std.specs.Prelude.{◌≡◌, ◌≤◌, IfOk, IfErr};
+ghost use Rattle.std.specs.Prelude.{◌≡◌, ◌≤◌, IfOk, IfErr, None};
 ghost use Rattle.eng_parts.specs.Handed.{AreRegions};
-ghost use Rattle.eng_events.specs.Closed.{IsClosed};
 ghost use Rattle.eng_events.specs.Opened.{IsOpened, IsSetup, NoneOut, OpensWorlds};
 ghost use Rattle.eng_events.specs.Picked.{IsResting};
 ghost use Rattle.eng_array.specs.Fitting.{FitsTrace};
 ghost use Rattle.eng_array.specs.Steady.{IsSteady};
 ghost use Rattle.eng_array.specs.Tickets.{After};
-ghost use Rattle.top_serve.specs.Setups.{IsFew, IsNotLost, IsRefusal, IsRoomOf, SectorsAreLong};
+ghost use Rattle.top_serve.specs.Judged.{CanBegin, HasBegun, HasColumn, IsClosedBy};
+ghost use Rattle.top_serve.specs.Setups.{IsFew, IsNotLost, IsRefusal, IsRoomOf, MayStart, SectorsAreLong};
 ghost use Rattle.top_serve.specs.Served.{IsServed};
 
+use crate::judging::judge;
 use crate::opening::{opened_in, room_for};
 use crate::refused::{Refused, ServeFault};
 use blk_disk::Disk;
-use eng_array::{Closed, Core, CoreRoom, Setup};
+use eng_array::{Closed, Core, CoreRoom, Setup, Start};
 use eng_crew::{drain, run_crew};
 use lay_core::Layout;
 use std::alloc::Global;
@@ -36,7 +37,7 @@ pub fn serve<L: Layout + Drop + Send, D: Disk + Drop + Send, R: Threads + Wait +
     requires few { IsFew setup }
     requires trace { FitsTrace L.Layout setup }
     ensures kept { IfOk result (λ closed. IsNotLost L.Layout setup) }
-    ensures served { IfOk result (IsServed L.Layout D.Disk setup) }
+    ensures served { IfOk result (IsServed L.Layout D.Disk setup None) }
     ensures fault { IfErr result (λ refused. IsRefusal L.Layout setup refused.fault) }
     ensures back { IfErr result (λ refused. refused.setup ≡ setup) }
 {
@@ -45,7 +46,7 @@ pub fn serve<L: Layout + Drop + Send, D: Disk + Drop + Send, R: Threads + Wait +
         return Err(Refused { fault, setup });
     };
     match opened_in(setup, room) {
-        Ok(core) => Ok(served(rt, alloc, core, workers)),
+        Ok(core) => Ok(served(rt, alloc, core, None, workers)),
         Err((loss, setup)) => {
             let fault = ServeFault::Lost(loss);
             Err(Refused { fault, setup })
@@ -55,11 +56,15 @@ pub fn serve<L: Layout + Drop + Send, D: Disk + Drop + Send, R: Threads + Wait +
 
 /// Serves the setup's clients as [`serve`] does, in room that was taken before. Nothing can refuse it: the array isn't
 /// lost by its columns, and the run takes no memory.
+///
+/// A dead column is rebuilt beside the clients where a start is given. At rest it is live on the device that was filled,
+/// or spread, if each of its stripes is done there; else it is dead.
 pub fn serve_in<L: Layout + Drop + Send, D: Disk + Drop + Send, R: Threads + Wait + Sync>(
     rt: &R,
     alloc: Global,
     setup: Setup<L, D>,
     room: CoreRoom<D>,
+    start: Option<Start>,
     workers: u32,
 ) -> Closed<L, D>
     requires workers { workers ≤ 16 }
@@ -67,31 +72,52 @@ pub fn serve_in<L: Layout + Drop + Send, D: Disk + Drop + Send, R: Threads + Wai
     requires room { IsRoomOf L.Layout setup room }
     requires trace { FitsTrace L.Layout setup }
     requires kept { IsNotLost L.Layout setup }
-    ensures { IsServed L.Layout D.Disk setup result }
+    requires start { MayStart L.Layout D.Disk setup start }
+    ensures { IsServed L.Layout D.Disk setup start result }
 {
     match opened_in(setup, room) {
-        Ok(core) => served(rt, alloc, core, workers),
+        Ok(core) => served(rt, alloc, core, start, workers),
         Err(_) => unreachable!(),
     }
 }
 
-// All that the core's clients ask is served, and the core is closed.
+// All that the core's clients ask is served, beside a rebuild where one is to start, and the core is closed.
 fn served<L: Layout + Drop + Send, D: Disk + Drop + Send, R: Threads + Wait + Sync>(
     rt: &R,
     alloc: Global,
     core: Core<L, D>,
+    start: Option<Start>,
     workers: u32,
 ) -> Closed<L, D>
     requires workers { workers ≤ 16 }
     requires steady { IsSteady L.Layout D.Disk core.array }
     requires home { NoneOut core.array.clients }
-    ensures { (setup : Setup L D) → IsSetup L.Layout D.Disk setup
+    requires can { CanBegin L.Layout D.Disk core.array start }
+    ensures { (setup : Setup L D) → IsSetup L.Layout D.Disk setup → MayStart L.Layout D.Disk setup start
         → IsOpened L.Layout D.Disk setup core.array → OpensWorlds L.Layout D.Disk core.array
-        → SectorsAreLong D.Disk → IsServed L.Layout D.Disk setup result }
+        → SectorsAreLong D.Disk → IsServed L.Layout D.Disk setup start result }
 {
-    let left = worked(rt, alloc, core, workers);
+    let begun = begun(core, start);
+    let left = worked(rt, alloc, begun, workers);
     let rested = at_rest(left);
-    closed(rested)
+    closed(rested, start)
+}
+
+// The core once the rebuild has started, where one is to start.
+fn begun<L: Layout, D: Disk>(mut core: Core<L, D>, start: Option<Start>) -> Core<L, D>
+    requires steady { IsSteady L.Layout D.Disk core.array }
+    requires home { NoneOut core.array.clients }
+    requires can { CanBegin L.Layout D.Disk core.array start }
+    ensures begun { HasBegun L.Layout D.Disk core.array start result.array }
+    ensures steady { IsSteady L.Layout D.Disk result.array }
+    ensures home { NoneOut result.array.clients }
+    ensures column { HasColumn L.Layout D.Disk result.array start }
+{
+    match start {
+        Some(start) => core.start(start),
+        None => {}
+    }
+    core
 }
 
 // The core after so many workers were at it, if there was memory for them.
@@ -130,13 +156,23 @@ fn at_rest<L: Layout + Drop, D: Disk + Drop>(mut core: Core<L, D>) -> Core<L, D>
     core
 }
 
-// What the core has, handed back.
-fn closed<L: Layout + Drop, D: Disk + Drop>(core: Core<L, D>) -> Closed<L, D>
+// What the core has, handed back, once the column that was rebuilt is judged.
+fn closed<L: Layout + Drop, D: Disk + Drop>(core: Core<L, D>, start: Option<Start>) -> Closed<L, D>
     requires steady { IsSteady L.Layout D.Disk core.array }
     requires home { NoneOut core.array.clients }
-    ensures closed { IsClosed core.array result }
+    requires column { HasColumn L.Layout D.Disk core.array start }
+    ensures closed { IsClosedBy L.Layout core.array start result }
     ensures regions { AreRegions core.array.log.handed }
 {
     core.regions_stand();
-    core.close()
+    match start {
+        Some(start) => {
+            let column = start.column();
+            let whole = core.whole(column);
+            let mut closed = core.close();
+            judge(closed.columns.as_mut_slice(), column, whole);
+            closed
+        }
+        None => core.close(),
+    }
 }

@@ -1,10 +1,14 @@
 //! Setups over two columns.
-ghost use Rattle.std.specs.Prelude.{◌≡◌, ◌≤◌, [], ◌∷◌, IfOk, All, Some, length};
+ghost use Rattle.std.specs.Prelude.{◌≡◌, ◌≤◌, [], ◌∷◌, IfOk, All, Some, length, count_by};
+ghost use Rattle.eng_cols.specs.Cols.{is_set_filling, is_set_spread};
+ghost use Rattle.eng_cols.specs.Lost.{NotLost};
 ghost use Rattle.eng_crew.specs.Trial.{AreSmall};
-ghost use Rattle.top_serve.specs.Trials.{IsReady};
+ghost use Rattle.eng_events.specs.Opened.{states_of};
+ghost use Rattle.top_serve.specs.Trials.{IsDegraded, IsReady};
 
 use blk_disk::{Disk, MemDisk};
 use eng_array::{Column, Item, Setup};
+use eng_cols::Cols;
 use lay_core::Layout;
 use lay_plain::Raid5;
 use std::alloc::{AllocError, Global};
@@ -37,6 +41,53 @@ pub fn ready(
         return Err(Fail::from("no layout"));
     };
     let columns = vec![in alloc; Column::Live { device: 0 }, Column::Live { device: 1 }]?;
+    let devices = pair(alloc, first, second)?;
+    Ok(Setup {
+        layout,
+        devices,
+        columns,
+        clients,
+        graphs: Vec::new(alloc),
+        trace: false,
+    })
+}
+
+// The array isn't lost by these columns.
+fn judged<L: Layout>(alloc: Global, layout: &L, columns: &[Column]) -> Result<(), Fail>
+    requires entries { length columns.now ≡ (L.shape layout.now).columns }
+    requires filling { count_by is_set_filling columns.now ≡ 0 }
+    requires spread { count_by is_set_spread columns.now ≡ 0 }
+    ensures { IfOk result (λ _. NotLost (L.shape layout.now)
+        (states_of (L.shape layout.now) columns.now)) }
+{
+    let Ok(mut judge) = Cols::with_room(alloc, layout.columns(), layout.stripes()) else {
+        return Err(Fail::from("no memory"));
+    };
+    judge.set(layout, columns);
+    match judge.lost(layout) {
+        None => Ok(()),
+        Some(_) => Err(Fail::from("lost")),
+    }
+}
+
+// The same of which the second column is dead, and the second device in no column.
+pub fn degraded(
+    alloc: Global,
+    first: MemDisk,
+    second: MemDisk,
+    clients: Vec<Vec<Item>>,
+) -> Result<Setup<Raid5, MemDisk>, Fail>
+    requires first { 128 ≤ ⟦<MemDisk as Disk>⟧.size first }
+    requires second { 128 ≤ ⟦<MemDisk as Disk>⟧.size second }
+    requires few { length clients.items ≤ 16 }
+    requires small { All AreSmall clients.items }
+    ensures { IfOk result (IsDegraded ⟦<Raid5 as Layout>⟧ ⟦<MemDisk as Disk>⟧) }
+{
+    let Ok(layout) = Raid5::new(2, 1, 64) else {
+        return Err(Fail::from("no layout"));
+    };
+    let columns = vec![in alloc; Column::Live { device: 0 }, Column::Dead]?;
+    judged(alloc, &layout, &columns)?;
     let devices = pair(alloc, first, second)?;
     Ok(Setup {
         layout,

@@ -1,4 +1,4 @@
-use Rattle.std.proofs.Common.{◌≡◌, length, refl, sym, ap, subst, arith}
+use Rattle.std.proofs.Common.{◌≡◌, length, None, refl, sym, ap, subst, arith}
 use Rattle.top_run.specs.Work.{Service}
 use Rattle.top_run.specs.Ends.{IsEnded}
 use Rattle.top_run.proofs.Settled.{lent-back, is-ended}
@@ -15,6 +15,7 @@ returns g c =
       sectors = c.args.closed.sectors.items;
       history = c.args.closed.history.items;
       trace = c.args.closed.trace.items;
+      line = None;
       ending = record { columns = c.end_unlabelled.new.ending.columns.items; lost = c.end_unlabelled.new.ending.lost };
     } in
     subst (λ back. IsEnded g.L.Layout c.args.closed g.D.Disk v back) (sym (lent-back devices.items new devices.len a))

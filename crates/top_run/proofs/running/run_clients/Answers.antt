@@ -1,5 +1,5 @@
 use Rattle.top_run.specs.Works.{service_seen}
-use Rattle.top_run.proofs.Columns.{any-cause, may-end}
+use Rattle.top_run.proofs.Columns.{may-have-died, may-end}
 use Rattle.top_run.proofs.All.{has-run, stands}
 use Rattle.top_run.proofs.running.run_clients.Goals as goal
 
@@ -7,7 +7,7 @@ pub ended-requires-clause-closed : goal.ended-requires-clause-closed
 ended-requires-clause-closed g c =
     let setup = c.args.setup in
     let closed = c.in-Ok.closed in
-    let died = any-cause _ setup.columns.items closed.columns.items c.in-Ok.ensures.served.causes.dies in
+    let died = may-have-died g.L.Layout g.D.Disk setup closed c.requires.setup c.in-Ok.ensures.served in
     may-end g.L.Layout g.D.Disk setup closed c.requires.setup c.in-Ok.ensures.served
     (c.deaths_bring_no_unit_back.ensures.filling setup.columns.items closed.columns.items died)
     (c.deaths_bring_no_unit_back.ensures.spread setup.columns.items closed.columns.items died)

@@ -1,0 +1,28 @@
+//! What becomes of a column that was rebuilt.
+ghost use Rattle.std.specs.Prelude.{◌≡◌, ◌<◌, length, slice_get, slice_set, Some};
+ghost use Rattle.top_serve.specs.Judged.{judged};
+
+use eng_array::Column;
+
+// The column as it is once it was judged.
+fn after(column: Column, whole: bool) -> Column
+    ensures { result ≡ judged whole (Some column) }
+{
+    if !whole {
+        return Column::Dead;
+    }
+    match column {
+        Column::Filling { device } => Column::Live { device },
+        column => column,
+    }
+}
+
+/// Judges a column that was rebuilt: one that isn't whole is dead, and one that was filled is live.
+pub(crate) fn judge(columns: &mut [Column], column: u32, whole: bool)
+    requires { column < length columns.old }
+    ensures { columns.new
+        ≡ slice_set columns.old column (judged whole (slice_get columns.old column)) }
+{
+    let was = columns[column as usize];
+    columns[column as usize] = after(was, whole);
+}
