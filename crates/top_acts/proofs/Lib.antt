@@ -5,6 +5,7 @@ pub mod Closes
 pub mod Columns
 pub mod Counted
 pub mod Ended
+pub mod Fails
 pub mod Fitting
 pub mod Having
 pub mod Later

@@ -3,6 +3,7 @@ pub mod Begun
 pub mod Checked
 pub mod Closed
 pub mod Done
+pub mod Failed
 pub mod Killed
 pub mod Labelled
 pub mod Renewed

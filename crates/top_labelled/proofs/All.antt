@@ -1,14 +1,16 @@
 -- All that is said of a run over an array with labels.
-use Rattle.std.proofs.Common.{◌≡◌, inl, inr, ℕ, ◌≤◌, List, Option, None, sym, subst, arith}
+use Rattle.std.proofs.Common.{◌≡◌, ◌⊎◌, inl, inr, ℕ, ◌≤◌, List, Bool, true, Option, None, sym, ◌∙◌, ap, subst, arith}
 use Rattle.std.specs.Prelude.{Vec}
 use Rattle.std.specs.declared.alloc.Global.{Global}
 use Rattle.blk_disk.specs.declared.disk.Disk.{Ghosts as DiskGhosts}
 use Rattle.blk_disk.specs.Devices.{size_of}
-use Rattle.lay_core.specs.Layout.{IsLayout}
+use Rattle.lay_core.specs.Layout.{IsLayout, Shape}
 use Rattle.lay_core.specs.declared.layout.Layout.{Ghosts as LayoutGhosts}
+use Rattle.eng_array.specs.declared.start.Start.{Start}
 use Rattle.eng_cols.specs.declared.column.Column.{Column}
+use Rattle.eng_cols.specs.Lost.{NotLost}
 use Rattle.eng_world.specs.World.{World}
-use Rattle.eng_events.specs.Opened.{IsSetup}
+use Rattle.eng_events.specs.Opened.{IsSetup, states_of}
 use Rattle.eng_parts.specs.declared.setup.Setup.{Setup}
 use Rattle.eng_parts.specs.declared.setup.Closed.{Closed}
 use Rattle.raid_label.specs.declared.label.Label.{Label}
@@ -18,45 +20,86 @@ use Rattle.top_serve.specs.Served as served
 use Rattle.top_serve.proofs.Deaths.{later}
 use Rattle.top_run.specs.Work.{Service, Work}
 use Rattle.top_run.specs.Works.{work_of}
+use Rattle.top_run.specs.Ends.{EndsSo}
 use Rattle.top_run.specs.Ran.{Runs}
-use Rattle.top_run.proofs.All.{runs, runs-now}
-use Rattle.top_labelled.specs.Begun.{Begins, opened_as}
+use Rattle.top_run.proofs.All.{runs, runs-kept, runs-now}
+use Rattle.top_labelled.specs.Begun.{Begins, began_of, opened_as, without}
 use Rattle.top_labelled.specs.Between.{HasEnded}
-use Rattle.top_labelled.specs.Ran.{Leaves, RanLabelled}
+use Rattle.top_labelled.specs.Given.{RebuildsIf}
+use Rattle.top_labelled.specs.Ran.{HasFailedSince, Leaves, RanLabelled, line_of}
 use Rattle.top_labelled.proofs.Holding.{holding}
 use Rattle.top_labelled.proofs.Labels.{relabelled}
-use Rattle.top_labelled.proofs.Leaving.{dies, ends-so, leaves, live-kept, since}
+use Rattle.top_labelled.proofs.Leaving.{dies, ends-so, leaves, since, stays}
+use Rattle.top_labelled.proofs.Without.{why-unbegun}
 
-module _ {L D : Type 0} (lay : LayoutGhosts L) (disk : DiskGhosts D) (old : Setup L D) (devices : Vec (Option D) Global) (columns : Vec Column Global) (closed : Closed L D) (newest first : Label) (layout : IsLayout (lay.shape old.layout))
-    (begins : Begins disk (work_of lay old) newest old.devices.items devices.items columns.items first None) (array : IsArray disk (lay.shape old.layout) old.columns.items old.devices.items)
-    (given : IsSetup lay disk (later old devices columns)) (few : IsFew (later old devices columns)) (s : served.IsServed lay disk (later old devices columns) closed) (v : Service) (back : List (Option D)) (e : HasEnded lay disk closed first v back) where
+module _ {L D : Type 0} (lay : LayoutGhosts L) (disk : DiskGhosts D) (old : Setup L D) (asked began : Option Start) (faulty : Bool) (devices : Vec (Option D) Global) (columns : Vec Column Global) (begun : List Column) (closed : Closed L D)
+    (newest first : Label) (layout : IsLayout (lay.shape old.layout)) (can : RebuildsIf lay disk old asked)
+    (begins : Begins disk (work_of lay old asked) newest old.devices.items devices.items begun first None) (named : columns.items ≡ without asked begun) (began_is : began ≡ began_of faulty asked old.columns.items begun)
+    (array : IsArray disk (lay.shape old.layout) old.columns.items old.devices.items) (kept : NotLost (lay.shape old.layout) (states_of (lay.shape old.layout) columns.items))
+    (given : IsSetup lay disk (later old devices columns)) (few : IsFew (later old devices columns)) (s : served.IsServed lay disk (later old devices columns) began closed) (v : Service) (back : List (Option D)) (e : HasEnded lay disk closed first asked v back) where
   abbrev a : Work
-  a = work_of lay old
+  a = work_of lay old asked
 
-  abbrev run : Runs disk (opened_as a columns.items) devices.items v back
-  run = runs lay disk (later old devices columns) closed given few s v back (ends-so lay disk closed first v back e)
+  abbrev y : Shape
+  y = lay.shape old.layout
 
-  now-is : run.now ≡ s.now
-  now-is = runs-now lay disk (later old devices columns) closed given few s v back (ends-so lay disk closed first v back e)
+  abbrev so : EndsSo lay closed disk v back
+  so = ends-so lay disk closed first asked v back e
+
+  -- a run over these columns, with its last world, and the columns as its core is closed
+  abbrev RunOver : List Column → Type 0
+  RunOver cs = (run : Runs disk (opened_as a cs began) devices.items v back) × (run.now ≡ s.now) × (run.ends.kept ≡ closed.columns.items)
+
+  abbrev by-columns : Runs disk (opened_as a columns.items began) devices.items v back
+  by-columns = runs lay disk (later old devices columns) began closed given few s v back so
+
+  run-over : RunOver (without asked begun)
+  run-over = subst RunOver named (by-columns, runs-now lay disk (later old devices columns) began closed given few s v back so, runs-kept lay disk (later old devices columns) began closed given few s v back so)
+
+  abbrev run : Runs disk (opened_as a (without asked begun) began) devices.items v back
+  run = run-over.0
 
   -- the run changes no first sector
-  away : (d : ℕ) → 1 ≤ size_of disk devices.items d → served.MayChange lay disk (later old devices columns) closed d 0 → ⊥
+  away : (d : ℕ) → 1 ≤ size_of disk devices.items d → served.MayChange lay disk (later old devices columns) began closed d 0 → ⊥
   away d sized (inl rows) = let from = rows.1.0 in omega (arith, from)
   away d sized (inr past) = omega (arith, sized, past)
 
-  pub ran : RanLabelled disk a newest old.devices.items v back
+  kept-so : NotLost y (states_of y (without asked begun))
+  kept-so = subst (λ (cs : List Column). NotLost y (states_of y cs)) named kept
+
+  -- where no rebuild begins that was asked, its device had failed
+  unbegun : began ≡ None → (asked ≡ None) ⊎ ((faulty ≡ true) ⊎ HasFailedSince disk a newest old.devices.items v back devices.items)
+  unbegun none = elim (why-unbegun disk old.devices.items devices.items faulty asked old.columns.items begun begins.has.named.dies (sym began_is ∙ none)) [
+    | inl h ↦ inl h
+    | inr h ↦ inr (elim h [
+      | inl f ↦ inl f
+      | inr w ↦ inr (record { col = w.0; device = w.1; asked = w.2; had = w.3; rose = w.4 })
+    ])
+  ]
+
+  line-is : v.line ≡ line_of y asked run.ends.kept
+  line-is = e.line ∙ (ap (λ z. line_of (lay.shape z) asked closed.columns.items) s.tells.layout ∙ ap (λ (cs : List Column). line_of y asked cs) (sym run-over.2))
+
+  pub ran : RanLabelled disk a newest old.devices.items v back faulty
   ran = record {
     opened = devices.items;
-    columns = columns.items;
+    begun = begun;
     first = first;
     last = e.last;
+    began = began;
     begins = begins;
+    kept = kept-so;
+    began_is = began_is;
+    unbegun = unbegun;
     run = run;
-    holds = holding disk a layout newest old.devices.items devices.items columns.items first begins array run.start run.opens;
-    leaves = subst (λ (w : World). Leaves disk a newest old.devices.items v back w) (sym now-is) (leaves lay disk old devices columns closed newest first layout begins given s v back e);
-    since = since lay disk old devices columns closed newest first layout begins given s v back e;
+    line = line-is;
+    holds = holding disk a layout newest old.devices.items devices.items begun first began begins array kept-so run.start run.opens;
+    leaves =
+        subst (λ (w : World). Leaves disk a newest old.devices.items v back began w) (sym run-over.1)
+        (leaves lay disk old asked began faulty devices columns begun closed newest first layout can begins named began_is given s v back e);
+    since = since lay disk old asked began faulty devices columns begun closed newest first layout can begins named began_is given s v back e;
     labels =
-        relabelled disk a newest old.devices.items devices.items closed.devices.items back columns.items closed.columns.items first e.last v (served.MayChange lay disk (later old devices columns) closed) begins
-        s.leaves.frame away (live-kept lay disk old devices columns closed newest first layout begins given s v back e) e.closes;
-    dies = dies lay disk old devices columns closed newest first layout begins given s v back e run;
+        relabelled disk a newest old.devices.items devices.items closed.devices.items back begun closed.columns.items first e.last v (served.MayChange lay disk (later old devices columns) began closed) begins
+        s.leaves.frame away (stays lay disk old asked began faulty devices columns begun closed newest first layout can begins named began_is given s v back e) e.closes;
+    dies = dies lay disk old asked began faulty devices columns begun closed newest first layout can begins named began_is given s v back e run run-over.2;
   }

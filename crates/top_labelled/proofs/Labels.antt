@@ -38,7 +38,7 @@ same-device o d e one two = let z : Some (column.Live d) ≡ Some (column.Live e
 module _ {D : Type 0} (g : Ghosts D) (a : Work) (newest : Label) (taken opened served back : List (Option D)) (columns kept : List Column) (first last : Label) (s : Service) (may : ℕ → ℕ → Type 0)
     (begins : Begins g a newest taken opened columns first None)
     (run : Changes g may opened served) (away : (d : ℕ) → 1 ≤ size_of g opened d → may d 0 → ⊥)
-    (stays : (c d : ℕ) → IsLiveOn kept c d → IsLiveOn columns c d)
+    (stays : (c d : ℕ) → IsLiveOn kept c d → IsInUse a.columns d → (k : ℕ) × IsLiveOn columns k d)
     (closes : IsClosed g (closing_label first) last kept s.ending.columns served back s.ending.lost) where
   abbrev Begun : ℕ → ℕ → Type 0
   Begun = MayBegin g (sweep_in newest) a.layout a.columns taken
@@ -65,8 +65,10 @@ module _ {D : Type 0} (g : Ghosts D) (a : Work) (newest : Label) (taken opened s
   across : (i j : ℕ) (z : ℕ) → i < length early → j < length late → get_or early i z ≢ get_or late j z
   across i j z il jl same =
       let gone = All-get_or (λ (d : ℕ). (c : ℕ) → IsLiveOn columns c d → ⊥) early i z il begins.has.named.gone in
+      let was = All-get_or (IsInUse a.columns) early i z il begins.has.named.had in
       let had = All-get_or (IsInUse kept) late j z jl closes.counted.had in
-      gone had.col (subst (λ (d : ℕ). IsLiveOn columns had.col d) (sym same) (stays had.col (get_or late j z) had.live))
+      let live = stays had.col (get_or late j z) had.live (subst (λ (d : ℕ). IsInUse a.columns d) same was) in
+      gone live.0 (subst (λ (d : ℕ). IsLiveOn columns live.0 d) (sym same) live.1)
 
   failed : HaveFailed g taken back (early ++ late)
   failed = record {

@@ -1,6 +1,10 @@
 pub mod Blocks
 pub mod Unmade
 pub mod Lists
+pub mod Without
+pub mod Opened
+pub mod Restart
+pub mod Rebuilt
 pub mod Arrays
 pub mod Holding
 pub mod Labels

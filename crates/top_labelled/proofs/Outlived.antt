@@ -1,12 +1,12 @@
 -- Laws of runs over an array with labels.
-use Rattle.std.proofs.Common.{◌≡◌, inl, inr, ℕ, ◌<◌, ◌≤◌, List, min, Option, Some, None, sym, subst, arith}
+use Rattle.std.proofs.Common.{◌≡◌, ◌⊎◌, inl, inr, ℕ, ◌<◌, ◌≤◌, List, Bool, min, Option, None, sym, ◌∙◌, ap, subst, arith}
 use Rattle.blk_disk.specs.declared.disk.Disk.{Ghosts}
 use Rattle.blk_disk.specs.Devices.{RisesOn}
 use Rattle.blk_disk.proofs.DeviceLaws.{changes-refl, rises-wider}
 use Rattle.lay_core.specs.Layout.{blocks_in}
 use Rattle.eng_cols.specs.declared.column.Column.{Column}
-use Rattle.eng_cols.specs.declared.spot.Loss.{Loss}
-use Rattle.eng_cols.specs.Lost.{NotLost}
+use Rattle.eng_array.specs.declared.start.Start.{Start}
+use Rattle.eng_cols.specs.Deaths.{Dies}
 use Rattle.eng_cols.proofs.DeathLaws.{dies-more, dies-then}
 use Rattle.eng_cols.proofs.Losing.{lost-excludes}
 use Rattle.eng_events.specs.Opened.{states_of}
@@ -15,61 +15,75 @@ use Rattle.raid_script.specs.Drawn.{AreApart, drawn, share}
 use Rattle.raid_script.specs.Asked.{Asked}
 use Rattle.raid_script.proofs.DrawnShares.{drawn_apart}
 use Rattle.top_acts.specs.Begun.{MayBegin}
-use Rattle.top_close.specs.Ended.{IsLossOf}
 use Rattle.top_close.proofs.DyingLaws.{columns_die}
 use Rattle.top_rounds.specs.Passes.{LosesDevice}
 use Rattle.top_run.specs.Work.{Ending, Service, Work}
-use Rattle.top_run.specs.Outliving.{MayDie, Outlives}
+use Rattle.top_run.specs.Outliving.{IsRebuilt, MayDie, Outlives}
 use Rattle.top_run.specs.InTurn.{SweptInTurn}
 use Rattle.top_run.proofs.Columns.{live-set}
 use Rattle.top_run.proofs.InTurn.{runs-in-turn}
 use Rattle.top_run.proofs.Outlived.{runs-outlived}
-use Rattle.top_labelled.specs.Begun.{opened_as, sweep_in}
+use Rattle.top_labelled.specs.Begun.{began_of, opened_as, sweep_in, without}
 use Rattle.top_labelled.specs.Ran.{IsLostBefore, MayChange, RanLabelled}
 use Rattle.top_labelled.proofs.Leaving.{had-before}
-
--- a loss excludes that nothing is lost
-loss-excludes : (a : Work) (columns : List Column) (lost : Option Loss) (loss : Loss) → lost ≡ Some loss → IsLossOf a.layout None (states_of a.layout columns) lost → NotLost a.layout (states_of a.layout columns) → ⊥
-loss-excludes a columns lost loss is h kept = lost-excludes a.layout (states_of a.layout columns) loss (subst (λ (o : Option Loss). IsLossOf a.layout None (states_of a.layout columns) o) is h) kept
+use Rattle.top_labelled.proofs.Without.{IsOf, began-asked, began-none, without-dies}
 
 module _ {D : Type 0} (g : Ghosts D) (a : Work) (newest : Label) (taken : List (Option D)) where
   -- what loses a device as the array is begun may die
   begun-may : (opened back : List (Option D)) → ((d : ℕ) → RisesOn g taken opened d → RisesOn g taken back d) → (c : ℕ) → LosesDevice g a.columns taken opened c → MayDie g a taken back c
-  begun-may opened back wider c why = inr (why.device, inl (live-set a.layout.stripes a.columns c why.device why.had), wider why.device why.rose)
+  begun-may opened back wider c why = inr (inr (why.device, inl (live-set a.layout.stripes a.columns c why.device why.had), wider why.device why.rose))
+
+  -- so may the column that is to be rebuilt
+  lost-may : (back : List (Option D)) (c : ℕ) → IsRebuilt a c ⊎ LosesDevice g a.columns taken back c → MayDie g a taken back c
+  lost-may back c (inl of) = inr (inl of)
+  lost-may back c (inr why) = begun-may back back (λ d rose. rose) c why
 
   pub not-begun-lost : (e : Ending) (back : List (Option D)) → IsLostBefore g a newest taken e back → Outlives g a taken back → ⊥
   not-begun-lost e back h outlives =
-      loss-excludes a e.columns e.lost h.loss h.lost h.begins.lost_is
-      (outlives e.columns (dies-more (LosesDevice g a.columns taken back) (MayDie g a taken back) a.columns e.columns (begun-may back back (λ d rose. rose)) h.begins.has.named.dies))
+      lost-excludes a.layout (states_of a.layout e.columns) h.loss h.lost_is
+      (outlives e.columns (dies-more (λ c. IsRebuilt a c ⊎ LosesDevice g a.columns taken back c) (MayDie g a taken back) a.columns e.columns (lost-may back) h.dies))
 
-  module _ (s : Service) (back : List (Option D)) (r : RanLabelled g a newest taken s back) where
+  module _ (s : Service) (back : List (Option D)) (faulty : Bool) (r : RanLabelled g a newest taken s back faulty) where
     abbrev Begun : ℕ → ℕ → Type 0
     Begun = MayBegin g (sweep_in newest) a.layout a.columns taken
 
-    pub in-turn : (count ops wide blocks : ℕ) → AreApart count ops wide blocks a.clients → blocks ≤ blocks_in a.layout → s.ending.lost ≡ None → SweptInTurn g (opened_as a r.columns) r.opened s back r.run.start.blocks
-    in-turn = runs-in-turn g (opened_as a r.columns) r.opened back s r.run
+    abbrev mid : List Column
+    mid = without a.start r.begun
 
-    pub by-seed : (seed clients ops : ℕ) → 0 < clients → 0 < blocks_in a.layout → a.clients ≡ drawn seed clients ops (blocks_in a.layout) → s.ending.lost ≡ None → SweptInTurn g (opened_as a r.columns) r.opened s back r.run.start.blocks
-    by-seed seed clients ops some any are none =
+    -- none begins where none was asked
+    alone : a.start ≡ None → r.began ≡ None
+    alone none = r.began_is ∙ (ap (λ (o : Option Start). began_of faulty o a.columns r.begun) none ∙ began-none faulty a.columns r.begun)
+
+    pub in-turn : (count ops wide blocks : ℕ) → a.start ≡ None → AreApart count ops wide blocks a.clients → blocks ≤ blocks_in a.layout → s.ending.lost ≡ None → SweptInTurn g (opened_as a mid r.began) r.opened s back r.run.start.blocks
+    in-turn count ops wide blocks unasked = runs-in-turn g (opened_as a mid r.began) r.opened back s r.run (alone unasked) count ops wide blocks
+
+    pub by-seed : (seed clients ops : ℕ) → a.start ≡ None → 0 < clients → 0 < blocks_in a.layout → a.clients ≡ drawn seed clients ops (blocks_in a.layout) → s.ending.lost ≡ None → SweptInTurn g (opened_as a mid r.began) r.opened s back r.run.start.blocks
+    by-seed seed clients ops unasked some any are none =
         let n = blocks_in a.layout in
         let given = drawn_apart seed clients ops n some any in
-        in-turn (min clients n) ops (share clients n) n (subst (λ (rows : List (List Asked)). AreApart (min clients n) ops (share clients n) n rows) (sym are) given) (let z : n ≤ n = omega arith in z) none
+        in-turn (min clients n) ops (share clients n) n unasked (subst (λ (rows : List (List Asked)). AreApart (min clients n) ops (share clients n) n rows) (sym are) given) (let z : n ≤ n = omega arith in z) none
 
     -- a count that rose as the array was begun has risen in all, since that of a device never falls
     wider : (d : ℕ) → RisesOn g taken r.opened d → RisesOn g taken back d
-    wider d rose = rises-wider g (λ _ _. ⊥) (MayChange g a newest taken s back) taken taken r.opened back d (changes-refl g (λ _ _. ⊥) taken) rose r.since
+    wider d rose = rises-wider g (λ _ _. ⊥) (MayChange g a newest taken s back r.began) taken taken r.opened back d (changes-refl g (λ _ _. ⊥) taken) rose r.since
+
+    named : Dies (IsOf a.start) r.begun mid
+    named = without-dies a.start r.begun
+
+    first : Dies (MayDie g a taken back) a.columns mid
+    first =
+        dies-then (MayDie g a taken back) a.columns r.begun mid (dies-more (LosesDevice g a.columns taken r.opened) (MayDie g a taken back) a.columns r.begun (begun-may r.opened back wider) r.begins.has.named.dies)
+        (dies-more (IsOf a.start) (MayDie g a taken back) r.begun mid (λ c of. inr (inl of)) named)
 
     pub outlived : Outlives g a taken back → s.ending.lost ≡ None
-    outlived outlives = runs-outlived g (opened_as a r.columns) r.opened back s r.run (λ cols dies.
-        outlives cols
-        (dies-then (MayDie g a taken back) a.columns r.columns cols
-        (dies-more (LosesDevice g a.columns taken r.opened) (MayDie g a taken back) a.columns r.columns (begun-may r.opened back wider) r.begins.has.named.dies)
-        (dies-more (MayDie g (opened_as a r.columns) r.opened back) (MayDie g a taken back) r.columns cols by dies)))
+    outlived outlives = runs-outlived g (opened_as a mid r.began) r.opened back s r.run
+        (λ cols dies. outlives cols (dies-then (MayDie g a taken back) a.columns mid cols first (dies-more (MayDie g (opened_as a mid r.began) r.opened back) (MayDie g a taken back) mid cols by dies)))
       where
-        by : (c : ℕ) → MayDie g (opened_as a r.columns) r.opened back c → MayDie g a taken back c
+        by : (c : ℕ) → MayDie g (opened_as a mid r.began) r.opened back c → MayDie g a taken back c
         by c (inl fails) = inl (record { row = fails.row; client = fails.client; fails = fails.fails })
-        by c (inr rose) = inr (
+        by c (inr (inl of)) = inr (inl (of.0, began-asked faulty a.start a.columns r.begun of.0 (sym r.began_is ∙ of.1), of.2))
+        by c (inr (inr rose)) = inr (inr (
           rose.0,
-          had-before (states_of a.layout a.columns) (states_of a.layout r.columns) (columns_die (LosesDevice g a.columns taken r.opened) a.layout a.columns r.columns r.begins.has.named.dies) c rose.0 rose.1,
+          had-before (states_of a.layout a.columns) (states_of a.layout mid) (columns_die (MayDie g a taken back) a.layout a.columns mid first) c rose.0 rose.1,
           rises-wider g Begun (λ _ _. ⊥) taken r.opened back back rose.0 r.begins.has.frame rose.2 (changes-refl g (λ _ _. ⊥) back),
-        )
+        ))

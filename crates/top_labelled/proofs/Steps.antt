@@ -1,11 +1,14 @@
 -- What is asked of an array at each step of a run over it, and what comes of the steps.
-use Rattle.std.proofs.Common.{◌≡◌, ℕ, ◌≤◌, List, length, true, false, Option, Some, None, refl, sym, ◌∙◌, ap, subst, arith}
+use Rattle.std.proofs.Common.{◌≡◌, ◌⊎◌, inl, inr, ◌≤◌, List, length, true, false, Option, Some, None, refl, sym, ◌∙◌, ap, subst, arith}
 use Rattle.std.specs.Prelude.{Vec, count_by, is_some}
 use Rattle.std.specs.declared.alloc.Global.{Global}
 use Rattle.blk_disk.specs.declared.disk.Disk.{Ghosts as DiskGhosts}
+use Rattle.blk_disk.specs.Devices.{Changes}
 use Rattle.lay_core.specs.Layout.{IsLayout, Shape}
 use Rattle.lay_core.specs.declared.layout.Layout.{Ghosts as LayoutGhosts}
 use Rattle.eng_cols.specs.declared.spot.Loss.{Loss}
+use Rattle.eng_cols.specs.Deaths.{Dies}
+use Rattle.eng_cols.proofs.DeathLaws.{dies-more}
 use Rattle.eng_cols.specs.Cols.{IsFor, is_set_filling, is_set_spread}
 use Rattle.eng_parts.specs.declared.core_room.CoreRoom.{CoreRoom}
 use Rattle.eng_parts.specs.declared.setup.Setup.{Setup}
@@ -13,29 +16,38 @@ use Rattle.eng_parts.specs.declared.setup.Closed.{Closed}
 use Rattle.raid_label.specs.declared.label.Label.{Label}
 use Rattle.raid_label.specs.Bytes.{IsHeld}
 use Rattle.raid_script.specs.Replies.{StandFor}
-use Rattle.top_acts.specs.Begun.{CanAct, HasBegun}
+use Rattle.top_acts.specs.Begun.{CanAct, MayBegin}
 use Rattle.top_acts.specs.Closed.{IsClosed}
+use Rattle.top_acts.specs.Failed.{StaysBegun}
+use Rattle.top_close.specs.Dying.{AnyCause}
 use Rattle.top_close.specs.Ended.{states_of, IsLossOf}
+use Rattle.top_rounds.specs.Passes.{LosesDevice}
 use Rattle.top_rounds.proofs.RoundLaws.{can-after}
 use Rattle.eng_array.specs.Fitting.{FitsTrace}
+use Rattle.eng_array.specs.declared.start.Start.{Start}
 use Rattle.eng_events.specs.Opened.{IsSetup}
-use Rattle.top_serve.specs.Setups.{IsFew, IsNotLost, IsRoomOf, shape_in}
+use Rattle.top_serve.specs.Setups.{IsFew, IsNotLost, IsRoomOf, MayStart, shape_in, with_rebuilt}
 use Rattle.top_serve.specs.Served as served
 use Rattle.top_serve.proofs.Deaths.{later, few-later, room-later, setup-later, trace-later}
 use Rattle.top_run.specs.Work.{Service}
 use Rattle.top_run.specs.Works.{service_of, work_of}
 use Rattle.top_run.proofs.All.{runs-stand}
+use Rattle.top_run.proofs.Columns.{any-cause}
 use Rattle.top_labelled.specs.declared.labelled.Labelled.{Labelled}
 use Rattle.top_labelled.specs.declared.labelled.Outcome.{Outcome}
 use Rattle.top_labelled.specs.declared.labelled.Outcome.TheVariants as outcome
 use Rattle.top_labelled.specs.declared.beginning.Started.{Started}
-use Rattle.top_labelled.specs.Begun.{Begins, sweep_in}
-use Rattle.top_labelled.specs.Between.{CanServe, HasEnded, HasServed, IsBegun, IsLeft, MayClose, closing_label}
+use Rattle.top_labelled.specs.Begun.{Begins, IsSeatedIf, IsWithin, sweep_in, without}
+use Rattle.top_labelled.specs.Between.{CanServe, HasEnded, HasOpened, HasServed, IsBegun, IsLeft, MayClose, closing_label}
 use Rattle.top_labelled.specs.Given.{CameTo, CanRun}
-use Rattle.top_labelled.specs.Ran.{RanLabelled}
+use Rattle.top_labelled.specs.Ran.{RanLabelled, line_of}
 use Rattle.top_labelled.proofs.Arrays.{array-of, settable-of}
 use Rattle.top_labelled.proofs.All.{ran}
 use Rattle.top_labelled.proofs.Leaving.{ends-so, frame}
+use Rattle.top_labelled.proofs.Opened.{fails-kept, lost-before, opened-any, opened-moved}
+use Rattle.top_labelled.proofs.Rebuilt.{filling-rebuilt, labels-rebuilt, length-rebuilt, spread-rebuilt}
+use Rattle.top_labelled.proofs.Restart.{rebuilds-seated, rebuilds-within, start-later}
+use Rattle.top_labelled.proofs.Without.{began-is}
 
 pub none-from : (o : Option Loss) → is_some o ≡ false → o ≡ None
 none-from None h = refl
@@ -48,26 +60,24 @@ module _ {L D : Type 0} (lay : LayoutGhosts L) (disk : DiskGhosts D) where
   can-act l can lent is = subst (λ (ds : List (Option D)). CanAct disk (shape_in lay l.setup) l.setup.columns.items ds) (sym is)
       (record { array = array-of lay disk l.setup can.setup; labels = can.array; settable = settable-of lay disk l.setup can.setup })
 
-  -- what begin_labelled says, with the devices in their vector
-  pub begun-so : (l : Labelled L D) (b : Started L D) (lent new : List (Option D)) (found : ℕ) → lent ≡ l.setup.devices.items → b.setup.devices.items ≡ new
-      → b.setup ≡ record l.setup { devices = b.setup.devices; columns = b.setup.columns }
-      → HasBegun disk (sweep_in l.label) (shape_in lay l.setup) l.label b.label l.setup.columns.items b.setup.columns.items lent new b.lost found
-      → IsLossOf (shape_in lay l.setup) None (states_of (shape_in lay l.setup) b.setup.columns.items) b.lost
+  -- what is said of the opening, with the devices in their vector
+  pub begun-so : (l : Labelled L D) (b : Started L D) (lent new : List (Option D)) → lent ≡ l.setup.devices.items → b.setup.devices.items ≡ new
+      → b.setup ≡ record l.setup { devices = b.setup.devices; columns = b.setup.columns } → b.asked ≡ l.start
+      → HasOpened disk (shape_in lay l.setup) l.start l.failed l.label b.label l.setup.columns.items b.setup.columns.items lent new b.lost b.began
       → CanAct disk (shape_in lay l.setup) b.setup.columns.items new → IsHeld b.label → IsFor (shape_in lay l.setup) b.judge
       → IsLayout (shape_in lay l.setup) → IsBegun lay disk l b
-  begun-so l b lent new found was is setup has lost can held judge layout =
+  begun-so l b lent new was is setup asked has can held judge layout =
       let y : Shape = shape_in lay l.setup in
-      let one : HasBegun disk (sweep_in l.label) y l.label b.label l.setup.columns.items b.setup.columns.items l.setup.devices.items new b.lost found =
-      subst (λ (ds : List (Option D)). HasBegun disk (sweep_in l.label) y l.label b.label l.setup.columns.items b.setup.columns.items ds new b.lost found) was has in
-      let two : HasBegun disk (sweep_in l.label) y l.label b.label l.setup.columns.items b.setup.columns.items l.setup.devices.items b.setup.devices.items b.lost found =
-      subst (λ (ds : List (Option D)). HasBegun disk (sweep_in l.label) y l.label b.label l.setup.columns.items b.setup.columns.items l.setup.devices.items ds b.lost found) (sym is) one in
+      let one : HasOpened disk y l.start l.failed l.label b.label l.setup.columns.items b.setup.columns.items l.setup.devices.items new b.lost b.began =
+      subst (λ (ds : List (Option D)). HasOpened disk y l.start l.failed l.label b.label l.setup.columns.items b.setup.columns.items ds new b.lost b.began) was has in
       record {
         setup = setup;
-        begins = record { found = found; has = two; lost_is = lost };
+        opens = subst (λ (ds : List (Option D)). HasOpened disk y l.start l.failed l.label b.label l.setup.columns.items b.setup.columns.items l.setup.devices.items ds b.lost b.began) (sym is) one;
         can = subst (λ (ds : List (Option D)). CanAct disk y b.setup.columns.items ds) (sym is) can;
         held = held;
         judge = judge;
         layout = layout;
+        asked = asked;
       }
 
   -- ## Between the beginning and the run
@@ -76,26 +86,93 @@ module _ {L D : Type 0} (lay : LayoutGhosts L) (disk : DiskGhosts D) where
     abbrev next : Setup L D
     next = later l.setup b.setup.devices b.setup.columns
 
-    pub can-serve : (room : CoreRoom D) → IsRoomOf lay l.setup room → b.lost ≡ None → CanServe lay disk b room
-    can-serve room is none =
-        let has = begun.begins.has in
-        let bound = has.bounded in
-        let few = can.counter in
-        let back = sym begun.setup in
-        let dies = has.named.dies in
-        let moved = has.frame in
-        record {
-          setup = subst (λ (st : Setup L D). IsSetup lay disk st) back (setup-later lay disk l.setup b.setup.devices b.setup.columns _ _ dies moved can.setup);
-          fits = subst (λ (st : Setup L D). IsRoomOf lay st room) back (room-later lay disk l.setup b.setup.devices b.setup.columns _ _ dies moved room is);
-          trace = subst (λ (st : Setup L D). FitsTrace lay st) back (trace-later lay disk l.setup b.setup.devices b.setup.columns _ _ dies moved can.trace);
-          kept = subst (λ (st : Setup L D). IsNotLost lay st) back (subst (λ (o : Option Loss). IsLossOf (shape_in lay l.setup) None (states_of (shape_in lay l.setup) b.setup.columns.items) o) none begun.begins.lost_is);
-          array = begun.can.labels;
-          held = begun.held;
-          counter = omega (arith, bound, few);
-          judge = subst (λ (st : Setup L D). IsFor (shape_in lay st) b.judge) back begun.judge;
-        }
+    abbrev y : Shape
+    y = shape_in lay l.setup
 
-    -- ## What came of it
+    abbrev opens : HasOpened disk y l.start l.failed l.label b.label l.setup.columns.items b.setup.columns.items l.setup.devices.items b.setup.devices.items b.lost b.began
+    opens = begun.opens
+
+    within : IsWithin l.start (length l.setup.columns.items)
+    within = rebuilds-within lay disk l.setup l.start can.rebuilds
+
+    moved : Changes disk (MayBegin disk (sweep_in l.label) y l.setup.columns.items l.setup.devices.items) l.setup.devices.items b.setup.devices.items
+    moved = opened-moved disk y l.start l.failed l.label b.label l.setup.columns.items b.setup.columns.items l.setup.devices.items b.setup.devices.items b.lost b.began within opens
+
+    died : Dies AnyCause l.setup.columns.items b.setup.columns.items
+    died = opened-any disk y l.start l.failed l.label b.label l.setup.columns.items b.setup.columns.items l.setup.devices.items b.setup.devices.items b.lost b.began within opens
+
+    -- what begins is what was asked, or nothing
+    begins-or : (b.began ≡ None) ⊎ (b.began ≡ l.start)
+    begins-or = elim (began-is l.failed l.start l.setup.columns.items opens.begun) [
+      | inl none ↦ inl (opens.began_is ∙ none)
+      | inr same ↦ inr (opens.began_is ∙ same.0)
+    ]
+
+    given : IsSetup lay disk next
+    given = setup-later lay disk l.setup b.setup.devices b.setup.columns AnyCause _ died moved can.setup
+
+    few : IsFew next
+    few = few-later lay disk l.setup b.setup.devices b.setup.columns AnyCause _ died moved can.few
+
+    -- ### It isn't lost
+
+    module _ (none : b.lost ≡ None) where
+      not-lost : IsNotLost lay next
+      not-lost = subst (λ (o : Option Loss). IsLossOf y None (states_of y b.setup.columns.items) o) none opens.lost_is
+
+      quiet : (opens.before ≡ None) × StaysBegun disk opens.first b.label (without l.start opens.begun) b.setup.columns.items opens.opened b.setup.devices.items
+      quiet = fails-kept disk opens.first b.label (without l.start opens.begun) b.setup.columns.items opens.opened b.setup.devices.items opens.before b.lost none opens.fails
+
+      begun-any : Dies AnyCause l.setup.columns.items opens.begun
+      begun-any = dies-more (LosesDevice disk l.setup.columns.items l.setup.devices.items opens.opened) AnyCause l.setup.columns.items opens.begun (λ c why. tt) opens.has.named.dies
+
+      may-start : MayStart lay disk next b.began
+      may-start = start-later lay disk l.setup b.setup.devices b.setup.columns opens.begun begun-any _ moved l.start b.began can.rebuilds quiet.1.columns_are begins-or
+
+      pub can-serve : (room : CoreRoom D) → IsRoomOf lay l.setup room → CanServe lay disk b room
+      can-serve room is =
+          let bound = opens.has.bounded in
+          let same : b.label.counter ≡ opens.first.counter = ap (λ (l : Label). l.counter) quiet.1.label_is in
+          let few = can.counter in
+          let back = sym begun.setup in
+          record {
+            setup = subst (λ (st : Setup L D). IsSetup lay disk st) back given;
+            fits = subst (λ (st : Setup L D). IsRoomOf lay st room) back (room-later lay disk l.setup b.setup.devices b.setup.columns AnyCause _ died moved room is);
+            trace = subst (λ (st : Setup L D). FitsTrace lay st) back (trace-later lay disk l.setup b.setup.devices b.setup.columns AnyCause _ died moved can.trace);
+            kept = subst (λ (st : Setup L D). IsNotLost lay st) back not-lost;
+            array = begun.can.labels;
+            held = begun.held;
+            counter = omega (arith, bound, same, few);
+            judge = subst (λ (st : Setup L D). IsFor (shape_in lay st) b.judge) back begun.judge;
+            start = subst (λ (st : Setup L D). MayStart lay disk st b.began) back may-start;
+            seated = subst (λ n. IsSeatedIf n b.began) (sym died.count) (rebuilds-seated lay disk l.setup l.start b.began can.rebuilds begins-or);
+            within = subst (λ (o : Option Start). IsWithin o (length b.setup.columns.items)) (sym begun.asked) (subst (λ n. IsWithin l.start n) (sym died.count) within);
+          }
+
+      -- ### It was served
+
+      module _ (v : Service) (back : List (Option D)) (has : HasServed lay disk b v back) where
+        abbrev run : served.IsServed lay disk next b.began has.closed
+        run = subst (λ (st : Setup L D). served.IsServed lay disk st b.began has.closed) begun.setup has.served
+
+        abbrev ended : HasEnded lay disk has.closed opens.first l.start v back
+        ended = subst (λ (n : Label). HasEnded lay disk has.closed n l.start v back) quiet.1.label_is (subst (λ (o : Option Start). HasEnded lay disk has.closed b.label o v back) begun.asked has.ended)
+
+        abbrev first : Begins disk (work_of lay l.setup l.start) l.label l.setup.devices.items b.setup.devices.items opens.begun opens.first None
+        first = subst (λ (ds : List (Option D)). Begins disk (work_of lay l.setup l.start) l.label l.setup.devices.items ds opens.begun opens.first None) (sym quiet.1.devices_are)
+            (subst (λ (o : Option Loss). Begins disk (work_of lay l.setup l.start) l.label l.setup.devices.items opens.opened opens.begun opens.first o) quiet.0 (record { found = opens.found; has = opens.has; lost_is = opens.was_lost }))
+
+        pub came-to-run : RanLabelled disk (work_of lay l.setup l.start) l.label l.setup.devices.items v back l.failed
+        came-to-run =
+            ran lay disk l.setup l.start b.began l.failed b.setup.devices b.setup.columns opens.begun has.closed l.label opens.first begun.layout can.rebuilds first quiet.1.columns_are opens.began_is (array-of lay disk l.setup can.setup) not-lost given few run v back ended
+
+        pub run-stands : StandFor v.clients v.replies v.sectors
+        run-stands = runs-stand lay disk next b.began has.closed given few run v back (ends-so lay disk has.closed opens.first l.start v back ended)
+
+        pub as-many : length back ≡ length l.setup.devices.items
+        as-many = (frame lay disk l.setup l.start b.began l.failed b.setup.devices b.setup.columns opens.begun has.closed l.label opens.first begun.layout can.rebuilds first quiet.1.columns_are opens.began_is given run v back ended).count
+
+    -- ### It is lost
 
     pub came-to-loss : (o : Outcome) (devices : Vec (Option D) Global) → is_some b.lost ≡ true → IsLeft b o devices → CameTo lay disk l o devices.items
     came-to-loss (outcome.Ran service) devices some left = absurd left
@@ -106,58 +183,44 @@ module _ {L D : Type 0} (lay : LayoutGhosts L) (disk : DiskGhosts D) where
         by (Some loss) is =
             subst (λ (ds : Vec (Option D) Global). CameTo lay disk l (outcome.Lost ending) ds.items) (sym left.1)
             (subst (λ e. CameTo lay disk l (outcome.Lost e) b.setup.devices.items) (sym left.0)
-            (record { loss = loss; lost = is; last = b.label; begins = begun.begins }))
+            (lost-before disk (work_of lay l.setup l.start) l.label b.label l.failed l.setup.devices.items b.setup.devices.items b.setup.columns.items b.lost b.began within opens loss is))
 
     pub left-many : (o : Outcome) (devices : Vec (Option D) Global) → IsLeft b o devices → length devices.items ≡ length l.setup.devices.items
     left-many (outcome.Ran service) devices left = absurd left
-    left-many (outcome.Lost ending) devices left = ap (λ (ds : Vec (Option D) Global). length ds.items) left.1 ∙ begun.begins.has.frame.count
-
-    module _ (none : b.lost ≡ None) (v : Service) (back : List (Option D)) (has : HasServed lay disk b.setup b.label v back) where
-      abbrev moved : HasServed lay disk next b.label v back
-      moved = subst (λ (st : Setup L D). HasServed lay disk st b.label v back) begun.setup has
-
-      abbrev first : Begins disk (work_of lay l.setup) l.label l.setup.devices.items b.setup.devices.items b.setup.columns.items b.label None
-      first = subst (λ (o : Option Loss). Begins disk (work_of lay l.setup) l.label l.setup.devices.items b.setup.devices.items b.setup.columns.items b.label o) none begun.begins
-
-      given : IsSetup lay disk next
-      given = setup-later lay disk l.setup b.setup.devices b.setup.columns _ _ begun.begins.has.named.dies begun.begins.has.frame can.setup
-
-      few : IsFew next
-      few = few-later lay disk l.setup b.setup.devices b.setup.columns _ _ begun.begins.has.named.dies begun.begins.has.frame can.few
-
-      pub came-to-run : RanLabelled disk (work_of lay l.setup) l.label l.setup.devices.items v back
-      came-to-run =
-          ran lay disk l.setup b.setup.devices b.setup.columns moved.closed l.label b.label begun.layout first (array-of lay disk l.setup can.setup) given few moved.served v back moved.ended
-
-      pub run-stands : StandFor v.clients v.replies v.sectors
-      run-stands = runs-stand lay disk next moved.closed given few moved.served v back (ends-so lay disk moved.closed b.label v back moved.ended)
-
-      pub as-many : length back ≡ length l.setup.devices.items
-      as-many = (frame lay disk l.setup b.setup.devices b.setup.columns moved.closed l.label b.label begun.layout first given moved.served v back moved.ended).count
+    left-many (outcome.Lost ending) devices left = ap (λ (ds : Vec (Option D) Global). length ds.items) left.1 ∙ moved.count
 
   -- ## The end
 
-  pub may-close : (b : Started L D) (room : CoreRoom D) (closed : Closed L D) → CanServe lay disk b room → served.IsServed lay disk b.setup closed
-      → count_by is_set_filling closed.columns.items ≤ count_by is_set_filling b.setup.columns.items → count_by is_set_spread closed.columns.items ≤ count_by is_set_spread b.setup.columns.items
+  pub may-close : (b : Started L D) (room : CoreRoom D) (closed : Closed L D) → CanServe lay disk b room → served.IsServed lay disk b.setup b.began closed
+      → (Dies AnyCause (with_rebuilt b.began b.setup.columns.items) closed.columns.items → (count_by is_set_filling closed.columns.items ≤ count_by is_set_filling (with_rebuilt b.began b.setup.columns.items))
+      × (count_by is_set_spread closed.columns.items ≤ count_by is_set_spread (with_rebuilt b.began b.setup.columns.items)))
       → MayClose lay disk closed b.label
-  may-close b room closed can s filling spread = record {
-    array = can-after disk _ _ b.setup.columns.items closed.columns.items b.setup.devices.items closed.devices.items s.causes.dies s.leaves.frame can.array;
-    columns = record {
-      entries = s.causes.dies.count ∙ (can.setup.entries ∙ ap (λ z. (lay.shape z).columns) (sym s.tells.layout));
-      filling = let none = can.setup.filling in omega (arith, filling, none);
-      spread = let most = can.setup.spread in omega (arith, spread, most);
-    };
-    held = can.held;
-    counter = can.counter;
-  }
+  may-close b room closed can s fewer =
+      let was = with_rebuilt b.began b.setup.columns.items in
+      let less = fewer (any-cause _ was closed.columns.items s.causes.dies) in
+      record {
+        array = can-after disk _ _ was closed.columns.items b.setup.devices.items closed.devices.items s.causes.dies s.leaves.frame (labels-rebuilt lay disk b.setup b.began can.start can.array can.seated);
+        columns = record {
+          entries = s.causes.dies.count ∙ (length-rebuilt b.began b.setup.columns.items ∙ (can.setup.entries ∙ ap (λ z. (lay.shape z).columns) (sym s.tells.layout)));
+          filling = let none = filling-rebuilt b.began b.setup.columns.items can.setup.filling in let few = less.0 in omega (arith, few, none);
+          spread = let most = spread-rebuilt lay disk b.setup b.began can.start can.setup.spread in let few = less.1 in omega (arith, few, most);
+        };
+        held = can.held;
+        counter = can.counter;
+      }
 
-  pub ended-so : (closed : Closed L D) (label last : Label) (v : Service) (lent back : List (Option D)) → v ≡ service_of closed v.ending → lent ≡ closed.devices.items
+  -- the column that is to be rebuilt is one of those that are handed back
+  pub within-closed : (b : Started L D) (room : CoreRoom D) (closed : Closed L D) → CanServe lay disk b room → served.IsServed lay disk b.setup b.began closed → IsWithin b.asked (length closed.columns.items)
+  within-closed b room closed can s = subst (λ n. IsWithin b.asked n) (sym (s.causes.dies.count ∙ length-rebuilt b.began b.setup.columns.items)) can.within
+
+  pub ended-so : (closed : Closed L D) (label last : Label) (asked : Option Start) (v : Service) (lent back : List (Option D)) → v ≡ service_of closed v.line v.ending → v.line ≡ line_of (lay.shape closed.layout) asked closed.columns.items → lent ≡ closed.devices.items
       → IsClosed disk (closing_label label) last closed.columns.items v.ending.columns lent back v.ending.lost
       → IsLossOf (lay.shape closed.layout) closed.lost (states_of (lay.shape closed.layout) v.ending.columns) v.ending.lost
-      → HasEnded lay disk closed label v back
-  ended-so closed label last v lent back told is closes lost = record {
+      → HasEnded lay disk closed label asked v back
+  ended-so closed label last asked v lent back told line is closes lost = record {
     last = last;
     told = told;
+    line = line;
     closes = subst (λ (ds : List (Option D)). IsClosed disk (closing_label label) last closed.columns.items v.ending.columns ds back v.ending.lost) is closes;
     lost = lost;
   }

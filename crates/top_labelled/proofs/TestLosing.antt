@@ -8,6 +8,7 @@ use Rattle.lay_core.specs.Layout.{Shape}
 use Rattle.lay_core.specs.declared.layout.Layout.{Ghosts as LayoutGhosts}
 use Rattle.lay_plain.specs.LeftSymmetric.{left_symmetric}
 use Rattle.graph_mean.specs.Graph.{Held}
+use Rattle.eng_array.specs.declared.start.Start.{Start}
 use Rattle.eng_cols.specs.declared.column.Column.{Column}
 use Rattle.eng_cols.specs.declared.column.Column.TheVariants as set
 use Rattle.eng_cols.specs.Cols.{ColumnState, Live, Filling, Spread, HasDevice, state_set, IsFor, is_set_filling, is_set_spread}
@@ -25,7 +26,7 @@ use Rattle.eng_parts.specs.Desk.{no_graph}
 use Rattle.raid_label.specs.Bytes.{IsHeld}
 use Rattle.top_rounds.specs.Labels.{IsNumbered}
 use Rattle.top_labelled.specs.declared.labelled.Labelled.{Labelled}
-use Rattle.top_labelled.specs.Given.{CanRun}
+use Rattle.top_labelled.specs.Given.{CanRun, RebuildsIf}
 use Rattle.top_labelled.proofs.Arrays.{labels-of}
 
 -- ## Columns
@@ -142,8 +143,8 @@ module _ {L D : Type 0} (lay : LayoutGhosts L) (disk : DiskGhosts D) (l : Labell
   -- the judge was shown these columns
   pub three-can-run : lay.shape l.setup.layout ≡ left_symmetric 3 1 64 → l.setup.columns.items ≡ set.Live 0 ∷ set.Live 1 ∷ set.Live 2 ∷ [] → l.setup.devices.items ≡ Some first ∷ Some second ∷ Some third ∷ []
       → 128 ≤ disk.size first → 128 ≤ disk.size second → 128 ≤ disk.size third → v.items ≡ fails → l.setup.clients.items ≡ v ∷ [] → l.setup.graphs.items ≡ [] → l.setup.trace ≡ false
-      → shown ≡ l.setup.columns.items → NotLost (lay.shape l.setup.layout) (states_of (lay.shape l.setup.layout) shown) → IsHeld l.label → l.label.counter ≡ 5 → IsFor (lay.shape l.setup.layout) l.judge → l.room ≡ 1024 → CanRun lay disk l
-  three-can-run shape columns devices one two third_large is_fails clients graphs trace are kept held counter judge room =
+      → shown ≡ l.setup.columns.items → NotLost (lay.shape l.setup.layout) (states_of (lay.shape l.setup.layout) shown) → IsHeld l.label → l.label.counter ≡ 5 → IsFor (lay.shape l.setup.layout) l.judge → l.room ≡ 1024 → l.start ≡ None → CanRun lay disk l
+  three-can-run shape columns devices one two third_large is_fails clients graphs trace are kept held counter judge room unasked =
       let may = is-setup lay disk l.setup first second third v shape columns devices one two third_large is_fails clients graphs in
       let three_columns : length l.setup.columns.items ≡ 3 = ap (λ (cs : List Column). length cs) columns in
       let unit : (lay.shape l.setup.layout).unit_sectors ≡ 1 = ap (λ (y : Shape). y.unit_sectors) shape in
@@ -162,4 +163,5 @@ module _ {L D : Type 0} (lay : LayoutGhosts L) (disk : DiskGhosts D) (l : Labell
         counter = omega (arith, counter);
         judge = judge;
         room = omega (arith, unit, room);
+        rebuilds = subst (λ (o : Option Start). RebuildsIf lay disk l.setup o) (sym unasked) tt;
       }

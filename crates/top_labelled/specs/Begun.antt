@@ -1,5 +1,5 @@
 -- How an array that has labels is begun: what its devices and columns are as a core is opened, and what the blocks are then.
-use Rattle.std.specs.Prelude.{◌≡◌, ◌⊎◌, ◌<◌, ℕ, List, true, Option, Some, None, ◌==◌, slice_get}
+use Rattle.std.specs.Prelude.{◌≡◌, ◌⊎◌, ◌<◌, ◌+◌, ℕ, List, Bool, true, false, ◌&&◌, ◌||◌, not, if◌then◌else◌, Option, Some, None, ◌==◌, slice_get, slice_set}
 use Rattle.blk_disk.specs.declared.disk.Disk.{Ghosts}
 use Rattle.blk_disk.specs.Devices.{contents_of}
 use Rattle.lay_core.specs.Layout.{Shape, Blocks, blocks_in, stripe_of, unit_of, offset_of}
@@ -9,6 +9,9 @@ use Rattle.eng_cols.specs.declared.spot.Loss.{Loss}
 use Rattle.eng_cols.specs.Cols.{ColumnState}
 use Rattle.eng_cols.specs.Contents.{Contents, InSync, byte_of, decode, xor_others}
 use Rattle.eng_cols.specs.Seats.{is_available, is_unit_of}
+use Rattle.eng_array.specs.Starts.{column_of}
+use Rattle.eng_array.specs.declared.start.Start.{Start}
+use Rattle.eng_array.specs.declared.start.Start.TheVariants as start
 use Rattle.eng_events.specs.Opened.{states_of}
 use Rattle.raid_label.specs.declared.label.Label.{Label}
 use Rattle.raid_recon.specs.declared.kind.Sweep.{Sweep}
@@ -26,9 +29,48 @@ IsDirty newest = newest.clean ≡ 0
 abbrev pub sweep_in : Label → Option Sweep
 sweep_in newest = sweep_if (newest.clean == 0)
 
--- what is asked, of an array whose columns are these by now
-abbrev pub opened_as : Work → List Column → Work
-opened_as a columns = record a { columns = columns }
+-- ## A rebuild
+
+-- its column is one of n
+abbrev pub IsWithin : Option Start → ℕ → Type 0
+IsWithin None n = Unit {0}
+IsWithin (Some s) n = column_of s < n
+
+-- of n columns, the device has a seat onto which the rebuild goes
+abbrev pub IsSeated : ℕ → Start → Type 0
+IsSeated n (start.Fill c d) = d < n + 8
+IsSeated n (start.Spread c) = Unit {0}
+
+abbrev pub IsSeatedIf : ℕ → Option Start → Type 0
+IsSeatedIf n None = Unit {0}
+IsSeatedIf n (Some s) = IsSeated n s
+
+-- the columns once that is dead which is to be rebuilt
+abbrev pub without : Option Start → List Column → List Column
+without None columns = columns
+without (Some s) columns = slice_set columns (column_of s) column.Dead
+
+-- the column is live on this device
+abbrev pub lives_on : Option Column → ℕ → Bool
+lives_on (Some (column.Live device)) d = device == d
+lives_on (Some column.Dead) d = false
+lives_on (Some (column.Filling device)) d = false
+lives_on (Some column.Spread) d = false
+lives_on None d = false
+
+-- the column that is to be rebuilt is live on the device onto which it is rebuilt
+abbrev pub is_in_place : Option Start → List Column → Bool
+is_in_place None columns = false
+is_in_place (Some (start.Fill c d)) columns = lives_on (slice_get columns c) d
+is_in_place (Some (start.Spread c)) columns = false
+
+-- Of what is to be rebuilt, what is begun: none of it where the device onto which it goes has failed, before, or since it was the column's own and the column has died.
+abbrev pub began_of : Bool → Option Start → List Column → List Column → Option Start
+began_of faulty s columns begun = if faulty || (is_in_place s columns && not (is_in_place s begun)) then None else s
+
+-- what is asked, of an array whose columns are these by now, and of which this rebuild begins
+abbrev pub opened_as : Work → List Column → Option Start → Work
+opened_as a columns began = record a { columns = columns; start = began }
 
 -- on block b both are the same
 abbrev pub Same : ℕ → Blocks → Blocks → Type 0
@@ -43,19 +85,19 @@ module _ {D : Type 0} (g : Ghosts D) (a : Work) (newest : Label) (taken : List (
   abbrev pub WasSound : Type 0
   WasSound = WasInSync g a taken ⊎ IsDirty newest
 
-  module _ (opened : List (Option D)) (columns : List Column) where
+  module _ (opened : List (Option D)) (begun : List Column) where
     -- The array was begun: labels were written in an opening round, and then check units were swept where the newest label said that the array was in use. By the columns that are left the array is lost or isn't.
     pub record Begins (first : Label) (lost : Option Loss) : Type 0 where
       pub found : ℕ
-      pub has : HasBegun g (sweep_in newest) a.layout newest first a.columns columns taken opened lost found
-      pub lost_is : IsLossOf a.layout None (states_of a.layout columns) lost
+      pub has : HasBegun g (sweep_in newest) a.layout newest first a.columns begun taken opened lost found
+      pub lost_is : IsLossOf a.layout None (states_of a.layout begun) lost
 
     -- The block's unit was available, and is of a column that has died since; or it stands there, as the unit of a spread one.
     pub record IsUnmade (b : ℕ) : Type 0 where
       pub col : ℕ
       pub of_column : is_unit_of a.layout (states_in a) (stripe_of a.layout b) (unit_of a.layout b) col ≡ true
       pub was : is_available a.layout (states_in a) (stripe_of a.layout b) (unit_of a.layout b) ≡ true
-      pub dead : slice_get columns col ≡ Some column.Dead
+      pub dead : slice_get begun col ≡ Some column.Dead
       pub loses : LosesDevice g a.columns taken opened col
 
     -- the block is what the devices held as they were taken; or, where the labels said that the array was in use and the block's unit was made missing, the sum of the others of its stripe as they were held then
@@ -63,7 +105,7 @@ module _ {D : Type 0} (g : Ghosts D) (a : Work) (newest : Label) (taken : List (
     IsBlockOf blocks b = Same b blocks (decode a.layout (contents_of g taken) (states_in a))
         ⊎ (IsDirty newest × IsUnmade b × Same b blocks (sums_of_others a.layout (contents_of g taken) (states_in a)))
 
-    -- The array is in sync as the core is opened, and its blocks are these.
+    -- The array is in sync as the core is opened, once the column is dead that is to be rebuilt, and its blocks are these.
     pub record Holds (start : Blocks) : Type 0 where
-      pub in_sync : g.tells → WasSound → InSync a.layout (contents_of g opened) (states_of a.layout columns)
+      pub in_sync : g.tells → WasSound → InSync a.layout (contents_of g opened) (states_of a.layout (without a.start begun))
       pub blocks : g.tells → WasSound → (b : ℕ) → b < blocks_in a.layout → IsBlockOf start b

@@ -1,41 +1,73 @@
 -- What a run of clients over an array with labels is, and what it leaves.
-use Rattle.std.specs.Prelude.{◌≡◌, ◌≢◌, ◌⊎◌, ◌<◌, ◌≤◌, ◌+◌, ℕ, List, ◌++◌, length, Option, Some, None, All}
+use Rattle.std.specs.Prelude.{◌≡◌, ◌≢◌, ◌⊎◌, ◌<◌, ◌≤◌, ◌+◌, ℕ, List, ◌++◌, length, Bool, true, Option, Some, None, All, slice_get}
 use Rattle.blk_disk.specs.declared.disk.Call.{Call}
 use Rattle.blk_disk.specs.declared.disk.Disk.{Ghosts}
 use Rattle.blk_disk.specs.Devices.{size_of, sector_of, contents_of, calls_of, RisesOn, Changes}
+use Rattle.lay_core.specs.Layout.{Shape}
+use Rattle.eng_array.specs.declared.start.Start.{Start}
+use Rattle.eng_array.specs.declared.start.Start.TheVariants as start
 use Rattle.eng_cols.specs.declared.column.Column.{Column}
+use Rattle.eng_cols.specs.declared.column.Column.TheVariants as column
 use Rattle.eng_cols.specs.declared.spot.Loss.{Loss}
 use Rattle.eng_cols.specs.Cols.{HasDevice}
 use Rattle.eng_cols.specs.Deaths.{Dies}
+use Rattle.eng_cols.specs.Lost.{IsLost, NotLost}
 use Rattle.eng_events.specs.Opened.{states_of}
 use Rattle.eng_world.specs.World.{World}
 use Rattle.eng_world.specs.Rows.{IsInRows}
 use Rattle.raid_label.specs.declared.label.Label.{Label}
 use Rattle.raid_label.specs.Bytes.{bytes_of}
+use Rattle.raid_recon.specs.Counts.{count_below, is_stripe_of}
+use Rattle.top_acts.specs.Begun.{MayBegin}
+use Rattle.top_acts.specs.Failed.{EndsFailed}
 use Rattle.top_acts.specs.Stages.{IsClosing}
 use Rattle.top_close.specs.Calls.{EndsSettled}
 use Rattle.top_close.specs.Settled.{IsLiveOn}
 use Rattle.top_rounds.specs.Labels.{for_column, seats_of, with_round}
-use Rattle.top_rounds.specs.Passes.{HoldsLabel}
+use Rattle.top_rounds.specs.Passes.{HoldsLabel, LosesDevice}
 use Rattle.top_rounds.specs.Rounds.{HaveFailed, clean_in_end}
+use Rattle.top_run.specs.Outliving.{IsRebuilt}
 use Rattle.top_run.specs.Work.{Work, Ending, Service}
+use Rattle.top_run.specs.declared.service.Line.{Line}
 use Rattle.top_run.specs.Ran.{RisesAt, Runs, WasFailed, states_in}
-use Rattle.top_labelled.specs.Begun.{Begins, Holds, opened_as}
+use Rattle.top_serve.specs.Setups.{with_rebuilt}
+use Rattle.top_labelled.specs.Begun.{Begins, Holds, began_of, opened_as, sweep_in, without}
 
+-- ## The line of a rebuild
+
+-- where the column isn't dead, how many stripes it has
+abbrev pub done_on : Shape → List Column → ℕ → Option Column → Option ℕ
+done_on y kept c None = None
+done_on y kept c (Some column.Dead) = None
+done_on y kept c (Some (column.Live device)) = Some (count_below (is_stripe_of y (states_of y kept) c) y.stripes)
+done_on y kept c (Some (column.Filling device)) = Some (count_below (is_stripe_of y (states_of y kept) c) y.stripes)
+done_on y kept c (Some column.Spread) = Some (count_below (is_stripe_of y (states_of y kept) c) y.stripes)
+
+-- what is told of a rebuild that was asked, where a core was closed with these columns: done where its column isn't dead, with the number of the column's stripes
+abbrev pub line_of : Shape → Option Start → List Column → Option Line
+line_of y None kept = None
+line_of y (Some (start.Fill c d)) kept = Some (record { column = c; device = Some d; done = done_on y kept c (slice_get kept c) })
+line_of y (Some (start.Spread c)) kept = Some (record { column = c; device = None; done = done_on y kept c (slice_get kept c) })
+
+-- a rebuild goes onto the device
+abbrev pub GoesOnto : Option Start → ℕ → Type 0
+GoesOnto began d = (c : ℕ) × (began ≡ Some (start.Fill c d))
+
+-- `a` says what is asked, over the array as it was opened: the column that is to be rebuilt is what it was then.
 module _ {D : Type 0} (g : Ghosts D) (a : Work) (newest : Label) (taken : List (Option D)) where
   -- ## A run
 
   module _ (s : Service) (back : List (Option D)) where
-    -- the sector may have changed: it is the label's or one of the array's rows, on a device that was in a column; or the device has no such sector
-    abbrev pub MayChange : ℕ → ℕ → Type 0
-    MayChange d n = (((c : ℕ) × HasDevice (states_in a) c d) × ((n ≡ 0) ⊎ IsInRows a.layout n)) ⊎ (size_of g taken d ≤ n)
+    -- the sector may have changed: it is the label's or one of the array's rows, on a device that was in a column, or onto which the rebuild goes that began; or the device has no such sector
+    abbrev pub MayChange : Option Start → ℕ → ℕ → Type 0
+    MayChange began d n = ((((c : ℕ) × HasDevice (states_in a) c d) ⊎ GoesOnto began d) × ((n ≡ 0) ⊎ IsInRows a.layout n)) ⊎ (size_of g taken d ≤ n)
 
     -- Devices hold what they do at the run's end, but for labels, and have changed nowhere else since they were taken. Of the calls that they tell those behind the run's are settles and label writes; and where the array isn't lost each device of a column in the end has been settled last.
-    pub record Leaves (now : World) : Type 0 where
+    pub record Leaves (began : Option Start) (now : World) : Type 0 where
       pub contents : g.tells → (d n k : ℕ) → n ≢ 0 → k < 512 → contents_of g back d n k ≡ now.contents d n k
       pub calls : (d : ℕ) (told : List Call) → calls_of g back d ≡ Some told → (closing : List Call) × (told ≡ now.calls d ++ closing) × All IsClosing closing
       pub settled : s.ending.lost ≡ None → (c d : ℕ) → HasDevice (states_of a.layout s.ending.columns) c d → EndsSettled (calls_of g back d)
-      pub frame : Changes g MayChange taken back
+      pub frame : Changes g (MayChange began) taken back
 
     -- sector 0 of the device holds a label that was written in this call, in a round no later than that of this label
     pub record HoldsSome (last : Label) (d : ℕ) : Type 0 where
@@ -57,25 +89,51 @@ module _ {D : Type 0} (g : Ghosts D) (a : Work) (newest : Label) (taken : List (
       pub held : (c d : ℕ) → IsLiveOn s.ending.columns c d → HoldsLabel g back last c d
       pub rest : g.tells → (d : ℕ) → 1 ≤ size_of g taken d → (RisesOn g taken back d → ⊥) → (sector_of g back d 0 ≡ sector_of g taken d 0) ⊎ HoldsSome last d
 
-    -- The array was begun, and a run of what is asked, over the devices and columns as they were then, tells this and leaves the columns so; then the array was closed. No more has changed since the core was opened. In all a column has died since an item was replied ok by which it failed, or its device's count of faults rose.
-    pub record RanLabelled : Type 0 where
+    -- the device onto which the rebuild goes was the column's own, and has failed as the array was begun
+    pub record HasFailedSince (opened : List (Option D)) : Type 0 where
+      pub col : ℕ
+      pub device : ℕ
+      pub asked : a.start ≡ Some (start.Fill col device)
+      pub had : IsLiveOn a.columns col device
+      pub rose : RisesOn g taken opened device
+
+    -- it is to be rebuilt, and isn't told to be done
+    abbrev pub IsUnbuilt : ℕ → Type 0
+    IsUnbuilt c = (line : Line) × (s.line ≡ Some line) × (line.column ≡ c) × (line.done ≡ None)
+
+    -- The array was begun, and the column was made dead that is to be rebuilt; it isn't lost. Its rebuild began, unless the device onto which it goes had failed, be it before, where that is `faulty`. A run of what is asked, over the devices and columns as they were then, tells this and leaves the columns so; then the array was closed. No more has changed since the core was opened. In all a column is what it was, or rebuilt as it is asked, or has died since an item was replied ok by which it failed, its device's count of faults rose, or its rebuild wasn't done.
+    pub record RanLabelled (faulty : Bool) : Type 0 where
       pub opened : List (Option D)
-      pub columns : List Column
+      pub begun : List Column
       pub first : Label
       pub last : Label
-      pub begins : Begins g a newest taken opened columns first None
-      pub run : Runs g (opened_as a columns) opened s back
-      pub holds : Holds g a newest taken opened columns run.start.blocks
-      pub leaves : Leaves run.now
-      pub since : Changes g MayChange opened back
+      pub began : Option Start
+      pub begins : Begins g a newest taken opened begun first None
+      pub kept : NotLost a.layout (states_of a.layout (without a.start begun))
+      pub began_is : began ≡ began_of faulty a.start a.columns begun
+      pub unbegun : began ≡ None → (a.start ≡ None) ⊎ ((faulty ≡ true) ⊎ HasFailedSince opened)
+      pub run : Runs g (opened_as a (without a.start begun) began) opened s back
+      pub line : s.line ≡ line_of a.layout a.start run.ends.kept
+      pub holds : Holds g a newest taken opened begun run.start.blocks
+      pub leaves : Leaves began run.now
+      pub since : Changes g (MayChange began) opened back
       pub labels : IsRelabelled last
-      pub dies : Dies (λ c. WasFailed run.now c ⊎ RisesAt g a taken s back c) a.columns s.ending.columns
+      pub dies : Dies (λ c. WasFailed run.now c ⊎ (RisesAt g a taken s back c ⊎ IsUnbuilt c)) (with_rebuilt a.start a.columns) s.ending.columns
 
   -- ## No run
 
-  -- The array was lost as it was begun: no core was opened.
+  -- The array was lost as it was begun, or by the death of the column that is to be rebuilt: no core was opened. That column is dead, and by the columns in the end the array is lost. Sectors have changed as in the beginning alone; and in all a column is what it was, or it is the one that is to be rebuilt, or its device's count of faults rose.
   pub record IsLostBefore (e : Ending) (back : List (Option D)) : Type 0 where
+    pub opened : List (Option D)
+    pub begun : List Column
+    pub first : Label
+    pub last : Label
+    pub before : Option Loss
+    pub begins : Begins g a newest taken opened begun first before
+    pub fails : EndsFailed g before e.lost first last (without a.start begun) e.columns opened back
     pub loss : Loss
     pub lost : e.lost ≡ Some loss
-    pub last : Label
-    pub begins : Begins g a newest taken back e.columns last e.lost
+    pub lost_is : IsLost a.layout (states_of a.layout e.columns) loss
+    pub named : (c : ℕ) → IsRebuilt a c → slice_get e.columns c ≡ Some column.Dead
+    pub frame : Changes g (MayBegin g (sweep_in newest) a.layout a.columns taken) taken back
+    pub dies : Dies (λ c. IsRebuilt a c ⊎ LosesDevice g a.columns taken back c) a.columns e.columns

@@ -3,25 +3,28 @@ ghost use Rattle.top_labelled.specs.Given.{CanRun};
 ghost use Rattle.top_labelled.specs.Between.{IsBegun};
 
 use crate::labelled::Labelled;
+use crate::opening::opened;
 use blk_disk::Disk;
-use eng_array::{Loss, Setup};
+use eng_array::{Loss, Setup, Start};
 use eng_cols::Cols;
 use lay_core::Layout;
 use raid_label::Label;
-use top_acts::begin_labelled;
 use top_close::Ending;
 
 /// An array that was begun: what is to be served over it, the label that was written last, what its
-/// end wants, and by what it is lost, if it is.
+/// end wants, by what it is lost, if it is, what was to be rebuilt, and what of that begins.
 #[derive(Drop)]
 pub(crate) struct Started<L, D> {
     pub setup: Setup<L, D>,
     pub label: Label,
     pub judge: Cols,
     pub lost: Option<Loss>,
+    pub asked: Option<Start>,
+    pub began: Option<Start>,
 }
 
-/// Writes the opening round, and sweeps the check units where the newest label isn't clean.
+/// Writes the opening round, sweeps the check units where the newest label isn't clean, and lets the
+/// column die that is to be rebuilt.
 pub(crate) fn begun<L: Layout + Drop, D: Disk + Drop>(labelled: Labelled<L, D>) -> Started<L, D>
     requires { CanRun L.Layout D.Disk labelled }
     ensures { IsBegun L.Layout D.Disk labelled result }
@@ -31,6 +34,8 @@ pub(crate) fn begun<L: Layout + Drop, D: Disk + Drop>(labelled: Labelled<L, D>) 
         mut label,
         mut judge,
         mut room,
+        start: asked,
+        failed,
     } = labelled;
     let Setup {
         layout,
@@ -44,13 +49,13 @@ pub(crate) fn begun<L: Layout + Drop, D: Disk + Drop>(labelled: Labelled<L, D>) 
         columns,
         lost: None,
     };
-    let dirty = label.clean == 0;
-    let _ = begin_labelled(
+    let began = opened(
+        asked,
+        failed,
         &layout,
         devices.as_mut_slice(),
         &mut ending,
         &mut label,
-        dirty,
         &mut room,
         &mut judge,
     );
@@ -68,5 +73,7 @@ pub(crate) fn begun<L: Layout + Drop, D: Disk + Drop>(labelled: Labelled<L, D>) 
         label,
         judge,
         lost,
+        asked,
+        began,
     }
 }

@@ -1,10 +1,13 @@
 //! What was served is ended, and the array closed.
+ghost use Rattle.std.specs.Prelude.{length};
 ghost use Rattle.eng_cols.specs.Cols.{IsFor};
 ghost use Rattle.top_run.specs.Works.{service_seen};
+ghost use Rattle.top_labelled.specs.Begun.{IsWithin};
 ghost use Rattle.top_labelled.specs.Between.{HasEnded, MayClose};
 
+use crate::line::line_for;
 use blk_disk::Disk;
-use eng_array::Closed;
+use eng_array::{Closed, Start};
 use eng_cols::Cols;
 use lay_core::Layout;
 use raid_label::Label;
@@ -12,15 +15,17 @@ use top_acts::end_labelled;
 use top_close::Ending;
 use top_run::Service;
 
-/// Closes the array, and tells of the run with its end.
+/// Closes the array, and tells of the run with its end, and of the rebuild that was asked.
 pub(crate) fn ended<L: Layout + Drop, D: Disk + Drop>(
     closed: Closed<L, D>,
     mut label: Label,
     mut judge: Cols,
+    asked: Option<Start>,
 ) -> (Service, Vec<Option<D>>)
     requires closed { MayClose L.Layout D.Disk closed label }
     requires judge { IsFor (L.shape closed.layout) judge }
-    ensures { HasEnded L.Layout D.Disk closed label (service_seen result.0) result.1.items }
+    requires within { IsWithin asked (length closed.columns.items) }
+    ensures { HasEnded L.Layout D.Disk closed label asked (service_seen result.0) result.1.items }
 {
     let Closed {
         layout,
@@ -34,6 +39,7 @@ pub(crate) fn ended<L: Layout + Drop, D: Disk + Drop>(
         sectors,
         ..
     } = closed;
+    let line = line_for(&layout, &columns, asked);
     let mut ending = Ending { columns, lost };
     label.clean = 1;
     end_labelled(
@@ -49,6 +55,7 @@ pub(crate) fn ended<L: Layout + Drop, D: Disk + Drop>(
         sectors,
         history,
         trace,
+        line,
         columns: ending.columns,
         lost: ending.lost,
     };

@@ -1,13 +1,13 @@
 //! What is handed in for a run over an array with labels, and what comes of it.
-use eng_array::Setup;
+use eng_array::{Setup, Start};
 use eng_cols::Cols;
 use raid_label::Label;
 use raid_recon::Room;
 use top_close::Ending;
 use top_run::Service;
 
-/// An array with labels as it was opened, what clients ask of it, and the memory that its beginning
-/// and its end take.
+/// An array with labels as it was opened, what clients ask of it, the memory that its beginning and
+/// its end take, and what is to be rebuilt.
 #[derive(Drop)]
 pub struct Labelled<L, D> {
     pub setup: Setup<L, D>,
@@ -17,6 +17,11 @@ pub struct Labelled<L, D> {
     pub judge: Cols,
     /// 1,024 bytes for each sector of a unit.
     pub room: Room,
+    /// The rebuild that is to begin behind the beginning, where one is. Its column isn't dead yet.
+    pub start: Option<Start>,
+    /// Whether the device onto which that goes has failed in this call already. Then it doesn't
+    /// begin, though its column dies.
+    pub failed: bool,
 }
 
 /// What came of it.
@@ -24,6 +29,6 @@ pub struct Labelled<L, D> {
 pub enum Outcome {
     /// What was asked was served.
     Ran(Service),
-    /// The array was lost before that.
+    /// The array was lost before that. The column is dead that was to be rebuilt.
     Lost(Ending),
 }

@@ -1,18 +1,19 @@
 //! What a run comes to that the array outlives. These functions do nothing: what they ensure is so of every run.
-ghost use Rattle.std.specs.Prelude.{◌≡◌, List, Option, None};
+ghost use Rattle.std.specs.Prelude.{◌≡◌, List, Bool, Option, None};
 ghost use Rattle.raid_label.specs.declared.label.Label.{Label};
 ghost use Rattle.top_run.specs.Work.{Work, Ending, Service};
 ghost use Rattle.top_run.specs.Outliving.{Outlives, AllAnswered};
-ghost use Rattle.top_labelled.specs.Begun.{opened_as};
+ghost use Rattle.top_labelled.specs.Begun.{opened_as, without};
 ghost use Rattle.top_labelled.specs.Ran.{RanLabelled, IsLostBefore};
 
 use blk_disk::Disk;
 
 /// An array isn't lost, neither before what is asked is served nor in the end, that isn't whichever
-/// columns be dead of which an item asks that they fail, or whose device's count of faults rose.
+/// columns be dead of which an item asks that they fail, that are rebuilt, or whose device's count of
+/// faults rose.
 pub fn what_is_outlived_is_not_lost<D: Disk>()
-    ensures ran { (a : Work) (newest : Label) (taken back : List (Option D)) (s : Service)
-        → RanLabelled D.Disk a newest taken s back → Outlives D.Disk a taken back
+    ensures ran { (a : Work) (newest : Label) (taken back : List (Option D)) (s : Service) (faulty : Bool)
+        → RanLabelled D.Disk a newest taken s back faulty → Outlives D.Disk a taken back
         → s.ending.lost ≡ None }
     ensures begun { (a : Work) (newest : Label) (taken back : List (Option D)) (e : Ending)
         → IsLostBefore D.Disk a newest taken e back → Outlives D.Disk a taken back → ⊥ }
@@ -23,6 +24,7 @@ pub fn what_is_outlived_is_not_lost<D: Disk>()
 /// begun.
 pub fn what_is_not_lost_is_answered<D: Disk>()
     ensures { (a : Work) (newest : Label) (taken back : List (Option D)) (s : Service)
-        (ran : RanLabelled D.Disk a newest taken s back) → s.ending.lost ≡ None
-        → AllAnswered D.Disk (opened_as a ran.columns) ran.opened back s ran.run }
+        (faulty : Bool) (ran : RanLabelled D.Disk a newest taken s back faulty) → s.ending.lost ≡ None
+        → AllAnswered D.Disk (opened_as a (without a.start ran.begun) ran.began)
+        ran.opened back s ran.run }
 {}

@@ -24,7 +24,8 @@ use top_serve::{room_for, serve_in};
 /// labels are written anew. Where the array is lost by its end, or was in the run, one round is
 /// written that isn't clean, and nothing is settled behind it.
 ///
-/// An array that is lost as it is begun isn't served: its last round isn't clean either.
+/// An array that is lost as it is begun, or as that column dies, isn't served: its last round isn't
+/// clean either.
 ///
 /// The only error is want of memory. All that the run takes is taken first, so that what was handed
 /// in then comes back as it was.
@@ -75,15 +76,17 @@ fn served<L: Layout + Drop + Send, D: Disk + Drop + Send, R: Threads + Wait + Sy
 ) -> (Service, Vec<Option<D>>)
     requires workers { workers ≤ 16 }
     requires can { CanServe L.Layout D.Disk started room }
-    ensures { HasServed L.Layout D.Disk started.setup started.label (service_seen result.0) result.1.items }
+    ensures { HasServed L.Layout D.Disk started (service_seen result.0) result.1.items }
 {
     deaths_bring_no_unit_back();
     let Started {
         setup,
         label,
         judge,
+        asked,
+        began,
         ..
     } = started;
-    let closed = serve_in(rt, alloc, setup, room, workers);
-    ended(closed, label, judge)
+    let closed = serve_in(rt, alloc, setup, room, began, workers);
+    ended(closed, label, judge, asked)
 }

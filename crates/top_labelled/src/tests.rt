@@ -16,11 +16,11 @@ use std::process::Abort;
 use std::sync::Wait;
 use std::test::Fail;
 use std::thread::Threads;
-use top_run::Service;
+use top_run::{Line, Service};
 
 mod ready;
 
-use ready::{losing, ready};
+use ready::{losing, ready, replacing};
 
 // A device of 128 sectors of zeros, but for the first byte of sector 64, that fails its calls of
 // these numbers.
@@ -213,5 +213,55 @@ fn an_array_that_is_lost_in_the_run_is_not_clean(rt: HostRuntime) -> Result<(), 
     is_labelled(&rt, devices.first(), 6, 0);
     is_labelled(&rt, devices.get(1), 6, 0);
     is_labelled(&rt, devices.last(), 7, 0);
+    Ok(())
+}
+
+// The second column is rebuilt onto its own device: stripe 0 has its check there, which is the block.
+// Where that device has failed before, the column is dead, and the array is served and closed without.
+#[test]
+fn a_column_is_rebuilt_in_place(rt: HostRuntime) -> Result<(), Fail> {
+    let alloc = rt.alloc();
+    for (failed, workers, done, seat, check) in [
+        (false, 0, Some(64), 0, 9),
+        (false, 2, Some(64), 0, 9),
+        (true, 0, None, 255, 0),
+    ] {
+        let first = device(alloc, 9, &[])?;
+        let second = device(alloc, 0, &[])?;
+        let labelled = replacing(alloc, first, second, failed)?;
+        let (service, devices) = ran(&rt, alloc, labelled, workers)?;
+        let line = Line {
+            column: 1,
+            device: Some(1),
+            done,
+        };
+        assert_eq!(rt; service.line, Some(line));
+        assert_eq!(rt; service.lost, None);
+        has_label(&rt, devices.first(), 7, 1, seat);
+        is_labelled(
+            &rt,
+            devices.last(),
+            if failed { 6 } else { 7 },
+            u8::from(!failed),
+        );
+        assert!(rt; has(devices.last(), SECTOR * 64, check));
+    }
+    Ok(())
+}
+
+// The second device fails its label in the opening round, and so it isn't rebuilt onto.
+#[test]
+fn a_device_that_failed_is_not_rebuilt_onto(rt: HostRuntime) -> Result<(), Fail> {
+    let alloc = rt.alloc();
+    let first = device(alloc, 9, &[])?;
+    let second = device(alloc, 0, &[0])?;
+    let labelled = replacing(alloc, first, second, false)?;
+    let (service, devices) = ran(&rt, alloc, labelled, 0)?;
+    match service.line {
+        Some(line) => assert_eq!(rt; line.done, None),
+        None => assert!(rt; false),
+    }
+    has_label(&rt, devices.first(), 8, 1, 255);
+    assert!(rt; has(devices.last(), SECTOR * 64, 0));
     Ok(())
 }

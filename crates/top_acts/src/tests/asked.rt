@@ -4,8 +4,10 @@ ghost use Rattle.blk_disk.specs.Devices.{size_of};
 ghost use Rattle.top_acts.specs.Begun.{CanAct};
 ghost use Rattle.top_acts.specs.Samples.{FitsAt};
 
+use crate::judging::loss_of;
 use crate::{
-    Done, Renewal, begin_labelled, check, close, end_labelled, kill, label, renew, renew_unlabelled,
+    Done, Renewal, begin_labelled, check, close, end_labelled, fail_column, kill, label, renew,
+    renew_unlabelled,
 };
 use blk_disk::{Call, Disk, MemDisk, SECTOR};
 use eng_cols::{Cols, Column, Loss};
@@ -41,6 +43,7 @@ pub(crate) const LAST: Label = Label {
 pub(crate) enum Act {
     Check,
     Kill(u32),
+    Fail(u32),
     Label,
     Begin(bool),
     Close,
@@ -152,7 +155,12 @@ pub(crate) fn acted_on<L: Layout>(
         Act::Kill(column) if column < 3 => {
             kill(layout, devices, &mut ending, column, newest, &mut judge)
         }
-        Act::Kill(_) => return Err("no column".into()),
+        Act::Fail(column) if column < 3 => {
+            ending.lost = loss_of(layout, &ending.columns, &mut judge);
+            fail_column(layout, devices, &mut ending, column, newest, &mut judge);
+            Done::Nothing
+        }
+        Act::Kill(_) | Act::Fail(_) => return Err("no column".into()),
         Act::Label => label(layout, devices, &mut ending, newest, &mut judge),
         Act::Begin(dirty) => {
             let rewritten = begin_labelled(

@@ -1,6 +1,7 @@
 //! Arrays that are begun with, and those that get their first labels.
-use super::asked::{Act, LAST, acted, dead, devices, have_calls, label_on};
+use super::asked::{Act, LAST, acted, acted_on, dead, devices, have_calls, label_on};
 use crate::Done;
+use lay_plain::Raid0;
 use std::test::Fail;
 
 const NONE: u32 = 99;
@@ -32,6 +33,25 @@ fn a_dirty_array_is_swept(rt: HostRuntime) -> Result<(), Fail> {
             Some([counter as u8, 2, 0, 0, seat, 0])
         );
     }
+    Ok(())
+}
+
+// Level 5 outlives the death of one column. Level 0 doesn't, and then its one round is written.
+#[test]
+fn a_column_dies_behind_the_opening_round(rt: HostRuntime) -> Result<(), Fail> {
+    let mut disks = devices(rt.alloc(), [NONE, NONE, NONE])?;
+    let mut label = LAST;
+    let (_, kept) = acted(rt.alloc(), Act::Fail(1), &mut disks, &mut label)?;
+    assert_eq!(rt; kept.lost, None);
+    assert_eq!(rt; dead(&kept), [false, true, false]);
+    assert_eq!(rt; label.counter, 7);
+    have_calls(&rt, &disks, [b"", b"", b""]);
+    let layout = Raid0::new(3, 1, 3)?;
+    let (_, ending) = acted_on(rt.alloc(), &layout, Act::Fail(1), &mut disks, &mut label)?;
+    assert!(rt; ending.lost.is_some());
+    assert_eq!(rt; dead(&ending), [false, true, false]);
+    have_calls(&rt, &disks, [b"L", b"", b"L"]);
+    assert_eq!(rt; label_on(&disks[2]), Some([8, 2, 0, 0, 255, 0]));
     Ok(())
 }
 

@@ -1,5 +1,6 @@
 //! An array with labels over two columns.
-ghost use Rattle.std.specs.Prelude.{◌≡◌, ◌≤◌, [], ◌∷◌, IfOk, All, Some, count_by, length};
+ghost use Rattle.std.specs.Prelude.{◌≡◌, ◌⊎◌, ◌≤◌, [], ◌∷◌, IfOk, All, Some, None, count_by, length};
+ghost use Rattle.eng_array.specs.declared.start.Start.TheVariants as how;
 ghost use Rattle.eng_cols.specs.Cols.{IsFor, is_set_filling, is_set_spread};
 ghost use Rattle.eng_cols.specs.Lost.{NotLost};
 ghost use Rattle.eng_crew.specs.Trial.{AreSmall};
@@ -9,7 +10,7 @@ ghost use Rattle.top_labelled.specs.Given.{CanRun};
 
 use crate::Labelled;
 use blk_disk::{Disk, MemDisk};
-use eng_array::{Column, Item, Setup};
+use eng_array::{Column, Item, Setup, Start};
 use eng_cols::Cols;
 use lay_core::Layout;
 use lay_plain::Raid5;
@@ -88,26 +89,32 @@ fn label(columns: u32, clean: u32) -> Label
 }
 
 // Level 5 over two columns of 64 rows, with units of one sector, that live on these devices, whose
-// newest label has the counter 5 and this clean field. No trace is kept.
-pub fn ready(
+// newest label has the counter 5 and this clean field. No trace is kept. The second column may be
+// rebuilt onto its own device, which may have failed.
+fn two_columns(
     alloc: Global,
     first: MemDisk,
     second: MemDisk,
     clients: Vec<Vec<Item>>,
     clean: u32,
+    start: Option<Start>,
+    failed: bool,
 ) -> Result<Labelled<Raid5, MemDisk>, Fail>
     requires first { 128 ≤ ⟦<MemDisk as Disk>⟧.size first }
     requires second { 128 ≤ ⟦<MemDisk as Disk>⟧.size second }
     requires few { length clients.items ≤ 16 }
     requires small { All AreSmall clients.items }
     requires clean { clean ≤ 1 }
+    requires start { (start ≡ None) ⊎ (start ≡ Some (how.Fill 1 1)) }
     ensures { IfOk result (CanRun ⟦<Raid5 as Layout>⟧ ⟦<MemDisk as Disk>⟧) }
 {
     let Ok(layout) = Raid5::new(2, 1, 64) else {
         return Err(Fail::from("no layout"));
     };
     let columns = vec![in alloc; Column::Live { device: 0 }, Column::Live { device: 1 }]?;
+    let dead = vec![in alloc; Column::Live { device: 0 }, Column::Dead]?;
     let devices = pair(alloc, first, second)?;
+    let _alone = judged(alloc, &layout, &dead)?;
     let judge = judged(alloc, &layout, &columns)?;
     let Ok(room) = Room::open(alloc, 1024) else {
         return Err(Fail::from("no memory"));
@@ -126,7 +133,53 @@ pub fn ready(
         label,
         judge,
         room,
+        start,
+        failed,
     })
+}
+
+// Such an array, of which nothing is rebuilt.
+pub fn ready(
+    alloc: Global,
+    first: MemDisk,
+    second: MemDisk,
+    clients: Vec<Vec<Item>>,
+    clean: u32,
+) -> Result<Labelled<Raid5, MemDisk>, Fail>
+    requires first { 128 ≤ ⟦<MemDisk as Disk>⟧.size first }
+    requires second { 128 ≤ ⟦<MemDisk as Disk>⟧.size second }
+    requires few { length clients.items ≤ 16 }
+    requires small { All AreSmall clients.items }
+    requires clean { clean ≤ 1 }
+    ensures { IfOk result (CanRun ⟦<Raid5 as Layout>⟧ ⟦<MemDisk as Disk>⟧) }
+{
+    two_columns(alloc, first, second, clients, clean, None, false)
+}
+
+// Such an array that was closed in order, whose second column is rebuilt in place.
+pub fn replacing(
+    alloc: Global,
+    first: MemDisk,
+    second: MemDisk,
+    failed: bool,
+) -> Result<Labelled<Raid5, MemDisk>, Fail>
+    requires first { 128 ≤ ⟦<MemDisk as Disk>⟧.size first }
+    requires second { 128 ≤ ⟦<MemDisk as Disk>⟧.size second }
+    ensures { IfOk result (CanRun ⟦<Raid5 as Layout>⟧ ⟦<MemDisk as Disk>⟧) }
+{
+    let start = Start::Fill {
+        column: 1,
+        device: 1,
+    };
+    two_columns(
+        alloc,
+        first,
+        second,
+        Vec::new(alloc),
+        1,
+        Some(start),
+        failed,
+    )
 }
 
 // The same over three columns, of which the one client lets the first two fail. The array was closed in
@@ -171,5 +224,7 @@ pub fn losing(
         label,
         judge,
         room,
+        start: None,
+        failed: false,
     })
 }

@@ -12,7 +12,7 @@ returns-then-is_some-clause-many g c = left-many g.L.Layout g.D.Disk c.args.labe
 
 pub served-service-requires-clause-can : goal.served-service-requires-clause-can
 served-service-requires-clause-can g c κs within =
-    can-serve g.L.Layout g.D.Disk c.args.labelled c.begun-started.result c.requires.can c.begun-started.ensures c.in-Some.room c.in-Some.ensures (none-from c.begun-started.result.lost (sym c.is_some.ensures ∙ c.if-is_some.false))
+    can-serve g.L.Layout g.D.Disk c.args.labelled c.begun-started.result c.requires.can c.begun-started.ensures (none-from c.begun-started.result.lost (sym c.is_some.ensures ∙ c.if-is_some.false)) c.in-Some.room c.in-Some.ensures
 
 pub returns-clause-came : goal.returns-clause-came
 returns-clause-came g c =

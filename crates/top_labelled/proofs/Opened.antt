@@ -1,0 +1,128 @@
+-- An array that was begun, up to the death of the column that is to be rebuilt.
+use Rattle.std.proofs.Common.{◌≡◌, ◌⊎◌, inl, inr, ℕ, List, Bool, length, Option, Some, None, slice_get, refl, sym, ◌∙◌, subst}
+use Rattle.blk_disk.specs.declared.disk.Disk.{Ghosts}
+use Rattle.blk_disk.specs.Devices.{Changes}
+use Rattle.blk_disk.proofs.DeviceLaws.{changes-more, changes-refl, changes-then, rises-wider}
+use Rattle.eng_array.specs.declared.start.Start.{Start}
+use Rattle.eng_cols.specs.declared.column.Column.{Column}
+use Rattle.eng_cols.specs.declared.column.Column.TheVariants as column
+use Rattle.eng_cols.specs.declared.spot.Loss.{Loss}
+use Rattle.eng_cols.specs.Deaths.{Dies}
+use Rattle.eng_cols.proofs.DeathLaws.{dies-more, dies-refl, dies-then}
+use Rattle.lay_core.specs.Layout.{Shape}
+use Rattle.raid_label.specs.declared.label.Label.{Label}
+use Rattle.top_acts.specs.Begun.{MayBegin}
+use Rattle.top_acts.specs.Failed.{EndsFailed, StaysBegun}
+use Rattle.top_acts.proofs.Counted.{counted_rounds}
+use Rattle.top_close.specs.Dying.{AnyCause}
+use Rattle.top_close.specs.Ended.{IsLossOf, states_of}
+use Rattle.top_rounds.specs.Passes.{IsFirstInUse, LosesDevice}
+use Rattle.top_run.specs.Work.{Work}
+use Rattle.top_run.proofs.Columns.{live-before}
+use Rattle.top_labelled.specs.Begun.{IsWithin, sweep_in, without}
+use Rattle.top_labelled.specs.Between.{HasOpened}
+use Rattle.top_labelled.specs.Ran.{IsLostBefore}
+use Rattle.top_labelled.proofs.Without.{IsOf, without-dead, without-dies}
+
+-- ## Behind the death
+
+module _ {D : Type 0} (g : Ghosts D) (label next : Label) (columns after : List Column) (old new : List (Option D)) where
+  stays-dies : StaysBegun g label next columns after old new → Dies (LosesDevice g columns old new) columns after
+  stays-dies st = subst (λ (cs : List Column). Dies (LosesDevice g columns old new) columns cs) (sym st.columns_are) (dies-refl (LosesDevice g columns old new) columns)
+
+  stays-moved : StaysBegun g label next columns after old new → Changes g (IsFirstInUse columns) old new
+  stays-moved st = subst (λ (ds : List (Option D)). Changes g (IsFirstInUse columns) old ds) (sym st.devices_are) (changes-refl g (IsFirstInUse columns) old)
+
+  pub fails-dies : (before lost : Option Loss) → EndsFailed g before lost label next columns after old new → Dies (LosesDevice g columns old new) columns after
+  fails-dies None None h = stays-dies h
+  fails-dies None (Some loss) h = (counted_rounds g label next columns h.rounds.0 after old new h.rounds.1).dies
+  fails-dies (Some before) None h = absurd h
+  fails-dies (Some before) (Some loss) h = stays-dies h
+
+  pub fails-moved : (before lost : Option Loss) → EndsFailed g before lost label next columns after old new → Changes g (IsFirstInUse columns) old new
+  fails-moved None None h = stays-moved h
+  fails-moved None (Some loss) h = (counted_rounds g label next columns h.rounds.0 after old new h.rounds.1).frame
+  fails-moved (Some before) None h = absurd h
+  fails-moved (Some before) (Some loss) h = stays-moved h
+
+  -- an array that isn't lost wasn't lost before, and nothing was called
+  pub fails-kept : (before lost : Option Loss) → lost ≡ None → EndsFailed g before lost label next columns after old new → (before ≡ None) × StaysBegun g label next columns after old new
+  fails-kept None None none h = (refl, h)
+  fails-kept None (Some loss) none h = let z : Some loss ≡ None = none in absurd (let u : ⊥ = cc in u)
+  fails-kept (Some before) None none h = absurd h
+  fails-kept (Some before) (Some loss) none h = let z : Some loss ≡ None = none in absurd (let u : ⊥ = cc in u)
+
+-- ## All of it
+
+module _ {D : Type 0} (g : Ghosts D) (y : Shape) (asked : Option Start) (faulty : Bool) (newest next : Label) (columns after : List Column) (old new : List (Option D)) (lost : Option Loss) (began : Option Start)
+    (within : IsWithin asked (length columns)) (h : HasOpened g y asked faulty newest next columns after old new lost began) where
+  pub within-begun : IsWithin asked (length h.begun)
+  within-begun = subst (λ n. IsWithin asked n) (sym h.has.named.dies.count) within
+
+  abbrev Begun : ℕ → ℕ → Type 0
+  Begun = MayBegin g (sweep_in newest) y columns old
+
+  since : Dies (LosesDevice g (without asked h.begun) h.opened new) (without asked h.begun) after
+  since = fails-dies g h.first next (without asked h.begun) after h.opened new h.before lost h.fails
+
+  -- a device that is in use behind the death was in use
+  was-first : (d n : ℕ) → IsFirstInUse (without asked h.begun) d n → Begun d n
+  was-first d n on =
+      let begun = live-before (IsOf asked) h.begun (without asked h.begun) (without-dies asked h.begun) on.col d on.live in
+      inl (record { col = on.col; live = live-before (LosesDevice g columns old h.opened) columns h.begun h.has.named.dies on.col d begun; first = on.first })
+
+  moved-since : Changes g Begun h.opened new
+  moved-since = changes-more g (IsFirstInUse (without asked h.begun)) Begun h.opened new was-first (fails-moved g h.first next (without asked h.begun) after h.opened new h.before lost h.fails)
+
+  pub opened-moved : Changes g Begun old new
+  opened-moved = changes-then g Begun old h.opened new h.has.frame moved-since
+
+  abbrev Why : ℕ → Type 0
+  Why c = IsOf asked c ⊎ LosesDevice g columns old new c
+
+  lost-first : (c : ℕ) → LosesDevice g columns old h.opened c → Why c
+  lost-first c why = inr (record { device = why.device; had = why.had; rose = rises-wider g (λ _ _. ⊥) Begun old old h.opened new why.device (changes-refl g (λ _ _. ⊥) old) why.rose moved-since })
+
+  lost-then : (c : ℕ) → LosesDevice g (without asked h.begun) h.opened new c → Why c
+  lost-then c why =
+      let begun = live-before (IsOf asked) h.begun (without asked h.begun) (without-dies asked h.begun) c why.device why.had in
+      inr
+      (record {
+        device = why.device;
+        had = live-before (LosesDevice g columns old h.opened) columns h.begun h.has.named.dies c why.device begun;
+        rose = rises-wider g Begun (λ _ _. ⊥) old h.opened new new why.device h.has.frame why.rose (changes-refl g (λ _ _. ⊥) new);
+      })
+
+  pub opened-dies : Dies Why columns after
+  opened-dies =
+      dies-then Why columns h.begun after (dies-more (LosesDevice g columns old h.opened) Why columns h.begun lost-first h.has.named.dies)
+      (dies-then Why h.begun (without asked h.begun) after (dies-more (IsOf asked) Why h.begun (without asked h.begun) (λ c of. inl of) (without-dies asked h.begun))
+      (dies-more (LosesDevice g (without asked h.begun) h.opened new) Why (without asked h.begun) after lost-then since))
+
+  pub opened-any : Dies AnyCause columns after
+  opened-any = dies-more Why AnyCause columns after (λ c why. tt) opened-dies
+
+  pub opened-dead : (c : ℕ) → IsOf asked c → slice_get after c ≡ Some column.Dead
+  opened-dead c of = elim (since.each c) [
+    | inl same ↦ same ∙ without-dead asked h.begun c within-begun of
+    | inr dead ↦ dead.0
+  ]
+
+-- an array that was lost so
+pub lost-before : {D : Type 0} (g : Ghosts D) (a : Work) (newest last : Label) (faulty : Bool) (taken back : List (Option D)) (columns : List Column) (lost : Option Loss) (began : Option Start) → IsWithin a.start (length a.columns)
+    → HasOpened g a.layout a.start faulty newest last a.columns columns taken back lost began → (loss : Loss) → lost ≡ Some loss → IsLostBefore g a newest taken (record { columns = columns; lost = lost }) back
+lost-before g a newest last faulty taken back columns lost began within h loss is = record {
+  opened = h.opened;
+  begun = h.begun;
+  first = h.first;
+  last = last;
+  before = h.before;
+  begins = record { found = h.found; has = h.has; lost_is = h.was_lost };
+  fails = h.fails;
+  loss = loss;
+  lost = is;
+  lost_is = subst (λ (o : Option Loss). IsLossOf a.layout None (states_of a.layout columns) o) is h.lost_is;
+  named = λ c of. opened-dead g a.layout a.start faulty newest last a.columns columns taken back lost began within h c of;
+  frame = opened-moved g a.layout a.start faulty newest last a.columns columns taken back lost began within h;
+  dies = opened-dies g a.layout a.start faulty newest last a.columns columns taken back lost began within h;
+}

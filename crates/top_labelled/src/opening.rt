@@ -1,0 +1,81 @@
+//! The beginning of an array, up to the opening of a core.
+ghost use Rattle.std.specs.Prelude.{◌≡◌, ◌≤◌, ◌<◌, ◌+◌, ◌*◌, ◌^◌, None, length};
+ghost use Rattle.eng_cols.specs.Cols.{IsFor};
+ghost use Rattle.raid_label.specs.Bytes.{IsHeld};
+ghost use Rattle.top_acts.specs.Begun.{CanAct};
+ghost use Rattle.top_acts.specs.Failed.{EndsFailed};
+ghost use Rattle.top_close.specs.Ended.{IsLossOf, states_of};
+ghost use Rattle.top_labelled.specs.Begun.{IsWithin, without};
+ghost use Rattle.top_labelled.specs.Between.{HasOpened};
+
+use crate::in_place::{is_in_place, unless_failed};
+use blk_disk::Disk;
+use eng_array::Start;
+use eng_cols::Cols;
+use lay_core::Layout;
+use raid_label::Label;
+use raid_recon::Room;
+use top_acts::{begin_labelled, fail_column};
+use top_close::Ending;
+
+// The column is dead that is to be rebuilt, where one is.
+fn fail_asked<L: Layout, D: Disk>(
+    start: Option<Start>,
+    layout: &L,
+    devices: &mut [Option<D>],
+    ending: &mut Ending,
+    label: &mut Label,
+    judge: &mut Cols,
+)
+    requires within { IsWithin start (length ending.old.columns.items) }
+    requires can { CanAct D.Disk (L.shape layout.now) ending.old.columns.items devices.old }
+    requires held { IsHeld label.old }
+    requires counter { label.old.counter + 33 < 2 ^ 32 }
+    requires by { IsLossOf (L.shape layout.now) None
+        (states_of (L.shape layout.now) ending.old.columns.items) ending.old.lost }
+    requires judge { IsFor (L.shape layout.now) judge.old }
+    ensures ends { EndsFailed D.Disk ending.old.lost ending.new.lost label.old label.new
+        (without start ending.old.columns.items) ending.new.columns.items devices.old devices.new }
+    ensures lost { IsLossOf (L.shape layout.now) None
+        (states_of (L.shape layout.now) ending.new.columns.items) ending.new.lost }
+    ensures can { CanAct D.Disk (L.shape layout.now) ending.new.columns.items devices.new }
+    ensures held { IsHeld label.new }
+    ensures judge { IsFor (L.shape layout.now) judge.new }
+{
+    if let Some(start) = start {
+        fail_column(layout, devices, ending, start.column(), label, judge);
+    }
+}
+
+/// Writes the opening round, and sweeps the check units where the newest label isn't clean. Then the
+/// column is dead that is to be rebuilt, and where the array is lost by that, its one round is
+/// written. Says what begins of the rebuild.
+pub(crate) fn opened<L: Layout, D: Disk>(
+    start: Option<Start>,
+    failed: bool,
+    layout: &L,
+    devices: &mut [Option<D>],
+    ending: &mut Ending,
+    label: &mut Label,
+    room: &mut Room,
+    judge: &mut Cols,
+) -> Option<Start>
+    requires within { IsWithin start (length ending.old.columns.items) }
+    requires can { CanAct D.Disk (L.shape layout.now) ending.old.columns.items devices.old }
+    requires held { IsHeld label.old }
+    requires counter { label.old.counter + 67 < 2 ^ 32 }
+    requires room { 1024 * (L.shape layout.now).unit_sectors ≤ room.old }
+    requires judge { IsFor (L.shape layout.now) judge.old }
+    ensures opened { HasOpened D.Disk (L.shape layout.now) start failed label.old label.new
+        ending.old.columns.items ending.new.columns.items devices.old devices.new ending.new.lost result }
+    ensures can { CanAct D.Disk (L.shape layout.now) ending.new.columns.items devices.new }
+    ensures held { IsHeld label.new }
+    ensures judge { IsFor (L.shape layout.now) judge.new }
+{
+    let dirty = label.clean == 0;
+    let was = is_in_place(start, &ending.columns);
+    let _ = begin_labelled(layout, devices, ending, label, dirty, room, judge);
+    let is = is_in_place(start, &ending.columns);
+    fail_asked(start, layout, devices, ending, label, judge);
+    unless_failed(failed, start, was, is)
+}
