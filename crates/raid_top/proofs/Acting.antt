@@ -1,19 +1,19 @@
 -- What is so once what was due was done, or was refused for want of memory.
-use Rattle.std.specs.Prelude.{◌≡◌, ◌⊎◌, ℕ, List, length, Option, Some, Result, Ok, Err, Contains}
+use Rattle.std.specs.Prelude.{◌≡◌, List, length, Option, Ok, Contains}
 use Rattle.std.proofs.Common.{refl, sym, ap, subst, inl, inr, ◌∙◌}
 use Rattle.blk_disk.specs.declared.disk.Disk.{Ghosts}
 use Rattle.blk_disk.specs.Devices.{AreNamed, Changes}
 use Rattle.raid_text.specs.Text.{Text}
-use Rattle.top_bay.specs.Asked.{Asked, asked_in, names_for}
+use Rattle.top_bay.specs.Asked.{Asked, names_for}
 use Rattle.top_bay.specs.Lent.{AreBack, AreOut}
 use Rattle.top_bay.specs.Told.{Told}
 use Rattle.top_open.specs.declared.fronts.Front.{Front}
 use Rattle.top_status.specs.declared.status.Status.TheVariants as status
-use Rattle.top_status.specs.Refusals.{Refused, only}
-use Rattle.top_words.specs.Asked.{Action, command_of}
+use Rattle.top_status.specs.Refusals.{Refused}
+use Rattle.top_words.specs.Asked.{command_of}
 use Rattle.top_duty.specs.declared.duty.Duty.{Duty as DeclaredDuty}
 use Rattle.top_duty.specs.declared.duty.Duty.TheVariants as declared
-use Rattle.top_duty.specs.Duty.{Admitted, Duty, OnArray, IsWanted, asked_of, beside_dead, duty_in}
+use Rattle.top_duty.specs.Duty.{Duty, IsWanted, asked_of, duty_in}
 use Rattle.top_duty.specs.Opening.{reads_fronts}
 use Rattle.top_duty.specs.Taken.{IsTaken, Reads, RefusedFor, WasRead}
 use Rattle.top_duty.specs.Views as views

@@ -1,24 +1,23 @@
 -- A call by which all that is asked for is right ends well, or for want of memory.
-use Rattle.std.specs.Prelude.{◌≡◌, ◌⊎◌, ℕ, List, Option, Ok, Err}
+use Rattle.std.specs.Prelude.{◌≡◌, ℕ, List}
 use Rattle.std.proofs.Common.{inl, inr, sym, ap, subst, ◌∙◌}
 use Rattle.blk_disk.specs.Devices.{AreNamed}
 use Rattle.blk_disk.specs.declared.disk.Disk.{Ghosts}
 use Rattle.raid_text.specs.Text.{Text}
 use Rattle.top_bay.specs.Asked.{Asked, names_for}
 use Rattle.top_bay.specs.Told.{Told}
-use Rattle.top_open.specs.declared.fronts.Front.{Front}
 use Rattle.top_status.specs.declared.status.Status.{Status}
 use Rattle.top_status.specs.declared.status.Status.TheVariants as status
 use Rattle.top_status.specs.Refusals.{Refused}
 use Rattle.top_duty.specs.Duty.{Duty, asked_of, duty_in}
 use Rattle.top_duty.specs.Opening.{reads_fronts}
-use Rattle.top_duty.specs.Taken.{MemoryAt, RefusedAt, RefusedFor}
+use Rattle.top_duty.specs.Taken.{RefusedAt, RefusedFor}
 use Rattle.blk_disk.proofs.DeviceLaws.{changes-refl}
-use Rattle.raid_top.specs.Ends.{Acted, Acts, Answers, EndsWell, IsDue, IsRight, MayRead, Survives}
+use Rattle.raid_top.specs.Ends.{Acted, Acts, Answers, EndsWell, IsRight, MayRead, Survives}
 use Rattle.raid_top.specs.Outcome.{Outcome, Ran, Did, Looked, Refuses, status_of}
 use Rattle.raid_top.proofs.Frames.{AnySector, due_moves}
 use Rattle.raid_top.proofs.Reading.{may_read, reads_still}
-use Rattle.raid_top.proofs.Wanted.{asked_is, due_or_refused, is_made, one_duty}
+use Rattle.raid_top.proofs.Wanted.{asked_is, due_or_refused, is_made, is_named, one_duty}
 use Rattle.raid_top.proofs.Well.{due_well}
 
 module _ {D : Type 0} (g : Ghosts D) (b : Told D) (words : List Text) (told : b.tells) (right : IsRight g b words) (sound : b.rose → ⊥) where
@@ -36,7 +35,7 @@ module _ {D : Type 0} (g : Ghosts D) (b : Told D) (words : List Text) (told : b.
       let survives = subst (λ (d : Duty). Survives g d acted.taken acted.back) one due.survives in
       due_well g words acted.duty acted.fronts acted.taken acted.old acted.back o
       (reads_still g acted.taken acted.old acted.back acted.fronts (reads_fronts (asked_of acted.duty).command.action) acted.read)
-      survives acted.words_are acted.does
+      survives acted.words_are (is_named g.size b words acted.fronts acted.duty made.is) acted.does
 
   for_memory : (r : Refused) → r.status ≡ status.Memory → EndsWell words r.status
   for_memory r e = subst (λ (s : Status). EndsWell words s) (sym e) tt

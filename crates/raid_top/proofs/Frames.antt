@@ -1,5 +1,5 @@
 -- What was done to devices: sizes stay, counts of faults don't fall, and calls come behind those of before.
-use Rattle.std.specs.Prelude.{◌≡◌, ℕ, List, [], ◌∷◌, Option, Some, None}
+use Rattle.std.specs.Prelude.{ℕ, Bool, List, [], ◌∷◌, Option, Some, None}
 use Rattle.std.proofs.Common.{inl, inr, sym, subst}
 use Rattle.blk_disk.specs.declared.disk.Disk.{Ghosts}
 use Rattle.blk_disk.specs.Devices.{Changes}
@@ -10,12 +10,12 @@ use Rattle.eng_cols.specs.declared.spot.Loss.{Loss}
 use Rattle.raid_label.specs.declared.label.Label.{Label}
 use Rattle.top_acts.specs.declared.done.Done.{Done}
 use Rattle.top_acts.specs.declared.sweeping.Renewal.{Renewal}
-use Rattle.top_acts.specs.Killed.{EndsAlive}
 use Rattle.top_rounds.specs.Rounds.{HaveRounds}
 use Rattle.top_run.specs.Work.{Ending}
 use Rattle.top_open.specs.declared.fronts.Front.{Front}
 use Rattle.top_words.specs.Asked.{Action, Io, Sweep, Show, Init, Check, Rewrite, Print, Fail, ShowLabel, Label as Labels, Rebuild}
 use Rattle.top_duty.specs.Duty.{Admitted, Duty, OnArray, Shows, OneLabel, PrintConf}
+use Rattle.top_duty.specs.Start.{has_failed}
 use Rattle.raid_top.specs.declared.array.Order.{Order}
 use Rattle.raid_top.specs.declared.array.Order.TheVariants as order
 use Rattle.raid_top.specs.Arrays.{DoesOrder, Renews}
@@ -51,34 +51,34 @@ module _ {D : Type 0} (g : Ghosts D) where
     ]
     order_moves (order.Label l) h = rounds_move e.lost _ h.0 e.columns (h.1).rounds
 
-  module _ (a : Admitted) (old back : List (Option D)) where
-    it_moves : (it : Option Order) (o : Outcome) → DoesIt g a old back it o → Moves old back
+  module _ (a : Admitted) (failed : Bool) (old back : List (Option D)) where
+    it_moves : (it : Option Order) (o : Outcome) → DoesIt g a failed old back it o → Moves old back
     it_moves (Some it) (Did act e) h = order_moves _ _ old back act e it h
     it_moves (Some it) (Ran action s) h = absurd h
     it_moves (Some it) (Looked text) h = absurd h
     it_moves (Some it) (Refuses r) h = absurd h
     it_moves None o h = absurd h
 
-    pub run_moves : (newest : Option Label) (o : Outcome) → DoesRun g a old back newest o → Moves old back
+    pub run_moves : (newest : Option Label) (o : Outcome) → DoesRun g a failed old back newest o → Moves old back
     run_moves None (Ran action s) h = moved _ old back h.1.ran.ends.frame
     run_moves None (Did act e) h = absurd h
     run_moves (Some l) (Ran action s) h = moved _ old back h.1.ran.leaves.frame
-    run_moves (Some l) (Did act e) h = moved _ old back h.1.begins.has.frame
+    run_moves (Some l) (Did act e) h = moved _ old back h.1.frame
     run_moves newest (Looked text) h = absurd h
     run_moves newest (Refuses r) h = absurd h
 
-    array_moves : (action : Action) (o : Outcome) → DoesArray g a old back action o → Moves old back
+    array_moves : (action : Action) (o : Outcome) → DoesArray g a failed old back action o → Moves old back
     array_moves (Io beside workers) o h = run_moves a.opened.newest o h
     array_moves (Sweep seed clients ops workers) o h = run_moves a.opened.newest o h
-    array_moves Show o h = it_moves (order_of g a old back Show) o h
-    array_moves Init o h = it_moves (order_of g a old back Init) o h
-    array_moves Check o h = it_moves (order_of g a old back Check) o h
-    array_moves Rewrite o h = it_moves (order_of g a old back Rewrite) o h
-    array_moves Print o h = it_moves (order_of g a old back Print) o h
-    array_moves (Fail comp) o h = it_moves (order_of g a old back (Fail comp)) o h
-    array_moves (ShowLabel comp) o h = it_moves (order_of g a old back (ShowLabel comp)) o h
-    array_moves (Labels serial) o h = it_moves (order_of g a old back (Labels serial)) o h
-    array_moves (Rebuild in_place comp beside workers) o h = it_moves (order_of g a old back (Rebuild in_place comp beside workers)) o h
+    array_moves Show o h = it_moves (order_of g a failed old back Show) o h
+    array_moves Init o h = it_moves (order_of g a failed old back Init) o h
+    array_moves Check o h = it_moves (order_of g a failed old back Check) o h
+    array_moves Rewrite o h = it_moves (order_of g a failed old back Rewrite) o h
+    array_moves Print o h = it_moves (order_of g a failed old back Print) o h
+    array_moves (Fail comp) o h = it_moves (order_of g a failed old back (Fail comp)) o h
+    array_moves (ShowLabel comp) o h = it_moves (order_of g a failed old back (ShowLabel comp)) o h
+    array_moves (Labels serial) o h = it_moves (order_of g a failed old back (Labels serial)) o h
+    array_moves (Rebuild in_place comp beside workers) o h = run_moves a.opened.newest o h
 
   saying_moves : (old back : List (Option D)) (said : List ℕ) (o : Outcome) → Says g old back said o → Moves old back
   saying_moves old back said (Looked text) h = subst (λ (ds : List (Option D)). Moves old ds) (sym h.1) (changes-refl g AnySector old)
@@ -92,7 +92,7 @@ module _ {D : Type 0} (g : Ghosts D) where
   label_moves old back (front ∷ (other ∷ fronts)) o h = absurd h
 
   pub due_moves : (duty : Duty) (fronts : List Front) (old back : List (Option D)) (o : Outcome) → Does g duty fronts old back o → Moves old back
-  due_moves (OnArray a) fronts old back o h = array_moves a old back a.asked.command.action o h
+  due_moves (OnArray a) fronts old back o h = array_moves a (has_failed a.start fronts) old back a.asked.command.action o h
   due_moves (Shows k opened) fronts old back o h = saying_moves old back _ o h
   due_moves (OneLabel k) fronts old back o h = label_moves old back fronts o h
   due_moves (PrintConf k) fronts old back o h = saying_moves old back _ o h

@@ -1,7 +1,7 @@
 -- What came of a command leaves each device in its place.
-use Rattle.std.specs.Prelude.{◌≡◌, ℕ, List, Option, Vec, Result, Ok, Err, IfOk, IfErr, OnErr}
+use Rattle.std.specs.Prelude.{◌≡◌, List, Option, Vec, Result, Ok, Err, IfOk, IfErr, OnErr}
 use Rattle.std.specs.declared.alloc.Global.{Global}
-use Rattle.std.proofs.Common.{refl, sym, subst}
+use Rattle.std.proofs.Common.{sym, subst}
 use Rattle.blk_disk.specs.declared.disk.Disk.{Ghosts}
 use Rattle.blk_disk.proofs.DeviceLaws.{changes-refl}
 use Rattle.top_open.specs.declared.fronts.Front.{Front}

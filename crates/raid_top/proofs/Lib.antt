@@ -2,10 +2,11 @@ mod Endings
 mod Frames
 mod Reading
 mod Wanted
+mod Surviving
+mod Rebuilds
 mod Setups
 mod Works
 mod Backs
-mod Surviving
 mod Well
 mod Completing
 mod Labels

@@ -1,15 +1,12 @@
 -- What an action asks to be done to an array may be done to it.
-use Rattle.std.specs.Prelude.{◌≡◌, ◌≤◌, ◌<◌, ◌+◌, ◌^◌, ℕ, Bool, true, false, List, length, Option, Some, None}
-use Rattle.std.proofs.Common.{arith, refl, sym, ap, subst, ◌∙◌}
+use Rattle.std.specs.Prelude.{◌≡◌, ◌<◌, ℕ, Bool, true, List, Option, Some, None}
+use Rattle.std.proofs.Common.{arith, refl, sym, ap, subst}
 use Rattle.blk_disk.specs.declared.disk.Disk.{Ghosts}
-use Rattle.lay_core.specs.Layout.{Shape}
-use Rattle.eng_cols.specs.declared.column.Column.{Column}
 use Rattle.raid_conf.specs.declared.conf.Conf.{Conf}
 use Rattle.raid_conf.specs.Layouts.{shape_of}
 use Rattle.raid_label.specs.declared.label.Label.{Label}
 use Rattle.raid_recon.specs.Array.{IsArray}
-use Rattle.top_acts.specs.declared.sweeping.Renewal.TheVariants as renewal
-use Rattle.top_bay.specs.Asked.{Asked, has_action, names_by, names_of}
+use Rattle.top_bay.specs.Asked.{Asked, names_by, names_of}
 use Rattle.top_bay.specs.Views.{IsKnown, IsWithin}
 use Rattle.top_open.specs.Opening.{Opened}
 use Rattle.top_words.specs.Asked.{Action, Io, Sweep, Show, Init, Check, Rewrite, Print, Fail, ShowLabel, Label as Labels, Rebuild}
@@ -23,8 +20,8 @@ use Rattle.raid_top.specs.declared.came.Came.{Came}
 use Rattle.raid_top.specs.declared.came.Came.TheVariants as came
 use Rattle.raid_top.specs.Arrays.{HasRounds, IsNewest, MayDo}
 use Rattle.raid_top.specs.Does.{DoesArray, DoesIt, DoesRun, order_of}
-use Rattle.raid_top.specs.Orders.{first_label, kill_of, order_by}
-use Rattle.raid_top.specs.Outcome.{Outcome, Ran, Did, Looked, Refuses}
+use Rattle.raid_top.specs.Orders.{kill_of, order_by}
+use Rattle.raid_top.specs.Outcome.{Outcome}
 use Rattle.raid_top.specs.Served.{ComesOfOrder, IsRun}
 use Rattle.raid_top.specs.Views.{outcome_seen}
 
@@ -37,34 +34,21 @@ no_kill (Some c) (Some l) at one m two e = cc e
 
 -- an action on an array that asks for nothing to be done without a core serves clients
 pub serves : (action : Action) (comp : Option ℕ) (newest : Option Label) (conf : Conf) (rows : ℕ)
-    → has_action action ≡ true → kind_of action ≡ kind_of Init → IsKnown conf action comp → ((needs_for action comp).labels ≡ true → (l : Label) × (newest ≡ Some l))
+    → kind_of action ≡ kind_of Init → IsKnown conf action comp → ((needs_for action comp).labels ≡ true → (l : Label) × (newest ≡ Some l))
     → order_by action comp newest conf rows ≡ None → IsRun action
-serves (Io beside workers) comp newest conf rows has kind known labels e = tt
-serves (Sweep seed clients ops workers) comp newest conf rows has kind known labels e = tt
-serves Show comp newest conf rows has kind known labels e = absurd (let z : ⊥ = cc kind in z)
-serves Init comp newest conf rows has kind known labels e = absurd (let z : ⊥ = cc e in z)
-serves Check comp newest conf rows has kind known labels e = absurd (let z : ⊥ = cc e in z)
-serves Rewrite comp newest conf rows has kind known labels e = absurd (let z : ⊥ = cc e in z)
-serves Print comp newest conf rows has kind known labels e = absurd (let z : ⊥ = cc kind in z)
-serves (Fail name) comp newest conf rows has kind known labels e = let l = labels refl in absurd (no_kill comp newest known.at known.is l.0 l.1 e)
-serves (ShowLabel name) comp newest conf rows has kind known labels e = absurd (let z : ⊥ = cc kind in z)
-serves (Labels serial) comp newest conf rows has kind known labels e = absurd (let z : ⊥ = cc e in z)
-serves (Rebuild in_place name beside workers) comp newest conf rows has kind known labels e = absurd (let z : ⊥ = cc has in z)
+serves (Io beside workers) comp newest conf rows kind known labels e = tt
+serves (Sweep seed clients ops workers) comp newest conf rows kind known labels e = tt
+serves Show comp newest conf rows kind known labels e = absurd (let z : ⊥ = cc kind in z)
+serves Init comp newest conf rows kind known labels e = absurd (let z : ⊥ = cc e in z)
+serves Check comp newest conf rows kind known labels e = absurd (let z : ⊥ = cc e in z)
+serves Rewrite comp newest conf rows kind known labels e = absurd (let z : ⊥ = cc e in z)
+serves Print comp newest conf rows kind known labels e = absurd (let z : ⊥ = cc kind in z)
+serves (Fail name) comp newest conf rows kind known labels e = let l = labels refl in absurd (no_kill comp newest known.at known.is l.0 l.1 e)
+serves (ShowLabel name) comp newest conf rows kind known labels e = absurd (let z : ⊥ = cc kind in z)
+serves (Labels serial) comp newest conf rows kind known labels e = absurd (let z : ⊥ = cc e in z)
+serves (Rebuild in_place name beside workers) comp newest conf rows kind known labels e = tt
 
--- and such an action excuses no column, and writes labels
-pub run_excuses : (action : Action) (comp : Option ℕ) → IsRun action → (needs_for action comp).excused ≡ None
-run_excuses (Io beside workers) comp is = refl
-run_excuses (Sweep seed clients ops workers) comp is = refl
-run_excuses Show comp is = absurd is
-run_excuses Init comp is = absurd is
-run_excuses Check comp is = absurd is
-run_excuses Rewrite comp is = absurd is
-run_excuses Print comp is = absurd is
-run_excuses (Fail name) comp is = absurd is
-run_excuses (ShowLabel name) comp is = absurd is
-run_excuses (Labels serial) comp is = absurd is
-run_excuses (Rebuild in_place name beside workers) comp is = absurd is
-
+-- and such an action writes labels
 pub run_writes : (action : Action) (comp : Option ℕ) → IsRun action → (needs_for action comp).writes ≡ true
 run_writes (Io beside workers) comp is = refl
 run_writes (Sweep seed clients ops workers) comp is = refl
@@ -76,7 +60,7 @@ run_writes Print comp is = absurd is
 run_writes (Fail name) comp is = absurd is
 run_writes (ShowLabel name) comp is = absurd is
 run_writes (Labels serial) comp is = absurd is
-run_writes (Rebuild in_place name beside workers) comp is = absurd is
+run_writes (Rebuild in_place name beside workers) comp is = refl
 
 -- ## What may be done
 
@@ -91,8 +75,8 @@ module _ {D : Type 0} (g : Ghosts D) (k : Asked) (o : Opened) (devices : List (O
   newest_is None writes is = tt
   newest_is (Some l) writes is = rounds_of l writes is
 
-  array : (needs_of k).excused ≡ None → IsArray g (shape_of k.conf o.rows) o.columns devices
-  array none = fit_array g k o devices fit within.conf none
+  array : IsArray g (shape_of k.conf o.rows) o.columns devices
+  array = fit_array g k o devices fit within.conf
 
   may_kill : (comp : Option ℕ) (newest : Option Label) (it : Order) (at : ℕ) → comp ≡ Some at → at < k.conf.columns → (needs_of k).writes ≡ true → o.newest ≡ newest → kill_of comp newest ≡ Some it
       → MayDo g (shape_of k.conf o.rows) o.columns it devices
@@ -105,11 +89,11 @@ module _ {D : Type 0} (g : Ghosts D) (k : Asked) (o : Opened) (devices : List (O
 
   pub may_do : (action : Action) (it : Order) → k.command.action ≡ action → order_by action k.comp o.newest k.conf o.rows ≡ Some it → MayDo g (shape_of k.conf o.rows) o.columns it devices
   may_do Init it same e = subst (λ (x : Order). MayDo g (shape_of k.conf o.rows) o.columns x devices) (same_order _ it e)
-      (array (ap (λ (a : Action). (needs_for a k.comp).excused) same), newest_is o.newest (ap (λ (a : Action). (needs_for a k.comp).writes) same) refl)
+      (array, newest_is o.newest (ap (λ (a : Action). (needs_for a k.comp).writes) same) refl)
   may_do Rewrite it same e = subst (λ (x : Order). MayDo g (shape_of k.conf o.rows) o.columns x devices) (same_order _ it e)
-      (array (ap (λ (a : Action). (needs_for a k.comp).excused) same), newest_is o.newest (ap (λ (a : Action). (needs_for a k.comp).writes) same) refl)
+      (array, newest_is o.newest (ap (λ (a : Action). (needs_for a k.comp).writes) same) refl)
   may_do Check it same e = subst (λ (x : Order). MayDo g (shape_of k.conf o.rows) o.columns x devices) (same_order _ it e)
-      (array (ap (λ (a : Action). (needs_for a k.comp).excused) same))
+      array
   may_do (Fail name) it same e =
       let known = subst (λ (a : Action). IsKnown k.conf a k.comp) same within.known in
       may_kill k.comp o.newest it known.at known.is known.within (ap (λ (a : Action). (needs_for a k.comp).writes) same) refl e
@@ -124,20 +108,20 @@ module _ {D : Type 0} (g : Ghosts D) (k : Asked) (o : Opened) (devices : List (O
 
 -- ## What was done
 
-module _ {D : Type 0} (g : Ghosts D) (a : Admitted) (old back : List (Option D)) where
-  comes_it : (it : Order) (action : Action) (conf : Conf) (c : Came) → ComesOfOrder g (layout_of a) (columns_of a) old back it c → DoesIt g a old back (Some it) (outcome_seen action conf c)
+module _ {D : Type 0} (g : Ghosts D) (a : Admitted) (failed : Bool) (old back : List (Option D)) where
+  comes_it : (it : Order) (action : Action) (conf : Conf) (c : Came) → ComesOfOrder g (layout_of a) (columns_of a) old back it c → DoesIt g a failed old back (Some it) (outcome_seen action conf c)
   comes_it it action conf (came.Did act ending) h = h
   comes_it it action conf (came.Ran service) h = absurd h
   comes_it it action conf (came.Shows opened sizes fronts) h = absurd h
   comes_it it action conf (came.ShowsLabel front) h = absurd h
   comes_it it action conf (came.Prints text) h = absurd h
 
-  it_does : (action : Action) (o : Outcome) (it : Order) → order_of g a old back action ≡ Some it → DoesIt g a old back (Some it) o → DoesArray g a old back action o
-  it_does Init o it e h = subst (λ (x : Option Order). DoesIt g a old back x o) (sym e) h
-  it_does Rewrite o it e h = subst (λ (x : Option Order). DoesIt g a old back x o) (sym e) h
-  it_does Check o it e h = subst (λ (x : Option Order). DoesIt g a old back x o) (sym e) h
-  it_does (Fail name) o it e h = subst (λ (x : Option Order). DoesIt g a old back x o) (sym e) h
-  it_does (Labels serial) o it e h = subst (λ (x : Option Order). DoesIt g a old back x o) (sym e) h
+  it_does : (action : Action) (o : Outcome) (it : Order) → order_of g a failed old back action ≡ Some it → DoesIt g a failed old back (Some it) o → DoesArray g a failed old back action o
+  it_does Init o it e h = subst (λ (x : Option Order). DoesIt g a failed old back x o) (sym e) h
+  it_does Rewrite o it e h = subst (λ (x : Option Order). DoesIt g a failed old back x o) (sym e) h
+  it_does Check o it e h = subst (λ (x : Option Order). DoesIt g a failed old back x o) (sym e) h
+  it_does (Fail name) o it e h = subst (λ (x : Option Order). DoesIt g a failed old back x o) (sym e) h
+  it_does (Labels serial) o it e h = subst (λ (x : Option Order). DoesIt g a failed old back x o) (sym e) h
   it_does (Io beside workers) o it e h = absurd (let z : ⊥ = cc e in z)
   it_does (Sweep seed clients ops workers) o it e h = absurd (let z : ⊥ = cc e in z)
   it_does Show o it e h = absurd (let z : ⊥ = cc e in z)
@@ -146,11 +130,11 @@ module _ {D : Type 0} (g : Ghosts D) (a : Admitted) (old back : List (Option D))
   it_does (Rebuild in_place name beside workers) o it e h = absurd (let z : ⊥ = cc e in z)
 
   -- what was asked was done
-  pub order_does : (action : Action) (conf : Conf) (it : Order) (c : Came) → order_of g a old back action ≡ Some it → ComesOfOrder g (layout_of a) (columns_of a) old back it c → DoesArray g a old back action (outcome_seen action conf c)
+  pub order_does : (action : Action) (conf : Conf) (it : Order) (c : Came) → order_of g a failed old back action ≡ Some it → ComesOfOrder g (layout_of a) (columns_of a) old back it c → DoesArray g a failed old back action (outcome_seen action conf c)
   order_does action conf it c e h = it_does action (outcome_seen action conf c) it e (comes_it it action conf c h)
 
   -- or clients were served
-  pub run_does : (action : Action) (o : Outcome) → IsRun action → DoesRun g a old back a.opened.newest o → DoesArray g a old back action o
+  pub run_does : (action : Action) (o : Outcome) → IsRun action → DoesRun g a failed old back a.opened.newest o → DoesArray g a failed old back action o
   run_does (Io beside workers) o is h = h
   run_does (Sweep seed clients ops workers) o is h = h
   run_does Show o is h = absurd is
@@ -161,7 +145,7 @@ module _ {D : Type 0} (g : Ghosts D) (a : Admitted) (old back : List (Option D))
   run_does (Fail name) o is h = absurd is
   run_does (ShowLabel name) o is h = absurd is
   run_does (Labels serial) o is h = absurd is
-  run_does (Rebuild in_place name beside workers) o is h = absurd is
+  run_does (Rebuild in_place name beside workers) o is h = h
 
 -- ## Names
 

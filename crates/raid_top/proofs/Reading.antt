@@ -1,14 +1,13 @@
 -- The first sectors of devices, as they were read.
 use Rattle.std.specs.Prelude.{◌≡◌, ℕ, Bool, true, false, List, length, Option}
-use Rattle.std.proofs.Common.{refl, sym, ap, subst, ◌∙◌}
+use Rattle.std.proofs.Common.{sym, ap, subst, ◌∙◌}
 use Rattle.std.proofs.lemmas.List.{length-replicate}
 use Rattle.blk_disk.specs.declared.disk.Disk.{Ghosts}
 use Rattle.blk_disk.specs.Devices.{Changes, RisesOn}
 use Rattle.blk_disk.proofs.DeviceLaws.{changes-refl, rises-wider}
-use Rattle.top_open.specs.Fronts.{AreFronts, IsFront}
+use Rattle.top_open.specs.Fronts.{IsFront}
 use Rattle.top_open.specs.declared.fronts.Front.{Front}
 use Rattle.top_open.specs.declared.fronts.Front.TheVariants.{Away, Unread, Held}
-use Rattle.top_duty.specs.Opening.{unread}
 use Rattle.top_duty.specs.Taken.{Reads}
 use Rattle.raid_top.specs.Ends.{MayRead}
 use Rattle.raid_top.proofs.Frames.{AnySector, Moves}

@@ -1,32 +1,32 @@
 -- What came of clients is what was to come of those that were admitted.
-use Rattle.std.specs.Prelude.{◌≡◌, ◌<◌, ◌≤◌, ℕ, List, length, map, Option, Some, None, Vec}
+use Rattle.std.specs.Prelude.{◌≡◌, ◌<◌, ◌≤◌, ℕ, Bool, List, length, map, Option, Some, None, Vec}
 use Rattle.std.specs.declared.alloc.Global.{Global}
 use Rattle.std.proofs.Common.{arith, refl, sym, ap, subst, ◌∙◌}
 use Rattle.std.proofs.lemmas.List.{length-map}
 use Rattle.blk_disk.specs.declared.disk.Disk.{Ghosts}
-use Rattle.blk_disk.specs.Devices.{contents_of}
-use Rattle.eng_cols.specs.Contents.{decode}
+use Rattle.eng_array.specs.declared.start.Start.{Start}
 use Rattle.eng_world.specs.declared.item.Item.{Item as AnyItem}
 use Rattle.lay_core.specs.Layout.{IsLayout, blocks_in}
 use Rattle.raid_conf.specs.declared.conf.Conf.{Conf}
 use Rattle.raid_conf.specs.Layouts.{shape_of}
 use Rattle.raid_label.specs.declared.label.Label.{Label}
-use Rattle.raid_script.specs.Asked.{AreFew, Asked as Item, seen}
+use Rattle.raid_script.specs.Asked.{AreFew, Asked as Item}
 use Rattle.raid_script.specs.Drawn.{drawn}
 use Rattle.top_bay.specs.Asked.{Asked}
 use Rattle.top_bay.specs.Views.{IsWithin}
 use Rattle.top_bound.specs.Laws.{asked_of}
 use Rattle.top_bound.proofs.Limits.{few-have-room}
-use Rattle.top_duty.specs.Duty.{Admitted, admitted_with, clients_by, layout_of, states_in}
+use Rattle.top_duty.specs.Duty.{Admitted, admitted_with, clients_by, layout_of}
+use Rattle.top_duty.specs.Start.{start_by, start_in}
 use Rattle.top_duty.specs.Views.{drawn_by}
 use Rattle.top_duty.proofs.Drawing.{either_few}
 use Rattle.top_duty.proofs.Tables.{some_blocks}
 use Rattle.top_labelled.specs.Ran.{RanLabelled}
-use Rattle.top_labelled.specs.Begun.{opened_as}
+use Rattle.top_labelled.specs.Begun.{opened_as, without}
 use Rattle.top_labelled.proofs.Outlived as labelled
 use Rattle.top_open.specs.Opening.{Opened}
+use Rattle.top_open.specs.declared.fronts.Front.{Front}
 use Rattle.top_run.specs.Ran as run
-use Rattle.top_run.specs.InTurn.{SweptInTurn}
 use Rattle.top_run.specs.Work.{Service}
 use Rattle.top_run.proofs.InTurnHeld.{swept-by-seed}
 use Rattle.top_run.proofs.Outlived.{answered, runs-answered}
@@ -34,7 +34,7 @@ use Rattle.top_words.specs.Asked.{Action, IsInRange, Sweep}
 use Rattle.raid_top.specs.declared.came.Came.{Came}
 use Rattle.raid_top.specs.declared.came.Came.TheVariants as came
 use Rattle.raid_top.specs.Does.{DoesRun, RunsLabelled, RunsPlain}
-use Rattle.raid_top.specs.Served.{CameOf}
+use Rattle.raid_top.specs.Served.{CameOf, ComesLabelled}
 use Rattle.lay_core.specs.declared.layout.Layout.{Ghosts as LayoutGhosts}
 use Rattle.top_labelled.specs.Given.{CameTo, Stands}
 use Rattle.top_labelled.specs.declared.labelled.Labelled.{Labelled}
@@ -50,9 +50,16 @@ drawn_are : (seed clients ops workers : ℕ) (scripted : List (List Item)) (bloc
 unfolding clients_by
 drawn_are seed clients ops workers scripted blocks = refl
 
-module _ {D : Type 0} (g : Ghosts D) (k : Asked) (o : Opened) (old back : List (Option D)) (within : IsWithin k) (law : IsLayout (shape_of k.conf o.rows)) where
+no_start : (action : Action) (comp : Option ℕ) (conf : Conf) (o : Opened) (sizes : List ℕ) (fronts : List Front) (seed clients ops workers : ℕ) → action ≡ Sweep seed clients ops workers → start_by action comp conf o sizes fronts ≡ None
+no_start action comp conf o sizes fronts seed clients ops workers is = ap (λ (x : Action). start_by x comp conf o sizes fronts) is
+
+module _ {D : Type 0} (g : Ghosts D) (k : Asked) (o : Opened) (start : Option Start) (failed : Bool) (sizes : List ℕ) (fronts : List Front) (starts : start ≡ start_in k o sizes fronts)
+    (old back : List (Option D)) (within : IsWithin k) (law : IsLayout (shape_of k.conf o.rows)) where
   abbrev a : Admitted
-  a = admitted_with k o
+  a = admitted_with k o start
+
+  unstarted : (seed clients ops workers : ℕ) → k.command.action ≡ Sweep seed clients ops workers → start ≡ None
+  unstarted seed clients ops workers is = starts ∙ no_start k.command.action k.comp k.conf o sizes fronts seed clients ops workers is
 
   drawn_so : (seed clients ops workers : ℕ) → k.command.action ≡ Sweep seed clients ops workers → (work_of a).clients ≡ drawn seed clients ops (blocks_in (layout_of a))
   drawn_so seed clients ops workers is =
@@ -62,21 +69,21 @@ module _ {D : Type 0} (g : Ghosts D) (k : Asked) (o : Opened) (old back : List (
   some : (seed clients ops workers : ℕ) → k.command.action ≡ Sweep seed clients ops workers → 0 < clients
   some seed clients ops workers is = let range : IsInRange (Sweep seed clients ops workers) = subst (λ (x : Action). IsInRange x) is within.action in omega (arith, range.0)
 
-  runs_plain : (s : Service) → run.Ran g (work_of a) old s back → RunsPlain g a old back s
+  runs_plain : (s : Service) → run.Ran g (work_of a) old s back → RunsPlain g a failed old back s
   runs_plain s ran = record {
     ran = ran;
     answered = answered g (work_of a) old back s ran;
     in_turn = λ seed clients ops workers is none. swept-by-seed g (work_of a) old back s ran seed clients ops (some seed clients ops workers is) (some_blocks (layout_of a) law) (drawn_so seed clients ops workers is) none;
   }
 
-  runs_labelled : (l : Label) (s : Service) → RanLabelled g (work_of a) l old s back → RunsLabelled g a old back l s
+  runs_labelled : (l : Label) (s : Service) → RanLabelled g (work_of a) l old s back failed → RunsLabelled g a failed old back l s
   runs_labelled l s ran = record {
     ran = ran;
-    answered = runs-answered g (opened_as (work_of a) ran.columns) ran.opened back s ran.run;
-    in_turn = λ seed clients ops workers is none. labelled.by-seed g (work_of a) l old s back ran seed clients ops (some seed clients ops workers is) (some_blocks (layout_of a) law) (drawn_so seed clients ops workers is) none;
+    answered = runs-answered g (opened_as (work_of a) (without start ran.begun) ran.began) ran.opened back s ran.run;
+    in_turn = λ seed clients ops workers is none. labelled.by-seed g (work_of a) l old s back failed ran seed clients ops (unstarted seed clients ops workers is) (some seed clients ops workers is) (some_blocks (layout_of a) law) (drawn_so seed clients ops workers is) none;
   }
 
-  pub came_does : (newest : Option Label) (action : Action) (conf : Conf) (c : Came) → action ≡ k.command.action → CameOf g (work_of a) newest old back c → DoesRun g a old back newest (outcome_seen action conf c)
+  pub came_does : (newest : Option Label) (action : Action) (conf : Conf) (c : Came) → action ≡ k.command.action → CameOf g (work_of a) newest failed old back c → DoesRun g a failed old back newest (outcome_seen action conf c)
   came_does None action conf (came.Ran service) same h = (same, runs_plain _ h)
   came_does (Some l) action conf (came.Ran service) same h = (same, runs_labelled l _ h)
   came_does None action conf (came.Did act ending) same h = absurd h
@@ -99,13 +106,10 @@ few_asked k blocks given within drawn is = (few-have-room given (subst (λ rows.
 -- ## A run over an array with labels
 
 module _ {L D : Type 0} (lay : LayoutGhosts L) (g : Ghosts D) (l : Labelled L D) where
-  few_ran : (s : Service) (back : List (Option D)) → length l.setup.clients.items ≤ 16 → RanLabelled g (run_works.work_of lay l.setup) l.label l.setup.devices.items s back → length s.clients ≤ 16
-  few_ran s back few ran = omega (arith, few, lengths-mapped (λ (items : Vec AnyItem Global). map seen items.items) s.clients l.setup.clients.items ran.run.tells.asked)
-
-  pub came_so : (o : Ended) (back : List (Option D)) → CameTo lay g l o back → CameOf g (run_works.work_of lay l.setup) (Some l.label) l.setup.devices.items back (came_from o)
+  pub came_so : (o : Ended) (back : List (Option D)) → CameTo lay g l o back → ComesLabelled g (run_works.work_of lay l.setup l.start) l.label l.failed l.setup.devices.items back (came_from o)
   came_so (ended.Ran service) back h = h
   came_so (ended.Lost ending) back h = (refl, h)
 
-  pub printed_so : (o : Ended) (back : List (Option D)) → length l.setup.clients.items ≤ 16 → CameTo lay g l o back → Stands o → CanBePrinted (came_from o)
-  printed_so (ended.Ran service) back few h stands = (stands, few_ran _ back few h)
-  printed_so (ended.Lost ending) back few h stands = tt
+  pub printed_so : (o : Ended) (back : List (Option D)) → CameTo lay g l o back → Stands o → CanBePrinted (came_from o)
+  printed_so (ended.Ran service) back h stands = (stands, h.run.tells.few)
+  printed_so (ended.Lost ending) back h stands = tt

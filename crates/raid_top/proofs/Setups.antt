@@ -1,5 +1,5 @@
 -- What was admitted may be served.
-use Rattle.std.specs.Prelude.{◌≡◌, ◌+◌, ◌*◌, ◌<◌, ◌≤◌, ◌&&◌, ℕ, zero, suc, Bool, true, false, List, [], ◌∷◌, length, map, All, Vec, Option, Some, None, nat_lt, count_by, slice_get}
+use Rattle.std.specs.Prelude.{◌≡◌, ◌+◌, ◌*◌, ◌<◌, ◌≤◌, ◌&&◌, ℕ, zero, suc, Bool, true, false, List, [], ◌∷◌, length, map, All, Vec, Option, Some, None, nat_lt, count_by, slice_get, slice_set}
 use Rattle.std.specs.Option.{ForSome}
 use Rattle.std.specs.declared.alloc.Global.{Global}
 use Rattle.std.proofs.Common.{arith, refl, sym, ap, subst, inl, inr, ◌∙◌}
@@ -10,7 +10,11 @@ use Rattle.blk_disk.specs.declared.disk.Disk.{Ghosts}
 use Rattle.lay_core.specs.Layout.{Shape}
 use Rattle.lay_core.specs.declared.layout.Layout.{Ghosts as LayoutGhosts}
 use Rattle.eng_cols.specs.declared.column.Column.{Column}
-use Rattle.eng_cols.specs.Cols.{HasDevice, is_set_filling, is_set_spread}
+use Rattle.eng_cols.specs.declared.column.Column.TheVariants as column
+use Rattle.eng_cols.specs.Cols.{HasDevice, is_set_filling, is_set_spread, state_set}
+use Rattle.eng_array.specs.Fitting.{FitsRebuilding, HasAtMost}
+use Rattle.eng_array.specs.Starts.{column_of}
+use Rattle.eng_array.specs.declared.start.Start.{Start}
 use Rattle.eng_cols.specs.Laws.{HaveSpares}
 use Rattle.eng_events.specs.Beginning as begin
 use Rattle.eng_events.specs.Opened.{IsSetup, NamesGraph, states_of}
@@ -20,9 +24,10 @@ use Rattle.eng_world.specs.declared.item.Item.{Item}
 use Rattle.eng_world.specs.declared.item.Item.TheVariants as item
 use Rattle.eng_world.specs.Step.{MayBeAsked}
 use Rattle.raid_script.specs.Asked.{AreFew, IsAsked, seen}
-use Rattle.top_bound.specs.Bound.{trace_sum}
+use Rattle.top_bound.specs.Bound.{rebuilds_sum, trace_sum}
 use Rattle.top_bound.specs.Laws.{asked_of}
-use Rattle.top_bound.proofs.Counted.{what-fits}
+use Rattle.top_bound.proofs.Counted.{what-fits, what-fits-rebuilt}
+use Rattle.top_bound.specs.Traced.{IsScriptOf}
 use Rattle.top_bound.proofs.Limits.{few-have-room, graphs-fit}
 use Rattle.std.proofs.lemmas.List.{length-append}
 use Rattle.lay_core.specs.Layout.{blocks_in}
@@ -33,17 +38,20 @@ use Rattle.top_bay.specs.Asked.{Asked, names_of}
 use Rattle.top_bay.specs.Views.{IsWithin}
 use Rattle.top_open.specs.Opening.{Opened}
 use Rattle.top_open.specs.declared.fronts.Front.{Front}
-use Rattle.top_duty.specs.Duty.{clients_by, traces, with_dead}
-use Rattle.top_duty.specs.Fit.{IsFit}
+use Rattle.top_duty.specs.Duty.{admitted_with, clients_by, rebuilds_by, rebuilds_of, traces, with_dead}
+use Rattle.top_duty.specs.Fit.{IsFit, IsStart, MayStart}
 use Rattle.top_duty.specs.Opening.{needs_of}
 use Rattle.top_duty.specs.Views.{IsReady, drawn_by}
 use Rattle.top_duty.proofs.Drawing.{either_asked, either_few}
 use Rattle.top_duty.proofs.Fits.{fit_apart, fit_labelled, fit_there}
-use Rattle.raid_conf.proofs.TableLaws.{shape-columns, shape-rows, shape-unit}
+use Rattle.raid_conf.proofs.TableLaws.{shape-columns}
 use Rattle.raid_label.specs.declared.label.Label.{Label}
 use Rattle.top_acts.specs.Acts.{IsSettable}
 use Rattle.top_rounds.specs.Passes.{CanBeLabelled}
+use Rattle.top_labelled.specs.Given as given
+use Rattle.top_labelled.specs.Given.{RebuildsIf}
 use Rattle.raid_top.specs.Served.{MayLabelIf, MayServe}
+use Rattle.raid_top.proofs.Rebuilds.{is_dead, kept_as_opened, may_rebuild}
 use Rattle.graph_text.specs.Format.{Named}
 use Rattle.graph_text.specs.FormatForm.{AreGraphs}
 
@@ -92,9 +100,12 @@ within_bound true n e h = elim (cases_lt 1048576 n) [
 ]
 within_bound false n e h = cc e
 
-within_sum : (y z : Shape) (book : List Named) (n : ℕ) (rows others : List (List Asks)) (t : Bool) → y ≡ z → rows ≡ others → t ≡ true → (t && nat_lt 1048576 (trace_sum z book n others)) ≡ false → trace_sum y book n rows ≤ 1048576
-within_sum y z book n rows others t one two kept h =
-    subst (λ (x : Shape). trace_sum x book n rows ≤ 1048576) (sym one) (subst (λ (r : List (List Asks)). trace_sum z book n r ≤ 1048576) (sym two) (within_bound t (trace_sum z book n others) kept h))
+-- with so many rebuilds
+within_sum : (y z : Shape) (book : List Named) (n more : ℕ) (rows others : List (List Asks)) (t : Bool) → y ≡ z → rows ≡ others → t ≡ true
+    → (t && nat_lt 1048576 (trace_sum z book n others + rebuilds_sum z n more)) ≡ false → trace_sum y book n rows + rebuilds_sum y n more ≤ 1048576
+within_sum y z book n more rows others t one two kept h =
+    subst (λ (x : Shape). trace_sum x book n rows + rebuilds_sum x n more ≤ 1048576) (sym one)
+    (subst (λ (r : List (List Asks)). trace_sum z book n r + rebuilds_sum z n more ≤ 1048576) (sym two) (within_bound t (trace_sum z book n others + rebuilds_sum z n more) kept h))
 
 -- ## The setup
 
@@ -107,12 +118,12 @@ IsApart z columns = (c e device : ℕ) → HasDevice (states_of z columns) c dev
 module _ {L D : Type 0} (lay : LayoutGhosts L) (disk : Ghosts D) (setup : Setup L D) where
   is_setup : (columns : ℕ) (book : List Named) (k : Asked) (o : Opened)
       → columns ≡ (lay.shape setup.layout).columns
-      → IsWithin k → IsFit disk k o setup.devices.items → (needs_of k).excused ≡ None → k.conf.columns ≡ columns
+      → IsWithin k → IsFit disk k o setup.devices.items → k.conf.columns ≡ columns
       → lay.shape setup.layout ≡ shape_of k.conf o.rows → setup.columns.items ≡ o.columns
       → All (All (IsAsked columns (length book))) (asked_of setup.clients.items)
       → AreGraphs book → map (λ g. g.drawn) setup.graphs.items ≡ map (λ g. g.graph) book
       → IsSetup lay disk setup
-  is_setup columns book k o same within fit none many shape cols asked graphs are =
+  is_setup columns book k o same within fit many shape cols asked graphs are =
       let y = lay.shape setup.layout in
       let as_many : length book ≡ length setup.graphs.items = sym (length-mapped (λ (g : Named). g.graph) book) ∙ (ap (λ l. length l) (sym are) ∙ length-mapped (λ g. g.drawn) setup.graphs.items) in
       record {
@@ -120,14 +131,14 @@ module _ {L D : Type 0} (lay : LayoutGhosts L) (disk : Ghosts D) (setup : Setup 
         filling = ap (λ (l : List Column). count_by is_set_filling l) cols ∙ fit.filling;
         spread = subst (λ (l : List Column). count_by is_set_spread l ≤ 1) (sym cols) fit.spread;
         spares = subst (λ (z : Shape). HaveSpares z (states_of z setup.columns.items)) (sym shape) (subst (λ (l : List Column). HaveSpares (shape_of k.conf o.rows) (states_of (shape_of k.conf o.rows) l)) (sym cols) fit.spares);
-        there = subst (λ (z : Shape). IsThere disk setup.devices.items z setup.columns.items) (sym shape) (subst (λ (l : List Column). IsThere disk setup.devices.items (shape_of k.conf o.rows) l) (sym cols) (λ c d h. fit_there disk k o setup.devices.items fit within.conf none (shape_of k.conf o.rows).stripes c d h));
+        there = subst (λ (z : Shape). IsThere disk setup.devices.items z setup.columns.items) (sym shape) (subst (λ (l : List Column). IsThere disk setup.devices.items (shape_of k.conf o.rows) l) (sym cols) (λ c d h. fit_there disk k o setup.devices.items fit within.conf (shape_of k.conf o.rows).stripes c d h));
         one_column = subst (λ (z : Shape). IsApart z setup.columns.items) (sym shape) (subst (λ (l : List Column). IsApart (shape_of k.conf o.rows) l) (sym cols) (λ c e d one other. fit_apart disk k o setup.devices.items fit (shape_of k.conf o.rows).stripes c e d one other));
         asked = λ c n i at. subst (λ (j : ℕ). begin.IsAsked y i × MayBeAsked y i × NamesGraph j i) as_many (may_run y columns (length book) i same (item_is columns (length book) setup.clients.items c n i asked at));
         fit = graphs-fit book setup.graphs.items graphs are;
       }
 
   -- what was admitted may be served
-  pub may_serve : (k : Asked) (o : Opened) (sizes : List ℕ) (fronts : List Front) → IsWithin k → IsReady k sizes fronts o → IsFit disk k o setup.devices.items → (needs_of k).excused ≡ None
+  pub may_serve : (k : Asked) (o : Opened) (start : Option Start) (sizes : List ℕ) (fronts : List Front) → IsWithin k → IsReady k sizes fronts o start → IsFit disk k o setup.devices.items
       → lay.shape setup.layout ≡ shape_of k.conf o.rows → setup.columns.items ≡ o.columns → length setup.devices.items ≡ length (names_of k.conf)
       → asked_of setup.clients.items ≡ clients_by k.command.action k.clients (blocks_in (shape_of k.conf o.rows))
       → All (All (IsAsked k.conf.columns (length k.book))) (drawn_by k.command.action (blocks_in (shape_of k.conf o.rows)))
@@ -135,7 +146,7 @@ module _ {L D : Type 0} (lay : LayoutGhosts L) (disk : Ghosts D) (setup : Setup 
       → map (λ g. g.drawn) setup.graphs.items ≡ map (λ g. g.graph) k.book
       → setup.trace ≡ traces k.command.action
       → MayServe lay disk setup
-  may_serve k o sizes fronts within ready fit none shape columns many clients drawn_asked drawn_few graphs trace =
+  may_serve k o start sizes fronts within ready fit shape columns many clients drawn_asked drawn_few graphs trace =
       let y = lay.shape setup.layout in
       let blocks = blocks_in (shape_of k.conf o.rows) in
       let conf = within.conf in
@@ -145,26 +156,87 @@ module _ {L D : Type 0} (lay : LayoutGhosts L) (disk : Ghosts D) (setup : Setup 
       let same : k.conf.columns ≡ y.columns = sym (shape-columns k.conf o.rows conf) ∙ sym (ap (λ (z : Shape). z.columns) shape) in
       let entries : length setup.columns.items ≡ k.conf.columns = ap (λ (l : List Column). length l) columns ∙ fit.entries in
       let names : length (names_of k.conf) ≡ k.conf.columns + k.conf.spares = length-append k.conf.disks k.conf.spare_names ∙ (ap (λ (n : ℕ). n + length k.conf.spare_names) conf.disk_count ∙ ap (λ (n : ℕ). k.conf.columns + n) conf.spare_count) in
-      let alive : NotLost (shape_of k.conf o.rows) (states_of (shape_of k.conf o.rows) o.columns) = subst (λ (c : Option ℕ). NotLost (shape_of k.conf o.rows) (states_of (shape_of k.conf o.rows) (with_dead c o.columns))) none ready.kept in
+      let alive : NotLost (shape_of k.conf o.rows) (states_of (shape_of k.conf o.rows) o.columns) = kept_as_opened (shape_of k.conf o.rows) (needs_of k).excused o.columns ready.kept in
       record {
-        opens = is_setup k.conf.columns k.book k o same within fit none refl shape columns asked within.graphs graphs;
+        opens = is_setup k.conf.columns k.book k o same within fit refl shape columns asked within.graphs graphs;
         few = record { clients = room.clients; items = room.items; sectors = room.sectors; devices = omega (arith, many, names, conf.columns_most, conf.spares_most) };
         trace = λ kept. what-fits lay setup k.book (length (names_of k.conf)) k.conf.columns (entries ∙ same) (omega (arith, same, names))
             (record { clients = room.clients; asked = asked; graphs_are = graphs })
-            (within_sum (lay.shape setup.layout) (shape_of k.conf o.rows) k.book (length (names_of k.conf)) (asked_of setup.clients.items) (clients_by k.command.action k.clients blocks) (traces k.command.action) shape clients (sym trace ∙ kept) ready.bound) kept;
+            (let all = within_sum (lay.shape setup.layout) (shape_of k.conf o.rows) k.book (length (names_of k.conf)) (rebuilds_of (admitted_with k o start)) (asked_of setup.clients.items) (clients_by k.command.action k.clients blocks) (traces k.command.action) shape clients (sym trace ∙ kept) ready.bound in omega (arith, all)) kept;
         kept = subst (λ (z : Shape). NotLost z (states_of z setup.columns.items)) (sym shape) (subst (λ (l : List Column). NotLost (shape_of k.conf o.rows) (states_of (shape_of k.conf o.rows) l)) (sym columns) alive);
       }
+
+-- ## A rebuild
+
+length-set : (columns : List Column) (c : ℕ) (x : Column) → length (slice_set columns c x) ≡ length columns
+length-set [] c x = refl
+length-set (y ∷ columns) zero x = refl
+length-set (y ∷ columns) (suc c) x = ap suc (length-set columns c x)
+
+-- how many rebuilds there are, where the column is dead that the action names
+named_bound : (y : Shape) (columns : List Column) (s : Start) (c : ℕ) (excused : Option ℕ) (t : Bool) (n devices : ℕ) → excused ≡ Some c
+    → (t && nat_lt 1048576 (n + rebuilds_sum y devices (rebuilds_by y (with_dead excused columns) (Some s)))) ≡ false
+    → (t && nat_lt 1048576 (n + rebuilds_sum y devices (rebuilds_by y (slice_set columns c column.Dead) (Some s)))) ≡ false
+named_bound y columns s c excused t n devices named h =
+    subst (λ (e : Option ℕ). (t && nat_lt 1048576 (n + rebuilds_sum y devices (rebuilds_by y (with_dead e columns) (Some s)))) ≡ false) named h
+
+module _ {L D : Type 0} (lay : LayoutGhosts L) (disk : Ghosts D) (setup : Setup L D) where
+  -- a trace that is kept has room for the rebuild of this column
+  fits_so : (k : Asked) (o : Opened) (s : Start) (sizes : List ℕ) (fronts : List Front) → IsWithin k → IsReady k sizes fronts o (Some s) → IsFit disk k o setup.devices.items → IsStart disk k o setup.devices.items s
+      → lay.shape setup.layout ≡ shape_of k.conf o.rows → setup.columns.items ≡ o.columns → column_of s < length setup.columns.items
+      → asked_of setup.clients.items ≡ clients_by k.command.action k.clients (blocks_in (shape_of k.conf o.rows))
+      → IsScriptOf k.conf.columns k.book setup.graphs.items setup.clients.items
+      → setup.trace ≡ traces k.command.action
+      → FitsRebuilding lay (given.with_dead setup (column_of s)) (column_of s)
+  fits_so k o s sizes fronts within ready fit h shape columns below clients script trace kept =
+      let y = lay.shape setup.layout in
+      let z = shape_of k.conf o.rows in
+      let c = column_of s in
+      let n = length (names_of k.conf) in
+      let conf = within.conf in
+      let others = clients_by k.command.action k.clients (blocks_in z) in
+      let rebuilds = rebuilds_by z (slice_set o.columns c column.Dead) (Some s) in
+      let same : k.conf.columns ≡ y.columns = sym (shape-columns k.conf o.rows conf) ∙ sym (ap (λ (x : Shape). x.columns) shape) in
+      let entries : length setup.columns.items ≡ k.conf.columns = ap (λ (l : List Column). length l) columns ∙ fit.entries in
+      let names : n ≡ k.conf.columns + k.conf.spares = length-append k.conf.disks k.conf.spare_names ∙ (ap (λ (m : ℕ). m + length k.conf.spare_names) conf.disk_count ∙ ap (λ (m : ℕ). k.conf.columns + m) conf.spare_count) in
+      let most : HasAtMost y (states_of y (slice_set setup.columns.items c column.Dead)) c rebuilds =
+      subst (λ (x : Shape). HasAtMost x (states_of x (slice_set setup.columns.items c column.Dead)) c rebuilds) (sym shape)
+      (subst (λ (l : List Column). HasAtMost z (states_of z (slice_set l c column.Dead)) c rebuilds) (sym columns) h.few) in
+      let bound = named_bound z o.columns s c (needs_of k).excused (traces k.command.action) (trace_sum z k.book n others) n h.named ready.bound in
+      what-fits-rebuilt lay (given.with_dead setup c) k.book n k.conf.columns c rebuilds (length-set setup.columns.items c column.Dead ∙ (entries ∙ same)) (omega (arith, same, names)) script
+      (map_at (state_set y.stripes) (slice_set setup.columns.items c column.Dead) c column.Dead (is_dead setup.columns.items c below)) most
+      (within_sum y z k.book n rebuilds (asked_of setup.clients.items) others (traces k.command.action) shape clients (sym trace ∙ kept) bound) kept
+
+  -- a column that was admitted to be rebuilt may be, if one was
+  pub may_rebuild_if : (k : Asked) (o : Opened) (start : Option Start) (sizes : List ℕ) (fronts : List Front) → IsWithin k → IsReady k sizes fronts o start → IsFit disk k o setup.devices.items → MayStart disk k o setup.devices.items start
+      → lay.shape setup.layout ≡ shape_of k.conf o.rows → setup.columns.items ≡ o.columns
+      → asked_of setup.clients.items ≡ clients_by k.command.action k.clients (blocks_in (shape_of k.conf o.rows))
+      → All (All (IsAsked k.conf.columns (length k.book))) (drawn_by k.command.action (blocks_in (shape_of k.conf o.rows)))
+      → AreFew (drawn_by k.command.action (blocks_in (shape_of k.conf o.rows)))
+      → map (λ g. g.drawn) setup.graphs.items ≡ map (λ g. g.graph) k.book
+      → setup.trace ≡ traces k.command.action
+      → RebuildsIf lay disk setup start
+  may_rebuild_if k o None sizes fronts within ready fit h shape columns clients drawn_asked drawn_few graphs trace = tt
+  may_rebuild_if k o (Some s) sizes fronts within ready fit h shape columns clients drawn_asked drawn_few graphs trace =
+      let blocks = blocks_in (shape_of k.conf o.rows) in
+      let asked = subst (λ (rows : List (List Asks)). All (All (IsAsked k.conf.columns (length k.book))) rows) (sym clients) (either_asked k.conf.columns (length k.book) k.command.action k.clients blocks within.asked drawn_asked) in
+      let few = subst (λ (rows : List (List Asks)). AreFew rows) (sym clients) (either_few k.command.action k.clients blocks within.few drawn_few) in
+      let script : IsScriptOf k.conf.columns k.book setup.graphs.items setup.clients.items = record { clients = (few-have-room setup.clients.items few).clients; asked = asked; graphs_are = graphs } in
+      let below : column_of s < length setup.columns.items = subst (λ (n : ℕ). column_of s < n) (sym (ap (λ (l : List Column). length l) columns ∙ fit.entries)) h.within in
+      may_rebuild lay disk setup k o within fit columns shape s h ready.kept (fits_so k o s sizes fronts within ready fit h shape columns below clients script trace)
 
 -- ## Labels
 
 module _ {L D : Type 0} (lay : LayoutGhosts L) (disk : Ghosts D) (setup : Setup L D) where
-  -- the labels that it has may be written anew
-  pub may_label : (k : Asked) (o : Opened) (newest : Option Label) → IsWithin k → IsFit disk k o setup.devices.items → (needs_of k).writes ≡ true → setup.columns.items ≡ o.columns → o.newest ≡ newest → MayLabelIf lay disk setup newest
-  may_label k o None within fit writes columns is = tt
-  may_label k o (Some l) within fit writes columns is = record {
+  -- the labels that it has may be written anew, and a column may be rebuilt
+  pub may_label : (k : Asked) (o : Opened) (start : Option Start) (newest : Option Label) → IsWithin k → IsFit disk k o setup.devices.items → (needs_of k).writes ≡ true → setup.columns.items ≡ o.columns → o.newest ≡ newest
+      → RebuildsIf lay disk setup start → (o.newest ≡ None → start ≡ None) → MayLabelIf lay disk setup start newest
+  may_label k o start None within fit writes columns is rebuilds unlabelled = unlabelled is
+  may_label k o start (Some l) within fit writes columns is rebuilds unlabelled = record {
     array = subst (λ (cols : List Column). CanBeLabelled disk cols setup.devices.items) (sym columns) (fit_labelled disk k o setup.devices.items fit within.conf);
     held = (fit.newest l is).0;
     counter = (fit.newest l is).1 writes;
+    rebuilds = rebuilds;
   }
 
 -- columns that may be settled

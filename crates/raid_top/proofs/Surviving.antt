@@ -1,14 +1,14 @@
 -- An array that outlives the call isn't lost in the end.
-use Rattle.std.specs.Prelude.{◌≡◌, ◌⊎◌, ◌<◌, ◌≤◌, ℕ, zero, suc, List, [], ◌∷◌, length, set, slice_set, Option, Some, None, Ok, map, slice_get}
+use Rattle.std.specs.Prelude.{◌≡◌, ◌≤◌, ℕ, zero, suc, List, [], ◌∷◌, length, set, slice_set, Option, Some, None, Ok, map, slice_get}
 use Rattle.std.proofs.Common.{arith, refl, sym, ap, subst, inl, inr, ◌∙◌}
 use Rattle.std.proofs.lemmas.Bool.{cases_lt}
 use Rattle.blk_disk.specs.declared.disk.Disk.{Ghosts}
-use Rattle.blk_disk.specs.Devices.{Changes, RisesOn}
+use Rattle.blk_disk.specs.Devices.{Changes}
 use Rattle.lay_core.specs.Layout.{Shape}
 use Rattle.eng_cols.specs.declared.column.Column.{Column}
 use Rattle.eng_cols.specs.declared.column.Column.TheVariants as column
 use Rattle.eng_cols.specs.declared.spot.Loss.{Loss}
-use Rattle.eng_cols.specs.Cols.{ColumnState, HasDevice, Live, state_set}
+use Rattle.eng_cols.specs.Cols.{ColumnState, HasDevice, state_set}
 use Rattle.eng_cols.specs.Deaths.{Dies}
 use Rattle.eng_cols.specs.Lost.{NotLost}
 use Rattle.eng_cols.proofs.DeathLaws.{dies-more, dies-refl, dies-set, dies-then}
@@ -21,7 +21,6 @@ use Rattle.top_close.specs.Settled.{IsLiveOn}
 use Rattle.top_acts.specs.declared.done.Done.{Done}
 use Rattle.top_acts.specs.declared.done.Done.TheVariants as done
 use Rattle.top_acts.specs.declared.sweeping.Renewal.{Renewal}
-use Rattle.top_acts.specs.declared.sweeping.Renewal.TheVariants as renewal
 use Rattle.top_acts.specs.Done.{unless_lost}
 use Rattle.top_acts.specs.Killed.{EndsAlive, IsKilled}
 use Rattle.top_acts.specs.Labelled.{IsFirstLabelled}
@@ -31,7 +30,7 @@ use Rattle.top_rounds.specs.Rounds.{HaveRounds}
 use Rattle.top_rounds.proofs.PassLaws.{live_before}
 use Rattle.top_status.specs.declared.status.Status.{Status}
 use Rattle.top_status.specs.declared.status.Status.TheVariants as status
-use Rattle.top_words.specs.Asked.{Action, Command, Check, command_of}
+use Rattle.top_words.specs.Asked.{Command, Check, command_of}
 use Rattle.top_duty.specs.Duty.{Admitted, columns_of, layout_of, states_in}
 use Rattle.top_duty.specs.Opening.{needs_of}
 use Rattle.top_run.specs.Work.{Ending}
@@ -61,7 +60,7 @@ set_past [] c x h = refl
 set_past (y ∷ xs) zero x h = absurd (omega (arith, h))
 set_past (y ∷ xs) (suc c) x h = ap (λ (l : List Column). y ∷ l) (set_past xs c x (omega (arith, h)))
 
-dies_named : (cause : ℕ → Type 0) (columns : List Column) (c : ℕ) → cause c → Dies cause columns (slice_set columns c column.Dead)
+pub dies_named : (cause : ℕ → Type 0) (columns : List Column) (c : ℕ) → cause c → Dies cause columns (slice_set columns c column.Dead)
 dies_named cause columns c why = elim (cases_lt c (length columns)) [
   | inl lt ↦ dies-set cause columns c lt why
   | inr past ↦ subst (λ (l : List Column). Dies cause columns l) (sym (set_past columns c column.Dead past)) (dies-refl cause columns)

@@ -1,12 +1,9 @@
 -- What was done ends well where the array outlives it.
-use Rattle.std.specs.Prelude.{◌≡◌, ℕ, List, [], ◌∷◌, Option, Some, None, Ok}
+use Rattle.std.specs.Prelude.{◌≡◌, ℕ, Bool, List, [], ◌∷◌, Option, Some, None, Ok}
 use Rattle.std.proofs.Common.{refl, sym, ap, subst, inl, inr, ◌∙◌}
 use Rattle.blk_disk.specs.declared.disk.Disk.{Ghosts}
 use Rattle.blk_disk.specs.Devices.{Changes}
-use Rattle.eng_cols.specs.declared.column.Column.{Column}
 use Rattle.eng_cols.specs.declared.spot.Loss.{Loss}
-use Rattle.eng_cols.specs.Deaths.{Dies}
-use Rattle.eng_cols.specs.Lost.{NotLost}
 use Rattle.eng_cols.proofs.DeathLaws.{dies-more}
 use Rattle.raid_label.specs.declared.label.Label.{Label}
 use Rattle.raid_text.specs.Text.{Text}
@@ -15,15 +12,15 @@ use Rattle.top_acts.specs.declared.done.Done.TheVariants as done
 use Rattle.top_acts.specs.declared.sweeping.Renewal.{Renewal}
 use Rattle.top_acts.specs.declared.sweeping.Renewal.TheVariants as renewal
 use Rattle.top_acts.specs.Labelled.{alive}
-use Rattle.top_labelled.specs.Ran.{IsLostBefore, RanLabelled}
 use Rattle.top_labelled.proofs.Outlived as labelled_laws
 use Rattle.top_open.specs.declared.fronts.Front.{Front}
-use Rattle.top_run.specs.Outliving.{Outlives}
+use Rattle.top_run.specs.Outliving.{MayDie as MayDieOf, Outlives}
 use Rattle.top_run.proofs.Outlived.{outlived}
 use Rattle.top_status.specs.Status.{status_of_loss}
 use Rattle.top_words.specs.Asked.{Action, Io, Sweep, Show, Init, Check, Rewrite, Print, Fail, ShowLabel, Label as Labels, Rebuild, command_of}
 use Rattle.top_duty.specs.Duty.{Admitted, Duty, OnArray, Shows, OneLabel, PrintConf, asked_of, columns_of, layout_of}
 use Rattle.top_duty.specs.Opening.{needs_for, needs_of}
+use Rattle.top_duty.specs.Start.{has_failed}
 use Rattle.top_run.specs.Work.{Ending}
 use Rattle.raid_top.specs.Arrays.{Renews}
 use Rattle.raid_top.specs.Does.{Does, DoesArray, DoesIt, DoesRun, Says, SaysLabel}
@@ -32,29 +29,32 @@ use Rattle.raid_top.specs.Orders.{kill_of}
 use Rattle.raid_top.specs.Outcome.{Outcome, Ran, Did, Looked, Refuses, status_of, status_of_done}
 use Rattle.raid_top.specs.Works.{work_of}
 use Rattle.raid_top.proofs.Reading.{NoSector, rises_late}
+use Rattle.raid_top.proofs.Wanted.{IsNamed}
 use Rattle.raid_top.proofs.Surviving.{check_well, checked, done_well, killed, labelled, renewed}
 
 module _ {D : Type 0} (g : Ghosts D) (words : List Text) where
   run_well : (lost : Option Loss) → lost ≡ None → EndsWell words (status_of_loss lost)
   run_well lost none = subst (λ (l : Option Loss). EndsWell words (status_of_loss l)) (sym none) tt
 
-  module _ (a : Admitted) (taken old back : List (Option D)) (read : Changes g NoSector taken old) (survives : Survives g (OnArray a) taken back) (command : command_of words ≡ Ok a.asked.command) where
+  module _ (a : Admitted) (failed : Bool) (taken old back : List (Option D)) (read : Changes g NoSector taken old) (survives : Survives g (OnArray a) taken back) (command : command_of words ≡ Ok a.asked.command) (named : IsNamed (OnArray a)) where
+    may_so : (c : ℕ) → MayDieOf g (work_of a) old back c → MayDie g a taken back c
+    may_so c (inl fail) = inr (inl fail)
+    may_so c (inr (inl rebuilt)) = inl (named rebuilt.0 rebuilt.1 ∙ ap (λ (n : ℕ). Some n) rebuilt.2)
+    may_so c (inr (inr device)) = inr (inr (device.0, device.1, rises_late g taken old back [] device.0 read device.2))
+
     -- whatever may die of the devices as they were read may die of those that were taken
     outlives : Outlives g (work_of a) old back
-    outlives = λ cols dies. survives cols (dies-more _ (MayDie g a taken back) (columns_of a) cols (λ c h. elim h [
-      | inl fail ↦ inr (inl fail)
-      | inr device ↦ inr (inr (device.0, device.1, rises_late g taken old back [] device.0 read device.2))
-    ]) dies)
+    outlives = λ cols dies. survives cols (dies-more _ (MayDie g a taken back) (columns_of a) cols may_so dies)
 
-    ran_well : (newest : Option Label) (o : Outcome) → DoesRun g a old back newest o → EndsWell words (status_of o)
+    ran_well : (newest : Option Label) (o : Outcome) → DoesRun g a failed old back newest o → EndsWell words (status_of o)
     ran_well None (Ran action s) h = run_well s.ending.lost (outlived g (work_of a) old back s h.1.ran outlives)
     ran_well None (Did act e) h = absurd h
-    ran_well (Some l) (Ran action s) h = run_well s.ending.lost (labelled_laws.outlived g (work_of a) l old s back h.1.ran outlives)
+    ran_well (Some l) (Ran action s) h = run_well s.ending.lost (labelled_laws.outlived g (work_of a) l old s back failed h.1.ran outlives)
     ran_well (Some l) (Did act e) h = absurd (labelled_laws.not-begun-lost g (work_of a) l old e back h.1 outlives)
     ran_well newest (Looked text) h = absurd h
     ran_well newest (Refuses r) h = absurd h
 
-    kill_well : (comp : Option ℕ) (newest : Option Label) (o : Outcome) → (needs_of a.asked).excused ≡ comp → DoesIt g a old back (kill_of comp newest) o → EndsWell words (status_of o)
+    kill_well : (comp : Option ℕ) (newest : Option Label) (o : Outcome) → (needs_of a.asked).excused ≡ comp → DoesIt g a failed old back (kill_of comp newest) o → EndsWell words (status_of o)
     kill_well None newest o named h = absurd h
     kill_well (Some c) None o named h = absurd h
     kill_well (Some c) (Some l) (Did act e) named h = done_well words e.lost act (done.Killed c) refl (killed g a taken old back read survives c l h.0 e act named h.1) h.1.told
@@ -68,7 +68,7 @@ module _ {D : Type 0} (g : Ghosts D) (words : List Text) where
     renewed_well (Some l) renewal.Init e act h = done_well words e.lost act (done.Init h.1.found) refl (renewed g a taken old back read survives renewal.Init (Some l) e act h) h.1.told
     renewed_well (Some l) renewal.Rewrite e act h = done_well words e.lost act (done.Rewrite h.1.found) refl (renewed g a taken old back read survives renewal.Rewrite (Some l) e act h) h.1.told
 
-    array_well : (action : Action) (o : Outcome) → a.asked.command.action ≡ action → DoesArray g a old back action o → EndsWell words (status_of o)
+    array_well : (action : Action) (o : Outcome) → a.asked.command.action ≡ action → DoesArray g a failed old back action o → EndsWell words (status_of o)
     array_well (Io beside workers) o same h = ran_well a.opened.newest o h
     array_well (Sweep seed clients ops workers) o same h = ran_well a.opened.newest o h
     array_well Init (Did act e) same h = renewed_well a.opened.newest renewal.Init e act h
@@ -91,7 +91,7 @@ module _ {D : Type 0} (g : Ghosts D) (words : List Text) where
     array_well Show o same h = absurd h
     array_well Print o same h = absurd h
     array_well (ShowLabel comp) o same h = absurd h
-    array_well (Rebuild in_place comp beside workers) o same h = absurd h
+    array_well (Rebuild in_place comp beside workers) o same h = ran_well a.opened.newest o h
 
   said_well : (old back : List (Option D)) (said : List ℕ) (o : Outcome) → Says g old back said o → EndsWell words (status_of o)
   said_well old back said (Looked text) h = tt
@@ -104,9 +104,9 @@ module _ {D : Type 0} (g : Ghosts D) (words : List Text) where
   label_well old back (front ∷ []) o h = said_well old back _ o h
   label_well old back (front ∷ (other ∷ fronts)) o h = absurd h
 
-  pub due_well : (duty : Duty) (fronts : List Front) (taken old back : List (Option D)) (o : Outcome) → Changes g NoSector taken old → Survives g duty taken back → command_of words ≡ Ok (asked_of duty).command
+  pub due_well : (duty : Duty) (fronts : List Front) (taken old back : List (Option D)) (o : Outcome) → Changes g NoSector taken old → Survives g duty taken back → command_of words ≡ Ok (asked_of duty).command → IsNamed duty
       → Does g duty fronts old back o → EndsWell words (status_of o)
-  due_well (OnArray a) fronts taken old back o read survives command h = array_well a taken old back read survives command a.asked.command.action o refl h
-  due_well (Shows k opened) fronts taken old back o read survives command h = said_well old back _ o h
-  due_well (OneLabel k) fronts taken old back o read survives command h = label_well old back fronts o h
-  due_well (PrintConf k) fronts taken old back o read survives command h = said_well old back _ o h
+  due_well (OnArray a) fronts taken old back o read survives command named h = array_well a (has_failed a.start fronts) taken old back read survives command named a.asked.command.action o refl h
+  due_well (Shows k opened) fronts taken old back o read survives command named h = said_well old back _ o h
+  due_well (OneLabel k) fronts taken old back o read survives command named h = label_well old back fronts o h
+  due_well (PrintConf k) fronts taken old back o read survives command named h = said_well old back _ o h

@@ -1,5 +1,5 @@
 -- What is done to an array without a core.
-use Rattle.std.specs.Prelude.{◌≡◌, ◌≤◌, ◌<◌, ◌+◌, ◌*◌, ◌^◌, ℕ, List, length, Option, Some, None}
+use Rattle.std.specs.Prelude.{◌≤◌, ◌<◌, ◌+◌, ◌*◌, ◌^◌, List, length, Option, Some, None}
 use Rattle.blk_disk.specs.declared.disk.Disk.{Ghosts}
 use Rattle.lay_core.specs.Layout.{Shape}
 use Rattle.lay_core.specs.declared.layout.Layout.{Ghosts as LayoutGhosts}

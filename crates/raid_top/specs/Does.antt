@@ -1,21 +1,21 @@
 -- What is done to the array of a call, or said of it.
-use Rattle.std.specs.Prelude.{◌≡◌, ℕ, List, [], ◌∷◌, Option, Some, None}
+use Rattle.std.specs.Prelude.{◌≡◌, ℕ, Bool, List, [], ◌∷◌, Option, Some, None}
 use Rattle.blk_disk.specs.Devices.{contents_of}
 use Rattle.blk_disk.specs.declared.disk.Disk.{Ghosts}
 use Rattle.eng_cols.specs.Contents.{decode}
 use Rattle.raid_conf.specs.Form.{conf_text}
 use Rattle.raid_label.specs.declared.label.Label.{Label}
-use Rattle.top_acts.specs.declared.done.Done.{Done}
 use Rattle.top_acts.specs.declared.done.Done.TheVariants as done
 use Rattle.top_open.specs.declared.fronts.Front.{Front}
-use Rattle.top_words.specs.Asked.{Action, Io, Sweep}
+use Rattle.top_words.specs.Asked.{Action, Io, Sweep, Rebuild}
 use Rattle.top_duty.specs.Duty.{Admitted, Duty, OnArray, Shows, OneLabel, PrintConf, columns_of, layout_of, states_in}
 use Rattle.top_duty.specs.Opening.{sizes_of}
+use Rattle.top_duty.specs.Start.{has_failed}
 use Rattle.top_run.specs.Ran as run
 use Rattle.top_run.specs.InTurn.{SweptInTurn}
 use Rattle.top_run.specs.Outliving.{AllAnswered}
-use Rattle.top_run.specs.Work.{Ending, Service}
-use Rattle.top_labelled.specs.Begun.{opened_as}
+use Rattle.top_run.specs.Work.{Service}
+use Rattle.top_labelled.specs.Begun.{opened_as, without}
 use Rattle.top_labelled.specs.Ran.{IsLostBefore, RanLabelled}
 use Rattle.top_looks.specs.Labels.{label_text}
 use Rattle.top_looks.specs.Show.{show_text}
@@ -27,7 +27,8 @@ use Rattle.raid_top.specs.declared.array.Order.{Order}
 
 -- From the devices as they were once their first sectors had been read to the devices as they are put back.
 module _ {D : Type 0} (g : Ghosts D) where
-  module _ (a : Admitted) (old back : List (Option D)) where
+  -- whether the device onto which a column is rebuilt has failed before
+  module _ (a : Admitted) (failed : Bool) (old back : List (Option D)) where
     -- The clients were served over an array without labels. Where it isn't lost, each item has the reply that it ought to have, and clients that were drawn leave, and are replied, what they would one after another.
     pub record RunsPlain (s : Service) : Type 0 where
       pub ran : run.Ran g (work_of a) old s back
@@ -35,12 +36,12 @@ module _ {D : Type 0} (g : Ghosts D) where
       pub in_turn : (seed clients ops workers : ℕ) → a.asked.command.action ≡ Sweep seed clients ops workers → s.ending.lost ≡ None
           → SweptInTurn g (work_of a) old s back (decode (layout_of a) (contents_of g old) (states_in a))
 
-    -- The same over an array whose newest label is this one, by its columns and devices as the core was opened.
+    -- The same over an array whose newest label is this one, by its columns and devices as the core was opened; beside them a column is rebuilt, if one is to be, unless the device onto which that goes has failed before.
     pub record RunsLabelled (newest : Label) (s : Service) : Type 0 where
-      pub ran : RanLabelled g (work_of a) newest old s back
-      pub answered : s.ending.lost ≡ None → AllAnswered g (opened_as (work_of a) ran.columns) ran.opened back s ran.run
+      pub ran : RanLabelled g (work_of a) newest old s back failed
+      pub answered : s.ending.lost ≡ None → AllAnswered g (opened_as (work_of a) (without a.start ran.begun) ran.began) ran.opened back s ran.run
       pub in_turn : (seed clients ops workers : ℕ) → a.asked.command.action ≡ Sweep seed clients ops workers → s.ending.lost ≡ None
-          → SweptInTurn g (opened_as (work_of a) ran.columns) ran.opened s back ran.run.start.blocks
+          → SweptInTurn g (opened_as (work_of a) (without a.start ran.begun) ran.began) ran.opened s back ran.run.start.blocks
 
     -- clients were served; or the array, which has labels, was lost before that
     abbrev pub DoesRun : Option Label → Outcome → Type 0
@@ -62,6 +63,7 @@ module _ {D : Type 0} (g : Ghosts D) where
     abbrev pub DoesArray : Action → Outcome → Type 0
     DoesArray (Io beside workers) o = DoesRun a.opened.newest o
     DoesArray (Sweep seed clients ops workers) o = DoesRun a.opened.newest o
+    DoesArray (Rebuild in_place comp beside workers) o = DoesRun a.opened.newest o
     DoesArray action o = DoesIt (order_of action) o
 
   -- something is said, and no device was called
@@ -76,7 +78,7 @@ module _ {D : Type 0} (g : Ghosts D) where
 
   -- what is due was done
   abbrev pub Does : Duty → List Front → (old back : List (Option D)) → Outcome → Type 0
-  Does (OnArray a) fronts old back o = DoesArray a old back a.asked.command.action o
+  Does (OnArray a) fronts old back o = DoesArray a (has_failed a.start fronts) old back a.asked.command.action o
   Does (Shows k opened) fronts old back o = Says old back (show_text k.conf opened (sizes_of g.size old) fronts) o
   Does (OneLabel k) fronts old back o = SaysLabel old back fronts o
   Does (PrintConf k) fronts old back o = Says old back (conf_text k.conf) o

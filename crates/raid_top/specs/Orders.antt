@@ -1,5 +1,5 @@
 -- What an action is, of an array that something is done to without a core.
-use Rattle.std.specs.Prelude.{ℕ, List, replicate, Option, Some, None}
+use Rattle.std.specs.Prelude.{ℕ, replicate, Option, Some, None}
 use Rattle.raid_conf.specs.declared.conf.Conf.{Conf}
 use Rattle.raid_label.specs.declared.label.Label.{Label}
 use Rattle.top_acts.specs.declared.sweeping.Renewal.TheVariants as renewal

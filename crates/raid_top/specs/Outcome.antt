@@ -14,6 +14,7 @@ use Rattle.top_acts.specs.declared.done.Done.TheVariants as done
 use Rattle.top_acts.specs.Done.{done_text}
 use Rattle.top_run.specs.Work.{Ending, Service}
 use Rattle.top_words.specs.Asked.{Action, Sweep}
+use Rattle.raid_top.specs.Rebuilt.{rebuild_text}
 
 -- A script was run, or items that were drawn; or something was done to the array without a core, or it was lost before the core was opened; or it was looked at, and this is what is said of it; or nothing was done.
 pub data Outcome : Type 0 where
@@ -52,10 +53,10 @@ abbrev pub sweep_text : Service → Option Loss → List ℕ
 sweep_text s None = summary_text s.clients s.replies s.sectors
 sweep_text s (Some loss) = []
 
--- what is told of a run, but for its end
+-- what is told of a run, but for its end: of a script, and behind that of a rebuild, if there was one
 abbrev pub service_text : Action → Service → List ℕ
 service_text (Sweep seed clients ops workers) s = sweep_text s s.ending.lost
-service_text action s = script_text s
+service_text action s = script_text s ++ rebuild_text s.line
 
 -- all that is printed of a run: what it tells, the columns that are dead in the end, and the status
 abbrev pub ran_text : Action → Service → List ℕ

@@ -1,16 +1,18 @@
 -- What may be served, and what came of it.
-use Rattle.std.specs.Prelude.{◌≡◌, ◌⊎◌, ◌≤◌, ◌<◌, ◌↔◌, ℕ, List, [], length, Option, Some, None, IsSome, slice_get}
+use Rattle.std.specs.Prelude.{◌≡◌, ◌⊎◌, ◌≤◌, ◌<◌, ◌↔◌, ℕ, Bool, List, [], length, Option, Some, None, IsSome, slice_get}
 use Rattle.blk_disk.specs.Devices.{device_at}
 use Rattle.blk_disk.specs.declared.disk.Disk.{Ghosts}
 use Rattle.lay_core.specs.Layout.{Shape}
 use Rattle.lay_core.specs.declared.layout.Layout.{Ghosts as LayoutGhosts}
 use Rattle.eng_array.specs.Fitting.{FitsTrace}
+use Rattle.eng_array.specs.declared.start.Start.{Start}
 use Rattle.eng_cols.specs.declared.column.Column.{Column}
 use Rattle.eng_events.specs.Opened.{IsSetup}
 use Rattle.eng_parts.specs.declared.setup.Setup.{Setup}
 use Rattle.raid_label.specs.declared.label.Label.{Label}
 use Rattle.raid_label.specs.Bytes.{IsHeld}
 use Rattle.top_acts.specs.declared.done.Done.TheVariants as done
+use Rattle.top_labelled.specs.Given.{RebuildsIf}
 use Rattle.top_labelled.specs.Ran.{IsLostBefore, RanLabelled}
 use Rattle.top_rounds.specs.Passes.{CanBeLabelled}
 use Rattle.top_run.specs.Ran as run
@@ -23,7 +25,7 @@ use Rattle.top_duty.specs.Duty.{Admitted, Duty, OnArray, beside_dead}
 use Rattle.top_open.specs.declared.fronts.Front.{Front}
 use Rattle.top_status.specs.Refusals.{Refused, only}
 use Rattle.top_status.specs.declared.status.Status.TheVariants as status
-use Rattle.top_words.specs.Asked.{Action, Io, Sweep}
+use Rattle.top_words.specs.Asked.{Action, Io, Sweep, Rebuild}
 use Rattle.raid_top.specs.Arrays.{DoesOrder, ending_seen}
 use Rattle.raid_top.specs.Does.{Does}
 use Rattle.raid_top.specs.Outcome.{Outcome}
@@ -38,22 +40,32 @@ pub record MayServe {L D : Type 0} (lay : LayoutGhosts L) (disk : Ghosts D) (set
   pub trace : FitsTrace lay setup
   pub kept : IsNotLost lay setup
 
--- Its devices can be labelled, the newest label leaves room for rounds, and what is held beside it is as large as it has to be.
-pub record MayLabel {L D : Type 0} (lay : LayoutGhosts L) (disk : Ghosts D) (setup : Setup L D) (newest : Label) : Type 0 where
+-- Its devices can be labelled, the newest label leaves room for rounds, and a column may be rebuilt so, if one is.
+pub record MayLabel {L D : Type 0} (lay : LayoutGhosts L) (disk : Ghosts D) (setup : Setup L D) (start : Option Start) (newest : Label) : Type 0 where
   pub array : CanBeLabelled disk setup.columns.items setup.devices.items
   pub held : IsHeld newest
   pub counter : newest.counter ≤ 4294901760
+  pub rebuilds : RebuildsIf lay disk setup start
 
-abbrev pub MayLabelIf : {L D : Type 0} → LayoutGhosts L → Ghosts D → Setup L D → Option Label → Type 0
-MayLabelIf lay disk setup None = Unit {0}
-MayLabelIf lay disk setup (Some newest) = MayLabel lay disk setup newest
+-- no column of an array without labels is rebuilt
+abbrev pub MayLabelIf : {L D : Type 0} → LayoutGhosts L → Ghosts D → Setup L D → Option Start → Option Label → Type 0
+MayLabelIf lay disk setup start None = start ≡ None
+MayLabelIf lay disk setup start (Some newest) = MayLabel lay disk setup start newest
 
--- What came of it, over the devices as they were and as they are in the end: it was served; or the array, which has labels, was lost before that.
-abbrev pub CameOf : {D : Type 0} → Ghosts D → Work → Option Label → (old back : List (Option D)) → Came → Type 0
-CameOf g work None old back (came.Ran service) = run.Ran g work old (service_seen service) back
-CameOf g work (Some newest) old back (came.Ran service) = RanLabelled g work newest old (service_seen service) back
-CameOf g work (Some newest) old back (came.Did act ending) = (act ≡ done.Nothing) × IsLostBefore g work newest old (ending_seen ending) back
-CameOf g work newest old back _ = ⊥
+-- What came of it, over the devices as they were and as they are in the end: it was served.
+abbrev pub ComesPlain : {D : Type 0} → Ghosts D → Work → (old back : List (Option D)) → Came → Type 0
+ComesPlain g work old back (came.Ran service) = run.Ran g work old (service_seen service) back
+ComesPlain g work old back _ = ⊥
+
+-- The same of an array with labels: it was served, or was lost before that. Whether the device onto which a column is rebuilt has failed before.
+abbrev pub ComesLabelled : {D : Type 0} → Ghosts D → Work → Label → (failed : Bool) → (old back : List (Option D)) → Came → Type 0
+ComesLabelled g work newest failed old back (came.Ran service) = RanLabelled g work newest old (service_seen service) back failed
+ComesLabelled g work newest failed old back (came.Did act ending) = (act ≡ done.Nothing) × IsLostBefore g work newest old (ending_seen ending) back
+ComesLabelled g work newest failed old back _ = ⊥
+
+abbrev pub CameOf : {D : Type 0} → Ghosts D → Work → Option Label → (failed : Bool) → (old back : List (Option D)) → Came → Type 0
+CameOf g work None failed old back c = ComesPlain g work old back c
+CameOf g work (Some newest) failed old back c = ComesLabelled g work newest failed old back c
 
 -- it was this that was done without a core
 abbrev pub ComesOfOrder : {D : Type 0} → Ghosts D → Shape → List Column → (old back : List (Option D)) → Order → Came → Type 0
@@ -76,4 +88,5 @@ IsMemory duty r = (r ≡ only status.Memory) ⊎ ((a : Admitted) × (duty ≡ On
 abbrev pub IsRun : Action → Type 0
 IsRun (Io beside workers) = Unit {0}
 IsRun (Sweep seed clients ops workers) = Unit {0}
+IsRun (Rebuild in_place comp beside workers) = Unit {0}
 IsRun _ = ⊥

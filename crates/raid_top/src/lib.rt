@@ -14,6 +14,7 @@ mod doing;
 mod order;
 mod performing;
 mod printing;
+mod rebuilt;
 mod running;
 mod setup;
 mod top;

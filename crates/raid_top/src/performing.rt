@@ -4,7 +4,7 @@ ghost use Rattle.raid_conf.specs.Form.{IsConf};
 ghost use Rattle.top_bay.specs.Asked.{names_for, names_of};
 ghost use Rattle.top_bay.specs.Views.{IsWithin, asked_seen};
 ghost use Rattle.top_duty.specs.Duty.{admitted_with, beside_dead};
-ghost use Rattle.top_duty.specs.Fit.{IsFit};
+ghost use Rattle.top_duty.specs.Fit.{IsFit, MayStart};
 ghost use Rattle.top_duty.specs.Opening.{kind_of, sizes_of};
 ghost use Rattle.top_duty.specs.Views.{IsDutyOver, IsFitFor, IsPrepared, duty_seen};
 ghost use Rattle.top_open.specs.Opening.{opened_seen};
@@ -51,17 +51,18 @@ fn run_array<'a, D: Disk + Drop + Send, R: Threads + Wait + Sync>(
     requires within { IsWithin (asked_seen asked) }
     requires ready { (fronts : List Front) × IsPrepared (asked_seen asked) (sizes_of D.size devices.items) fronts ready }
     requires fit { IsFit D.Disk (asked_seen asked) (opened_seen ready.opened) devices.items }
+    requires start { MayStart D.Disk (asked_seen asked) (opened_seen ready.opened) devices.items ready.start }
     requires many { length devices.items ≡ length (names_of asked.conf) }
     requires run { IsRun (action_seen asked.command.action) }
     ensures action { result.action ≡ asked.entry.command.action }
     ensures conf { result.conf ≡ asked.entry.conf }
     ensures does { IfOk result.served.came (λ came. DoesRun D.Disk
-        (admitted_with (asked_seen asked.entry) (opened_seen ready.opened))
-        devices.items result.served.devices.items ready.opened.newest
+        (admitted_with (asked_seen asked.entry) (opened_seen ready.opened) ready.start)
+        ready.failed devices.items result.served.devices.items ready.opened.newest
         (outcome_seen (action_seen result.action) result.conf came)) }
     ensures printed { IfOk result.served.came CanBePrinted }
     ensures memory { IfErr result.served.came (λ r. r ≡ beside_dead
-        (admitted_with (asked_seen asked.entry) (opened_seen ready.opened)) Status.Memory) }
+        (admitted_with (asked_seen asked.entry) (opened_seen ready.opened) ready.start) Status.Memory) }
     ensures same { OnErr result.served.came (result.served.devices ≡ devices) }
 {
     let Asked {
@@ -92,16 +93,17 @@ fn act_on_array<'a, D: Disk + Drop + Send, R: Threads + Wait + Sync>(
     requires ready { (fronts : List Front) × IsPrepared (asked_seen asked) (sizes_of D.size devices.items) fronts ready }
     requires kind { kind_of (action_seen asked.command.action) ≡ kind_of Init }
     requires fit { IsFit D.Disk (asked_seen asked) (opened_seen ready.opened) devices.items }
+    requires start { MayStart D.Disk (asked_seen asked) (opened_seen ready.opened) devices.items ready.start }
     requires many { length devices.items ≡ length (names_of asked.conf) }
     ensures action { result.action ≡ asked.entry.command.action }
     ensures conf { result.conf ≡ asked.entry.conf }
     ensures does { IfOk result.served.came (λ came. DoesArray D.Disk
-        (admitted_with (asked_seen asked.entry) (opened_seen ready.opened))
-        devices.items result.served.devices.items (action_seen result.action)
+        (admitted_with (asked_seen asked.entry) (opened_seen ready.opened) ready.start)
+        ready.failed devices.items result.served.devices.items (action_seen result.action)
         (outcome_seen (action_seen result.action) result.conf came)) }
     ensures printed { IfOk result.served.came CanBePrinted }
     ensures memory { IfErr result.served.came (λ r. r ≡ beside_dead
-        (admitted_with (asked_seen asked.entry) (opened_seen ready.opened)) Status.Memory) }
+        (admitted_with (asked_seen asked.entry) (opened_seen ready.opened) ready.start) Status.Memory) }
     ensures same { OnErr result.served.came (result.served.devices ≡ devices) }
 {
     let action = asked.command.action;

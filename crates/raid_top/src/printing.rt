@@ -12,9 +12,11 @@ ghost use Rattle.top_status.specs.Status.{status_of_loss, status_text};
 ghost use Rattle.top_words.specs.Views.{action_seen};
 ghost use Rattle.raid_top.specs.Arrays.{ending_seen};
 ghost use Rattle.raid_top.specs.Outcome.{did_text, outcome_text, ran_text, script_text, service_text, status_of_act, status_of_done, sweep_text};
+ghost use Rattle.raid_top.specs.Rebuilt.{rebuild_text};
 ghost use Rattle.raid_top.specs.Views.{CanBePrinted, outcome_seen, status_came};
 
 use crate::came::{Came, Ended};
+use crate::rebuilt::put_rebuilt;
 use blk_disk::Failed;
 use eng_cols::Loss;
 use raid_bay::Sink;
@@ -55,6 +57,18 @@ fn put_sweep<K: Sink>(service: &Service, out: &mut K) -> Result<(), Failed>
     }
 }
 
+// Prints what is told of a script, and of a rebuild, if there was one.
+fn put_clients<K: Sink>(service: &Service, out: &mut K) -> Result<(), Failed>
+    requires { StandFor service.now.clients.items service.now.replies.items service.now.sectors.items }
+    ensures output { K.tells → Puts (is_ok result) (K.output out.old)
+        (script_text (service_seen service.now) ++ rebuild_text service.now.line) (K.output out.new) }
+    ensures later { K.faults out.old ≤ K.faults out.new }
+    ensures cause { OnErr result (Rose (K.faults out.old) (K.faults out.new)) }
+{
+    put_script(service, out)?;
+    put_rebuilt(service.line, out)
+}
+
 // Prints what a run tells, but for its end.
 fn put_service<K: Sink>(action: Action<'_>, service: &Service, out: &mut K) -> Result<(), Failed>
     requires few { length service.now.clients.items ≤ 16 }
@@ -66,7 +80,7 @@ fn put_service<K: Sink>(action: Action<'_>, service: &Service, out: &mut K) -> R
 {
     match action {
         Action::Sweep { .. } => put_sweep(service, out),
-        _ => put_script(service, out),
+        _ => put_clients(service, out),
     }
 }
 

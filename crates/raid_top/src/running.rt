@@ -1,10 +1,10 @@
 //! Clients are served.
-ghost use Rattle.std.specs.Prelude.{◌≡◌, ◌≤◌, ◌*◌, None, Some, IfOk, IfErr, OnErr};
+ghost use Rattle.std.specs.Prelude.{◌≡◌, ◌≤◌, ◌*◌, IfOk, IfErr, OnErr};
 ghost use Rattle.eng_cols.specs.Cols.{IsFor};
 ghost use Rattle.top_run.specs.Works.{work_of};
 ghost use Rattle.top_serve.specs.Setups.{shape_in};
 ghost use Rattle.top_status.specs.Dead.{dead_columns};
-ghost use Rattle.raid_top.specs.Served.{CameOf, MayLabel, MayLabelIf, MayServe};
+ghost use Rattle.raid_top.specs.Served.{CameOf, ComesLabelled, ComesPlain, MayLabel, MayLabelIf, MayServe};
 ghost use Rattle.raid_top.specs.Views.{CanBePrinted, came_from};
 
 use crate::came::Came;
@@ -47,7 +47,7 @@ fn run_plain<L: Layout + Drop + Send, D: Disk + Drop + Send, R: Threads + Wait +
 ) -> Served<D>
     requires workers { workers ≤ 16 }
     requires may { MayServe L.Layout D.Disk setup }
-    ensures came { IfOk result.came (CameOf D.Disk (work_of L.Layout setup) None
+    ensures came { IfOk result.came (ComesPlain D.Disk (work_of L.Layout setup None)
         setup.devices.items result.devices.items) }
     ensures printed { IfOk result.came CanBePrinted }
     ensures memory { IfErr result.came (λ r. r ≡ record { status = Status.Memory; dead = dead_columns setup.columns.items }) }
@@ -84,10 +84,10 @@ fn run_with_labels<L: Layout + Drop + Send, D: Disk + Drop + Send, R: Threads + 
 ) -> Served<D>
     requires workers { workers ≤ 16 }
     requires may { MayServe L.Layout D.Disk labelled.setup }
-    requires label { MayLabel L.Layout D.Disk labelled.setup labelled.label }
+    requires label { MayLabel L.Layout D.Disk labelled.setup labelled.start labelled.label }
     requires judge { IsFor (shape_in L.Layout labelled.setup) labelled.judge }
     requires room { 1024 * (shape_in L.Layout labelled.setup).unit_sectors ≤ labelled.room }
-    ensures came { IfOk result.came (CameOf D.Disk (work_of L.Layout labelled.setup) (Some labelled.label)
+    ensures came { IfOk result.came (ComesLabelled D.Disk (work_of L.Layout labelled.setup labelled.start) labelled.label labelled.failed
         labelled.setup.devices.items result.devices.items) }
     ensures printed { IfOk result.came CanBePrinted }
     ensures memory { IfErr result.came (λ r. r ≡ record { status = Status.Memory; dead = dead_columns labelled.setup.columns.items }) }
@@ -114,10 +114,10 @@ pub(crate) fn serve<D: Disk + Drop + Send, R: Threads + Wait + Sync>(
 ) -> Served<D>
     requires workers { workers ≤ 16 }
     requires may { MayServe ⟦<AnyLayout as Layout>⟧ D.Disk work.setup }
-    requires label { MayLabelIf ⟦<AnyLayout as Layout>⟧ D.Disk work.setup work.newest }
+    requires label { MayLabelIf ⟦<AnyLayout as Layout>⟧ D.Disk work.setup work.start work.newest }
     requires judge { IsFor (shape_in ⟦<AnyLayout as Layout>⟧ work.setup) work.judge }
     requires room { 1024 * (shape_in ⟦<AnyLayout as Layout>⟧ work.setup).unit_sectors ≤ work.room }
-    ensures came { IfOk result.came (CameOf D.Disk (work_of ⟦<AnyLayout as Layout>⟧ work.setup) work.newest
+    ensures came { IfOk result.came (CameOf D.Disk (work_of ⟦<AnyLayout as Layout>⟧ work.setup work.start) work.newest work.failed
         work.setup.devices.items result.devices.items) }
     ensures printed { IfOk result.came CanBePrinted }
     ensures memory { IfErr result.came (λ r. r ≡ record { status = Status.Memory; dead = dead_columns work.setup.columns.items }) }
@@ -128,6 +128,8 @@ pub(crate) fn serve<D: Disk + Drop + Send, R: Threads + Wait + Sync>(
         newest,
         judge,
         room,
+        start,
+        failed,
     } = work;
     match newest {
         None => run_plain(rt, alloc, setup, workers),
@@ -137,6 +139,8 @@ pub(crate) fn serve<D: Disk + Drop + Send, R: Threads + Wait + Sync>(
                 label,
                 judge,
                 room,
+                start,
+                failed,
             };
             run_with_labels(rt, alloc, labelled, workers)
         }

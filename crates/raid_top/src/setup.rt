@@ -5,7 +5,7 @@ ghost use Rattle.top_words.specs.Views.{action_seen};
 ghost use Rattle.top_duty.specs.Duty.{clients_by, traces};
 ghost use Rattle.top_duty.specs.Views.{drawn_by, items_seen};
 
-use eng_array::Setup;
+use eng_array::{Setup, Start};
 use eng_cols::Cols;
 use eng_world::Item;
 use graph_text::Book;
@@ -15,12 +15,15 @@ use raid_recon::Room;
 use top_duty::{Ready, choose, traces};
 use top_words::Action;
 
-/// What is handed to the core, and what the labels of the array take, the newest of which this is, where it has any.
+/// What is handed to the core, and what the labels of the array take, the newest of which this is, where it has any. How a
+/// column is rebuilt, if one is, and whether the device onto which it goes has failed before.
 pub(crate) struct Work<D> {
     pub setup: Setup<AnyLayout, D>,
     pub newest: Option<Label>,
     pub judge: Cols,
     pub room: Room,
+    pub start: Option<Start>,
+    pub failed: bool,
 }
 
 /// Puts together what is handed to the core.
@@ -41,6 +44,8 @@ pub(crate) fn work_of<D>(
     ensures newest { result.newest ≡ ready.opened.newest }
     ensures judge { result.judge ≡ ready.judge }
     ensures room { result.room ≡ ready.room }
+    ensures start { result.start ≡ ready.start }
+    ensures failed { result.failed ≡ ready.failed }
 {
     let Ready {
         opened,
@@ -48,6 +53,8 @@ pub(crate) fn work_of<D>(
         drawn,
         judge,
         room,
+        start,
+        failed,
     } = ready;
     let setup = Setup {
         layout,
@@ -62,6 +69,8 @@ pub(crate) fn work_of<D>(
         newest: opened.newest,
         judge,
         room,
+        start,
+        failed,
     }
 }
 
@@ -71,7 +80,9 @@ pub(crate) fn workers_of(action: Action<'_>) -> u32
     ensures { result ≤ 16 }
 {
     match action {
-        Action::Io { workers, .. } | Action::Sweep { workers, .. } => workers,
+        Action::Io { workers, .. }
+        | Action::Sweep { workers, .. }
+        | Action::Rebuild { workers, .. } => workers,
         _ => 0,
     }
 }

@@ -1,5 +1,5 @@
-use Rattle.std.proofs.Common.{arith, ◌≡◌, ap, sym, subst, ◌∙◌, length}
-use Rattle.std.specs.Prelude.{◌≤◌, ℕ, List, Ok}
+use Rattle.std.proofs.Common.{arith, ◌≡◌, subst, length}
+use Rattle.std.specs.Prelude.{Ok}
 use Rattle.std.proofs.lemmas.Result.{IfOk-weaker}
 use Rattle.blk_disk.specs.Disk.{Rose}
 use Rattle.top_bay.specs.Asked.{names_for}

@@ -1,6 +1,5 @@
 use Rattle.std.proofs.Common.{arith, ◌≡◌, ap, sym, subst, ◌∙◌, length}
-use Rattle.std.specs.Prelude.{◌≤◌, ℕ, List, Ok, Err, IfOk}
-use Rattle.std.proofs.lemmas.Result.{IfOk-weaker}
+use Rattle.std.specs.Prelude.{IfOk}
 use Rattle.top_bay.specs.Asked.{names_by, names_for}
 use Rattle.top_bay.specs.Lent.{AreBack, AreOut}
 use Rattle.top_bay.specs.Views.{asked_seen}

@@ -1,4 +1,4 @@
-use Rattle.std.proofs.Common.{◌≡◌, List, Option, length, ap, sym, subst, arith}
+use Rattle.std.proofs.Common.{◌≡◌, length, ap, sym, subst, arith}
 use Rattle.raid_conf.specs.Layouts.{shape_in}
 use Rattle.top_run.proofs.Settled.{lent-back}
 use Rattle.raid_top.specs.Arrays.{DoesOrder, ending_seen}

@@ -1,4 +1,4 @@
-use Rattle.std.proofs.Common.{◌≡◌, ap, subst, ◌∙◌, length}
+use Rattle.std.proofs.Common.{ap, subst, ◌∙◌, length}
 use Rattle.top_bay.specs.Views.{asked_seen}
 use Rattle.top_duty.specs.declared.duty.Duty.{Duty}
 use Rattle.top_duty.specs.Opening.{sizes_of}

@@ -1,4 +1,4 @@
-use Rattle.std.proofs.Common.{◌≡◌, ℕ, List, ap, sym, refl, subst, ◌∙◌, length}
+use Rattle.std.proofs.Common.{ap, sym, refl, subst, ◌∙◌, length}
 use Rattle.std.specs.Prelude.{All}
 use Rattle.std.proofs.lemmas.Result.{IfOk-weaker}
 use Rattle.lay_core.specs.Layout.{IsLayout, blocks_in}
@@ -7,16 +7,16 @@ use Rattle.raid_conf.specs.contracts.layouts.AnyLayoutLayout.TheImpl as any
 use Rattle.raid_script.specs.Asked.{AreFew, IsAsked}
 use Rattle.top_bay.specs.Views.{asked_seen}
 use Rattle.top_duty.specs.Duty.{admitted_with}
-use Rattle.top_duty.specs.Fit.{IsFit}
+use Rattle.top_duty.specs.Fit.{IsFit, MayStart}
 use Rattle.top_duty.specs.Opening.{sizes_of}
 use Rattle.top_open.specs.Opening.{opened_seen}
 use Rattle.top_run.specs.Works as run_works
 use Rattle.top_words.specs.Views.{action_seen}
-use Rattle.raid_top.specs.Served.{CameOf}
-use Rattle.raid_top.specs.Works.{work_of}
-use Rattle.raid_top.proofs.Orders.{run_excuses, run_writes}
+use Rattle.raid_top.specs.Served.{CameOf, MayLabelIf}
+use Rattle.raid_top.proofs.Orders.{run_writes}
 use Rattle.raid_top.proofs.Runs.{came_does}
-use Rattle.raid_top.proofs.Setups.{may_label, may_serve}
+use Rattle.raid_top.proofs.Labels.{none_unlabelled}
+use Rattle.raid_top.proofs.Setups.{may_label, may_rebuild_if, may_serve}
 use Rattle.raid_top.proofs.Works.{work_same}
 use Rattle.raid_top.proofs.performing.run_array.Goals as goal
 
@@ -26,9 +26,8 @@ serve-requires-clause-may g c κs w =
     let o = opened_seen c.args.ready.opened in
     let made = c.work_of-work.ensures in
     let p = c.requires.ready.1 in
-    may_serve any.ghosts g.D.Disk c.work_of-work.result.setup k o (sizes_of g.D.Disk.size c.args.devices.items) c.requires.ready.0 c.requires.within p.ready
+    may_serve any.ghosts g.D.Disk c.work_of-work.result.setup k o c.args.ready.start (sizes_of g.D.Disk.size c.args.devices.items) c.requires.ready.0 c.requires.within p.ready
     (subst (λ ds. IsFit g.D.Disk k o ds.items) (sym made.devices) c.requires.fit)
-    (run_excuses k.command.action k.comp c.requires.run)
     (ap (λ l. any.ghosts.shape l) made.layout ∙ p.made.shape)
     (ap (λ v. v.items) made.columns)
     (ap (λ v. length v.items) made.devices ∙ c.requires.many)
@@ -43,27 +42,43 @@ serve-requires-clause-label g c κs w =
     let k = asked_seen c.args.asked in
     let o = opened_seen c.args.ready.opened in
     let made = c.work_of-work.ensures in
-    may_label any.ghosts g.D.Disk c.work_of-work.result.setup k o c.work_of-work.result.newest c.requires.within
-    (subst (λ ds. IsFit g.D.Disk k o ds.items) (sym made.devices) c.requires.fit)
+    let p = c.requires.ready.1 in
+    let sizes = sizes_of g.D.Disk.size c.args.devices.items in
+    let fit = subst (λ ds. IsFit g.D.Disk k o ds.items) (sym made.devices) c.requires.fit in
+    subst (λ s. MayLabelIf any.ghosts g.D.Disk c.work_of-work.result.setup s c.work_of-work.result.newest) (sym made.start)
+    (may_label any.ghosts g.D.Disk c.work_of-work.result.setup k o c.args.ready.start c.work_of-work.result.newest c.requires.within fit
     (run_writes k.command.action k.comp c.requires.run)
     (ap (λ v. v.items) made.columns) (sym made.newest)
+    (may_rebuild_if any.ghosts g.D.Disk c.work_of-work.result.setup k o c.args.ready.start sizes c.requires.ready.0 c.requires.within p.ready fit
+    (subst (λ ds. MayStart g.D.Disk k o ds.items c.args.ready.start) (sym made.devices) c.requires.start)
+    (ap (λ l. any.ghosts.shape l) made.layout ∙ p.made.shape)
+    (ap (λ v. v.items) made.columns)
+    (made.clients (blocks_in (shape_of k.conf o.rows)) p.made.drawn)
+    (subst (λ rows. All (All (IsAsked k.conf.columns (length k.book))) rows) p.made.drawn (p.made.asked k.conf.columns (length k.book)))
+    (subst (λ rows. AreFew rows) p.made.drawn p.made.few)
+    made.graphs
+    made.trace)
+    (none_unlabelled k sizes c.requires.ready.0 o c.args.ready.start p.ready.opened p.ready.starts))
 
 pub returns-clause-does : goal.returns-clause-does
 returns-clause-does g c =
     let k = asked_seen c.args.asked in
     let o = opened_seen c.args.ready.opened in
     let made = c.work_of-work.ensures in
-    let setup = c.work_of-work.result.setup in
+    let work = c.work_of-work.result in
+    let setup = work.setup in
     let p = c.requires.ready.1 in
     let back = c.serve.result.devices.items in
-    let same = work_same any.ghosts setup (admitted_with k o)
+    let same = work_same any.ghosts setup work.start (admitted_with k o c.args.ready.start)
     (ap (λ l. any.ghosts.shape l) made.layout ∙ p.made.shape)
     (ap (λ v. v.items) made.columns)
     (made.clients (blocks_in (shape_of k.conf o.rows)) p.made.drawn)
-    made.graphs made.trace in
+    made.graphs made.trace made.start in
     IfOk-weaker c.serve.result.came _ _ (λ x h.
-    came_does g.D.Disk k o c.args.devices.items back c.requires.within (subst (λ y. IsLayout y) p.made.shape (shape_lawful c.args.ready.layout))
+    came_does g.D.Disk k o c.args.ready.start c.args.ready.failed (sizes_of g.D.Disk.size c.args.devices.items) c.requires.ready.0 p.ready.starts c.args.devices.items back c.requires.within
+    (subst (λ y. IsLayout y) p.made.shape (shape_lawful c.args.ready.layout))
     o.newest (action_seen c.args.asked.command.action) c.args.asked.conf x refl
-    (subst (λ w. CameOf g.D.Disk w o.newest c.args.devices.items back x) same
-    (subst (λ n. CameOf g.D.Disk (run_works.work_of any.ghosts setup) n c.args.devices.items back x) made.newest
-    (subst (λ ds. CameOf g.D.Disk (run_works.work_of any.ghosts setup) c.work_of-work.result.newest ds.items back x) made.devices h)))) c.serve.ensures.came
+    (subst (λ w. CameOf g.D.Disk w o.newest c.args.ready.failed c.args.devices.items back x) same
+    (subst (λ f. CameOf g.D.Disk (run_works.work_of any.ghosts setup work.start) o.newest f c.args.devices.items back x) made.failed
+    (subst (λ n. CameOf g.D.Disk (run_works.work_of any.ghosts setup work.start) n work.failed c.args.devices.items back x) made.newest
+    (subst (λ ds. CameOf g.D.Disk (run_works.work_of any.ghosts setup work.start) work.newest work.failed ds.items back x) made.devices h))))) c.serve.ensures.came

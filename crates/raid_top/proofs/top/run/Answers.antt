@@ -1,4 +1,4 @@
-use Rattle.std.proofs.Common.{refl, ap, ◌∙◌, ◌≡◌}
+use Rattle.std.proofs.Common.{refl, ◌∙◌}
 use Rattle.blk_disk.specs.Disk.{Rose}
 use Rattle.top_status.specs.Refusals.{refusal_text}
 use Rattle.top_words.specs.Views.{action_seen}
