@@ -1,0 +1,121 @@
+//! Calls that are refused, and output that fails.
+use super::*;
+
+const MISSING: &str = "START array\n1 3 0\nSTART disks\nd0\nd1\nd9\nSTART layout\n1 1 1 5\n";
+
+const SECOND: &str = "START array\n1 3 0\nSTART disks\nd0\nd1\nd2\nSTART layout\n1 2 1 5\n";
+
+// Words that are no command; texts that aren't in their form; components that are too small or not there; the bay's call of the
+// script, and that of the third component, which fail. With 65 sectors there is one stripe, of two blocks.
+#[test]
+fn what_is_refused_changes_nothing(rt: HostRuntime) -> Result<(), Fail> {
+    let sessions = [
+        Session {
+            steps: &[
+                Step::Run("", 1, "status usage 0\n"),
+                Step::Run("r5 -F", 1, "status usage 0\n"),
+                Step::Run("r5", 1, "status usage 1\n"),
+                Step::Run("r5 -s -p", 1, "status usage 1\n"),
+                Step::Run("r5 -F d1 -R d1", 1, "status usage 1\n"),
+                Step::Run("r5 -s --trace", 1, "status usage 2\n"),
+                Step::Run("r5 -F d1 --trace", 1, "status usage 2\n"),
+                Step::Run(
+                    "r5 --sweep 1 --clients 1 --ops 1 --trace",
+                    1,
+                    "status usage 2\n",
+                ),
+                Step::Run("r5 -f d3", 1, "status usage 3\n"),
+                Step::Run("r5 -R d3", 1, "status usage 3\n"),
+                Step::Run("r5 -I 4294967296", 1, "status usage 3\n"),
+                Step::Run("r5 --io s1 -w 17", 1, "status usage 3\n"),
+                Step::Holds("d0", ""),
+                Step::Holds("d1", ""),
+            ],
+            ..PLAIN
+        },
+        Session {
+            conf: MISSING,
+            steps: &[Step::Run("r5 --io s1", 6, "status nofile d9\n")],
+            ..PLAIN
+        },
+        Session {
+            conf: SECOND,
+            steps: &[Step::Run("r5 --io s1", 2, "status conf 8 9\n")],
+            ..PLAIN
+        },
+        Session {
+            script: "0 write 0 0 a5\n",
+            other: "graph g\nbuffer 1 stripe 0 from 0 count 1\n",
+            steps: &[
+                Step::Run("r5 --io s1", 3, "status script 1 2\n"),
+                Step::Run("r5 --io s1 --graphs t1", 4, "status graph 2 3\n"),
+            ],
+            ..PLAIN
+        },
+        Session {
+            script: "0 use g read 0 1\n",
+            steps: &[Step::Run("r5 --io s1 --graphs t1", 3, "status script 1 6\n")],
+            ..PLAIN
+        },
+        Session {
+            faults: &[1],
+            steps: &[
+                Step::Run("r5 --io s1", 5, "status bay\n"),
+                Step::Holds("d0", ""),
+            ],
+            ..PLAIN
+        },
+        Session {
+            faults: &[4],
+            steps: &[
+                Step::Run("r5 --io s1", 5, "status bay\n"),
+                Step::Holds("d0", ""),
+                Step::Holds("d2", ""),
+            ],
+            ..PLAIN
+        },
+        Session {
+            sectors: 64,
+            steps: &[Step::Run("r5 --io s1", 10, "status small 0 64 65\n")],
+            ..PLAIN
+        },
+        Session {
+            sectors: 65,
+            script: "0 write 1 1 22\n0 write 2 1 22\n",
+            steps: &[Step::Run(
+                "r5 --io s1",
+                0,
+                "reply 0.0 done\nreply 0.1 refused R1\ncommit 0.0\nstatus ok\n",
+            )],
+            ..PLAIN
+        },
+    ];
+    play(&rt, rt.alloc(), &sessions)
+}
+
+// A configuration of 16,777,217 bytes.
+#[test]
+fn a_long_text_is_refused(rt: HostRuntime) -> Result<(), Fail> {
+    let alloc = rt.alloc();
+    let long = vec![in alloc; b' '; 16_777_217]?;
+    let texts = vec![in alloc; (Name::new(alloc, "r5")?, long)]?;
+    let mut bay: MemBay<MemDisk> = MemBay::new(alloc, texts, Vec::new(alloc), Vec::new(alloc));
+    let (number, lines) = answer(&rt, alloc, &mut bay, "r5 -s")?;
+    assert_eq!(rt; number, 13);
+    assert_eq!(rt; lines.as_slice(), b"status long r5\n".as_slice());
+    Ok(())
+}
+
+#[test]
+fn a_sink_that_fails_hides_the_output_alone(rt: HostRuntime) -> Result<(), Fail> {
+    let alloc = rt.alloc();
+    let mut bay = bay_of(alloc, &PLAIN)?;
+    let mut out = MemSink::new(alloc, 4096, vec![in alloc; 0]?)?;
+    let words = names_of(alloc, "r5 --io s1 -w 0")?;
+    let status = run(&rt, alloc, &words, &mut bay, &mut out);
+    assert_eq!(rt; status.number(), 7);
+    assert_eq!(rt; out.bytes(), b"".as_slice());
+    let held = held_by(alloc, found(&bay, "d2")?)?;
+    assert_eq!(rt; held.as_str(), "64 a5\n");
+    Ok(())
+}
