@@ -36,6 +36,8 @@ enum Step {
     Calls(&'static str, &'static str),
     /// The component is replaced by one of as many zeros.
     Renew(&'static str),
+    /// The component is replaced by one of so many sectors of zeros.
+    Resize(&'static str, u16),
     /// The second of these components is replaced by one that holds what the first does.
     Copy(&'static str, &'static str),
     /// Its sector of this number is filled with this byte.
@@ -215,6 +217,12 @@ fn renew(alloc: Global, bay: &mut MemBay<MemDisk>, name: &str) -> Result<(), Fai
     replace(alloc, bay, name, bytes)
 }
 
+// Puts a component of so many zeros in its place.
+fn resize(alloc: Global, bay: &mut MemBay<MemDisk>, name: &str, sectors: u16) -> Result<(), Fail> {
+    let bytes = vec![in alloc; 0; SECTOR * usize::from(sectors)]?;
+    replace(alloc, bay, name, bytes)
+}
+
 // What the one holds in the place of the other.
 fn copy(alloc: Global, bay: &mut MemBay<MemDisk>, from: &str, to: &str) -> Result<(), Fail> {
     let bytes = found(bay, from)?.bytes().to_vec(alloc)?;
@@ -263,6 +271,7 @@ fn act_out<R: Abort + Threads + Wait + Sync>(
             assert_eq!(rt; calls.as_str(), lines, "{name}");
         }
         Step::Renew(name) => renew(alloc, bay, name)?,
+        Step::Resize(name, sectors) => resize(alloc, bay, name, sectors)?,
         Step::Copy(from, to) => copy(alloc, bay, from, to)?,
         Step::Spoil(name, sector, byte) => spoil(alloc, bay, name, sector, byte)?,
     }

@@ -6,7 +6,7 @@ const MISSING: &str = "START array\n1 3 0\nSTART disks\nd0\nd1\nd9\nSTART layout
 const SECOND: &str = "START array\n1 3 0\nSTART disks\nd0\nd1\nd2\nSTART layout\n1 2 1 5\n";
 
 // Words that are no command; texts that aren't in their form; components that are too small or not there; the bay's call of the
-// script, and that of the third component, which fail. With 65 sectors there is one stripe, of two blocks.
+// script, and that of the third component, which fail. Where d1 has 65 sectors there is one stripe, of two blocks.
 #[test]
 fn what_is_refused_changes_nothing(rt: HostRuntime) -> Result<(), Fail> {
     let sessions = [
@@ -75,18 +75,17 @@ fn what_is_refused_changes_nothing(rt: HostRuntime) -> Result<(), Fail> {
             ..PLAIN
         },
         Session {
-            sectors: 64,
-            steps: &[Step::Run("r5 --io s1", 10, "status small 0 64 65\n")],
-            ..PLAIN
-        },
-        Session {
-            sectors: 65,
             script: "0 write 1 1 22\n0 write 2 1 22\n",
-            steps: &[Step::Run(
-                "r5 --io s1",
-                0,
-                "reply 0.0 done\nreply 0.1 refused R1\ncommit 0.0\nstatus ok\n",
-            )],
+            steps: &[
+                Step::Resize("d1", 64),
+                Step::Run("r5 --io s1", 10, "status small 1 64 65\n"),
+                Step::Resize("d1", 65),
+                Step::Run(
+                    "r5 --io s1",
+                    0,
+                    "reply 0.0 done\nreply 0.1 refused R1\ncommit 0.0\nstatus ok\n",
+                ),
+            ],
             ..PLAIN
         },
     ];
