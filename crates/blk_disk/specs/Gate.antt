@@ -1,7 +1,7 @@
 -- What a gated device has, and what its calls do to the device that it stands before.
 use Rattle.std.specs.Prelude.{◌≡◌, ◌<◌, ◌≤◌, ◌+◌, ◌/◌, ◌++◌, [], ◌∷◌, ℕ, Bool, false, if◌then◌else◌, not, nat_lt}
 use Rattle.blk_disk.specs.Disk.{call_of, one_more}
-use Rattle.blk_disk.specs.Mem.{mem_bytes, mem_numbers, mem_room, mem_made, mem_kept, mem_faults, mem_fails}
+use Rattle.blk_disk.specs.Mem.{mem_numbers, mem_room, mem_made, mem_kept, mem_faults, mem_fails}
 use Rattle.blk_disk.specs.declared.gate.GateDisk.{GateDisk}
 use Rattle.blk_disk.specs.declared.mem.MemDisk.{MemDisk}
 

@@ -5,6 +5,7 @@
 #![tactic(auto)]
 
 mod blocks;
+pub mod limits;
 mod memory;
 mod op;
 #[cfg(test)]

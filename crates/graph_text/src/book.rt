@@ -5,12 +5,10 @@ ghost use Rattle.std.specs.Str.{bytes_eq};
 ghost use Rattle.graph_text.specs.Format.{has_name};
 
 use crate::name::Name;
+use blk_plain::limits;
 use graph_mean::{Graph, Memory};
 use std::alloc::Global;
 use std::marker::Model;
-
-/// The most graphs of a file.
-pub(crate) const GRAPHS: u32 = 64;
 
 /// The graphs of a file with their names, in the order of the file.
 #[derive(Drop)]
@@ -43,8 +41,8 @@ impl Book {
         ensures { IfOk result (λ b. b ≡ []) }
     {
         Ok(Book {
-            names: Vec::with_capacity(alloc, GRAPHS as usize)?,
-            graphs: Vec::with_capacity(alloc, GRAPHS as usize)?,
+            names: Vec::with_capacity(alloc, limits::GRAPHS as usize)?,
+            graphs: Vec::with_capacity(alloc, limits::GRAPHS as usize)?,
         })
     }
 
@@ -53,8 +51,8 @@ impl Book {
         requires { length self.old < 64 }
         ensures { self.new ≡ self.old ++ record { name = name; graph = graph.drawn } ∷ [] }
     {
-        append(&mut self.names, name);
-        append(&mut self.graphs, graph);
+        self.names.push_reserved(name);
+        self.graphs.push_reserved(graph);
     }
 
     /// Whether a graph has this name.
@@ -111,14 +109,4 @@ fn place(names: &[Name], name: &[u8]) -> Option<usize>
     ensures within { IfSome result (λ i. i < length names.now) }
 {
     names.iter().position(|n| n.is(name))
-}
-
-// Appends to a vector with room to spare.
-fn append<T: Drop>(items: &mut Vec<T>, item: T)
-    requires { vec_len items.old < vec_capacity items.old }
-    ensures items { items.new.items ≡ items.old.items ++ item ∷ [] }
-    ensures room { vec_capacity items.old ≤ vec_capacity items.new }
-{
-    let done = items.push(item).is_ok();
-    prove!(done);
 }

@@ -11,16 +11,11 @@ use crate::kept::Edges;
 use crate::lines::{buffer_in, return_in};
 use crate::nodes::node_in;
 use crate::push::push_vertex;
+use blk_plain::limits;
 use graph_mean::{Graph, Memory};
 use raid_text::Words;
 use std::alloc::Global;
 use std::marker::Model;
-
-/// The most nodes of a graph, and the most buffers, and the most returns.
-const EACH: u32 = 2_048;
-
-/// The most sources and antecedents of a graph together.
-const EDGES: u32 = 16_384;
 
 /// A graph that grows line by line, in room for as much as a graph can have. It takes no memory
 /// after `new`.
@@ -57,7 +52,7 @@ impl Draft {
         ensures { IfOk result (λ d. d ≡ blank) }
     {
         Ok(Draft {
-            graph: Graph::with_room(alloc, EACH, EACH, EDGES)?,
+            graph: Graph::with_room(alloc, limits::NODES, limits::BUFFERS, limits::EDGES)?,
             count: 0,
             edges: Edges::new(alloc)?,
         })
@@ -80,7 +75,7 @@ impl Draft {
             return Err(WORD);
         }
         let buf = buffer_in(self.graph.bufs(), words)?;
-        if self.graph.bufs() == EACH {
+        if self.graph.bufs() == limits::BUFFERS {
             return Err(LIMIT);
         }
         self.graph.push_buf(buf);
@@ -112,7 +107,7 @@ impl Draft {
         ensures { Gives (λ _. self.new) result (with_return_line self.old (words_left words.old)) }
     {
         let ret = return_in(words)?;
-        if self.graph.rets() == EACH {
+        if self.graph.rets() == limits::RETURNS {
             return Err(LIMIT);
         }
         self.graph.push_ret(ret);
@@ -134,5 +129,5 @@ fn has_room(nodes: u32, count: u32, sources: &[u32], antes: &[u32]) -> bool
     ensures { result ≡ (nat_lt nodes 2048 && nat_le (count + (length sources.now + length antes.now)) 16384) }
 {
     let edges = count as usize + (sources.len() + antes.len());
-    nodes < EACH && edges <= EDGES as usize
+    nodes < limits::NODES && edges <= limits::EDGES as usize
 }

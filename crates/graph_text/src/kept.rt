@@ -2,12 +2,13 @@
 ghost use Rattle.std.specs.Prelude.{◌≡◌, ◌∷◌, ◌++◌, ◌<◌, ◌≤◌, [], length, vec_len, vec_capacity, IfOk};
 ghost use Rattle.graph_text.specs.Kept.{firsts};
 
+use blk_plain::limits;
 use graph_mean::Memory;
 use std::alloc::Global;
 use std::marker::Model;
 
 /// How many numbers are kept: one more than the sources and antecedents that a graph can have.
-const KEPT: usize = 16_385;
+const KEPT: usize = limits::EDGES as usize + 1;
 
 /// The first 16,385 numbers of a list. It takes no memory after `new`.
 #[derive(Drop)]
@@ -49,7 +50,7 @@ impl Kept {
         ensures few { length self.new ≤ 16385 }
     {
         if self.items.len() < KEPT {
-            append(&mut self.items, n);
+            self.items.push_reserved(n);
         }
     }
 
@@ -88,14 +89,4 @@ impl Edges {
         self.sources.clear();
         self.antes.clear();
     }
-}
-
-// Appends to a vector with room to spare.
-fn append(items: &mut Vec<u32>, n: u32)
-    requires { vec_len items.old < vec_capacity items.old }
-    ensures items { items.new.items ≡ items.old.items ++ n ∷ [] }
-    ensures room { vec_capacity items.old ≤ vec_capacity items.new }
-{
-    let done = items.push(n).is_ok();
-    prove!(done);
 }

@@ -5,12 +5,13 @@ ghost use Rattle.graph_text.specs.Format.{after_line, at_text_end, graphs_of, in
 ghost use Rattle.graph_text.specs.FormatForm.{AreGraphs};
 ghost use Rattle.graph_text.specs.Answers.{Gives, GivesBook, GivesRead};
 
-use crate::book::{Book, GRAPHS};
+use crate::book::Book;
 use crate::codes::{CUT, LIMIT, NAME, WORD};
 use crate::draft::Draft;
 use crate::fault::{BookFault, LineFault};
 use crate::name::{Name, is_name};
 use crate::steps::{next_word, pass_end};
+use blk_plain::limits;
 use graph_mean::Memory;
 use raid_text::{Line, Lines, Words};
 use std::alloc::Global;
@@ -153,7 +154,7 @@ fn start_in(ended: &Book, words: &mut Words) -> Result<Name, u8>
         return Err(NAME);
     }
     pass_end(words)?;
-    if ended.count() < GRAPHS {
+    if ended.count() < limits::GRAPHS {
         Ok(Name::new(word))
     } else {
         Err(LIMIT)

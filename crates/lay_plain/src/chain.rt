@@ -4,6 +4,7 @@ ghost use Rattle.lay_plain.specs.Chained.{chained, AreNoRounds};
 ghost use Rattle.lay_plain.specs.Limits.{IsBetween, IsOutside};
 
 use crate::fault::MakeFault;
+use blk_plain::limits;
 use lay_core::{Layout, Place};
 
 /// Level C: a stripe is a unit and its copy on the next column, around the end. Rows go in pairs: the
@@ -40,13 +41,16 @@ impl Chain {
         ensures unit { IsErrOf result MakeFault.Unit ↔ (IsBetween 2 32 columns × IsOutside 1 128 unit_sectors) }
         ensures rows { IsErrOf result MakeFault.Rows ↔ (IsBetween 2 32 columns × IsBetween 1 128 unit_sectors × AreNoRounds columns rows) }
     {
-        if !(2..=32).contains(&columns) {
+        if !(2..=limits::COLUMNS).contains(&columns) {
             return Err(MakeFault::Columns);
         }
-        if !(1..=128).contains(&unit_sectors) {
+        if !(1..=limits::UNIT_SECTORS).contains(&unit_sectors) {
             return Err(MakeFault::Unit);
         }
-        if rows < 2 || rows % 2 == 1 || u64::from(columns) * u64::from(rows / 2) > 1_048_576 {
+        if rows < 2
+            || rows % 2 == 1
+            || u64::from(columns) * u64::from(rows / 2) > limits::STRIPES as u64
+        {
             return Err(MakeFault::Rows);
         }
         Ok(Chain {

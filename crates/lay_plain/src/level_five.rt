@@ -4,6 +4,7 @@ ghost use Rattle.lay_plain.specs.LeftSymmetric.{left_symmetric};
 ghost use Rattle.lay_plain.specs.Limits.{IsBetween, IsOutside};
 
 use crate::fault::MakeFault;
+use blk_plain::limits;
 use lay_core::{Layout, Place};
 
 /// Level 5, left-symmetric: a stripe is a row of all columns; its check unit lies on the last
@@ -39,13 +40,13 @@ impl Raid5 {
         ensures unit { IsErrOf result MakeFault.Unit ↔ (IsBetween 2 32 columns × IsOutside 1 128 unit_sectors) }
         ensures rows { IsErrOf result MakeFault.Rows ↔ (IsBetween 2 32 columns × IsBetween 1 128 unit_sectors × IsOutside 1 1048576 rows) }
     {
-        if !(2..=32).contains(&columns) {
+        if !(2..=limits::COLUMNS).contains(&columns) {
             return Err(MakeFault::Columns);
         }
-        if !(1..=128).contains(&unit_sectors) {
+        if !(1..=limits::UNIT_SECTORS).contains(&unit_sectors) {
             return Err(MakeFault::Unit);
         }
-        if !(1..=1_048_576).contains(&rows) {
+        if !(1..=limits::STRIPES).contains(&rows) {
             return Err(MakeFault::Rows);
         }
         Ok(Raid5 {

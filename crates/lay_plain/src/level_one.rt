@@ -4,6 +4,7 @@ ghost use Rattle.lay_plain.specs.Mirrored.{mirrored, ArePairs, AreNoPairs};
 ghost use Rattle.lay_plain.specs.Limits.{IsBetween, IsOutside};
 
 use crate::fault::MakeFault;
+use blk_plain::limits;
 use lay_core::{Layout, Place};
 
 /// Level 1: a stripe is a unit and its copy, on the two columns of a pair. Stripes go to the pairs in
@@ -38,13 +39,13 @@ impl Raid1 {
         ensures unit { IsErrOf result MakeFault.Unit ↔ (ArePairs columns × IsOutside 1 128 unit_sectors) }
         ensures rows { IsErrOf result MakeFault.Rows ↔ (ArePairs columns × IsBetween 1 128 unit_sectors × ((rows < 1) ⊎ (1048576 < columns / 2 * rows))) }
     {
-        if !(2..=32).contains(&columns) || columns % 2 == 1 {
+        if !(2..=limits::COLUMNS).contains(&columns) || columns % 2 == 1 {
             return Err(MakeFault::Columns);
         }
-        if !(1..=128).contains(&unit_sectors) {
+        if !(1..=limits::UNIT_SECTORS).contains(&unit_sectors) {
             return Err(MakeFault::Unit);
         }
-        if rows < 1 || u64::from(columns / 2) * u64::from(rows) > 1_048_576 {
+        if rows < 1 || u64::from(columns / 2) * u64::from(rows) > limits::STRIPES as u64 {
             return Err(MakeFault::Rows);
         }
         Ok(Raid1 {

@@ -4,6 +4,7 @@ ghost use Rattle.lay_plain.specs.Straight.{striped};
 ghost use Rattle.lay_plain.specs.Limits.{IsBetween, IsOutside};
 
 use crate::fault::MakeFault;
+use blk_plain::limits;
 use lay_core::{Layout, Place};
 
 /// Level 0: a stripe is a row of all columns, and each of its units is a data unit. (raid(4).)
@@ -36,13 +37,13 @@ impl Raid0 {
         ensures unit { IsErrOf result MakeFault.Unit ↔ (IsBetween 1 32 columns × IsOutside 1 128 unit_sectors) }
         ensures rows { IsErrOf result MakeFault.Rows ↔ (IsBetween 1 32 columns × IsBetween 1 128 unit_sectors × IsOutside 1 1048576 rows) }
     {
-        if !(1..=32).contains(&columns) {
+        if !(1..=limits::COLUMNS).contains(&columns) {
             return Err(MakeFault::Columns);
         }
-        if !(1..=128).contains(&unit_sectors) {
+        if !(1..=limits::UNIT_SECTORS).contains(&unit_sectors) {
             return Err(MakeFault::Unit);
         }
-        if !(1..=1_048_576).contains(&rows) {
+        if !(1..=limits::STRIPES).contains(&rows) {
             return Err(MakeFault::Rows);
         }
         Ok(Raid0 {

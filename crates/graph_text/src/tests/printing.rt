@@ -1,14 +1,13 @@
 //! Graphs that are printed, and read again.
-ghost use Rattle.std.specs.Prelude.{◌≡◌, ◌∷◌, [], IfOk, IsTrue, MatchResult};
-ghost use Rattle.graph_mean.specs.Graph.{blank};
-ghost use Rattle.graph_mean.specs.LargeWrite.{in_room, large, large_bufs, large_front};
+ghost use Rattle.std.specs.Prelude.{◌≡◌, ◌∷◌, [], IsTrue, MatchResult};
 ghost use Rattle.graph_text.specs.Format.{is_name};
 ghost use Rattle.graph_text.specs.FormatForm.{IsInLimits};
 ghost use Rattle.graph_text.specs.declared.fault.BookFault.TheVariants.{Memory as NoMemory};
 
 use crate::tests::LARGE;
 use crate::{Book, BookFault, print_graph, read_graphs};
-use graph_mean::{Buf, Graph, Memory, Node};
+use graph_mean::Graph;
+use graph_mean::samples::large_write;
 use std::alloc::Global;
 use std::test::Fail;
 
@@ -19,64 +18,6 @@ const LOOSE: &[u8] =
 // The same graph, as it is printed.
 const EACH: &[u8] =
     b"graph z-0_9\nbuffer 0 stripe 1 from 2 count 3 new 4\nbuffer 1 stripe 0 from 4294967295 count 0\nnode 0 read 5 1\nnode 1 xor 0\nnode 2 xor 0 1 1 after 1\nnode 3 xor 1 after 0\nnode 4 write 6 0 after 0 2 3\nnode 5 commit\nnode 6 terminate after 5 4\nreturn 7 1\nreturn 8 0\nend\n";
-
-// The new data of unit 0, what is read of unit 1, and the new check unit.
-fn push_bufs(graph: &mut Graph)
-    requires { graph.old ≡ in_room blank }
-    ensures { graph.new ≡ in_room large_bufs }
-{
-    let plain = Buf {
-        stripe: 0,
-        from: 0,
-        count: 1,
-        new_of: None,
-    };
-    graph.push_buf(Buf {
-        new_of: Some(0),
-        ..plain
-    });
-    graph.push_buf(plain);
-    graph.push_buf(plain);
-}
-
-// The read of unit 1, the sum that makes the check unit, and the commit.
-fn push_front(graph: &mut Graph)
-    requires { graph.old ≡ in_room large_bufs }
-    ensures { graph.new ≡ in_room large_front }
-{
-    graph.push_node(Node::Rd { unit: 1, buf: 1 });
-    graph.push_node(Node::Xor { to: 2 });
-    graph.push_source(1);
-    graph.push_source(0);
-    graph.push_ante(0);
-    graph.push_node(Node::Cmt);
-    graph.push_ante(0);
-    graph.push_ante(1);
-}
-
-// The two writes and the terminator.
-fn push_back(graph: &mut Graph)
-    requires { graph.old ≡ in_room large_front }
-    ensures { graph.new ≡ in_room large }
-{
-    graph.push_node(Node::Wr { unit: 0, buf: 0 });
-    graph.push_ante(2);
-    graph.push_node(Node::Wr { unit: 2, buf: 2 });
-    graph.push_ante(2);
-    graph.push_node(Node::Trm);
-    graph.push_ante(3);
-    graph.push_ante(4);
-}
-
-fn large(alloc: Global) -> Result<Graph, Memory>
-    ensures { IfOk result (λ g. g ≡ in_room large) }
-{
-    let mut graph = Graph::with_room(alloc, 6, 3, 9)?;
-    push_bufs(&mut graph);
-    push_front(&mut graph);
-    push_back(&mut graph);
-    Ok(graph)
-}
 
 // Prints a graph of this name and reads the text, which gives that graph.
 fn reread(alloc: Global, name: &[u8], graph: &Graph) -> Result<Book, BookFault>
@@ -96,7 +37,7 @@ fn reread(alloc: Global, name: &[u8], graph: &Graph) -> Result<Book, BookFault>
 #[tactic(auto, unfolding(crate::specs::Format::is_name))]
 fn a_graph_is_printed_behind_what_stands_there(rt: HostRuntime) -> Result<(), Fail> {
     let alloc = rt.alloc();
-    let graph = large(alloc)?;
+    let graph = large_write(alloc)?;
     let mut text = Vec::from_slice(alloc, b"# one\n")?;
     print_graph(alloc, b"large", &graph, &mut text)?;
     let mut want = Vec::from_slice(alloc, b"# one\n")?;
@@ -129,7 +70,7 @@ fn what_is_printed_is_read_and_printed_the_same(rt: HostRuntime) -> Result<(), F
 #[test]
 fn graphs_that_are_printed_in_turn_are_one_file(rt: HostRuntime) -> Result<(), Fail> {
     let alloc = rt.alloc();
-    let graph = large(alloc)?;
+    let graph = large_write(alloc)?;
     let mut text = Vec::new(alloc);
     print_graph(alloc, b"a", &graph, &mut text)?;
     print_graph(alloc, b"b", &graph, &mut text)?;

@@ -6,7 +6,7 @@ pub returns-then-len-lt-KEPT : goal.returns-then-len-lt-KEPT
 returns-then-len-lt-KEPT c =
     let is : c.self.inside.items.items ≡ c.args.self.now = c.self.view_is in
     let few : length c.self.inside.items.items < 16385 = let l = c.len.ensures in let t = c.if-len-lt-KEPT.true in omega arith in
-    let all = c.append.ensures.items ∙ more_kept c.self.inside.items.items c.args.n few in
+    let all = c.push_reserved.ensures.items ∙ more_kept c.self.inside.items.items c.args.n few in
     record { kept = rw (← is) all; few = subst (λ (xs : List ℕ). length xs ≤ 16385) (sym all) (kept_few (c.self.inside.items.items ++ c.args.n ∷ [])) }
 
 pub returns-else-len-lt-KEPT : goal.returns-else-len-lt-KEPT
