@@ -26,4 +26,4 @@ set_send : IsSend u64-field.row
 set_send = search sendable
 
 pub scratch_send : IsSend scratch.the_row
-scratch_send = declared_send scratch.the_type (Vec-send bool-field.row flag_send, (Vec-send u32-field.row number_send, (Vec-send (option.the_row u32-field.row) (option_send u32-field.row number_send), (Vec-send u64-field.row set_send, (Vec-send bool-field.row flag_send, (Vec-send cover.the_row cover_send, tt))))))
+scratch_send = declared_send scratch.the_type (Vec-send bool-field.row flag_send, (Vec-send u64-field.row set_send, (Vec-send u32-field.row number_send, (Vec-send (option.the_row u32-field.row) (option_send u32-field.row number_send), (Vec-send u64-field.row set_send, (Vec-send bool-field.row flag_send, (Vec-send cover.the_row cover_send, (Vec-send bool-field.row flag_send, (number_send, tt)))))))))
