@@ -4,4 +4,5 @@ mod Sums
 mod Spread
 mod Balanced
 mod Lowest
+pub mod ByUnits
 pub mod Sent

@@ -16,7 +16,9 @@ mod table;
 
 pub use declustered::Declustered;
 pub use fault::TableFault;
-pub use laws::{data_units_stand_in_tuple_order, rows_are_the_lowest_free};
+pub use laws::{
+    data_units_stand_in_tuple_order, rows_are_the_lowest_free, spare_places_lie_by_units,
+};
 pub use spared::Spared;
 
 #[cfg(test)]

@@ -3,6 +3,7 @@ ghost use Rattle.std.specs.Prelude.{◌≡◌, ◌<◌, ◌↔◌, IsErrOf, OnOk
 ghost use Rattle.lay_decluster.specs.Limits.{IsUnit, IsNoUnit, AreNoTables, IsTabled, stripes_in};
 
 use crate::fault::TableFault;
+use blk_plain::limits;
 use lay_design::Design;
 
 /// The stripes that so many rows make.
@@ -22,11 +23,11 @@ pub(crate) fn check_numbers(design: &Design, unit_sectors: u32, rows: u32) -> Re
     ensures rows { IsErrOf result TableFault.Rows ↔ (IsUnit unit_sectors × AreNoTables design.now rows) }
     ensures memory { ¬ (IsErrOf result TableFault.Memory) }
 {
-    if !(1..=128).contains(&unit_sectors) {
+    if !(1..=limits::UNIT_SECTORS).contains(&unit_sectors) {
         return Err(TableFault::Unit);
     }
     let table_rows = design.k() * design.r();
-    if rows % table_rows != 0 || rows == 0 || stripes_in(design, rows) > 1_048_576 {
+    if rows % table_rows != 0 || rows == 0 || stripes_in(design, rows) > limits::STRIPES as u64 {
         return Err(TableFault::Rows);
     }
     Ok(())

@@ -11,7 +11,7 @@ use Rattle.lay_design.specs.Blocks.{degree, together}
 use Rattle.lay_design.specs.Counting.{IsNowhere}
 use Rattle.lay_design.specs.Design.{AreNumbers, Blocks, IsDesign, IsFault, outside, parts, repeated, strays}
 use Rattle.raid_conf.specs.declared.fault.ConfFault.{ConfFault}
-use Rattle.raid_conf.specs.Answers.{Judges, Refuses}
+use Rattle.raid_conf.specs.Answers.{Judges, AnswersFault}
 use Rattle.raid_conf.specs.Designs.{is_design, nowhere, numbers_fit}
 
 both : (a b : Bool) → a ≡ true → b ≡ true → (a && b) ≡ true
@@ -127,7 +127,7 @@ is_the_design d h = both _ _
 
 -- what lay_design answers settles the test
 pub judged : ((d : Blocks) (fault : DesignFault) → IsDesign d → IsFault d fault → fault ≡ Memory) → (d : Blocks) (fault : DesignFault) (result : Result Bool ConfFault)
-    → ((fault ≡ Memory) ⊎ IsFault d fault) → Refuses fault result → Judges result (is_design d)
+    → ((fault ≡ Memory) ⊎ IsFault d fault) → AnswersFault fault result → Judges result (is_design d)
 judged law d fault result cause h = go fault cause h
   where
     fails : (f : DesignFault) → f ≢ Memory → ((f ≡ Memory) ⊎ IsFault d f) → is_design d ≡ false
@@ -141,7 +141,7 @@ judged law d fault result cause h = go fault cause h
     no : is_design d ≡ false → result ≡ Ok false → Judges result (is_design d)
     no test e = rw e test
 
-    go : (f : DesignFault) → ((f ≡ Memory) ⊎ IsFault d f) → Refuses f result → Judges result (is_design d)
+    go : (f : DesignFault) → ((f ≡ Memory) ⊎ IsFault d f) → AnswersFault f result → Judges result (is_design d)
     go Memory cause e = rw e tt
     go Count cause e = no (fails Count (λ x. cc) cause) e
     go (Element t i) cause e = no (fails (Element t i) (λ x. cc) cause) e

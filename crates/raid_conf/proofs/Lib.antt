@@ -11,6 +11,7 @@ pub mod ReadLines
 pub mod ReadConf
 pub mod TableLaws
 pub mod Making
+pub mod ByUnits
 pub mod Sent
 pub mod PrintedLines
 pub mod ShortTexts

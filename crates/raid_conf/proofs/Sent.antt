@@ -1,10 +1,10 @@
 -- Any layout may go to another thread.
 use denote.Hole.{as_row}
-use denote.Param.Send.{IsSend, LiveAt, SendAt, enum_send_at, recorded_send_at, recorded_send_of, sendable}
-use denote.Param.SendFields.{declared_send}
-use denote.Struct.Field.{Field, u32-field}
+use denote.Param.Send.{IsSend, LiveAt, SendAt, enum_send_at, recorded_send_at, recorded_send_of}
+use denote.Struct.Field.{Field}
 use denote.Enum.Enum.{Enum}
 use denote.Enum.Declared.{shape as shape_of}
+use Rattle.lay_plain.proofs.Sent.{raid0_send, raid1_send, raid4_send, raid5_send, chain_send}
 use Rattle.lay_decluster.proofs.Sent.{declustered_send, spared_send}
 use Rattle.lay_decluster.specs.contracts.declustered.Declustered as declustered
 use Rattle.lay_decluster.specs.contracts.spared.Spared as spared
@@ -16,24 +16,6 @@ use Rattle.lay_plain.specs.contracts.level_one.Raid1 as raid1
 use Rattle.lay_plain.specs.contracts.level_four.Raid4 as raid4
 use Rattle.lay_plain.specs.contracts.level_five.Raid5 as raid5
 use Rattle.raid_conf.specs.contracts.layouts.AnyLayout as any
-
-number_send : IsSend u32-field.row
-number_send = search sendable
-
-raid0_send : IsSend raid0.the_row
-raid0_send = declared_send raid0.the_type (number_send, (number_send, (number_send, tt)))
-
-raid1_send : IsSend raid1.the_row
-raid1_send = declared_send raid1.the_type (number_send, (number_send, (number_send, tt)))
-
-raid4_send : IsSend raid4.the_row
-raid4_send = declared_send raid4.the_type (number_send, (number_send, (number_send, tt)))
-
-raid5_send : IsSend raid5.the_row
-raid5_send = declared_send raid5.the_type (number_send, (number_send, (number_send, tt)))
-
-chain_send : IsSend chain.the_row
-chain_send = declared_send chain.the_type (number_send, (number_send, (number_send, tt)))
 
 -- a layout that may go to another thread may do so as one of the seven
 as_field : (F : Field) → IsSend (as_row F) → (v : F.Value) → SendAt F.row (F.into v)

@@ -29,9 +29,9 @@ Judges (Err (fault.At n code)) test = ⊥
 Judges (Err fault.Memory) test = Unit {0}
 
 -- what a design's fault says of the judgement
-abbrev pub Refuses : DesignFault → Result Bool ConfFault → Type 0
-Refuses design.Memory result = result ≡ Err fault.Memory
-Refuses _ result = result ≡ Ok false
+abbrev pub AnswersFault : DesignFault → Result Bool ConfFault → Type 0
+AnswersFault design.Memory result = result ≡ Err fault.Memory
+AnswersFault _ result = result ≡ Ok false
 
 -- what a text says, or its first line that is refused and why
 abbrev pub GivesConf : Result Conf ConfFault → Result Conf Refused → Type 0

@@ -1,7 +1,7 @@
 //! Whether what a configuration gives is a block design.
 ghost use Rattle.std.specs.Prelude.{◌≡◌, ◌⊎◌, IfErr, IfOk};
 ghost use Rattle.lay_design.specs.Design.{IsDesign, IsFault};
-ghost use Rattle.raid_conf.specs.Answers.{Judges, Refuses};
+ghost use Rattle.raid_conf.specs.Answers.{Judges, AnswersFault};
 ghost use Rattle.raid_conf.specs.Designs.{blocks_of, is_design, is_wide, serves};
 ghost use Rattle.raid_conf.specs.Levels.{has_design};
 
@@ -41,7 +41,7 @@ pub(crate) fn design_of(alloc: Global, given: &Given) -> Result<Design, DesignFa
 
 // What a fault says: there is no memory, or no design.
 fn refusal(fault: DesignFault) -> Result<bool, ConfFault>
-    ensures { Refuses fault result }
+    ensures { AnswersFault fault result }
 {
     match fault {
         DesignFault::Memory => Err(ConfFault::Memory),

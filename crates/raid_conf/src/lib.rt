@@ -49,7 +49,10 @@ pub use any_fault::AnyFault;
 pub use conf::Conf;
 pub use fault::ConfFault;
 pub use given::Given;
-pub use laws::{conf_is_of_the_form, conf_is_read, conf_text_is_printed_again, conf_text_is_read};
+pub use laws::{
+    conf_is_of_the_form, conf_is_read, conf_text_is_printed_again, conf_text_is_read,
+    spare_places_lie_by_units,
+};
 pub use layouts::AnyLayout;
 pub use memory::Memory;
 pub use names::Names;

@@ -7,16 +7,8 @@ ghost use Rattle.raid_conf.specs.Sections.{array_of, counts_of, layout_of, level
 
 use crate::codes::{COLUMNS, DISKS, LEVEL, NUMBER, ONE, QUEUE, SECTION, SPARES, WORD};
 use crate::steps::{next_number, next_word, number_in, pass_end, pass_number, pass_word};
+use blk_plain::limits;
 use raid_text::Words;
-
-/// The most columns.
-const COLUMNS_MOST: u32 = 32;
-
-/// The most spares.
-const SPARES_MOST: u32 = 8;
-
-/// The most sectors of a unit.
-const UNIT_MOST: u32 = 128;
 
 // The name of the section that a line begins.
 #[tactic(auto, unfolding(crate::specs::Sections::start_of))]
@@ -96,7 +88,7 @@ pub(crate) fn queue_begins(words: &mut Words) -> Result<bool, u8>
 fn may_be_columns(n: u32) -> bool
     ensures { result ≡ may_be_columns n }
 {
-    1 <= n && n <= COLUMNS_MOST
+    1 <= n && n <= limits::COLUMNS
 }
 
 /// How many columns and spares an array has.
@@ -115,7 +107,7 @@ fn counts_in(first: u32, second: u32, words: &mut Words) -> Result<Sizes, u8>
     ensures value { Gives (λ sizes. (sizes.columns, sizes.spares)) result (counts_of first second (words_left words.old)) }
 {
     let Some(word) = words.next() else {
-        if second > SPARES_MOST {
+        if second > limits::SPARES {
             return Err(NUMBER);
         }
         return Ok(Sizes {
@@ -127,7 +119,7 @@ fn counts_in(first: u32, second: u32, words: &mut Words) -> Result<Sizes, u8>
         return Err(NUMBER);
     }
     let spares = number_in(word)?;
-    if spares > SPARES_MOST {
+    if spares > limits::SPARES {
         return Err(NUMBER);
     }
     pass_end(words)?;
@@ -193,7 +185,7 @@ pub(crate) fn layout_line(columns: u32, words: &mut Words) -> Result<Kind, u8>
     ensures { Gives (λ kind. (kind.unit, kind.level)) result (layout_of columns (words_left words.old)) }
 {
     let unit = next_number(words)?;
-    if unit < 1 || UNIT_MOST < unit {
+    if unit < 1 || limits::UNIT_SECTORS < unit {
         return Err(NUMBER);
     }
     pass_number(words, 1, ONE)?;

@@ -1,4 +1,4 @@
--- What agreed before columns were judged at the end of a run still agrees.
+-- What agreed before columns were judged at the end of a run still agrees, an array that isn't lost then wasn't before, and what was dead is.
 use Rattle.std.proofs.Common.{◌≡◌, ◌⊎◌, ◌∙◌, ℕ, ◌<◌, List, Bool, true, false, Option, Some, None, refl, sym, ap, subst, inl, inr}
 use Rattle.std.specs.Prelude.{map, slice_get, option_map, count_by, ◌==◌}
 use Rattle.std.proofs.lemmas.Bool.{and_parts, and_from, or_left, or_right, eq-eqb}
@@ -6,14 +6,16 @@ use Rattle.std.proofs.lemmas.Option.{slice_get-map}
 use Rattle.lay_core.specs.declared.place.Place.{Place}
 use Rattle.lay_core.specs.Layout.{Shape, Blocks}
 use Rattle.eng_cols.specs.declared.column.Column.{Column}
+use Rattle.eng_cols.specs.declared.column.Column.TheVariants as column
 use Rattle.eng_cols.specs.Cols.{ColumnState, Live, Dead, Filling, Spread, all_done, is_done, is_done_on, is_filling, is_spread, is_set_filling, is_set_spread, passes, column_of, state_set}
 use Rattle.eng_cols.specs.Seats.{stands_for, spare_stands, available_on, is_available, open_on, spare_open, seat_on, seat, is_place_on, IsStripeOf, IsWhole}
 use Rattle.eng_cols.specs.Contents.{Contents, Agrees}
+use Rattle.eng_cols.specs.Lost.{NotLost}
 use Rattle.top_close.specs.Closes.{SpreadEnds, FillingEnds, ClosesAs}
 use Rattle.top_close.specs.Dying.{OnlyDie}
 use Rattle.top_close.specs.Ended.{states_of}
 use Rattle.top_close.proofs.Counts.{none_passes}
-use Rattle.top_close.proofs.DyingLaws.{still_agrees}
+use Rattle.top_close.proofs.DyingLaws.{lost_no_less, still_agrees}
 
 not_true : {A : Type 0} → false ≡ true → A
 not_true h = absurd (let u : ⊥ = cc in u)
@@ -120,6 +122,30 @@ module _ (y : Shape) (cols : List ColumnState) (kept : List Column) (closes : Cl
   closing_agrees contents blocks stripes agrees s i si st ii at o k here is ou ku =
       let stood = unit_stood s i si ii here in
       still_agrees y cols closes.mid die contents blocks stripes agrees s i si st ii at o k stood.0 (sym stood.1 ∙ is) ou ku
+
+  -- what is missing stays missing
+  missing_still : (s i : ℕ) → s < y.stripes → i < y.width → is_available y closes.mid s i ≡ false → is_available y (states_of y kept) s i ≡ false
+  missing_still s i si ii missing = go (is_available y (states_of y kept) s i) refl
+    where
+      go : (b : Bool) → is_available y (states_of y kept) s i ≡ b → is_available y (states_of y kept) s i ≡ false
+      go false e = e
+      go true e = not_true (sym missing ∙ (unit_stood s i si ii e).0)
+
+  pub closing_lost : NotLost y (states_of y kept) → NotLost y cols
+  closing_lost not = lost_no_less y cols closes.mid die (λ s si i j ii ji one two. not s si i j ii ji (missing_still s i si ii one) (missing_still s j si ji two))
+
+  dead_filling : (c : ℕ) (o : Option ColumnState) → o ≡ Some Dead → FillingEnds y closes.mid c o (slice_get kept c) → slice_get kept c ≡ Some column.Dead
+  dead_filling c (Some (Live d)) is h = let z : Some (Live d) ≡ Some Dead = is in absurd (let u : ⊥ = cc in u)
+  dead_filling c (Some Dead) is h = h
+  dead_filling c (Some (Filling d done)) is h = let z : Some (Filling d done) ≡ Some Dead = is in absurd (let u : ⊥ = cc in u)
+  dead_filling c (Some (Spread done)) is h = let z : Some (Spread done) ≡ Some Dead = is in absurd (let u : ⊥ = cc in u)
+  dead_filling c None is h = let z : None ≡ Some Dead = is in absurd (let u : ⊥ = cc in u)
+
+  pub closing_dead : (c : ℕ) → slice_get cols c ≡ Some Dead → slice_get kept c ≡ Some column.Dead
+  closing_dead c dead =
+      dead_filling c (slice_get closes.mid c)
+      (elim (spread_cases y cols c (slice_get cols c) (slice_get closes.mid c) (closes.spread c)) [ inl same ↦ same ∙ dead | inr died ↦ died ])
+      (closes.filling c)
 
 -- ## Columns that are live or dead
 

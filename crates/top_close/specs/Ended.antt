@@ -11,7 +11,7 @@ abbrev pub states_of : Shape → List Column → List ColumnState
 states_of y columns = map (state_set y.stripes) columns
 
 -- A loss of before stays the loss. Else the array is lost by these columns, or isn't lost.
-abbrev pub IsLossOf : Shape → Option Loss → List ColumnState → Option Loss → Type 0
-IsLossOf y (Some before) cols lost = lost ≡ Some before
-IsLossOf y None cols (Some loss) = IsLost y cols loss
-IsLossOf y None cols None = NotLost y cols
+abbrev pub IsLossBy : Shape → Option Loss → List ColumnState → Option Loss → Type 0
+IsLossBy y (Some before) cols lost = lost ≡ Some before
+IsLossBy y None cols (Some loss) = IsLost y cols loss
+IsLossBy y None cols None = NotLost y cols

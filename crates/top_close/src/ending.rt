@@ -5,7 +5,7 @@ ghost use Rattle.eng_cols.specs.Cols.{IsFor, IsKept, is_set_filling, is_set_spre
 ghost use Rattle.eng_cols.specs.Deaths.{Dies};
 ghost use Rattle.top_close.specs.Calls.{EndsSettled, SettlesOn};
 ghost use Rattle.top_close.specs.Settled.{IsLiveOn, HaveDevices, FailsToSettle, AreSettled};
-ghost use Rattle.top_close.specs.Ended.{states_of, IsLossOf};
+ghost use Rattle.top_close.specs.Ended.{states_of, IsLossBy};
 
 use crate::settle::settle_all;
 use blk_disk::Disk;
@@ -32,7 +32,7 @@ fn loss_of<L: Layout>(
     requires filling { count_by is_set_filling columns.now ≡ 0 }
     requires spread { count_by is_set_spread columns.now ≤ 1 }
     requires judge { IsFor (L.shape layout.now) judge.old }
-    ensures lost { IsLossOf (L.shape layout.now) before
+    ensures lost { IsLossBy (L.shape layout.now) before
         (states_of (L.shape layout.now) columns.now) result }
     ensures judge { IsFor (L.shape layout.now) judge.new }
 {
@@ -64,7 +64,7 @@ pub fn end_unlabelled<L: Layout, D: Disk>(
         ending.old.columns.items ending.new.columns.items devices.old devices.new }
     ensures last { (c d : ℕ) → IsLiveOn ending.new.columns.items c d →
         EndsSettled (calls_of D.Disk devices.new d) }
-    ensures lost { IsLossOf (L.shape layout.now) ending.old.lost
+    ensures lost { IsLossBy (L.shape layout.now) ending.old.lost
         (states_of (L.shape layout.now) ending.new.columns.items) ending.new.lost }
     ensures judge { IsFor (L.shape layout.now) judge.new }
 {

@@ -1,9 +1,10 @@
 //! What the end of a run leaves of the array's contents. These functions do nothing: what they
 //! ensure is so of every layout and all columns.
-ghost use Rattle.std.specs.Prelude.{◌≡◌, ◌≤◌, ℕ, List, map, true, count_by};
+ghost use Rattle.std.specs.Prelude.{◌≡◌, ◌≤◌, ℕ, List, Some, map, true, count_by, slice_get};
 ghost use Rattle.lay_core.specs.Layout.{Shape, Blocks};
 ghost use Rattle.eng_cols.specs.declared.column.Column.{Column};
-ghost use Rattle.eng_cols.specs.Cols.{ColumnState, column_of, is_set_filling, is_set_spread};
+ghost use Rattle.eng_cols.specs.declared.column.Column.TheVariants as column;
+ghost use Rattle.eng_cols.specs.Cols.{ColumnState, Dead, column_of, is_set_filling, is_set_spread};
 ghost use Rattle.eng_cols.specs.Seats.{is_available, seat};
 ghost use Rattle.eng_cols.specs.Lost.{NotLost};
 ghost use Rattle.eng_cols.specs.Contents.{Contents, Agrees, AnyStripe};
@@ -39,13 +40,18 @@ pub fn agreement_goes_by_the_devices_in_use()
         Agrees y old cols blocks AnyStripe → Agrees y new cols blocks AnyStripe }
 {}
 
-/// Columns that were being rebuilt are judged as the run ends: what agreed before still agrees.
-/// Where none was, the columns stay as they were.
+/// Columns that were being rebuilt are judged as the run ends: what agreed before still agrees, an
+/// array that isn't lost then wasn't lost before, and a dead column stays so. Where none was being
+/// rebuilt, the columns stay as they were.
 pub fn columns_close_without_harm()
     ensures agrees { (y : Shape) (contents : Contents) (cols : List ColumnState)
         (kept : List Column) (blocks : Blocks) → ClosesAs y cols kept →
         Agrees y contents cols blocks AnyStripe →
         Agrees y contents (states_of y kept) blocks AnyStripe }
+    ensures lost { (y : Shape) (cols : List ColumnState) (kept : List Column) →
+        ClosesAs y cols kept → NotLost y (states_of y kept) → NotLost y cols }
+    ensures dead { (y : Shape) (cols : List ColumnState) (kept : List Column) (c : ℕ) →
+        ClosesAs y cols kept → slice_get cols c ≡ Some Dead → slice_get kept c ≡ Some column.Dead }
     ensures plain { (y : Shape) (cols : List ColumnState) →
         count_by is_set_filling (map column_of cols) ≡ 0 →
         count_by is_set_spread (map column_of cols) ≡ 0 →

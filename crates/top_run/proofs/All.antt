@@ -11,7 +11,7 @@ use Rattle.top_serve.specs.Setups.{IsFew, graphs_in}
 use Rattle.top_serve.specs.Served as served
 use Rattle.top_run.specs.Work.{Service}
 use Rattle.top_run.specs.Works.{work_of}
-use Rattle.top_run.specs.Ends.{IsEnded, EndsSo}
+use Rattle.top_run.specs.Ends.{RunIsEnded, EndsSo}
 use Rattle.top_run.specs.Ran.{Rests, Tells, Ran, Runs}
 use Rattle.top_run.proofs.FromServed.{opens-from, rests-from, tells-from, stands-from}
 use Rattle.top_run.proofs.Finishing.{ends-so, finishes}
@@ -19,7 +19,7 @@ use Rattle.top_run.proofs.AtEnd.{columns-end, ends-kept}
 use Rattle.top_run.proofs.Meaning.{means}
 use Rattle.top_run.proofs.Causing.{causes}
 
-module _ {L D : Type 0} (lay : LayoutGhosts L) (disk : DiskGhosts D) (setup : Setup L D) (closed : Closed L D) (given : IsSetup lay disk setup) (few : IsFew setup) (s : served.IsServed lay disk setup None closed) (v : Service) (back : List (Option D)) (e : IsEnded lay closed disk v back) where
+module _ {L D : Type 0} (lay : LayoutGhosts L) (disk : DiskGhosts D) (setup : Setup L D) (closed : Closed L D) (given : IsSetup lay disk setup) (few : IsFew setup) (s : served.IsServed lay disk setup None closed) (v : Service) (back : List (Option D)) (e : RunIsEnded lay closed disk v back) where
   abbrev so : EndsSo lay closed disk v back
   so = ends-so lay closed disk v back e
 

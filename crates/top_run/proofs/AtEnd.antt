@@ -27,7 +27,7 @@ use Rattle.top_run.proofs.Columns.{was-live, none-filling-rebuilt, ending-dies}
 use Rattle.top_run.proofs.Causing.{came, dead-by}
 
 -- the loss of before, or that of the columns in the end
-pub loss-at-end : (y : Shape) (now : World) (before lost : Option Loss) (columns : List ColumnState) → now.lost ≡ before → served.IsLossIn y now before → ended.IsLossOf y before columns lost → IsLossAtEnd y now columns lost
+pub loss-at-end : (y : Shape) (now : World) (before lost : Option Loss) (columns : List ColumnState) → now.lost ≡ before → served.IsLossIn y now before → ended.IsLossBy y before columns lost → IsLossAtEnd y now columns lost
 loss-at-end y now (Some loss) None columns is why h = let z : None ≡ Some loss = h in absurd (let u : ⊥ = cc in u)
 loss-at-end y now (Some loss) (Some other) columns is why h =
     let z : Some other ≡ Some loss = h in
@@ -40,8 +40,8 @@ module _ {L D : Type 0} (lay : LayoutGhosts L) (disk : DiskGhosts D) (setup : Se
   abbrev y : Shape
   y = lay.shape setup.layout
 
-  pub lost-as : ended.IsLossOf y closed.lost (states_of y v.ending.columns) v.ending.lost
-  lost-as = subst (λ l. ended.IsLossOf (lay.shape l) closed.lost (states_of (lay.shape l) v.ending.columns) v.ending.lost) s.tells.layout e.lost
+  pub lost-as : ended.IsLossBy y closed.lost (states_of y v.ending.columns) v.ending.lost
+  lost-as = subst (λ l. ended.IsLossBy (lay.shape l) closed.lost (states_of (lay.shape l) v.ending.columns) v.ending.lost) s.tells.layout e.lost
 
   -- no sector changes at the end but the first
   pub same-contents : disk.tells → (d n k : ℕ) → n ≢ 0 → contents_of disk back d n k ≡ contents_of disk closed.devices.items d n k

@@ -24,7 +24,7 @@ use Rattle.top_serve.specs.Served as served
 use Rattle.top_serve.proofs.Columns.{set-states}
 use Rattle.top_run.specs.Work.{Service}
 use Rattle.top_run.specs.Works.{work_of}
-use Rattle.top_run.specs.Ends.{MayEnd, EndsSo}
+use Rattle.top_run.specs.Ends.{CanBeEnded, EndsSo}
 use Rattle.top_run.specs.Ran.{RisesAt, begun_in}
 use Rattle.top_run.proofs.Starting.{IsDeadBefore, dead-then, rebuilt-had}
 
@@ -99,7 +99,7 @@ module _ {L D : Type 0} (lay : LayoutGhosts L) (disk : DiskGhosts D) (setup : Se
   module _ (v : Service) (back : List (Option D)) (e : EndsSo lay closed disk v back) where
     -- a count that rose at the end has risen in all
     pub rise-behind : (d : ℕ) → RisesOn disk closed.devices.items back d → RisesOn disk setup.devices.items back d
-    rise-behind d rose = rises-wider disk (served.MayChange lay disk setup how closed) (λ _ _. ⊥) setup.devices.items closed.devices.items back back d s.leaves.frame rose (changes-refl disk (λ _ _. ⊥) back)
+    rise-behind d rose = rises-wider disk (served.CoreMayChange lay disk setup how closed) (λ _ _. ⊥) setup.devices.items closed.devices.items back back d s.leaves.frame rose (changes-refl disk (λ _ _. ⊥) back)
 
     -- so has one that rose before it
     pub rise-before : (d : ℕ) → RisesOn disk setup.devices.items closed.devices.items d → RisesOn disk setup.devices.items back d
@@ -121,9 +121,9 @@ module _ {L D : Type 0} (lay : LayoutGhosts L) (disk : DiskGhosts D) (setup : Se
       let there = given.there c d (had-device lay disk setup None closed given s c d live) in
       let is : device_at setup.devices.items d ≡ Some there.0 =
       device_at-get setup.devices.items d None (slice_get_within setup.devices.items d (Some there.0) there.1) ∙ get_or_from_slice_get setup.devices.items d (Some there.0) None there.1 in
-      there-still disk (served.MayChange lay disk setup None closed d) (device_at setup.devices.items d) (device_at closed.devices.items d) (ap (λ o. is_some o) is) (s.leaves.frame.each d)
+      there-still disk (served.CoreMayChange lay disk setup None closed d) (device_at setup.devices.items d) (device_at closed.devices.items d) (ap (λ o. is_some o) is) (s.leaves.frame.each d)
 
-  pub may-end : count_by is_set_filling closed.columns.items ≤ count_by is_set_filling setup.columns.items → count_by is_set_spread closed.columns.items ≤ count_by is_set_spread setup.columns.items → MayEnd lay closed
+  pub may-end : count_by is_set_filling closed.columns.items ≤ count_by is_set_filling setup.columns.items → count_by is_set_spread closed.columns.items ≤ count_by is_set_spread setup.columns.items → CanBeEnded lay closed
   may-end filling spread = record {
     devices = record { there = device-there; apart = λ c k d one two. given.one_column c k d (had-device lay disk setup None closed given s c d one) (had-device lay disk setup None closed given s k d two) };
     columns = s.causes.dies.count ∙ (given.entries ∙ ap (λ l. (lay.shape l).columns) (sym s.tells.layout));

@@ -7,14 +7,14 @@ use Rattle.blk_disk.specs.Devices.{contents_of, calls_of}
 use Rattle.blk_disk.proofs.DeviceLaws.{changes-more, changes-then, changes_sector}
 use Rattle.lay_core.specs.declared.layout.Layout.{Ghosts as LayoutGhosts}
 use Rattle.eng_events.specs.Opened.{IsSetup}
-use Rattle.eng_events.specs.Shows.{AreTold}
+use Rattle.eng_state.specs.Shows.{AreTold}
 use Rattle.eng_parts.specs.declared.setup.Setup.{Setup}
 use Rattle.eng_parts.specs.declared.setup.Closed.{Closed}
 use Rattle.top_close.specs.Calls.{IsSettle, SettlesOn}
 use Rattle.top_serve.specs.Served as served
 use Rattle.top_run.specs.Work.{Service}
 use Rattle.top_run.specs.Works.{service_of, work_of}
-use Rattle.top_run.specs.Ends.{IsEnded, EndsSo}
+use Rattle.top_run.specs.Ends.{RunIsEnded, EndsSo}
 use Rattle.top_run.specs.Ran.{MayChange, ColumnsEnd, Finishes}
 use Rattle.top_run.proofs.AtEnd.{columns-end, live-in-end}
 
@@ -24,7 +24,7 @@ settles-behind g None calls told are on = absurd on
 settles-behind g (Some before) calls told are on = (on.0, on.1 ∙ ap (λ l. l ++ on.0) (sym are), on.2)
 
 -- devices that were settled have changed nowhere
-pub ends-so : {L D : Type 0} (lay : LayoutGhosts L) (closed : Closed L D) (disk : DiskGhosts D) (v : Service) (back : List (Option D)) → IsEnded lay closed disk v back → EndsSo lay closed disk v back
+pub ends-so : {L D : Type 0} (lay : LayoutGhosts L) (closed : Closed L D) (disk : DiskGhosts D) (v : Service) (back : List (Option D)) → RunIsEnded lay closed disk v back → EndsSo lay closed disk v back
 ends-so lay closed disk v back e = record {
   told = e.told ∙ ap (λ line. service_of closed line v.ending) (sym (ap (λ (u : Service). u.line) e.told));
   frame = changes-more disk (λ _ _. ⊥) (λ d n. n ≡ 0) closed.devices.items back (λ d n never. absurd never) e.settled.frame;
@@ -32,7 +32,7 @@ ends-so lay closed disk v back e = record {
   lost = e.lost;
 }
 
-module _ {L D : Type 0} (lay : LayoutGhosts L) (disk : DiskGhosts D) (setup : Setup L D) (closed : Closed L D) (given : IsSetup lay disk setup) (s : served.IsServed lay disk setup None closed) (v : Service) (back : List (Option D)) (e : IsEnded lay closed disk v back) where
+module _ {L D : Type 0} (lay : LayoutGhosts L) (disk : DiskGhosts D) (setup : Setup L D) (closed : Closed L D) (given : IsSetup lay disk setup) (s : served.IsServed lay disk setup None closed) (v : Service) (back : List (Option D)) (e : RunIsEnded lay closed disk v back) where
   abbrev so : EndsSo lay closed disk v back
   so = ends-so lay closed disk v back e
 

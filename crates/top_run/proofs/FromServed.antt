@@ -16,14 +16,14 @@ use Rattle.eng_world.specs.declared.item.Reply.{Reply}
 use Rattle.eng_world.specs.declared.item.Reply.TheVariants as reply
 use Rattle.eng_world.specs.declared.item.Traced.{Traced}
 use Rattle.eng_rest.specs.Left.{below}
-use Rattle.eng_parts.specs.declared.region.Region.{Region}
+use Rattle.eng_log.specs.declared.region.Region.{Region}
 use Rattle.eng_parts.specs.declared.setup.Setup.{Setup}
 use Rattle.eng_parts.specs.declared.setup.Closed.{Closed}
-use Rattle.eng_parts.specs.Desk.{no_graph}
-use Rattle.eng_parts.specs.Given.{items_in, items_at}
-use Rattle.eng_parts.specs.Handed.{region_at}
-use Rattle.eng_parts.specs.Laid as laid
-use Rattle.eng_parts.specs.Replied.{replies_in}
+use Rattle.eng_plan.specs.Asked.{no_graph}
+use Rattle.eng_log.specs.Given.{items_in, items_at}
+use Rattle.eng_log.specs.Handed.{region_at}
+use Rattle.eng_log.specs.Laid as laid
+use Rattle.eng_clients.specs.Replied.{replies_in}
 use Rattle.eng_array.specs.declared.start.Start.{Start}
 use Rattle.raid_script.specs.Asked.{seen}
 use Rattle.raid_script.specs.Replies as told

@@ -22,11 +22,11 @@ use Rattle.raid_script.specs.Drawn.{AreApart, IsOwn}
 use Rattle.raid_script.specs.Replies.{items_in, items_at}
 use Rattle.raid_script.proofs.OwnItems.{own_items}
 use Rattle.top_close.proofs.DyingLaws.{columns_die, lost_no_less}
+use Rattle.top_close.proofs.ClosingLaws.{closing_lost}
 use Rattle.top_sweep.specs.Apart.{Touches, IsApart, id_of}
 use Rattle.top_run.specs.Work.{Work, Service}
 use Rattle.top_run.specs.Ran.{IsLossAtEnd, Runs}
 use Rattle.top_run.specs.InTurn.{plain_reply}
-use Rattle.top_run.proofs.Closing.{closing-lost}
 use Rattle.top_run.proofs.InTurnAlone.{items-all}
 use Rattle.top_run.proofs.InTurnOps.{EachRuns, AllRun, own_of, row_asks, ops-at, item-of}
 use Rattle.top_run.proofs.InTurnLost.{never-lost}
@@ -46,7 +46,7 @@ module _ {D : Type 0} (g : Ghosts D) (a : Work) (taken : List (Option D)) (s : S
 
   not-now : NotLost a.layout r.now.columns
   not-now =
-      closing-lost a.layout r.now.columns r.ends.kept r.ends.closes
+      closing_lost a.layout r.now.columns r.ends.kept r.ends.closes
       (lost_no_less a.layout (states_of a.layout r.ends.kept) (states_of a.layout s.ending.columns) (columns_die _ a.layout r.ends.kept s.ending.columns r.ends.dies) not-at-end)
 
   no-loss : r.now.lost ≡ None

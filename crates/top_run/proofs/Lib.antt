@@ -1,6 +1,5 @@
 pub mod Settled
 pub mod Starting
-mod Closing
 pub mod Columns
 mod FromServed
 pub mod AtEnd

@@ -24,7 +24,7 @@ use Rattle.top_run.specs.Ran.{WasInSync, Means}
 use Rattle.top_run.proofs.AtEnd.{lost-as, same-contents}
 
 -- an array that isn't lost in the end wasn't lost before it
-not-before : (y : Shape) (before lost : Option Loss) (columns : List ColumnState) → ended.IsLossOf y before columns lost → lost ≡ None → before ≡ None
+not-before : (y : Shape) (before lost : Option Loss) (columns : List ColumnState) → ended.IsLossBy y before columns lost → lost ≡ None → before ≡ None
 not-before y None lost columns h none = refl
 not-before y (Some loss) lost columns h none = let z : Some loss ≡ None = sym h ∙ none in absurd (let u : ⊥ = cc in u)
 

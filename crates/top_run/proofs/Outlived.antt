@@ -35,14 +35,14 @@ use Rattle.raid_script.specs.Asked.{seen, Fails}
 use Rattle.raid_script.specs.Replies.{items_in, items_at}
 use Rattle.top_close.specs.Dying.{AnyCause}
 use Rattle.top_close.proofs.DyingLaws.{lost_no_less, columns_die}
+use Rattle.top_close.proofs.ClosingLaws.{closing_dead, closing_lost}
 use Rattle.top_serve.specs.Caused.{WasLostBy}
 use Rattle.top_serve.specs.Served.{IsUnbuilt}
 use Rattle.top_serve.specs.Setups.{with_rebuilt, with_start}
 use Rattle.top_serve.proofs.Losing.{lost-by}
 use Rattle.top_run.specs.Work.{Work, Service}
 use Rattle.top_run.specs.Ran.{WasFailed, IsLossAtEnd, RisesAt, IsFailedBy, begun_in, Ran, Runs, runs_of}
-use Rattle.top_run.specs.Outliving.{HasFail, done_reply, MayDie, Outlives, HasFaulted, IsAnswered, IsReplyTo, AllAnswered}
-use Rattle.top_run.proofs.Closing.{closing-dead, closing-lost}
+use Rattle.top_run.specs.Outliving.{HasFail, done_reply, MayDie, OutlivesCall, HasFaulted, IsAnswered, IsReplyTo, AllAnswered}
 use Rattle.top_run.proofs.Starting.{IsDeadBefore, dead-then, device-same, rebuilds-none, rebuilt-other, spread-by, spread-rebuilt, spread-started, started-other}
 
 -- ## Lists and columns
@@ -177,10 +177,10 @@ module _ {D : Type 0} (g : Ghosts D) (a : Work) (taken back : List (Option D)) (
   lost-still : (loss : Loss) → WasLostBy y ran.now loss → NotLost y last → ⊥
   lost-still loss was kept =
       let ended : NotLost y (states_of y ran.ends.kept) = lost_no_less y (states_of y ran.ends.kept) last (columns_die (RisesAt g a taken s back) y ran.ends.kept s.ending.columns ran.ends.dies) kept in
-      let now : NotLost y ran.now.columns = closing-lost y ran.now.columns ran.ends.kept ran.ends.closes ended in
+      let now : NotLost y ran.now.columns = closing_lost y ran.now.columns ran.ends.kept ran.ends.closes ended in
       lost-excludes y was.columns loss was.is_lost (lost_no_less y was.columns ran.now.columns (record { count = was.count; each = was.each }) now)
 
-  pub runs-outlived : Outlives g a taken back → s.ending.lost ≡ None
+  pub runs-outlived : OutlivesCall g a taken back → s.ending.lost ≡ None
   runs-outlived outlives = by s.ending.lost refl ran.ends.lost
     where
       kept : NotLost y last
@@ -199,7 +199,7 @@ module _ {D : Type 0} (g : Ghosts D) (a : Work) (taken back : List (Option D)) (
 
   dead-in-end : (c : ℕ) → slice_get ran.now.columns c ≡ Some Dead → slice_get s.ending.columns c ≡ Some set.Dead
   dead-in-end c dead =
-      let kept = closing-dead y ran.now.columns ran.ends.kept ran.ends.closes c dead in
+      let kept = closing_dead y ran.now.columns ran.ends.kept ran.ends.closes c dead in
       elim (ran.ends.dies.each c) [ inl same ↦ same ∙ kept | inr died ↦ died.0 ]
 
   was-spread : (c : ℕ) → WasSpread ran.start ran.events c → slice_get (with_start a.start a.columns) c ≡ Some set.Spread
@@ -303,7 +303,7 @@ module _ {D : Type 0} (g : Ghosts D) (a : Work) (taken back : List (Option D)) (
 
 -- ## Of an array without labels
 
-pub outlived : {D : Type 0} (g : Ghosts D) (a : Work) (taken back : List (Option D)) (s : Service) → Ran g a taken s back → Outlives g a taken back → s.ending.lost ≡ None
+pub outlived : {D : Type 0} (g : Ghosts D) (a : Work) (taken back : List (Option D)) (s : Service) → Ran g a taken s back → OutlivesCall g a taken back → s.ending.lost ≡ None
 outlived g a taken back s ran = runs-outlived g a taken back s (runs_of g a taken s back ran)
 
 pub answered : {D : Type 0} (g : Ghosts D) (a : Work) (taken back : List (Option D)) (s : Service) (ran : Ran g a taken s back) → s.ending.lost ≡ None → AllAnswered g a taken back s (runs_of g a taken s back ran)

@@ -1,15 +1,15 @@
 -- A rebuild that is done makes its column whole.
 use Rattle.std.proofs.Common.{◌≡◌, ◌≢◌, ◌⊎◌, inl, inr, ℕ, ◌<◌, List, map, Bool, true, false, Option, Some, None, option_map, slice_get, refl, sym, ◌∙◌, ap, subst}
-use Rattle.std.specs.Prelude.{◌==◌, ◌&&◌, ◌||◌}
+use Rattle.std.specs.Prelude.{◌==◌, ◌&&◌, ◌||◌, IsSome}
 use Rattle.std.proofs.lemmas.Bool.{and_from, and_parts, cases_Bool, eq-eqb, or_left, or_right}
 use Rattle.std.proofs.lemmas.List.{get_or-replicate}
 use Rattle.std.proofs.lemmas.Option.{slice_get-map}
 use Rattle.blk_disk.specs.declared.disk.Disk.{Ghosts}
-use Rattle.lay_core.specs.Layout.{Shape}
+use Rattle.lay_core.specs.Layout.{Shape, IsLayout, SparesLieByUnits}
 use Rattle.eng_cols.specs.declared.column.Column.{Column}
 use Rattle.eng_cols.specs.declared.column.Column.TheVariants as set
 use Rattle.eng_cols.specs.Cols.{ColumnState, HasDevice, Live, Dead, Filling, Spread, InOrder, all_done, column_of, is_done, is_done_on, is_spread, none_done, passes, state_set}
-use Rattle.eng_cols.specs.Laws.{AllAvailable, OthersStand}
+use Rattle.eng_cols.specs.Laws.{AllAvailable, FilledAreWhole, HasSpares, OthersAvailable}
 use Rattle.eng_cols.specs.Seats.{IsStripeOf, IsWhole, is_place_on, is_unit_of}
 use Rattle.eng_cols.proofs.Lists.{get_set_other, get_set_same}
 use Rattle.eng_cols.proofs.Wholes.{any-death, whole-available}
@@ -21,14 +21,14 @@ use Rattle.eng_array.specs.declared.start.Start.{Start}
 use Rattle.eng_array.specs.declared.start.Start.TheVariants as start
 use Rattle.top_close.specs.Closes.{FillingEnds, SpreadEnds}
 use Rattle.top_close.proofs.DyingLaws.{columns_die}
+use Rattle.top_close.proofs.ClosingLaws.{closing_dead}
 use Rattle.top_serve.specs.Setups.{with_rebuilt}
 use Rattle.top_serve.specs.Served.{BeginsBy}
 use Rattle.top_serve.proofs.Between.{all-own}
 use Rattle.top_serve.proofs.Columns.{AreOwn, IsSet, run-keeps, run-kinds}
 use Rattle.top_run.specs.Work.{Work, Service}
 use Rattle.top_run.specs.Ran.{IsDeadBy, Runs}
-use Rattle.top_run.specs.Rebuilding.{IsDone, IsWorth, kept_in}
-use Rattle.top_run.proofs.Closing.{closing-dead}
+use Rattle.top_run.specs.Rebuilding.{RebuildIsDone, IsWorth, kept_in}
 use Rattle.top_run.proofs.Ordered.{order-dies, order-live, order-spread}
 use Rattle.top_run.proofs.Starting.{IsDeadBefore, dead-then, first-step}
 
@@ -64,7 +64,7 @@ begun-other : (y : Shape) (old new : World) (how : Start) → new.columns ≡ st
 begun-other y old new (start.Fill c d) is k other = ap (λ l. slice_get l k) is ∙ get_set_other old.columns c k (Filling d (none_done y.stripes)) other
 begun-other y old new (start.Spread c) is k other = ap (λ l. slice_get l k) is ∙ get_set_other old.columns c k (Spread (none_done y.stripes)) other
 
-module _ {D : Type 0} (g : Ghosts D) (a : Work) (taken back : List (Option D)) (s : Service) (ran : Runs g a taken s back) (how : Start) (built : IsDone g a taken back s ran how) where
+module _ {D : Type 0} (g : Ghosts D) (a : Work) (taken back : List (Option D)) (s : Service) (ran : Runs g a taken s back) (how : Start) (built : RebuildIsDone g a taken back s ran how) where
   abbrev y : Shape
   y = a.layout
 
@@ -93,6 +93,7 @@ module _ {D : Type 0} (g : Ghosts D) (a : Work) (taken back : List (Option D)) (
     pub rest : Run y ran.graphs world own now
     pub others : (k : ℕ) → k ≢ c → slice_get world.columns k ≡ slice_get ran.start.columns k
     pub order : InOrder (map (state_set y.stripes) (with_rebuilt (Some how) a.columns))
+    pub spares : (m : ℕ) → how ≡ start.Spread m → (st : ℕ) → st < y.stripes → IsSome (y.spare st)
 
   started : Started
   started = by how refl
@@ -114,6 +115,7 @@ module _ {D : Type 0} (g : Ghosts D) (a : Work) (taken back : List (Option D)) (
             rest = first.2;
             others = begun-other y ran.start first.0 how (subst (λ h. first.0.columns ≡ starts.begun_by (record { states = ran.start.columns; stripes = y.stripes }) h) (sym is) fills.starts.columns);
             order = subst (λ h. InOrder (map (state_set y.stripes) (with_rebuilt (Some h) a.columns))) (sym is) (order-live y.stripes a.columns m d order (λ k has. fills.unused k (subst (λ cols. HasDevice cols k d) (sym ran.opens.columns) has)));
+            spares = λ n other. let z : start.Fill m d ≡ start.Spread n = sym is ∙ other in absurd (let u : ⊥ = cc in u);
           }
       by (start.Spread m) is =
           let spreads = subst (λ h. StepBy y ran.graphs None (starts.event_of h) ran.start first.0) is step in
@@ -122,6 +124,7 @@ module _ {D : Type 0} (g : Ghosts D) (a : Work) (taken back : List (Option D)) (
             rest = first.2;
             others = begun-other y ran.start first.0 how (subst (λ h. first.0.columns ≡ starts.begun_by (record { states = ran.start.columns; stripes = y.stripes }) h) (sym is) spreads.starts.columns);
             order = subst (λ h. InOrder (map (state_set y.stripes) (with_rebuilt (Some h) a.columns))) (sym is) (order-spread y.stripes a.columns m order (λ k done has. spreads.none_spread k done (ap (λ l. slice_get l k) ran.opens.columns ∙ has)));
+            spares = λ n same. spreads.spares;
           }
 
   -- another column that is spread at the run's end has each stripe done
@@ -195,7 +198,7 @@ module _ {D : Type 0} (g : Ghosts D) (a : Work) (taken back : List (Option D)) (
 
       by : (o : Option ColumnState) → slice_get now.columns c ≡ o → IsWhole y now.columns c
       by (Some (Live d)) e = λ st within of. ap (λ o. is_done_on o st) e
-      by (Some Dead) e = absurd (built.1 (closing-dead y now.columns ran.ends.kept ran.ends.closes c e))
+      by (Some Dead) e = absurd (built.1 (closing_dead y now.columns ran.ends.kept ran.ends.closes c e))
       by (Some (Filling d done)) e =
           let same : slice_get mid c ≡ Some (Filling d done) = subst (λ o. SpreadEnds y now.columns c o (slice_get mid c)) e (ran.ends.closes.spread c) in
           elim (subst (λ o. FillingEnds y mid c o (slice_get ran.ends.kept c)) same (ran.ends.closes.filling c)) [
@@ -241,13 +244,55 @@ module _ {D : Type 0} (g : Ghosts D) (a : Work) (taken back : List (Option D)) (
       (columns_die (IsDeadBy g a taken s back now) y (with_rebuilt a.start a.columns) ran.ends.kept ran.ends.came)
       (subst (λ h. InOrder (map (state_set y.stripes) (with_rebuilt h a.columns))) (sym built.0) started.order)
 
-  all : OthersStand y kept c → AllAvailable y kept
-  all others = whole-available y kept c others whole-kept
+  -- a column that shows as filling was set so
+  set-filling : (o : Option Column) (d : ℕ) (done : List Bool) → option_map (state_set y.stripes) o ≡ Some (Filling d done) → o ≡ Some (set.Filling d)
+  set-filling None d done h = let z : None ≡ Some (Filling d done) = h in absurd (let u : ⊥ = cc in u)
+  set-filling (Some (set.Live e)) d done h = let z : Some (Live e) ≡ Some (Filling d done) = h in absurd (let u : ⊥ = cc in u)
+  set-filling (Some set.Dead) d done h = let z : Some Dead ≡ Some (Filling d done) = h in absurd (let u : ⊥ = cc in u)
+  set-filling (Some (set.Filling e)) d done h = let z : Some (Filling e (none_done y.stripes)) ≡ Some (Filling d done) = h in let same : e ≡ d = cc in ap (λ n. Some (set.Filling n)) same
+  set-filling (Some set.Spread) d done h = let z : Some (Spread (all_done y.stripes)) ≡ Some (Filling d done) = h in absurd (let u : ⊥ = cc in u)
 
-  pub worth : IsWorth g a taken back s ran how
-  worth = record {
-    whole = whole-now;
-    kept = kept-so;
-    all = all;
-    one_more = λ layout checked others k. any-death y kept k layout in-order checked (all others);
-  }
+  -- none is kept so
+  none-filling : (k d : ℕ) → slice_get ran.ends.kept k ≡ Some (set.Filling d) → ⊥
+  none-filling k d is = by (slice_get mid k) (ran.ends.closes.filling k)
+    where
+      by : (o : Option ColumnState) → FillingEnds y mid k o (slice_get ran.ends.kept k) → ⊥
+      by (Some (Live e)) h = let z : Some (set.Filling d) ≡ Some (set.Live e) = sym is ∙ h in let u : ⊥ = cc in u
+      by (Some Dead) h = let z : Some (set.Filling d) ≡ Some set.Dead = sym is ∙ h in let u : ⊥ = cc in u
+      by (Some (Filling e done)) h = elim h [
+        | inl whole ↦ let z : Some (set.Filling d) ≡ Some (set.Live e) = sym is ∙ whole.1 in let u : ⊥ = cc in u
+        | inr left ↦ let z : Some (set.Filling d) ≡ Some set.Dead = sym is ∙ left.1 in let u : ⊥ = cc in u
+      ]
+      by (Some (Spread done)) h = let z : Some (set.Filling d) ≡ Some set.Spread = sym is ∙ h in let u : ⊥ = cc in u
+      by None h = let z : Some (set.Filling d) ≡ None = sym is ∙ h in let u : ⊥ = cc in u
+
+  filled : FilledAreWhole y kept
+  filled k d done is = absurd (none-filling k d (set-filling (slice_get ran.ends.kept k) d done (sym (slice_get-map (state_set y.stripes) ran.ends.kept k) ∙ is)))
+
+  -- a column that was rebuilt onto a device isn't spread
+  spares : HasSpares y kept c
+  spares st done is within = by how refl
+    where
+      by : (h : Start) → how ≡ h → IsSome (y.spare st)
+      by (start.Spread m) same = started.spares m same st within
+      by (start.Fill m d) same =
+          let put = get_set_same a.columns m set.Dead (set.Live d) (dead-first (start.Fill m d) (built.0 ∙ ap (λ h. Some h) same)) in
+          let shown : slice_get kept c ≡ Some (Live d) =
+          slice_get-map (state_set y.stripes) ran.ends.kept c
+          ∙ (ap (option_map (state_set y.stripes)) kept-so
+          ∙ (ap (λ h. option_map (state_set y.stripes) (slice_get (with_rebuilt h a.columns) c)) built.0
+          ∙ (ap (λ h. option_map (state_set y.stripes) (slice_get (with_rebuilt (Some h) a.columns) (starts.column_of h))) same ∙ ap (option_map (state_set y.stripes)) put))) in
+          let z : Some (Live d) ≡ Some (Spread done) = sym shown ∙ is in
+          absurd (let u : ⊥ = cc in u)
+
+  module _ (layout : IsLayout y) (units : SparesLieByUnits y) where
+    all : OthersAvailable y kept c → AllAvailable y kept
+    all others = whole-available y kept layout in-order c units spares filled others whole-kept
+
+    pub worth : IsWorth g a taken back s ran how
+    worth = record {
+      whole = whole-now;
+      kept = kept-so;
+      all = all;
+      one_more = λ checked others k. any-death y kept k layout in-order checked (all others);
+    }

@@ -7,10 +7,10 @@ use Rattle.lay_core.specs.declared.layout.Layout.{Ghosts as LayoutGhosts}
 use Rattle.eng_parts.specs.declared.setup.Closed.{Closed}
 use Rattle.top_close.specs.Calls.{EndsSettled}
 use Rattle.top_close.specs.Settled.{IsLiveOn, AreSettled}
-use Rattle.top_close.specs.Ended.{states_of, IsLossOf}
+use Rattle.top_close.specs.Ended.{states_of, IsLossBy}
 use Rattle.top_run.specs.Work.{Service}
 use Rattle.top_run.specs.Works.{service_of}
-use Rattle.top_run.specs.Ends.{IsEnded}
+use Rattle.top_run.specs.Ends.{RunIsEnded}
 
 -- a list that was lent whole
 pub lent-back : {X : Type 0} (old new : List X) (len : ℕ) → length new ≡ len → take len (new ++ drop (length new) old) ≡ new
@@ -20,8 +20,8 @@ pub is-ended : {L D : Type 0} (lay : LayoutGhosts L) (closed : Closed L D) (disk
     → v ≡ service_of closed None v.ending → lent ≡ closed.devices.items
     → AreSettled disk (length closed.columns.items) closed.columns.items v.ending.columns lent back
     → ((c d : ℕ) → IsLiveOn v.ending.columns c d → EndsSettled (calls_of disk back d))
-    → IsLossOf (lay.shape closed.layout) closed.lost (states_of (lay.shape closed.layout) v.ending.columns) v.ending.lost
-    → IsEnded lay closed disk v back
+    → IsLossBy (lay.shape closed.layout) closed.lost (states_of (lay.shape closed.layout) v.ending.columns) v.ending.lost
+    → RunIsEnded lay closed disk v back
 is-ended lay closed disk v lent back told given settled last lost = record {
   told = told;
   settled = subst (λ ds. AreSettled disk (length closed.columns.items) closed.columns.items v.ending.columns ds back) given settled;

@@ -16,7 +16,7 @@ use Rattle.eng_world.specs.World.{World}
 use Rattle.eng_world.specs.Planning.{Graphs}
 use Rattle.eng_world.specs.Step.{IsOpening, Run, Step, StepBy}
 use Rattle.eng_events.specs.Opened.{states_of}
-use Rattle.eng_parts.specs.Listing.{rebuild}
+use Rattle.eng_clients.specs.Listing.{rebuild}
 use Rattle.eng_rest.specs.Left.{IsOwn}
 use Rattle.eng_array.specs.Starts.{column_of, event_of}
 use Rattle.eng_array.specs.Tickets.{AllOf}

@@ -8,28 +8,28 @@ use Rattle.eng_cols.specs.Deaths.{Dies}
 use Rattle.eng_parts.specs.declared.setup.Closed.{Closed}
 use Rattle.top_close.specs.Calls.{EndsSettled}
 use Rattle.top_close.specs.Settled.{IsLiveOn, HaveDevices, FailsToSettle, AreSettled}
-use Rattle.top_close.specs.Ended.{states_of, IsLossOf}
+use Rattle.top_close.specs.Ended.{states_of, IsLossBy}
 use Rattle.top_run.specs.Work.{Service}
 use Rattle.top_run.specs.Works.{service_of}
 
 module _ {L D : Type 0} (lay : LayoutGhosts L) (closed : Closed L D) where
   -- What was served can be ended: the device of each live column is there and no other's, there is an entry for each column, none is filling, and at most one is spread.
-  pub record MayEnd : Type 0 where
+  pub record CanBeEnded : Type 0 where
     pub devices : HaveDevices closed.columns.items closed.devices.items
     pub columns : length closed.columns.items ≡ (lay.shape closed.layout).columns
     pub filling : count_by is_set_filling closed.columns.items ≡ 0
     pub spread : count_by is_set_spread closed.columns.items ≤ 1
 
   -- What was served has ended: what is told but for columns and loss is what was handed back, and nothing of a rebuild; the devices in use are settled; and the loss is that of before, or else of the columns in the end.
-  pub record IsEnded (disk : DiskGhosts D) (s : Service) (back : List (Option D)) : Type 0 where
+  pub record RunIsEnded (disk : DiskGhosts D) (s : Service) (back : List (Option D)) : Type 0 where
     pub told : s ≡ service_of closed None s.ending
     pub settled : AreSettled disk (length closed.columns.items) closed.columns.items s.ending.columns closed.devices.items back
     pub last : (c d : ℕ) → IsLiveOn s.ending.columns c d → EndsSettled (calls_of disk back d)
-    pub lost : IsLossOf (lay.shape closed.layout) closed.lost (states_of (lay.shape closed.layout) s.ending.columns) s.ending.lost
+    pub lost : IsLossBy (lay.shape closed.layout) closed.lost (states_of (lay.shape closed.layout) s.ending.columns) s.ending.lost
 
   -- What was served has ended, whatever its end has called and written into first sectors: what is told but for columns, loss and a rebuild is what was handed back; no other sector has changed; a column has died where its device's count of faults rose; and the loss is that of before, or else of the columns in the end.
   pub record EndsSo (disk : DiskGhosts D) (s : Service) (back : List (Option D)) : Type 0 where
     pub told : s ≡ service_of closed s.line s.ending
     pub frame : Changes disk (λ d n. n ≡ 0) closed.devices.items back
     pub dies : Dies (FailsToSettle disk closed.columns.items closed.devices.items back) closed.columns.items s.ending.columns
-    pub lost : IsLossOf (lay.shape closed.layout) closed.lost (states_of (lay.shape closed.layout) s.ending.columns) s.ending.lost
+    pub lost : IsLossBy (lay.shape closed.layout) closed.lost (states_of (lay.shape closed.layout) s.ending.columns) s.ending.lost

@@ -36,8 +36,8 @@ pub record HasFail (a : Work) (c : ℕ) : Type 0 where
   pub fails : Contains row (Fails c)
 
 -- it is rebuilt
-abbrev pub IsRebuilt : Work → ℕ → Type 0
-IsRebuilt a c = (start : Start) × (a.start ≡ Some start) × (column_of start ≡ c)
+abbrev pub IsRebuiltIn : Work → ℕ → Type 0
+IsRebuiltIn a c = (start : Start) × (a.start ≡ Some start) × (column_of start ≡ c)
 
 -- the reply to an operation that is done
 abbrev pub done_reply : Op → Reply
@@ -49,11 +49,11 @@ done_reply (op.Sync stripe) = reply.Done
 module _ {D : Type 0} (g : Ghosts D) (a : Work) (taken back : List (Option D)) where
   -- an item asks that the column fail, or it is rebuilt, or its device's count of faults rose
   abbrev pub MayDie : ℕ → Type 0
-  MayDie c = HasFail a c ⊎ (IsRebuilt a c ⊎ ((d : ℕ) × HasDevice (states_in a) c d × RisesOn g taken back d))
+  MayDie c = HasFail a c ⊎ (IsRebuiltIn a c ⊎ ((d : ℕ) × HasDevice (states_in a) c d × RisesOn g taken back d))
 
   -- The array outlives the call: it isn't lost, whichever of these columns be dead.
-  abbrev pub Outlives : Type 0
-  Outlives = (cols : List Column) → Dies MayDie a.columns cols → NotLost a.layout (states_of a.layout cols)
+  abbrev pub OutlivesCall : Type 0
+  OutlivesCall = (cols : List Column) → Dies MayDie a.columns cols → NotLost a.layout (states_of a.layout cols)
 
   -- ## Replies
 
@@ -63,12 +63,12 @@ module _ {D : Type 0} (g : Ghosts D) (a : Work) (taken back : List (Option D)) w
 
   module _ (s : Service) (ran : Runs g a taken s back) where
     -- it stands in the history, and a read is replied its data, any other operation done
-    abbrev pub IsDone : OpId → Op → Reply → Type 0
-    IsDone id o told = ((n : ℕ) × StandsAt s.history n id) × (told ≡ done_reply o)
+    abbrev pub TookEffect : OpId → Op → Reply → Type 0
+    TookEffect id o told = ((n : ℕ) × StandsAt s.history n id) × (told ≡ done_reply o)
 
     -- the checker refused the operation's graph as it was taken
-    abbrev pub IsRefused : OpId → Op → ℕ → Reply → Type 0
-    IsRefused id o graph told = (cause : Refusal) × (told ≡ reply.Refused cause) × WasRefused a.layout ran.graphs ran.start ran.events ran.now id o graph cause
+    abbrev pub IsRefusedByChecker : OpId → Op → ℕ → Reply → Type 0
+    IsRefusedByChecker id o graph told = (cause : Refusal) × (told ≡ reply.Refused cause) × WasRefused a.layout ran.graphs ran.start ran.events ran.now id o graph cause
 
     -- it doesn't stand in the history, and was undone by a device that has failed
     abbrev pub IsUndone : OpId → Reply → Type 0
@@ -76,8 +76,8 @@ module _ {D : Type 0} (g : Ghosts D) (a : Work) (taken back : List (Option D)) w
 
     -- An operation in reach is done; one by a graph of the file may be refused or undone in place of that.
     abbrev pub IsAnswered : OpId → Op → Option ℕ → Reply → Type 0
-    IsAnswered id o None told = IsDone id o told
-    IsAnswered id o (Some graph) told = IsDone id o told ⊎ (IsRefused id o graph told ⊎ IsUndone id told)
+    IsAnswered id o None told = TookEffect id o told
+    IsAnswered id o (Some graph) told = TookEffect id o told ⊎ (IsRefusedByChecker id o graph told ⊎ IsUndone id told)
 
     -- What an operation is replied: that it is out of range, or within it over too many stripes, or what came of it.
     pub record IsReplied (id : OpId) (o : Op) (graph : Option ℕ) (told : Reply) : Type 0 where

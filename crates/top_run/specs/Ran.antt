@@ -29,7 +29,7 @@ use Rattle.eng_world.specs.Invariant.{IsTold, AllReplied}
 use Rattle.eng_world.specs.Causes.{ItemAt, HaveCauses}
 use Rattle.eng_world.specs.Rows.{IsInRows}
 use Rattle.eng_events.specs.Opened.{states_of}
-use Rattle.eng_events.specs.Shows.{AreTold}
+use Rattle.eng_state.specs.Shows.{AreTold}
 use Rattle.eng_array.specs.Starts.{column_of}
 use Rattle.eng_array.specs.declared.start.Start.{Start}
 use Rattle.raid_script.specs.Asked.{seen}

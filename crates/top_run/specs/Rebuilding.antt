@@ -1,11 +1,10 @@
 -- What a rebuild that is done is worth.
 use Rattle.std.specs.Prelude.{◌≡◌, ℕ, List, Option, Some, slice_get}
 use Rattle.blk_disk.specs.declared.disk.Disk.{Ghosts}
-use Rattle.lay_core.specs.Layout.{IsLayout}
 use Rattle.eng_cols.specs.declared.column.Column.TheVariants as column
 use Rattle.eng_cols.specs.Cols.{ColumnState}
 use Rattle.eng_cols.specs.Changes.{killed}
-use Rattle.eng_cols.specs.Laws.{AllAvailable, OthersStand}
+use Rattle.eng_cols.specs.Laws.{AllAvailable, OthersAvailable}
 use Rattle.eng_cols.specs.Lost.{NotLost}
 use Rattle.eng_cols.specs.Seats.{IsWhole}
 use Rattle.eng_events.specs.Opened.{states_of}
@@ -21,12 +20,12 @@ module _ {D : Type 0} (g : Ghosts D) (a : Work) (taken back : List (Option D)) (
   kept_in = states_of a.layout ran.ends.kept
 
   -- a rebuild began so, and is done: its column isn't dead as the columns are kept
-  abbrev pub IsDone : Start → Type 0
-  IsDone how = (a.start ≡ Some how) × (slice_get ran.ends.kept (column_of how) ≡ Some column.Dead → ⊥)
+  abbrev pub RebuildIsDone : Start → Type 0
+  RebuildIsDone how = (a.start ≡ Some how) × (slice_get ran.ends.kept (column_of how) ≡ Some column.Dead → ⊥)
 
-  -- Each of the column's stripes was rebuilt, and the column is live on its device, or spread. Where all units that lie on other columns are available, and the spare places of a spread one stand, every unit is available; and then, with a check unit, the array isn't lost whichever one column more dies.
+  -- Each of the column's stripes was rebuilt, and the column is live on its device, or spread. Where all units that lie on other columns are available, every unit is available; and then, with a check unit, the array isn't lost whichever one column more dies.
   pub record IsWorth (how : Start) : Type 0 where
     pub whole : IsWhole a.layout ran.now.columns (column_of how)
     pub kept : slice_get ran.ends.kept (column_of how) ≡ slice_get (with_rebuilt a.start a.columns) (column_of how)
-    pub all : OthersStand a.layout kept_in (column_of how) → AllAvailable a.layout kept_in
-    pub one_more : IsLayout a.layout → a.layout.checks ≡ 1 → OthersStand a.layout kept_in (column_of how) → (k : ℕ) → NotLost a.layout (killed kept_in k)
+    pub all : OthersAvailable a.layout kept_in (column_of how) → AllAvailable a.layout kept_in
+    pub one_more : a.layout.checks ≡ 1 → OthersAvailable a.layout kept_in (column_of how) → (k : ℕ) → NotLost a.layout (killed kept_in k)

@@ -1,7 +1,7 @@
 //! What was served is ended.
 ghost use Rattle.eng_cols.specs.Cols.{IsFor};
 ghost use Rattle.top_run.specs.Works.{service_seen};
-ghost use Rattle.top_run.specs.Ends.{MayEnd, IsEnded};
+ghost use Rattle.top_run.specs.Ends.{CanBeEnded, RunIsEnded};
 
 use crate::service::Service;
 use blk_disk::Disk;
@@ -15,9 +15,9 @@ pub(crate) fn ended<L: Layout + Drop, D: Disk + Drop>(
     closed: Closed<L, D>,
     mut judge: Cols,
 ) -> (Service, Vec<Option<D>>)
-    requires closed { MayEnd L.Layout closed }
+    requires closed { CanBeEnded L.Layout closed }
     requires judge { IsFor (L.shape closed.layout) judge }
-    ensures { IsEnded L.Layout closed D.Disk (service_seen result.0) result.1.items }
+    ensures { RunIsEnded L.Layout closed D.Disk (service_seen result.0) result.1.items }
 {
     let Closed {
         layout,

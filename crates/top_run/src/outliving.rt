@@ -2,7 +2,7 @@
 ghost use Rattle.std.specs.Prelude.{◌≡◌, List, Option, None};
 ghost use Rattle.top_run.specs.Work.{Work, Service};
 ghost use Rattle.top_run.specs.Ran.{Ran, runs_of};
-ghost use Rattle.top_run.specs.Outliving.{Outlives, AllAnswered};
+ghost use Rattle.top_run.specs.Outliving.{OutlivesCall, AllAnswered};
 
 use blk_disk::Disk;
 
@@ -10,7 +10,7 @@ use blk_disk::Disk;
 /// device's count of faults rose, or which is rebuilt.
 pub fn what_is_outlived_is_not_lost<D: Disk>()
     ensures { (a : Work) (taken back : List (Option D)) (s : Service) → Ran D.Disk a taken s back
-        → Outlives D.Disk a taken back → s.ending.lost ≡ None }
+        → OutlivesCall D.Disk a taken back → s.ending.lost ≡ None }
 {}
 
 /// In a run that isn't lost each item has the reply that it ought to, and none is replied lost. An operation within range

@@ -4,7 +4,7 @@ ghost use Rattle.eng_cols.specs.Cols.{IsFor};
 ghost use Rattle.eng_events.specs.Opened.{IsSetup};
 ghost use Rattle.eng_array.specs.Fitting.{FitsTrace};
 ghost use Rattle.raid_script.specs.Replies.{StandFor};
-ghost use Rattle.top_serve.specs.Setups.{IsFew, IsNotLost, IsRefusal};
+ghost use Rattle.top_serve.specs.Setups.{IsFew, IsNotLost, IsServeRefusal};
 ghost use Rattle.top_run.specs.Works.{work_of, service_seen};
 ghost use Rattle.top_run.specs.Ran.{Ran};
 
@@ -46,7 +46,7 @@ pub fn run_clients<L: Layout + Drop + Send, D: Disk + Drop + Send, R: Threads + 
     ensures ran { IfOk result (λ r. Ran D.Disk (work_of L.Layout setup None) setup.devices.items (service_seen r.0) r.1.items) }
     ensures stands { IfOk result (λ r. StandFor r.0.clients.items r.0.replies.items r.0.sectors.items) }
     ensures many { IfOk result (λ r. length r.1.items ≡ length setup.devices.items) }
-    ensures fault { IfErr result (λ refused. IsRefusal L.Layout setup refused.fault) }
+    ensures fault { IfErr result (λ refused. IsServeRefusal L.Layout setup refused.fault) }
     ensures back { IfErr result (λ refused. refused.setup ≡ setup) }
 {
     let Some(judge) = judge_for(alloc, &setup.layout) else {

@@ -1,6 +1,6 @@
 use Rattle.std.proofs.Common.{◌≡◌, length, None, refl, sym, ap, subst, arith}
 use Rattle.top_run.specs.Work.{Service}
-use Rattle.top_run.specs.Ends.{IsEnded}
+use Rattle.top_run.specs.Ends.{RunIsEnded}
 use Rattle.top_run.proofs.Settled.{lent-back, is-ended}
 use Rattle.top_run.proofs.ending.ended.Goals as goal
 
@@ -18,5 +18,5 @@ returns g c =
       line = None;
       ending = record { columns = c.end_unlabelled.new.ending.columns.items; lost = c.end_unlabelled.new.ending.lost };
     } in
-    subst (λ back. IsEnded g.L.Layout c.args.closed g.D.Disk v back) (sym (lent-back devices.items new devices.len a))
+    subst (λ back. RunIsEnded g.L.Layout c.args.closed g.D.Disk v back) (sym (lent-back devices.items new devices.len a))
     (is-ended g.L.Layout c.args.closed g.D.Disk v c.as_mut_slice.result.now new refl c.as_mut_slice.ensures.value c.end_unlabelled.ensures.settled c.end_unlabelled.ensures.last c.end_unlabelled.ensures.lost)
