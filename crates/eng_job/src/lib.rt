@@ -14,4 +14,4 @@ mod tests;
 
 pub use blk_plain::Outcome;
 pub use job::{Job, Source, Work};
-pub use lists::{Lists, MOST, Memory, SOURCES};
+pub use lists::{Lists, MOST, Memory};

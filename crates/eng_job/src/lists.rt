@@ -2,6 +2,7 @@
 ghost use Rattle.std.specs.Prelude.{◌≡◌, ◌<◌, ◌≤◌, ◌+◌, [], length, IfOk, vec_capacity, All};
 
 use crate::job::Source;
+use blk_plain::limits;
 use std::alloc::{AllocError, AllocFailed, Global};
 use std::marker::Model;
 
@@ -23,9 +24,6 @@ impl<T: Drop> From<AllocFailed<T>> for Memory {
 
 /// The most jobs that are out at once.
 pub const MOST: u32 = 32;
-
-/// The most sources of a job.
-pub const SOURCES: u32 = 2048;
 
 /// Empty lists of sources, each with room for as many as a job has. Contracts see how many there are.
 ///
@@ -53,7 +51,7 @@ impl Lists {
     {
         let mut lists = Vec::with_capacity(alloc, MOST as usize)?;
         for i in 0..MOST {
-            lists.push_reserved(Vec::with_capacity(alloc, SOURCES as usize)?);
+            lists.push_reserved(Vec::with_capacity(alloc, limits::SOURCES as usize)?);
         }
         Ok(Lists { lists })
     }

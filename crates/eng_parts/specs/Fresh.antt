@@ -1,42 +1,21 @@
 -- The parts of a core before anything has begun, and the room that is one for a layout.
-use Rattle.std.specs.Prelude.{◌≡◌, ◌<◌, ◌≤◌, ◌+◌, ◌*◌, ℕ, List, [], length, Bool, None, Vec, replicate, if◌then◌else◌}
+use Rattle.std.specs.Prelude.{◌≡◌, ◌<◌, ◌≤◌, ◌+◌, ◌*◌, ℕ, List, [], length, Bool, Vec, replicate, if◌then◌else◌}
 use Rattle.std.specs.declared.alloc.Global.{Global}
 use Rattle.buf_pool.specs.Pool.{IsFresh}
 use Rattle.stripe_lock.specs.Table.{IsIdle}
 use Rattle.lay_core.specs.Layout.{Shape}
-use Rattle.lay_core.specs.Touched.{nothing}
-use Rattle.graph_mean.specs.declared.step.Phase.TheVariants as phase
-use Rattle.graph_mean.specs.Graph.{blank}
-use Rattle.graph_mean.specs.Task.{no_task}
 use Rattle.eng_cols.specs.Cols.{ColumnState, Dead}
 use Rattle.eng_cols.specs.Lost.{IsLost}
 use Rattle.eng_world.specs.declared.item.Item.{Item}
-use Rattle.eng_parts.specs.declared.stage.Stage.TheVariants.{Nothing}
 use Rattle.eng_parts.specs.declared.core_room.CoreRoom.{CoreRoom}
 use Rattle.eng_parts.specs.declared.setup.OpenFault.{OpenFault}
 use Rattle.eng_parts.specs.declared.setup.OpenFault.TheVariants as fault
-use Rattle.eng_parts.specs.Desk.{Desk, desk_at}
-use Rattle.eng_parts.specs.Given.{items_at}
-use Rattle.eng_parts.specs.Handed.{Handout}
-use Rattle.eng_parts.specs.Laid.{items_before, IsLaidOut}
-use Rattle.eng_parts.specs.Log.{Logged}
-
--- a client with these items that has begun none
-abbrev pub new_desk : List Item → Desk
-new_desk items = record {
-  items = items;
-  replies = [];
-  stage = Nothing;
-  run = record { graph = blank; marks = []; phase = phase.Undone };
-  graph = record { drawn = blank; node_room = 2048; buf_room = 2048; edge_room = 16384 };
-  task = no_task;
-  map = nothing;
-  missing = [];
-  lease = [];
-  spots = replicate 2048 None;
-  by = None;
-  file = None;
-}
+use Rattle.eng_clients.specs.Desk.{desk_at}
+use Rattle.eng_log.specs.Given.{items_at}
+use Rattle.eng_log.specs.Handed.{Handout}
+use Rattle.eng_log.specs.Laid.{items_before, IsLaidOut}
+use Rattle.eng_log.specs.Log.{Logged}
+use Rattle.eng_clients.specs.Fresh.{new_desk}
 
 -- an empty log: the history has room for 65,536 operations and a rebuild of each stripe, and the trace, if it is kept, for 1,048,576 events, the failure of each column, the start of a rebuild and one failure more
 abbrev pub fresh_log : Shape → Bool → Handout → Logged

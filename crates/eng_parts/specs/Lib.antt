@@ -1,16 +1,3 @@
 pub mod Shelf
-pub mod Desk
-pub mod Seats
-pub mod Log
-pub mod Gathered
-pub mod Planned
-pub mod Filled
-pub mod Rebuilt
-pub mod Handed
-pub mod Listing
 pub mod Brought
-pub mod Given
-pub mod Laid
-pub mod Replied
 pub mod Fresh
-pub mod Scattered

@@ -4,15 +4,14 @@ ghost use Rattle.eng_cols.specs.Cols.{IsFor, IsKept, is_set_filling, is_set_spre
 ghost use Rattle.eng_cols.specs.Lost.{NotLost};
 ghost use Rattle.eng_parts.specs.Fresh.{IsFault};
 
-use crate::clients::Clients;
 use crate::devices::DeviceRoom;
-use crate::log::Log;
-use crate::rebuilds::Rebuilds;
 use crate::setup::OpenFault;
 use crate::spare::Spare;
 use buf_pool::Pool;
+use eng_clients::{Clients, Rebuilds};
 use eng_cols::{Cols, Column, Loss};
 use eng_job::Lists;
+use eng_log::Log;
 use graph_check::Scratch;
 use lay_core::Layout;
 use stripe_lock::Locks;

@@ -23,6 +23,12 @@ impl From<buf_pool::Memory> for Memory {
     }
 }
 
+impl From<eng_clients::Memory> for Memory {
+    fn from(_: eng_clients::Memory) -> Self {
+        Memory
+    }
+}
+
 impl From<eng_cols::Memory> for Memory {
     fn from(_: eng_cols::Memory) -> Self {
         Memory
@@ -35,26 +41,14 @@ impl From<eng_job::Memory> for Memory {
     }
 }
 
-impl From<eng_one::Memory> for Memory {
-    fn from(_: eng_one::Memory) -> Self {
+impl From<eng_log::Memory> for Memory {
+    fn from(_: eng_log::Memory) -> Self {
         Memory
     }
 }
 
 impl From<graph_check::Memory> for Memory {
     fn from(_: graph_check::Memory) -> Self {
-        Memory
-    }
-}
-
-impl From<graph_mean::Memory> for Memory {
-    fn from(_: graph_mean::Memory) -> Self {
-        Memory
-    }
-}
-
-impl From<lay_core::Memory> for Memory {
-    fn from(_: lay_core::Memory) -> Self {
         Memory
     }
 }

@@ -2,22 +2,22 @@
 ghost use Rattle.std.specs.Prelude.{◌≡◌, ◌<◌, ◌≤◌, ◌*◌, ℕ, length, replicate, IfOk};
 ghost use Rattle.buf_pool.specs.Pool.{IsFresh};
 ghost use Rattle.eng_cols.specs.Cols.{Dead};
-ghost use Rattle.eng_parts.specs.Given.{items_at};
-ghost use Rattle.eng_parts.specs.Desk.{desk_at};
-ghost use Rattle.eng_parts.specs.Laid.{items_before, sectors_before, IsLaidOut};
-ghost use Rattle.eng_parts.specs.Fresh.{new_desk, fresh_log, IsRoomFor};
+ghost use Rattle.eng_log.specs.Given.{items_at};
+ghost use Rattle.eng_clients.specs.Desk.{desk_at};
+ghost use Rattle.eng_log.specs.Laid.{items_before, sectors_before, IsLaidOut};
+ghost use Rattle.eng_clients.specs.Fresh.{new_desk};
+ghost use Rattle.eng_parts.specs.Fresh.{fresh_log, IsRoomFor};
 
-use crate::clients::Clients;
 use crate::core_room::CoreRoom;
 use crate::devices::DeviceRoom;
-use crate::handed::Handed;
-use crate::log::Log;
 use crate::memory::Memory;
-use crate::rebuilds::Rebuilds;
 use crate::spare::Spare;
+use blk_plain::limits;
 use buf_pool::Pool;
+use eng_clients::{Clients, Rebuilds};
 use eng_cols::Cols;
 use eng_job::Lists;
+use eng_log::{Handed, Log};
 use eng_world::Item;
 use graph_check::Scratch;
 use graph_mean::Graph;
@@ -25,16 +25,8 @@ use lay_core::Layout;
 use std::alloc::Global;
 use stripe_lock::Locks;
 
-// The buffers of the pool: as many as the largest graph has.
-const BUFFERS: u32 = 2048;
-
 // The owners of locks: all clients.
 const OWNERS: u32 = 17;
-
-// The most items of all clients, and the most events of a trace that is kept, but for those of the array itself.
-const ITEMS: u32 = 65536;
-
-const EVENTS: u32 = 1048576;
 
 // The columns, all dead.
 fn cols_for<L: Layout>(alloc: Global, layout: &L) -> Result<Cols, Memory>
@@ -48,7 +40,7 @@ fn pool_for<L: Layout>(alloc: Global, layout: &L) -> Result<Pool, Memory>
     ensures unit { IfOk result (λ pool. pool.unit ≡ 512 * (L.shape layout.now).unit_sectors) }
     ensures fresh { IfOk result (λ pool. IsFresh pool 2048) }
 {
-    Ok(Pool::open(alloc, BUFFERS, 512 * layout.unit_sectors())?)
+    Ok(Pool::open(alloc, limits::BUFFERS, 512 * layout.unit_sectors())?)
 }
 
 // A history for each operation that there may be; and a trace, if it is kept, with the failure of each column, the
@@ -65,12 +57,18 @@ fn log_for<L: Layout>(
     ensures laid { IfOk result (λ log. IsLaidOut clients.now (L.shape layout.now).stripes log.handed) }
 {
     let events = if trace {
-        EVENTS + 2 + layout.columns()
+        limits::EVENTS + 2 + layout.columns()
     } else {
         0
     };
     let handed = Handed::open(alloc, clients, layout.stripes())?;
-    Log::open(alloc, trace, handed, ITEMS + layout.stripes(), events)
+    Ok(Log::open(
+        alloc,
+        trace,
+        handed,
+        limits::ITEMS + layout.stripes(),
+        events,
+    )?)
 }
 
 // The clients, of which none has begun an item.
@@ -80,7 +78,7 @@ fn clients_for(alloc: Global, clients: &[Vec<Item>]) -> Result<Clients, Memory>
     ensures count { IfOk result (λ opened. length opened ≡ 17) }
     ensures each { IfOk result (λ opened. (c : ℕ) → c < 17 → desk_at opened c ≡ new_desk (items_at clients.now c)) }
 {
-    Clients::open(alloc, clients)
+    Ok(Clients::open(alloc, clients)?)
 }
 
 impl<D: Drop> CoreRoom<D> {

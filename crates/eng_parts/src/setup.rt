@@ -1,7 +1,7 @@
 //! What a core is opened over, and what it hands back.
-use crate::handed::Regions;
 use blk_plain::OpId;
 use eng_cols::{Column, Loss};
+use eng_log::Regions;
 use eng_world::{Item, Reply, Traced};
 use graph_mean::Graph;
 

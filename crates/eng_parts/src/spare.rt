@@ -2,15 +2,11 @@
 ghost use Rattle.std.specs.Prelude.{◌≡◌, ◌≤◌, IfOk, [], vec_capacity};
 
 use crate::memory::Memory;
+use blk_plain::limits;
 use eng_cols::Column;
 use eng_world::{Item, Reply};
 use std::alloc::Global;
 use std::marker::Model;
-
-// The most clients, and the most columns.
-const CLIENTS: usize = 16;
-
-const COLUMNS: usize = 32;
 
 /// Lists for what is handed out in the end, empty until then. Contracts see how many clients there are beside the
 /// engine's own.
@@ -53,9 +49,9 @@ impl Spare {
     {
         Ok(Spare {
             clients,
-            items: Vec::with_capacity(alloc, CLIENTS)?,
-            replies: Vec::with_capacity(alloc, CLIENTS)?,
-            columns: Vec::with_capacity(alloc, COLUMNS)?,
+            items: Vec::with_capacity(alloc, limits::CLIENTS as usize)?,
+            replies: Vec::with_capacity(alloc, limits::CLIENTS as usize)?,
+            columns: Vec::with_capacity(alloc, limits::COLUMNS as usize)?,
         })
     }
 

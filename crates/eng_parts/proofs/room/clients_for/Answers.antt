@@ -1,4 +1,4 @@
-use Rattle.eng_parts.proofs.FewItems.{few-each}
+use Rattle.eng_log.proofs.FewItems.{few-each}
 use Rattle.eng_parts.proofs.room.clients_for.Goals as goal
 
 pub open-requires : goal.open-requires

@@ -1,0 +1,86 @@
+-- The clients and columns of a closed core.
+use Rattle.std.proofs.Common.{◌≡◌, ℕ, zero, suc, ◌<◌, ◌≤◌, ◌+◌, List, [], ◌∷◌, ◌++◌, length, length-append, map, take, get_or, sym, ap, ◌∙◌, arith, inl, inr, refl, Option, Some, None}
+use Rattle.std.specs.Prelude.{Vec, slice_get, option_map}
+use Rattle.std.specs.declared.alloc.Global.{Global}
+use Rattle.std.proofs.lemmas.Bool.{cases_eq}
+use Rattle.std.proofs.lemmas.List.{get_or_push, get_or_append_left, get_or-take, length-take-le}
+use Rattle.eng_cols.specs.declared.column.Column.{Column}
+use Rattle.eng_cols.specs.declared.spot.Loss.{Loss}
+use Rattle.eng_cols.specs.Cols.{ColumnState, column_of}
+use Rattle.eng_world.specs.declared.item.Item.{Item}
+use Rattle.eng_world.specs.declared.item.Reply.{Reply}
+use Rattle.eng_clients.specs.Desk.{Desk, desk_at, no_desk}
+use Rattle.eng_log.specs.Given.{items_in}
+use Rattle.eng_clients.specs.Replied.{replies_of, replies_in, AreClosed}
+
+slice-left : {X : Type 0} (xs ys : List X) (k : ℕ) → k < length xs → slice_get (xs ++ ys) k ≡ slice_get xs k
+slice-left [] ys k lt = absurd (omega (arith, lt))
+slice-left (x ∷ xs) ys zero lt = refl
+slice-left (x ∷ xs) ys (suc k) lt = slice-left xs ys k (omega (arith, lt))
+
+slice-here : {X : Type 0} (xs : List X) (y : X) → slice_get (xs ++ y ∷ []) (length xs) ≡ Some y
+slice-here [] y = refl
+slice-here (x ∷ xs) y = slice-here xs y
+
+pub closed-none : (lost : Option Loss) (items : List (Vec Item Global)) (replies : List (Vec Reply Global)) → items ≡ [] → replies ≡ [] → AreClosed lost [] 0 items replies
+closed-none lost items replies i r = record {
+  items_count = ap length i;
+  replies_count = ap length r;
+  items_each = λ c lt. absurd (omega (arith, lt));
+  replies_each = λ c lt. absurd (omega (arith, lt));
+}
+
+-- one client more
+pub closed-more : (lost : Option Loss) (desks : List Desk) (d : Desk) (items : List (Vec Item Global)) (replies : List (Vec Reply Global)) (a : Vec Item Global) (b : Vec Reply Global) → AreClosed lost desks (length desks) items replies → a.items ≡ d.items → b.items ≡ replies_of lost d → AreClosed lost (desks ++ d ∷ []) (length (desks ++ d ∷ [])) (items ++ a ∷ []) (replies ++ b ∷ [])
+closed-more lost desks d items replies a b h i r = record {
+  items_count = omega (arith, ni, more, ia);
+  replies_count = omega (arith, nr, more, ra);
+  items_each = λ c lt. elim (cases_eq c (length desks)) [
+    | inl e ↦ ap (λ (k : ℕ). items_in (slice_get (items ++ a ∷ []) k)) (e ∙ sym ni) ∙ (ap items_in (slice-here items a) ∙ (i ∙ sym (ap (λ (x : Desk). x.items) (get_or_push desks d no_desk c (sym e)))))
+    | inr ne ↦
+        let low : c < length desks = omega (arith, lt, more, ne) in
+        ap items_in (slice-left items (a ∷ []) c (omega (arith, low, ni))) ∙ (h.items_each c low ∙ sym (ap (λ (x : Desk). x.items) (get_or_append_left desks (d ∷ []) no_desk c low)))
+  ];
+  replies_each = λ c lt. elim (cases_eq c (length desks)) [
+    | inl e ↦ ap (λ (k : ℕ). replies_in (slice_get (replies ++ b ∷ []) k)) (e ∙ sym nr) ∙ (ap replies_in (slice-here replies b) ∙ (r ∙ sym (ap (replies_of lost) (get_or_push desks d no_desk c (sym e)))))
+    | inr ne ↦
+        let low : c < length desks = omega (arith, lt, more, ne) in
+        ap replies_in (slice-left replies (b ∷ []) c (omega (arith, low, nr))) ∙ (h.replies_each c low ∙ sym (ap (replies_of lost) (get_or_append_left desks (d ∷ []) no_desk c low)))
+  ];
+}
+  where
+    ni : length items ≡ length desks
+    ni = h.items_count
+
+    nr : length replies ≡ length desks
+    nr = h.replies_count
+
+    more : length (desks ++ d ∷ []) ≡ length desks + 1
+    more = length-append desks (d ∷ [])
+
+    ia : length (items ++ a ∷ []) ≡ length items + 1
+    ia = length-append items (a ∷ [])
+
+    ra : length (replies ++ b ∷ []) ≡ length replies + 1
+    ra = length-append replies (b ∷ [])
+
+-- the first so many of all
+pub closed-front : (lost : Option Loss) (desks front : List Desk) (n : ℕ) (items : List (Vec Item Global)) (replies : List (Vec Reply Global)) → n ≤ length desks → front ≡ take n desks → AreClosed lost front (length front) items replies → AreClosed lost desks n items replies
+closed-front lost desks front n items replies le is h = record {
+  items_count = h.items_count ∙ count;
+  replies_count = h.replies_count ∙ count;
+  items_each = λ c lt. h.items_each c (omega (arith, lt, count)) ∙ ap (λ (d : Desk). d.items) (same c lt);
+  replies_each = λ c lt. h.replies_each c (omega (arith, lt, count)) ∙ ap (replies_of lost) (same c lt);
+}
+  where
+    count : length front ≡ n
+    count = ap length is ∙ length-take-le n desks le
+
+    same : (c : ℕ) → c < n → desk_at front c ≡ desk_at desks c
+    same c lt = ap (λ (l : List Desk). get_or l c no_desk) is ∙ get_or-take n desks c no_desk lt
+
+-- one column more
+pub columns-more : (states : List ColumnState) (i : ℕ) (x : Column) → option_map column_of (slice_get states i) ≡ Some x → map column_of (take i states) ++ x ∷ [] ≡ map column_of (take (suc i) states)
+columns-more [] i x h = let z : None ≡ Some x = h in absurd (let u : ⊥ = cc in u)
+columns-more (s ∷ ss) zero x h = let z : Some (column_of s) ≡ Some x = h in let e : x ≡ column_of s = cc in ap (λ (k : Column). k ∷ []) e
+columns-more (s ∷ ss) (suc i) x h = ap (λ (l : List Column). column_of s ∷ l) (columns-more ss i x h)

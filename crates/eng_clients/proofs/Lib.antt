@@ -1,0 +1,8 @@
+pub mod Pools
+pub mod Gathering
+pub mod MadeDesk
+pub mod Closing
+pub mod MoreDesks
+pub mod SeatsApart
+pub mod Scattered
+pub mod Sent

@@ -1,0 +1,9 @@
+pub mod Desk
+pub mod Seats
+pub mod Gathered
+pub mod Planned
+pub mod Rebuilt
+pub mod Listing
+pub mod Replied
+pub mod Fresh
+pub mod Scattered

@@ -1,0 +1,97 @@
+//! The clients, as one of them is planned for, runs or is replied.
+ghost use Rattle.std.specs.Prelude.{◌≡◌, ◌<◌, ◌≤◌, ℕ, Some, None, OnOk, IfErr, length, slice_set};
+ghost use Rattle.eng_cols.specs.Cols.{IsFor};
+ghost use Rattle.eng_cols.specs.Lost.{NotLost};
+ghost use Rattle.eng_one.specs.Counts.{CanStart};
+ghost use Rattle.eng_clients.specs.Desk.{desk_at, graph_of, item_at, seats_of, with_started, with_lease};
+ghost use Rattle.eng_log.specs.Filled.{HasBuffers, Filled};
+ghost use Rattle.eng_plan.specs.Asked.{IsInside};
+ghost use Rattle.eng_clients.specs.Planned.{CanRun, IsRefusedFor, Replanned};
+
+use crate::clients::Clients;
+use blk_plain::Op;
+use buf_pool::{Lease, Pool};
+use eng_cols::Cols;
+use eng_world::{Item, Reply};
+use graph_check::Scratch;
+use graph_mean::{Graph, Refusal};
+use lay_core::Layout;
+
+impl Clients {
+    /// The item that the client serves now or next.
+    pub fn item(&self, client: u32) -> Option<Item>
+        requires { client < length self.now }
+        ensures { result ≡ item_at (desk_at self.now client) }
+    {
+        self.list[client as usize].item()
+    }
+
+    /// The device by which its operation was abandoned.
+    pub fn by(&self, client: u32) -> Option<u32>
+        requires { client < length self.now }
+        ensures { result ≡ (desk_at self.now client).by }
+    {
+        self.list[client as usize].by()
+    }
+
+    /// The stripes of its operation.
+    pub fn stripes(&self, client: u32) -> &[u32]
+        requires { client < length self.now }
+        ensures { result.now ≡ (desk_at self.now client).map.stripes }
+    {
+        self.list[client as usize].map.stripes()
+    }
+
+    /// Its operation is planned while the columns stand like this. The cause for which the checker refuses a graph of
+    /// the file is the answer, where it does.
+    pub fn plan<L: Layout>(
+        &mut self,
+        client: u32,
+        layout: &L,
+        cols: &Cols,
+        op: Op,
+        file: Option<u32>,
+        graphs: &[Graph],
+        scratch: &mut Scratch,
+    ) -> Result<(), Refusal>
+        requires client { client < length self.old }
+        requires fit { IsFor (L.shape layout.now) cols.now }
+        requires op { IsInside (L.shape layout.now) op }
+        requires kept { NotLost (L.shape layout.now) cols.now.states }
+        requires file { (n : ℕ) → file ≡ Some n → n < length graphs.now }
+        ensures planned { Replanned (L.shape layout.now) graphs.now cols.now.states op file (desk_at self.old client) (desk_at self.new client) }
+        ensures now { self.new ≡ slice_set self.old client (desk_at self.new client) }
+        ensures passes { OnOk result (CanRun graphs.now (desk_at self.new client)) }
+        ensures refused { IfErr result (λ cause. IsRefusedFor graphs.now file (desk_at self.new client) cause) }
+    {
+        self.list[client as usize].plan(layout, cols, op, file, graphs, scratch)
+    }
+
+    /// Its graph is run from the beginning.
+    pub fn start(&mut self, client: u32, graphs: &[Graph])
+        requires client { client < length self.old }
+        requires there { (n : ℕ) → (desk_at self.old client).file ≡ Some n → n < length graphs.now }
+        requires can { CanStart (graph_of graphs.now (desk_at self.old client)) }
+        ensures { self.new ≡ slice_set self.old client (with_started graphs.now (desk_at self.old client)) }
+    {
+        self.list[client as usize].start(graphs);
+    }
+
+    /// It leases these buffers.
+    pub fn hold(&mut self, client: u32, lease: Lease)
+        requires { client < length self.old }
+        ensures { self.new ≡ slice_set self.old client (with_lease (desk_at self.old client) lease) }
+    {
+        self.list[client as usize].hold(lease);
+    }
+
+    /// Its buffers of new data are filled.
+    pub fn fill(&self, client: u32, op: &Op, graphs: &[Graph], pool: &mut Pool)
+        requires client { client < length self.now }
+        requires there { (n : ℕ) → (desk_at self.now client).file ≡ Some n → n < length graphs.now }
+        requires buffers { HasBuffers (graph_of graphs.now (desk_at self.now client)) pool.old (desk_at self.now client).lease }
+        ensures { Filled (graph_of graphs.now (desk_at self.now client)) op.now (desk_at self.now client).lease pool.old pool.new }
+    {
+        self.list[client as usize].fill(op, graphs, pool);
+    }
+}

@@ -1,0 +1,6 @@
+pub mod Laying
+pub mod FewItems
+pub mod Seating
+pub mod Filling
+pub mod Repeating
+pub mod Sent

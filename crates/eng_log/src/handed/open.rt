@@ -1,0 +1,111 @@
+//! The regions of all items are laid out.
+ghost use Rattle.std.specs.Prelude.{◌≡◌, ◌≤◌, ◌+◌, length, replicate, IfOk, vec_capacity};
+ghost use Rattle.eng_rest.specs.Left.{below};
+ghost use Rattle.eng_log.specs.Handed.{no_region};
+ghost use Rattle.eng_log.specs.Laid.{op_sectors, item_sectors, sectors_at, sectors_before, IsRow, AreRows, IsLaidOut};
+
+use crate::given::items_of;
+use crate::handed::{Handed, Regions};
+use crate::memory::Memory;
+use crate::region::Region;
+use blk_plain::{Op, limits};
+use eng_world::Item;
+use std::alloc::Global;
+
+const CLIENTS: usize = 17;
+
+// The bytes of a sector.
+const SECTOR: u32 = 512;
+
+// How many sectors the operation hands out.
+fn op_sectors(op: &Op) -> u32
+    ensures { result ≡ op_sectors op.now }
+{
+    match op {
+        Op::Read { span } => span.count,
+        Op::Write { .. } | Op::Rebuild { .. } | Op::Sync { .. } => 0,
+    }
+}
+
+// How many sectors the item hands out.
+fn item_sectors(item: &Item) -> u32
+    ensures { result ≡ item_sectors item.now }
+{
+    match item {
+        Item::Run { op, .. } => op_sectors(op),
+        Item::Fail { .. } => 0,
+    }
+}
+
+// So many bytes, all zero.
+fn zero_bytes(alloc: Global, count: u32) -> Result<Vec<u8>, Memory>
+    ensures { IfOk result (λ bytes. bytes.items ≡ replicate count 0) }
+{
+    let mut bytes = Vec::with_capacity(alloc, count as usize)?;
+    for i in 0..count {
+        bytes.push_reserved(0);
+    }
+    Ok(bytes)
+}
+
+impl Regions {
+    // A region for each item, one behind the other from this sector on, and where the next begins.
+    fn open(alloc: Global, items: &[Item], first: u32) -> Result<(Regions, u32), Memory>
+        requires { first + below (sectors_at items.now) (length items.now) ≤ 262144 }
+        ensures row { IfOk result (λ r. IsRow items.now first (length items.now) r.0) }
+        ensures next { IfOk result (λ r. r.1 ≡ first + below (sectors_at items.now) (length items.now)) }
+    {
+        let mut list = Vec::with_capacity(alloc, items.len())?;
+        let mut next = first;
+        for i in 0..items.len() {
+            let count = item_sectors(&items[i]);
+            list.push_reserved(Region { first: next, count });
+            next += count;
+        }
+        Ok((Regions { list }, next))
+    }
+
+    // So many regions without a sector.
+    fn empty(alloc: Global, count: u32) -> Result<Regions, Memory>
+        ensures { IfOk result (λ r. r ≡ replicate count no_region) }
+    {
+        let mut list = Vec::with_capacity(alloc, count as usize)?;
+        for i in 0..count {
+            list.push_reserved(Region { first: 0, count: 0 });
+        }
+        Ok(Regions { list })
+    }
+}
+
+// A row of regions for each client but the engine's own, with room for that one's, and how many sectors there are.
+fn lay_rows(alloc: Global, clients: &[Vec<Item>]) -> Result<(Vec<Regions>, u32), Memory>
+    requires { sectors_before clients.now 16 ≤ 262144 }
+    ensures rows { IfOk result (λ r. AreRows clients.now 16 r.0.items) }
+    ensures room { IfOk result (λ r. 17 ≤ vec_capacity r.0) }
+    ensures count { IfOk result (λ r. r.1 ≡ sectors_before clients.now 16) }
+{
+    let mut rows = Vec::with_capacity(alloc, CLIENTS)?;
+    let mut next = 0;
+    for client in 0..limits::CLIENTS {
+        let laid = Regions::open(alloc, items_of(clients, client), next)?;
+        rows.push_reserved(laid.0);
+        next = laid.1;
+    }
+    Ok((rows, next))
+}
+
+impl Handed {
+    /// A region for each item of these clients, and so many empty ones for the engine's own, over bytes that are all
+    /// zero. The only error is want of memory.
+    pub fn open(alloc: Global, clients: &[Vec<Item>], own: u32) -> Result<Handed, Memory>
+        requires few { length clients.now ≤ 16 }
+        requires sectors { sectors_before clients.now 16 ≤ 262144 }
+        ensures { IfOk result (IsLaidOut clients.now own) }
+    {
+        let laid = lay_rows(alloc, clients)?;
+        let mut regions = laid.0;
+        regions.push_reserved(Regions::empty(alloc, own)?);
+        let bytes = zero_bytes(alloc, SECTOR * laid.1)?;
+        Ok(Handed { bytes, regions })
+    }
+}

@@ -1,0 +1,17 @@
+//! The sectors that operations bring and hand out, and what a run leaves behind: its history, its trace, and how many
+//! stripes were rebuilt.
+#![tactic(auto)]
+
+mod fill;
+mod given;
+mod handed;
+mod log;
+mod memory;
+mod region;
+
+pub use fill::fill_fresh;
+pub use given::items_of;
+pub use handed::{Handed, Regions};
+pub use log::Log;
+pub use memory::Memory;
+pub use region::Region;

@@ -1,5 +1,0 @@
-use Rattle.eng_parts.proofs.Filling.{FilledTo}
-use Rattle.eng_parts.proofs.fill.fill_new.Given as goal
-
-abbrev pub invariant-loop-b : goal.invariant-loop-b
-invariant-loop-b l = FilledTo l.graph.drawn l.lease l.sector l.fn.pool l.pool l.b

@@ -1,0 +1,12 @@
+//! What an operation asks of an array, and what it is planned to be: its blocks and stripes, how it holds them, the
+//! units that are missing, what kind of task it is, how many buffers it leases, and that the checker takes the graph
+//! that is drawn for it.
+#![tactic(auto)]
+
+mod checked;
+mod planning;
+#[cfg(test)]
+mod tests;
+
+pub use checked::plan_and_check;
+pub use planning::{kind_of, lease_size, list_missing, mode_by, span_of};

@@ -1,0 +1,146 @@
+//! What an operation is planned to be: its stripes, its task, the units that are missing, and its graph.
+ghost use Rattle.std.specs.Prelude.{◌≡◌, ◌<◌, ◌≤◌, ℕ, Some, length, map, vec_capacity, All};
+ghost use Rattle.graph_mean.specs.Task.{HasUnitBelow};
+ghost use Rattle.eng_cols.specs.Cols.{IsFor};
+ghost use Rattle.eng_cols.specs.Lost.{missing_of as missing_unit};
+ghost use Rattle.eng_world.specs.Planning.{kind_of, missing_for, if_seated, unit_or_first};
+ghost use Rattle.eng_plan.specs.Asked.{whole, span_of, IsInside, mode_by, lease_by};
+
+use blk_plain::{Op, Span};
+use eng_cols::Cols;
+use graph_mean::{Graph, Kind};
+use lay_core::Layout;
+use stripe_lock::Mode;
+
+// The whole span of a stripe.
+fn whole<L: Layout>(layout: &L, stripe: u32) -> Span
+    ensures { result ≡ whole (L.shape layout.now) stripe }
+{
+    let count = (layout.width() - layout.checks()) * layout.unit_sectors();
+    Span {
+        first: u64::from(stripe) * u64::from(count),
+        count,
+    }
+}
+
+/// The blocks that an operation touches.
+pub fn span_of<L: Layout>(layout: &L, op: Op) -> Span
+    ensures { result ≡ span_of (L.shape layout.now) op }
+{
+    match op {
+        Op::Write { span, .. } | Op::Read { span } => span,
+        Op::Rebuild { stripe } | Op::Sync { stripe } => whole(layout, stripe),
+    }
+}
+
+/// How it holds its stripes.
+pub fn mode_by(op: Op) -> Mode
+    ensures { result ≡ mode_by op }
+{
+    match op {
+        Op::Read { .. } => Mode::Share,
+        Op::Write { .. } | Op::Rebuild { .. } | Op::Sync { .. } => Mode::Exclude,
+    }
+}
+
+// The unit of the stripe that is missing.
+fn missing_unit<L: Layout>(layout: &L, cols: &Cols, stripe: u32) -> Option<u8>
+    requires fit { IsFor (L.shape layout.now) cols.now }
+    requires stripe { stripe < cols.now.stripes }
+    ensures { result ≡ missing_unit (L.shape layout.now) cols.now.states stripe }
+{
+    for unit in 0..layout.width() {
+        if cols.spot(layout, stripe, unit).is_none() {
+            return Some(unit as u8);
+        }
+    }
+    None
+}
+
+// The missing unit, where it has a target.
+fn if_seated<L: Layout>(layout: &L, cols: &Cols, stripe: u32, missing: Option<u8>) -> Option<u8>
+    requires fit { IsFor (L.shape layout.now) cols.now }
+    requires stripe { stripe < cols.now.stripes }
+    requires missing { missing ≡ missing_unit (L.shape layout.now) cols.now.states stripe }
+    ensures { result ≡ if_seated (L.shape layout.now) cols.now.states stripe missing }
+{
+    match missing {
+        None => None,
+        Some(unit) => match cols.target(layout, stripe, u32::from(unit)) {
+            None => None,
+            Some(_) => Some(unit),
+        },
+    }
+}
+
+// The unit of the stripe that counts as missing for the operation.
+fn missing_for<L: Layout>(layout: &L, cols: &Cols, op: Op, stripe: u32) -> Option<u8>
+    requires fit { IsFor (L.shape layout.now) cols.now }
+    requires stripe { stripe < cols.now.stripes }
+    ensures { result ≡ missing_for (L.shape layout.now) cols.now.states op stripe }
+{
+    let missing = missing_unit(layout, cols, stripe);
+    match op {
+        Op::Rebuild { .. } => if_seated(layout, cols, stripe, missing),
+        Op::Write { .. } | Op::Read { .. } | Op::Sync { .. } => missing,
+    }
+}
+
+/// The units of these stripes that count as missing.
+pub fn list_missing<L: Layout>(
+    layout: &L,
+    cols: &Cols,
+    op: Op,
+    stripes: &[u32],
+    missing: &mut Vec<Option<u8>>,
+)
+    requires fit { IsFor (L.shape layout.now) cols.now }
+    requires stripes { All (λ s. s < cols.now.stripes) stripes.now }
+    requires room { length stripes.now ≤ vec_capacity missing.old }
+    ensures items { missing.new.items ≡ map (missing_for (L.shape layout.now) cols.now.states op) stripes.now }
+    ensures room { vec_capacity missing.old ≤ vec_capacity missing.new }
+{
+    missing.clear();
+    for stripe in stripes {
+        missing.push_reserved(missing_for(layout, cols, op, *stripe));
+    }
+}
+
+// The unit of a rebuild, of which this one is missing.
+fn kind_for(unit: Option<u8>) -> Kind
+    ensures { result ≡ Kind.Rebuild (unit_or_first unit) }
+{
+    match unit {
+        None => Kind::Rebuild { unit: 0 },
+        Some(unit) => Kind::Rebuild {
+            unit: u32::from(unit),
+        },
+    }
+}
+
+/// What kind of operation it is.
+pub fn kind_of<L: Layout>(layout: &L, cols: &Cols, op: Op) -> Kind
+    requires fit { IsFor (L.shape layout.now) cols.now }
+    requires op { IsInside (L.shape layout.now) op }
+    ensures kind { result ≡ kind_of (L.shape layout.now) cols.now.states op }
+    ensures unit { HasUnitBelow (L.shape layout.now).width result }
+{
+    match op {
+        Op::Write { .. } => Kind::Write,
+        Op::Read { .. } => Kind::Read,
+        Op::Rebuild { stripe } => kind_for(missing_unit(layout, cols, stripe)),
+        Op::Sync { .. } => Kind::Sync,
+    }
+}
+
+/// How many buffers are leased for an operation of so many stripes.
+pub fn lease_size<L: Layout>(layout: &L, stripes: u32, file: Option<u32>, graphs: &[Graph]) -> u32
+    requires few { stripes ≤ 16 }
+    requires there { (n : ℕ) → file ≡ Some n → n < length graphs.now }
+    ensures { result ≡ lease_by (L.shape layout.now) graphs.now stripes file }
+{
+    match file {
+        None => (2 * (layout.width() - layout.checks()) + 2) * (stripes + 2),
+        Some(n) => graphs[n as usize].bufs(),
+    }
+}
