@@ -16,9 +16,9 @@ use Rattle.eng_world.specs.Continuing.{Continues}
 use Rattle.eng_world.specs.Step.{Step, Run}
 use Rattle.eng_world.proofs.Caused.{tail-has, head-has, front-get, item-still}
 use Rattle.eng_world.proofs.Continuing.{step-continues}
-use Rattle.eng_events.specs.declared.array.Array.{Array}
+use Rattle.eng_state.specs.declared.array.Array.{Array}
 use Rattle.eng_array.specs.Blamed.{IsBlamed, rose, asked, outside}
-use Rattle.eng_events.specs.Shows.{Shows}
+use Rattle.eng_state.specs.Shows.{Shows}
 use Rattle.eng_array.specs.Tickets.{Happens, Goes, shape_of, graphs_of, failed_at, faults_at}
 use Rattle.eng_array.proofs.Causing.{had-on, run-had, FailsBy, by_node, by_item, by_call, step-fails}
 use Rattle.eng_array.proofs.Chains.{goes-same, goes-later}

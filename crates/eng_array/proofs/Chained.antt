@@ -15,17 +15,17 @@ use Rattle.eng_rest.specs.Left.{alive, Within, NoneOut}
 use Rattle.eng_rest.specs.Few.{count_of, AreLater, GraphsWithin}
 use Rattle.eng_rest.proofs.Fewness.{run-few}
 use Rattle.eng_rest.proofs.Summing.{few-bound}
-use Rattle.eng_events.specs.declared.array.Array.{Array}
+use Rattle.eng_state.specs.declared.array.Array.{Array}
 use Rattle.eng_array.specs.Chain.{HasFewNodes, Chain, HaveFewNodes}
-use Rattle.eng_parts.specs.Desk.{desk_at}
+use Rattle.eng_clients.specs.Desk.{desk_at}
 use Rattle.eng_array.specs.Progress.{item_left_of}
-use Rattle.eng_events.specs.Shows.{Shows}
-use Rattle.eng_events.specs.Sound.{IsSound, IsOutOf}
+use Rattle.eng_state.specs.Shows.{Shows}
+use Rattle.eng_state.specs.Sound.{IsSound, IsOutOf}
 use Rattle.eng_array.specs.Steady.{IsSteady}
-use Rattle.eng_events.specs.Steps.{graphs_of}
+use Rattle.eng_state.specs.Steps.{graphs_of}
 use Rattle.eng_array.proofs.Lefts.{item-shown}
-use Rattle.eng_events.proofs.Running.{runs_below}
-use Rattle.eng_events.proofs.Shown.{runs-shown}
+use Rattle.eng_state.proofs.Running.{runs_below}
+use Rattle.eng_state.proofs.Shown.{runs-shown}
 use Rattle.eng_array.proofs.Steady.{steady-indexed}
 
 module _ {L D : Type 0} (lay : LayoutGhosts L) (disk : DiskGhosts D) where

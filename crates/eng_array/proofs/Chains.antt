@@ -11,8 +11,8 @@ use Rattle.eng_world.specs.declared.item.Traced.{Traced}
 use Rattle.eng_world.specs.World.{World}
 use Rattle.eng_world.specs.Planning.{Graphs}
 use Rattle.eng_world.specs.Step.{Step, Run}
-use Rattle.eng_events.specs.declared.array.Array.{Array}
-use Rattle.eng_events.specs.Shows.{Shows}
+use Rattle.eng_state.specs.declared.array.Array.{Array}
+use Rattle.eng_state.specs.Shows.{Shows}
 use Rattle.eng_array.specs.Tickets.{Goes, Same, keeps_trace, traced, shape_of, graphs_of, size_at, faults_at, devices_of, DevicesGoOn}
 use Rattle.eng_array.proofs.DevicesOn.{devices-later}
 

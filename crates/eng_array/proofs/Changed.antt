@@ -3,13 +3,13 @@ use Rattle.std.proofs.Common.{◌≡◌, ℕ, ◌<◌, List, length, subst, sym}
 use Rattle.blk_disk.specs.declared.disk.Disk.{Ghosts as DiskGhosts}
 use Rattle.lay_core.specs.declared.layout.Layout.{Ghosts as LayoutGhosts}
 use Rattle.eng_world.specs.declared.item.Traced.{Traced}
-use Rattle.eng_events.specs.declared.array.Array.{Array}
+use Rattle.eng_state.specs.declared.array.Array.{Array}
 use Rattle.eng_array.specs.Changed.{Changed}
-use Rattle.eng_parts.specs.Desk.{Desk, desk_at}
+use Rattle.eng_clients.specs.Desk.{Desk, desk_at}
 use Rattle.eng_array.specs.Serving.{IsServing}
-use Rattle.eng_events.specs.Sound.{IsSound}
+use Rattle.eng_state.specs.Sound.{IsSound}
 use Rattle.eng_array.specs.Steady.{IsSteady}
-use Rattle.eng_events.specs.Steps.{Follows}
+use Rattle.eng_state.specs.Steps.{Follows}
 use Rattle.eng_array.proofs.Kept.{Goes, goes-items, goes-serving}
 use Rattle.eng_array.proofs.OneServing.{each-set, items-set}
 use Rattle.eng_array.proofs.Steady.{IsEvent, Keeps, steady-on}

@@ -13,7 +13,7 @@ use Rattle.eng_parts.specs.Brought.{brought}
 use Rattle.eng_parts.specs.Shelf.{Seen, Shelved, seen_at}
 use Rattle.eng_parts.specs.declared.setup.Closed.{Closed}
 use Rattle.eng_parts.specs.declared.setup.Setup.{Setup}
-use Rattle.eng_events.specs.declared.array.Array.{Array}
+use Rattle.eng_state.specs.declared.array.Array.{Array}
 use Rattle.eng_events.specs.Closed.{IsClosed}
 use Rattle.eng_events.specs.Opened.{IsOpened}
 use Rattle.eng_array.specs.HandedBack.{HandsBack}

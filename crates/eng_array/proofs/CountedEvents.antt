@@ -11,7 +11,7 @@ use Rattle.eng_cols.specs.Cols.{ColumnState, Live, Dead}
 use Rattle.eng_world.specs.declared.item.Item.{Item}
 use Rattle.eng_rest.specs.Left.{below, alive}
 use Rattle.eng_rest.proofs.Summing.{below-le}
-use Rattle.eng_parts.specs.Given.{items_at}
+use Rattle.eng_log.specs.Given.{items_at}
 use Rattle.eng_parts.specs.declared.setup.Setup.{Setup}
 use Rattle.eng_events.specs.Opened.{states_of}
 use Rattle.eng_array.specs.Fitting.{most_in, item_events, row_events, rebuild_events, counted_events, trace_sum, rebuilds_sum, FitsTrace, FitsRebuilding, HasAtMost}

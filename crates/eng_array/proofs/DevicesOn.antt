@@ -8,8 +8,8 @@ use Rattle.blk_disk.specs.declared.disk.Disk.{Ghosts as DiskGhosts}
 use Rattle.blk_disk.proofs.DeviceLaws.{changes-refl, changes-set}
 use Rattle.eng_cols.specs.declared.spot.Spot.{Spot}
 use Rattle.eng_parts.specs.Shelf.{Seen, Shelved, IsAway, come_home}
-use Rattle.eng_events.specs.Moves.{DeviceLeft}
-use Rattle.eng_events.proofs.Leaving.{seen-below}
+use Rattle.eng_state.specs.Moves.{DeviceLeft}
+use Rattle.eng_state.proofs.Leaving.{seen-below}
 use Rattle.eng_array.specs.Tickets.{device_of, size_in, faults_in, DevicesGoOn}
 
 -- the device of a slot

@@ -6,7 +6,7 @@ use Rattle.lay_core.specs.declared.layout.Layout.{Ghosts as LayoutGhosts}
 use Rattle.eng_world.specs.declared.item.Traced.{Traced}
 use Rattle.eng_rest.specs.Left.{IsOwn}
 use Rattle.eng_rest.proofs.Summing.{own-later}
-use Rattle.eng_events.specs.declared.array.Array.{Array}
+use Rattle.eng_state.specs.declared.array.Array.{Array}
 use Rattle.eng_array.specs.Chain.{Chain, HaveFewNodes}
 use Rattle.eng_array.specs.Progress.{left_of, Falls}
 use Rattle.eng_array.specs.Steady.{IsSteady}

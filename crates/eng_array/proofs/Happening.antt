@@ -10,13 +10,13 @@ use Rattle.eng_world.specs.declared.item.Traced.{Traced}
 use Rattle.eng_world.specs.World.{Current, World}
 use Rattle.eng_world.proofs.Promised.{not-lost}
 use Rattle.eng_world.proofs.Open.{run-open}
-use Rattle.eng_parts.specs.declared.stage.Stage.{Stage}
-use Rattle.eng_parts.specs.declared.stage.Stage.TheVariants.{Nothing, Waits, Runs}
-use Rattle.eng_events.specs.declared.array.Array.{Array}
-use Rattle.eng_parts.specs.Desk.{Desk, desk_at}
-use Rattle.eng_events.specs.Shows.{Shows, ShowsCurrent}
+use Rattle.eng_clients.specs.declared.stage.Stage.{Stage}
+use Rattle.eng_clients.specs.declared.stage.Stage.TheVariants.{Nothing, Waits, Runs}
+use Rattle.eng_state.specs.declared.array.Array.{Array}
+use Rattle.eng_clients.specs.Desk.{Desk, desk_at}
+use Rattle.eng_state.specs.Shows.{Shows, ShowsCurrent}
 use Rattle.eng_array.specs.Steady.{IsSteady}
-use Rattle.eng_events.specs.Steps as steps
+use Rattle.eng_state.specs.Steps as steps
 use Rattle.eng_array.specs.Tickets.{is_node, out_by, out_at, failed_at, faults_at, devices_of, DevicesGoOn, IsBad, Happens}
 use Rattle.eng_array.proofs.DevicesOn.{as-many-slots}
 use Rattle.eng_array.proofs.OutNodes.{node_out, node_at, OutAfter, SameOut, OneMore, OneLess, step-out}

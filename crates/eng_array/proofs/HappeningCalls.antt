@@ -10,21 +10,21 @@ use Rattle.eng_world.specs.declared.item.Item.{Item}
 use Rattle.eng_world.specs.declared.item.Item.TheVariants as item
 use Rattle.eng_world.specs.declared.item.Traced.{Traced}
 use Rattle.eng_world.specs.declared.item.Traced.TheVariants as event
-use Rattle.eng_parts.specs.declared.stage.Stage.TheVariants.{Nothing, Runs}
-use Rattle.eng_events.specs.declared.array.Array.{Array}
-use Rattle.eng_events.specs.Beginning.{CanBegin, BegunAs}
-use Rattle.eng_events.specs.Can.{CanFire, CanSkip, place_now}
-use Rattle.eng_parts.specs.Desk.{desk_at, with_skipped}
-use Rattle.eng_events.specs.Failing.{FailedBy}
-use Rattle.eng_parts.specs.Log.{noted}
-use Rattle.eng_events.specs.Moves.{Fired, id_of}
-use Rattle.eng_events.specs.Out.{IsOut}
-use Rattle.eng_events.specs.Rebuilding.{CanRebuild, Started}
-use Rattle.eng_events.specs.Serves.{CanTake, CanBack}
+use Rattle.eng_clients.specs.declared.stage.Stage.TheVariants.{Nothing, Runs}
+use Rattle.eng_state.specs.declared.array.Array.{Array}
+use Rattle.eng_state.specs.Beginning.{CanBegin, BegunAs}
+use Rattle.eng_state.specs.Can.{CanFire, CanSkip, place_now}
+use Rattle.eng_clients.specs.Desk.{desk_at, with_skipped}
+use Rattle.eng_state.specs.Failing.{FailedBy}
+use Rattle.eng_log.specs.Log.{noted}
+use Rattle.eng_state.specs.Moves.{Fired, id_of}
+use Rattle.eng_state.specs.Out.{IsOut}
+use Rattle.eng_starts.specs.Rebuilding.{CanRebuild, Started}
+use Rattle.eng_state.specs.Serves.{CanTake, CanBack}
 use Rattle.eng_parts.specs.Shelf.{Shelved}
 use Rattle.eng_array.specs.Steady.{IsSteady}
-use Rattle.eng_events.specs.Steps as steps
-use Rattle.eng_events.specs.Taken.{IsTaken, BackAs, IsBack}
+use Rattle.eng_state.specs.Steps as steps
+use Rattle.eng_state.specs.Taken.{IsTaken, BackAs, IsBack}
 use Rattle.eng_array.specs.Tickets.{IsBad, is_node, out_at, Happens, KeepsJobs, Lends}
 use Rattle.eng_array.proofs.DevicesOn.{same-devices, left-devices}
 use Rattle.eng_array.proofs.Happening.{happens, world-out, nodes-same, nodes-more}

@@ -18,30 +18,30 @@ use Rattle.eng_world.specs.declared.item.Traced.{Traced}
 use Rattle.eng_world.specs.declared.item.Traced.TheVariants as event
 use Rattle.eng_world.specs.World.{Running, World}
 use Rattle.eng_world.specs.Step.{Step}
-use Rattle.eng_events.specs.declared.array.Array.{Array}
-use Rattle.eng_events.specs.Bad.{CallBack}
-use Rattle.eng_parts.specs.Desk.{desk_at, spot_at}
-use Rattle.eng_events.specs.EndLog.{LogEnds}
-use Rattle.eng_events.specs.GoesOn.{GoesOn}
-use Rattle.eng_events.specs.Homes.{device_in, slots_home}
-use Rattle.eng_events.specs.Moves.{id_of}
-use Rattle.eng_events.specs.Out.{CameBack, OthersStay}
-use Rattle.eng_events.specs.Returned.{is_bad_end, ends_bad, ended_by}
-use Rattle.eng_events.specs.Returned as returned
+use Rattle.eng_state.specs.declared.array.Array.{Array}
+use Rattle.eng_state.specs.Bad.{CallBack}
+use Rattle.eng_clients.specs.Desk.{desk_at, spot_at}
+use Rattle.eng_ends.specs.EndLog.{LogEnds}
+use Rattle.eng_state.specs.GoesOn.{GoesOn}
+use Rattle.eng_state.specs.Homes.{device_in, slots_home}
+use Rattle.eng_state.specs.Moves.{id_of}
+use Rattle.eng_state.specs.Out.{CameBack, OthersStay}
+use Rattle.eng_fails.specs.Returned.{is_bad_end, ends_bad, ended_by}
+use Rattle.eng_fails.specs.Returned as returned
 use Rattle.eng_parts.specs.Shelf.{Seen, seen_at, IsAway, has_failed, come_home}
 use Rattle.eng_array.specs.Steady.{IsSteady}
-use Rattle.eng_events.specs.Steps as steps
+use Rattle.eng_state.specs.Steps as steps
 use Rattle.eng_array.specs.Tickets.{is_node, failed_at, faults_at, faults_in, devices_of, DevicesGoOn, IsBad, IsEndOf, Happens, GetsBack}
 use Rattle.eng_array.proofs.Blaming.{StoodOn, step-blames}
 use Rattle.eng_array.proofs.DevicesOn.{same-devices, came-devices}
 use Rattle.eng_array.proofs.Happening.{happens, world-out, nodes-less}
-use Rattle.eng_events.proofs.Homing.{home-here}
+use Rattle.eng_state.proofs.Homing.{home-here}
 use Rattle.eng_array.proofs.OnSeats.{run-on-seats}
 use Rattle.eng_array.proofs.OutNodes.{OneLess, OutAfter, node-here}
 use Rattle.eng_array.proofs.Promised.{library-promises}
-use Rattle.eng_events.proofs.Returning.{read-back, write-back}
-use Rattle.eng_events.proofs.ReturningBad.{read-call, write-call, is-call}
-use Rattle.eng_events.proofs.Shown.{runs-shown}
+use Rattle.eng_state.proofs.Returning.{read-back, write-back}
+use Rattle.eng_fails.proofs.ReturningBad.{read-call, write-call, is-call}
+use Rattle.eng_state.proofs.Shown.{runs-shown}
 use Rattle.eng_array.proofs.SteadyHome.{home-keeps}
 
 not-both : {A : Type 0} (b : Bool) → b ≡ true → b ≡ false → A

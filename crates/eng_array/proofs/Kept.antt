@@ -8,16 +8,16 @@ use Rattle.lay_core.specs.declared.layout.Layout.{Ghosts as LayoutGhosts}
 use Rattle.graph_mean.specs.Graph.{Held}
 use Rattle.eng_cols.specs.Cols.{ColumnState}
 use Rattle.eng_world.specs.declared.item.Traced.{Traced}
-use Rattle.eng_parts.specs.declared.stage.Stage.{Stage}
-use Rattle.eng_parts.specs.declared.stage.Stage.TheVariants.{Nothing, Waits, Runs}
-use Rattle.eng_events.specs.declared.array.Array.{Array}
-use Rattle.eng_parts.specs.Desk.{Desk, desk_at}
-use Rattle.eng_events.specs.Failing.{suffered_in, FailedBy}
-use Rattle.eng_parts.specs.Log.{Logged, noted}
+use Rattle.eng_clients.specs.declared.stage.Stage.{Stage}
+use Rattle.eng_clients.specs.declared.stage.Stage.TheVariants.{Nothing, Waits, Runs}
+use Rattle.eng_state.specs.declared.array.Array.{Array}
+use Rattle.eng_clients.specs.Desk.{Desk, desk_at}
+use Rattle.eng_state.specs.Failing.{suffered_in, FailedBy}
+use Rattle.eng_log.specs.Log.{Logged, noted}
 use Rattle.eng_array.specs.Serving.{IsServing}
-use Rattle.eng_events.specs.Sound.{IsSound}
+use Rattle.eng_state.specs.Sound.{IsSound}
 use Rattle.eng_array.specs.Steady.{IsSteady}
-use Rattle.eng_events.specs.Steps.{Follows}
+use Rattle.eng_state.specs.Steps.{Follows}
 use Rattle.eng_array.proofs.OneServing.{each-set, same-serving, idle-serving, items-set}
 use Rattle.eng_array.proofs.Steady.{IsEvent, Keeps, steady-on}
 

@@ -11,17 +11,17 @@ use Rattle.eng_world.specs.declared.item.Traced.{Traced}
 use Rattle.eng_world.specs.World.{Running, Current, Client, World}
 use Rattle.eng_rest.specs.Left.{current_left, outs_of, item_left, alive, left, below, all_left, IsOwn, EachWithin}
 use Rattle.eng_rest.proofs.Summing.{all-falls}
-use Rattle.eng_parts.specs.declared.stage.Stage.{Stage}
-use Rattle.eng_parts.specs.declared.stage.Stage.TheVariants.{Nothing, Waits, Runs}
-use Rattle.eng_events.specs.declared.array.Array.{Array}
-use Rattle.eng_parts.specs.Desk.{Desk, desk_at}
+use Rattle.eng_clients.specs.declared.stage.Stage.{Stage}
+use Rattle.eng_clients.specs.declared.stage.Stage.TheVariants.{Nothing, Waits, Runs}
+use Rattle.eng_state.specs.declared.array.Array.{Array}
+use Rattle.eng_clients.specs.Desk.{Desk, desk_at}
 use Rattle.eng_array.specs.Progress.{current_at, client_at, most_nodes, clients_seen, item_left_of, left_of, Falls}
-use Rattle.eng_events.specs.Shows.{Shows, ShowsCurrent}
-use Rattle.eng_events.specs.Sound.{IsSound, RunsWell}
+use Rattle.eng_state.specs.Shows.{Shows, ShowsCurrent}
+use Rattle.eng_state.specs.Sound.{IsSound, RunsWell}
 use Rattle.eng_array.specs.Steady.{IsSteady}
-use Rattle.eng_events.specs.Steps.{graphs_of, Follows}
-use Rattle.eng_events.proofs.Running.{runs_below}
-use Rattle.eng_events.proofs.Shown.{runs-shown}
+use Rattle.eng_state.specs.Steps.{graphs_of, Follows}
+use Rattle.eng_state.proofs.Running.{runs_below}
+use Rattle.eng_state.proofs.Shown.{runs-shown}
 use Rattle.eng_array.proofs.Steady.{shown-items, steady-indexed}
 
 -- ## Of a client

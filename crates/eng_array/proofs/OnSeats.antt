@@ -34,7 +34,7 @@ use Rattle.eng_world.proofs.Outs.{WasOut, still, fired, was-out}
 use Rattle.eng_world.proofs.Promised.{not-lost}
 use Rattle.eng_world.proofs.Reaching.{reaches}
 use Rattle.eng_world.proofs.Rebuilt.{rebuilt-back}
-use Rattle.eng_events.proofs.Placing.{read-seat, write-seat}
+use Rattle.eng_state.proofs.Placing.{read-seat, write-seat}
 
 -- the place is on a column, which has its device still, or the device has failed and the column has none
 abbrev pub OnSeat : Shape → World → Spot → Type 0

@@ -9,12 +9,12 @@ use Rattle.graph_mean.specs.Graph.{Held, View}
 use Rattle.eng_world.specs.declared.item.Item.{Item}
 use Rattle.eng_world.specs.declared.item.Item.TheVariants as item
 use Rattle.eng_world.specs.declared.item.Reply.{Reply}
-use Rattle.eng_parts.specs.declared.stage.Stage.TheVariants.{Runs}
-use Rattle.eng_events.specs.Beginning.{IsAsked}
-use Rattle.eng_parts.specs.Desk.{Desk, desk_at, item_at}
-use Rattle.eng_parts.specs.Planned.{span_of}
+use Rattle.eng_clients.specs.declared.stage.Stage.TheVariants.{Runs}
+use Rattle.eng_state.specs.Beginning.{IsAsked}
+use Rattle.eng_clients.specs.Desk.{Desk, desk_at, item_at}
+use Rattle.eng_plan.specs.Asked.{span_of}
 use Rattle.eng_array.specs.Serving.{NamesGraph, WasPlanned, IsServing, most_for}
-use Rattle.eng_events.proofs.Shown.{desk-set, desk-else}
+use Rattle.eng_state.proofs.Shown.{desk-set, desk-else}
 
 -- what is so of each client is so of each where one is another of which it is so
 pub each-set : (P : Desk → Type 0) (desks : List Desk) (c : ℕ) (d : Desk) → c < length desks → P d → ((k : ℕ) → P (desk_at desks k)) → (k : ℕ) → P (desk_at (slice_set desks c d) k)

@@ -11,15 +11,15 @@ use Rattle.eng_cols.specs.Cols.{ColumnState, Columns}
 use Rattle.eng_world.specs.declared.item.Item.{Item}
 use Rattle.eng_rest.specs.Left.{below, alive}
 use Rattle.eng_rest.proofs.Summing.{below-le}
-use Rattle.eng_parts.specs.declared.region.Region.{Region}
+use Rattle.eng_log.specs.declared.region.Region.{Region}
 use Rattle.eng_parts.specs.declared.setup.Setup.{Setup}
-use Rattle.eng_events.specs.declared.array.Array.{Array}
-use Rattle.eng_parts.specs.Desk.{Desk, desk_at}
+use Rattle.eng_state.specs.declared.array.Array.{Array}
+use Rattle.eng_clients.specs.Desk.{Desk, desk_at}
 use Rattle.eng_array.specs.Fitting.{row_events, rebuild_events, FitsRebuild, FitsRebuilding, HasAtMost}
-use Rattle.eng_parts.specs.Given.{items_at}
-use Rattle.eng_parts.specs.Handed.{no_region}
-use Rattle.eng_parts.specs.Laid.{items_before}
-use Rattle.eng_parts.specs.Log.{Logged}
+use Rattle.eng_log.specs.Given.{items_at}
+use Rattle.eng_log.specs.Handed.{no_region}
+use Rattle.eng_log.specs.Laid.{items_before}
+use Rattle.eng_log.specs.Log.{Logged}
 use Rattle.eng_events.specs.Opened.{states_of, IsOpened}
 
 module _ {L D : Type 0} (lay : LayoutGhosts L) (disk : DiskGhosts D) (setup : Setup L D) (core : Array L D) (o : IsOpened lay disk setup core) (few : items_before setup.clients.items 16 ≤ 65536) where

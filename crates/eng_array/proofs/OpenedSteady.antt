@@ -15,24 +15,24 @@ use Rattle.eng_world.specs.Step.{IsOpening}
 use Rattle.eng_rest.specs.Left.{below, alive}
 use Rattle.eng_rest.proofs.Summing.{below-le}
 use Rattle.eng_parts.specs.declared.setup.Setup.{Setup}
-use Rattle.eng_events.specs.declared.array.Array.{Array}
-use Rattle.eng_events.specs.Beginning.{AllAsked}
-use Rattle.eng_parts.specs.Desk.{Desk, desk_at}
+use Rattle.eng_state.specs.declared.array.Array.{Array}
+use Rattle.eng_state.specs.Beginning.{AllAsked}
+use Rattle.eng_clients.specs.Desk.{Desk, desk_at}
 use Rattle.eng_array.specs.Fitting.{most_in, item_events, row_events, opening_events, FitsTrace}
-use Rattle.eng_parts.specs.Given.{items_at}
-use Rattle.eng_parts.specs.Laid.{items_before}
-use Rattle.eng_parts.specs.Log.{Logged}
+use Rattle.eng_log.specs.Given.{items_at}
+use Rattle.eng_log.specs.Laid.{items_before}
+use Rattle.eng_log.specs.Log.{Logged}
 use Rattle.eng_events.specs.Opened.{states_of, IsSetup, IsOpened, OpensWorlds}
 use Rattle.eng_events.specs.Opened as opened
 use Rattle.eng_array.specs.Serving.{AreServing, most_for}
 use Rattle.eng_array.specs.Serving as serving
-use Rattle.eng_events.specs.Shows.{Shows}
-use Rattle.eng_events.specs.Sound.{IsSound}
-use Rattle.eng_events.specs.Steps.{graphs_of}
-use Rattle.eng_events.specs.Copied.{AreLaid}
+use Rattle.eng_state.specs.Shows.{Shows}
+use Rattle.eng_state.specs.Sound.{IsSound}
+use Rattle.eng_state.specs.Steps.{graphs_of}
+use Rattle.eng_ends.specs.Copied.{AreLaid}
 use Rattle.eng_array.specs.Steady.{events_left, HasPlaces, IsSteady}
-use Rattle.eng_parts.proofs.FewItems.{none-past}
-use Rattle.eng_parts.proofs.Laying.{below-none, below-one}
+use Rattle.eng_log.proofs.FewItems.{none-past}
+use Rattle.eng_log.proofs.Laying.{below-none, below-one}
 use Rattle.eng_events.proofs.OpeningDesks.{item-of, not-runs}
 use Rattle.eng_array.proofs.SteadyOpen.{unbegun-left, open-steady}
 

@@ -7,14 +7,14 @@ use Rattle.graph_mean.specs.declared.step.Status.{Status}
 use Rattle.graph_mean.specs.declared.step.Status.TheVariants as status
 use Rattle.eng_one.specs.Control.{mark_of}
 use Rattle.eng_world.specs.Nodes.{Takes}
-use Rattle.eng_parts.specs.declared.stage.Stage.{Stage}
-use Rattle.eng_parts.specs.declared.stage.Stage.TheVariants.{Nothing, Waits, Runs}
-use Rattle.eng_events.specs.declared.array.Array.{Array}
-use Rattle.eng_parts.specs.Desk.{Desk, desk_at}
+use Rattle.eng_clients.specs.declared.stage.Stage.{Stage}
+use Rattle.eng_clients.specs.declared.stage.Stage.TheVariants.{Nothing, Waits, Runs}
+use Rattle.eng_state.specs.declared.array.Array.{Array}
+use Rattle.eng_clients.specs.Desk.{Desk, desk_at}
 use Rattle.eng_events.specs.Opened.{NoneOut}
-use Rattle.eng_parts.specs.Seats.{seat_of}
+use Rattle.eng_clients.specs.Seats.{seat_of}
 use Rattle.eng_parts.specs.Shelf.{IsAway}
-use Rattle.eng_events.specs.Sound.{IsOutOf, HasAway}
+use Rattle.eng_state.specs.Sound.{IsOutOf, HasAway}
 use Rattle.eng_array.specs.Steady.{IsSteady}
 use Rattle.eng_array.specs.Tickets.{out_by, out_in, out_at}
 

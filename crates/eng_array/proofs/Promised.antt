@@ -3,7 +3,7 @@ use Rattle.std.proofs.Common.{List}
 use Rattle.graph_mean.specs.Graph.{Held}
 use Rattle.graph_lib.proofs.Quiet.{target-accepted, rebuild-calls}
 use Rattle.eng_world.specs.Planning.{Promises}
-use Rattle.eng_events.specs.Steps.{graphs_of}
+use Rattle.eng_state.specs.Steps.{graphs_of}
 
 pub library-promises : (held : List Held) → Promises (graphs_of held)
 library-promises held = record {

@@ -4,9 +4,9 @@ use Rattle.blk_disk.specs.declared.disk.Disk.{Ghosts as DiskGhosts}
 use Rattle.lay_core.specs.declared.layout.Layout.{Ghosts as LayoutGhosts}
 use Rattle.eng_job.specs.declared.job.Job.{Job}
 use Rattle.eng_world.specs.declared.item.Traced.{Traced}
-use Rattle.eng_events.specs.declared.array.Array.{Array}
+use Rattle.eng_state.specs.declared.array.Array.{Array}
 use Rattle.eng_array.specs.Tickets.{Happens, KeepsJobs, Lends, Quiet}
-use Rattle.eng_events.proofs.Picking.{shows-moved}
+use Rattle.eng_choice.proofs.Picking.{shows-moved}
 
 module _ {L D : Type 0} (lay : LayoutGhosts L) (disk : DiskGhosts D) (old new : Array L D) where
   -- ## A core of which another client is tried first

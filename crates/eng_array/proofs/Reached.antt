@@ -35,24 +35,24 @@ use Rattle.eng_world.proofs.Reaching.{reaches}
 use Rattle.eng_world.proofs.Promised.{not-lost, runs-atomic}
 use Rattle.eng_world.proofs.Open.{IsOpen, run-open}
 use Rattle.eng_world.proofs.Settling.{undone-none, none-out-not}
-use Rattle.eng_parts.specs.declared.stage.Stage.{Stage}
-use Rattle.eng_parts.specs.declared.stage.Stage.TheVariants.{Nothing, Waits, Runs}
-use Rattle.eng_events.specs.declared.array.Array.{Array}
-use Rattle.eng_parts.specs.Desk.{Desk, desk_at, item_at, spot_at}
-use Rattle.eng_events.specs.Shows.{ShowsCurrent, HoldBytes, running_as}
-use Rattle.eng_events.specs.Sound.{IsSound, IsOutOf, RunsWell, mode_for}
-use Rattle.eng_events.specs.Steps.{graphs_of}
-use Rattle.eng_parts.specs.Planned.{IsInside, span_of, mode_by}
-use Rattle.eng_events.specs.Beginning.{IsAsked, HasBlocks}
-use Rattle.eng_events.specs.Serves.{Serves, RunsOn, Stands}
-use Rattle.eng_events.specs.Bad.{Standing, IsOnColumn}
+use Rattle.eng_clients.specs.declared.stage.Stage.{Stage}
+use Rattle.eng_clients.specs.declared.stage.Stage.TheVariants.{Nothing, Waits, Runs}
+use Rattle.eng_state.specs.declared.array.Array.{Array}
+use Rattle.eng_clients.specs.Desk.{Desk, desk_at, item_at, spot_at}
+use Rattle.eng_state.specs.Shows.{ShowsCurrent, HoldBytes, running_as}
+use Rattle.eng_state.specs.Sound.{IsSound, IsOutOf, RunsWell, mode_for}
+use Rattle.eng_state.specs.Steps.{graphs_of}
+use Rattle.eng_plan.specs.Asked.{IsInside, span_of, mode_by}
+use Rattle.eng_state.specs.Beginning.{IsAsked, HasBlocks}
+use Rattle.eng_state.specs.Serves.{Serves, RunsOn, Stands}
+use Rattle.eng_state.specs.Bad.{Standing, IsOnColumn}
 use Rattle.eng_array.specs.Run.{HasRun}
 use Rattle.eng_array.specs.Serving.{NamesGraph, AreServing}
 use Rattle.eng_array.proofs.OnSeats.{OnSeat, run-on-seats}
 use Rattle.eng_array.proofs.Promised.{library-promises}
-use Rattle.eng_events.proofs.Shown.{shown-running, replies-shown}
-use Rattle.eng_events.proofs.Running.{runs_below, read_buf, read_unit, write_buf, write_unit}
-use Rattle.eng_events.proofs.Served.{same-op}
+use Rattle.eng_state.proofs.Shown.{shown-running, replies-shown}
+use Rattle.eng_state.proofs.Running.{runs_below, read_buf, read_unit, write_buf, write_unit}
+use Rattle.eng_state.proofs.Served.{same-op}
 
 -- an operation in reach whose span has blocks touches some
 inside-of : (y : Shape) → IsLayout y → (op : Op) → HasBlocks op → InReach y op → IsInside y op

@@ -2,7 +2,7 @@
 use denote.RattleType.{RattleType}
 use denote.Param.Send.{IsSend}
 use denote.Param.SendFields.{declared_send}
-use Rattle.eng_events.proofs.Sent.{array_send}
+use Rattle.eng_state.proofs.Sent.{array_send}
 use Rattle.eng_array.specs.contracts.calls.Core as core
 
 pub core_send : (L D : RattleType) → IsSend L → IsSend D → IsSend (core.the_row L D)

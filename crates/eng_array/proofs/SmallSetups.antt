@@ -18,12 +18,12 @@ use Rattle.eng_rest.specs.Left.{below}
 use Rattle.eng_rest.proofs.Summing.{below-le}
 use Rattle.eng_world.specs.declared.item.Item.{Item}
 use Rattle.eng_parts.specs.declared.setup.Setup.{Setup}
-use Rattle.eng_parts.specs.Desk.{no_graph}
-use Rattle.eng_parts.specs.Given.{items_in, items_at}
-use Rattle.eng_parts.specs.Laid.{sectors_in, sectors_at, row_sectors, sectors_before, items_before}
-use Rattle.eng_parts.proofs.Laying.{below-grows}
+use Rattle.eng_plan.specs.Asked.{no_graph}
+use Rattle.eng_log.specs.Given.{items_in, items_at}
+use Rattle.eng_log.specs.Laid.{sectors_in, sectors_at, row_sectors, sectors_before, items_before}
+use Rattle.eng_log.proofs.Laying.{below-grows}
 use Rattle.eng_events.specs.Opened.{FitThePool, IsSetup}
-use Rattle.eng_events.specs.Steps.{graphs_of}
+use Rattle.eng_state.specs.Steps.{graphs_of}
 use Rattle.eng_array.specs.Small.{HasSectors, IsOwn, AreOwn, IsSmall, IsSlim, IsScript, AreScripts}
 
 -- an element of a list of which each has a property

@@ -17,21 +17,21 @@ use Rattle.eng_world.proofs.Continuing.{run-continues}
 use Rattle.eng_world.proofs.Pooling.{over-none, opening-pool, run-pool}
 use Rattle.eng_rest.specs.Few.{Stands as GoesOn}
 use Rattle.eng_rest.proofs.Waiting.{somebody}
-use Rattle.eng_parts.specs.declared.stage.Stage.TheVariants.{Waits, Runs}
-use Rattle.eng_events.specs.declared.array.Array.{Array}
-use Rattle.eng_parts.specs.Desk.{Desk, desk_at}
+use Rattle.eng_clients.specs.declared.stage.Stage.TheVariants.{Waits, Runs}
+use Rattle.eng_state.specs.declared.array.Array.{Array}
+use Rattle.eng_clients.specs.Desk.{Desk, desk_at}
 use Rattle.eng_events.specs.Opened.{NoneOut}
-use Rattle.eng_events.specs.Picked.{IsResting, IsStuck}
-use Rattle.eng_parts.specs.Planned.{span_of, lease_for}
-use Rattle.eng_events.specs.Serves.{Serves, CanTake}
+use Rattle.eng_choice.specs.Picked.{IsResting, IsStuck}
+use Rattle.eng_plan.specs.Asked.{span_of, lease_for}
+use Rattle.eng_state.specs.Serves.{Serves, CanTake}
 use Rattle.eng_array.specs.Steady.{IsSteady}
-use Rattle.eng_events.specs.Steps.{graphs_of}
-use Rattle.eng_parts.proofs.Maps.{span-short}
-use Rattle.eng_events.proofs.Possible.{current-waits}
-use Rattle.eng_events.proofs.PossibleDoing.{possible-can}
+use Rattle.eng_state.specs.Steps.{graphs_of}
+use Rattle.eng_plan.proofs.Maps.{span-short}
+use Rattle.eng_choice.proofs.Possible.{current-waits}
+use Rattle.eng_choice.proofs.PossibleDoing.{possible-can}
 use Rattle.eng_array.proofs.Promised.{library-promises}
-use Rattle.eng_events.proofs.Resting.{all-home}
-use Rattle.eng_events.proofs.Shown.{shown-running, replies-shown}
+use Rattle.eng_choice.proofs.Resting.{all-home}
+use Rattle.eng_state.proofs.Shown.{shown-running, replies-shown}
 use Rattle.eng_array.proofs.Steady.{shown-items}
 use Rattle.eng_array.proofs.SteadyPick.{steady-stands}
 use Rattle.eng_array.proofs.TakeAlone.{take-alone}

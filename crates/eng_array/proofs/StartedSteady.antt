@@ -20,25 +20,25 @@ use Rattle.eng_world.specs.World.{World}
 use Rattle.eng_world.specs.Serving.{IsUnbegun}
 use Rattle.eng_rest.specs.Left.{below, is_alive, alive}
 use Rattle.eng_rest.proofs.Summing.{below-le}
-use Rattle.eng_parts.specs.declared.stage.Stage.{Stage}
-use Rattle.eng_parts.specs.declared.stage.Stage.TheVariants.{Nothing, Runs}
-use Rattle.eng_events.specs.declared.array.Array.{Array}
-use Rattle.eng_events.specs.Beginning.{IsAsked}
-use Rattle.eng_events.specs.Copied.{AreLaid}
-use Rattle.eng_parts.specs.Desk.{Desk, desk_at}
+use Rattle.eng_clients.specs.declared.stage.Stage.{Stage}
+use Rattle.eng_clients.specs.declared.stage.Stage.TheVariants.{Nothing, Runs}
+use Rattle.eng_state.specs.declared.array.Array.{Array}
+use Rattle.eng_state.specs.Beginning.{IsAsked}
+use Rattle.eng_ends.specs.Copied.{AreLaid}
+use Rattle.eng_clients.specs.Desk.{Desk, desk_at}
 use Rattle.eng_array.specs.Fitting.{most_in, item_events, row_events, rebuild_events, FitsRebuild, HasAtMost}
-use Rattle.eng_parts.specs.Listing.{rebuild}
-use Rattle.eng_parts.specs.Log.{noted}
-use Rattle.eng_events.specs.Rebuilding.{CanRebuild, Started, with_items}
-use Rattle.eng_events.specs.Room.{HasRoom}
+use Rattle.eng_clients.specs.Listing.{rebuild}
+use Rattle.eng_log.specs.Log.{noted}
+use Rattle.eng_starts.specs.Rebuilding.{CanRebuild, Started, with_items}
+use Rattle.eng_state.specs.Room.{HasRoom}
 use Rattle.eng_array.specs.Serving.{NamesGraph, most_for_unit, most_for, IsServing, AreServing}
-use Rattle.eng_events.specs.Shows.{Shows, ShowsCurrent}
-use Rattle.eng_events.specs.Sound.{IsSound}
+use Rattle.eng_state.specs.Shows.{Shows, ShowsCurrent}
+use Rattle.eng_state.specs.Sound.{IsSound}
 use Rattle.eng_array.specs.Steady.{events_left, HasPlaces, IsSteady}
-use Rattle.eng_events.specs.Steps.{Follows}
-use Rattle.eng_parts.proofs.Laying.{below-grows, below-one}
+use Rattle.eng_state.specs.Steps.{Follows}
+use Rattle.eng_log.proofs.Laying.{below-grows, below-one}
 use Rattle.eng_array.proofs.OneServing.{each-set}
-use Rattle.eng_events.proofs.Shown.{desk-set, desk-else, replies-shown}
+use Rattle.eng_state.proofs.Shown.{desk-set, desk-else, replies-shown}
 use Rattle.eng_array.proofs.Steady.{notes-of}
 use Rattle.eng_array.proofs.SteadyOpen.{unbegun-left, room-steady}
 

@@ -22,27 +22,27 @@ use Rattle.eng_world.specs.Step.{Step}
 use Rattle.eng_world.specs.Pool.{HaveItems}
 use Rattle.eng_rest.specs.Left.{below, cost, run_left, current_left, alive, IsOwn, EachWithin, IsIndexed}
 use Rattle.eng_rest.proofs.Summing.{below-le}
-use Rattle.eng_parts.specs.declared.stage.Stage.{Stage}
-use Rattle.eng_parts.specs.declared.stage.Stage.TheVariants.{Nothing, Waits, Runs}
-use Rattle.eng_events.specs.declared.array.Array.{Array}
-use Rattle.eng_parts.specs.declared.region.Region.{Region}
-use Rattle.eng_events.specs.Copied.{AreLaid}
-use Rattle.eng_parts.specs.Desk.{Desk, desk_at, no_desk, item_at}
-use Rattle.eng_parts.specs.Handed.{no_region}
-use Rattle.eng_parts.specs.Log.{Logged, noted}
+use Rattle.eng_clients.specs.declared.stage.Stage.{Stage}
+use Rattle.eng_clients.specs.declared.stage.Stage.TheVariants.{Nothing, Waits, Runs}
+use Rattle.eng_state.specs.declared.array.Array.{Array}
+use Rattle.eng_log.specs.declared.region.Region.{Region}
+use Rattle.eng_ends.specs.Copied.{AreLaid}
+use Rattle.eng_clients.specs.Desk.{Desk, desk_at, no_desk, item_at}
+use Rattle.eng_log.specs.Handed.{no_region}
+use Rattle.eng_log.specs.Log.{Logged, noted}
 use Rattle.eng_events.specs.Opened.{FitThePool}
-use Rattle.eng_events.specs.Room.{HasRoom}
+use Rattle.eng_state.specs.Room.{HasRoom}
 use Rattle.eng_array.specs.Run.{HasRun, Notes}
 use Rattle.eng_array.specs.Serving.{IsServing, AreServing, most_for}
-use Rattle.eng_events.specs.Shows.{Shows, ShowsCurrent}
-use Rattle.eng_events.specs.Sound.{IsSound, RunsWell}
+use Rattle.eng_state.specs.Shows.{Shows, ShowsCurrent}
+use Rattle.eng_state.specs.Sound.{IsSound, RunsWell}
 use Rattle.eng_array.specs.Steady.{events_left, IsSteady}
-use Rattle.eng_events.specs.Steps.{graphs_of, Follows}
+use Rattle.eng_state.specs.Steps.{graphs_of, Follows}
 use Rattle.eng_array.proofs.EventsLeft.{reached-indexed, own-falls, fail-falls, alive-some, node-left, item-left}
 use Rattle.eng_array.proofs.Reaching.{run-on}
-use Rattle.eng_events.proofs.Running.{runs_below}
-use Rattle.eng_events.proofs.Served.{item-below}
-use Rattle.eng_events.proofs.Shown.{runs-shown, shown-running, replies-shown}
+use Rattle.eng_state.proofs.Running.{runs_below}
+use Rattle.eng_state.proofs.Served.{item-below}
+use Rattle.eng_state.proofs.Shown.{runs-shown, shown-running, replies-shown}
 
 -- an event of an item, or the failure of a column
 abbrev pub IsEvent : Traced → Type 0

@@ -10,17 +10,17 @@ use Rattle.eng_world.specs.declared.item.Item.{Item}
 use Rattle.eng_world.specs.declared.item.Item.TheVariants as item
 use Rattle.eng_world.specs.declared.item.Reply.TheVariants as reply
 use Rattle.eng_world.specs.declared.item.Traced.TheVariants as event
-use Rattle.eng_parts.specs.declared.stage.Stage.TheVariants.{Nothing, Waits, Runs}
-use Rattle.eng_events.specs.declared.array.Array.{Array}
-use Rattle.eng_events.specs.Beginning.{AllAsked, CanBegin, BegunAs, replied}
-use Rattle.eng_parts.specs.Desk.{Desk, desk_at, with_reply, with_waiting}
-use Rattle.eng_events.specs.Failing.{FailedBy}
-use Rattle.eng_parts.specs.Log.{noted}
-use Rattle.eng_events.specs.Moves.{id_of}
-use Rattle.eng_events.specs.Room.{HasRoom}
-use Rattle.eng_events.specs.Sound.{IsSound}
+use Rattle.eng_clients.specs.declared.stage.Stage.TheVariants.{Nothing, Waits, Runs}
+use Rattle.eng_state.specs.declared.array.Array.{Array}
+use Rattle.eng_state.specs.Beginning.{AllAsked, CanBegin, BegunAs, replied}
+use Rattle.eng_clients.specs.Desk.{Desk, desk_at, with_reply, with_waiting}
+use Rattle.eng_state.specs.Failing.{FailedBy}
+use Rattle.eng_log.specs.Log.{noted}
+use Rattle.eng_state.specs.Moves.{id_of}
+use Rattle.eng_state.specs.Room.{HasRoom}
+use Rattle.eng_state.specs.Sound.{IsSound}
 use Rattle.eng_array.specs.Steady.{IsSteady}
-use Rattle.eng_events.specs.Steps.{Follows}
+use Rattle.eng_state.specs.Steps.{Follows}
 use Rattle.eng_array.proofs.Kept.{Kept, rests, same-log, stays, one-goes, column-fails, noted-keeps, traced-steady}
 use Rattle.eng_array.proofs.Steady.{Keeps, item-among, begin-room, fail-room}
 

@@ -26,25 +26,25 @@ use Rattle.eng_world.proofs.Promised.{reached-told}
 use Rattle.eng_rest.specs.Left.{below, left, cost, run_left, current_left, outs_of, item_left, IsIndexed}
 use Rattle.eng_rest.proofs.Items.{left-done, left-now, outs-of-it}
 use Rattle.eng_rest.proofs.Summing.{below-le, below-less}
-use Rattle.eng_parts.specs.declared.stage.Stage.TheVariants.{Nothing, Runs}
-use Rattle.eng_events.specs.declared.array.Array.{Array}
-use Rattle.eng_events.specs.Bad.{with_bad}
-use Rattle.eng_parts.specs.Desk.{Desk, desk_at, with_ended, with_reply}
-use Rattle.eng_events.specs.Room.{HasRoom, MayEnter}
-use Rattle.eng_events.specs.Shows.{running_as}
-use Rattle.eng_events.specs.Sound.{IsOutOf, RunsWell}
+use Rattle.eng_clients.specs.declared.stage.Stage.TheVariants.{Nothing, Runs}
+use Rattle.eng_state.specs.declared.array.Array.{Array}
+use Rattle.eng_state.specs.Bad.{with_bad}
+use Rattle.eng_clients.specs.Desk.{Desk, desk_at, with_ended, with_reply}
+use Rattle.eng_state.specs.Room.{HasRoom, MayEnter}
+use Rattle.eng_state.specs.Shows.{running_as}
+use Rattle.eng_state.specs.Sound.{IsOutOf, RunsWell}
 use Rattle.eng_array.specs.Steady.{IsSteady}
-use Rattle.eng_events.specs.Steps.{graphs_of}
+use Rattle.eng_state.specs.Steps.{graphs_of}
 use Rattle.eng_array.proofs.EventsLeft.{below-part, node-left}
 use Rattle.eng_array.proofs.HistoryRoom.{history-room}
 use Rattle.eng_array.proofs.Kept.{Goes, rests, same}
 use Rattle.eng_array.proofs.Reached.{reached, run-uncommitted}
 use Rattle.eng_array.proofs.RebuiltRoom.{replied_of, run-rebuilt}
-use Rattle.eng_events.proofs.Running.{runs_below}
-use Rattle.eng_events.proofs.Served.{item-below}
-use Rattle.eng_events.proofs.Shown.{shown-running}
+use Rattle.eng_state.proofs.Running.{runs_below}
+use Rattle.eng_state.proofs.Served.{item-below}
+use Rattle.eng_state.proofs.Shown.{shown-running}
 use Rattle.eng_array.proofs.Steady.{steady-indexed, shown-items, has-room}
-use Rattle.eng_parts.specs.Log.{MayCount}
+use Rattle.eng_log.specs.Log.{MayCount}
 
 -- ## What becomes of a client
 

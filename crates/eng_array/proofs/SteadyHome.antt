@@ -19,26 +19,26 @@ use Rattle.eng_world.specs.declared.item.Item.{Item}
 use Rattle.eng_world.specs.declared.item.Item.TheVariants as item
 use Rattle.eng_world.specs.declared.item.Traced.{Traced}
 use Rattle.eng_world.specs.declared.item.Traced.TheVariants as event
-use Rattle.eng_events.specs.declared.array.Array.{Array}
-use Rattle.eng_events.specs.Bad.{Standing, IsOnColumn}
-use Rattle.eng_events.specs.Beginning.{IsAsked}
-use Rattle.eng_parts.specs.Desk.{Desk, desk_at, item_at, spot_at}
-use Rattle.eng_events.specs.EndLog.{LogEnds, LogEndsItem, LogEndsOp}
-use Rattle.eng_events.specs.GoesOn.{ServesOn, GoesOn}
-use Rattle.eng_parts.specs.Log.{Logged, MayCount}
-use Rattle.eng_events.specs.Moves.{id_of}
-use Rattle.eng_events.specs.Out.{CameBack}
-use Rattle.eng_events.specs.Returned.{ends_bad, ended_by}
-use Rattle.eng_events.specs.Room.{HasRoom, MayEnter}
+use Rattle.eng_state.specs.declared.array.Array.{Array}
+use Rattle.eng_state.specs.Bad.{Standing, IsOnColumn}
+use Rattle.eng_state.specs.Beginning.{IsAsked}
+use Rattle.eng_clients.specs.Desk.{Desk, desk_at, item_at, spot_at}
+use Rattle.eng_ends.specs.EndLog.{LogEnds, LogEndsItem, LogEndsOp}
+use Rattle.eng_state.specs.GoesOn.{ServesOn, GoesOn}
+use Rattle.eng_log.specs.Log.{Logged, MayCount}
+use Rattle.eng_state.specs.Moves.{id_of}
+use Rattle.eng_state.specs.Out.{CameBack}
+use Rattle.eng_fails.specs.Returned.{ends_bad, ended_by}
+use Rattle.eng_state.specs.Room.{HasRoom, MayEnter}
 use Rattle.eng_array.specs.Run.{Notes}
 use Rattle.eng_array.specs.Serving.{NamesGraph, IsServing}
-use Rattle.eng_events.specs.Sound.{IsSound, IsOutOf}
+use Rattle.eng_state.specs.Sound.{IsSound, IsOutOf}
 use Rattle.eng_array.specs.Steady.{IsSteady}
-use Rattle.eng_events.specs.Steps.{Follows}
+use Rattle.eng_state.specs.Steps.{Follows}
 use Rattle.eng_array.proofs.OneServing.{same-serving}
-use Rattle.eng_events.proofs.Putting.{out-below}
+use Rattle.eng_state.proofs.Putting.{out-below}
 use Rattle.eng_array.proofs.Reached.{run-within, run-on-column, run-standing}
-use Rattle.eng_events.proofs.Ripe.{runs-well}
+use Rattle.eng_state.proofs.Ripe.{runs-well}
 use Rattle.eng_array.proofs.Steady.{IsEvent, Keeps, notes-of, steady-on}
 use Rattle.eng_array.proofs.SteadyEnds.{out-room, may-enter, may-count}
 

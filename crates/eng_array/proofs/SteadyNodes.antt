@@ -5,19 +5,19 @@ use Rattle.blk_disk.specs.declared.disk.Disk.{Ghosts as DiskGhosts}
 use Rattle.lay_core.specs.declared.layout.Layout.{Ghosts as LayoutGhosts}
 use Rattle.eng_world.specs.declared.item.Traced.TheVariants as event
 use Rattle.eng_rest.specs.Left.{cost}
-use Rattle.eng_parts.specs.declared.stage.Stage.TheVariants.{Runs}
-use Rattle.eng_events.specs.declared.array.Array.{Array}
-use Rattle.eng_events.specs.Can.{CanFire, CanSkip, place_now}
-use Rattle.eng_parts.specs.Desk.{Desk, desk_at, with_fired, with_skipped}
-use Rattle.eng_parts.specs.Log.{noted}
-use Rattle.eng_events.specs.Moves.{Fired, id_of}
-use Rattle.eng_events.specs.Room.{HasRoom}
-use Rattle.eng_events.specs.Sound.{IsSound}
+use Rattle.eng_clients.specs.declared.stage.Stage.TheVariants.{Runs}
+use Rattle.eng_state.specs.declared.array.Array.{Array}
+use Rattle.eng_state.specs.Can.{CanFire, CanSkip, place_now}
+use Rattle.eng_clients.specs.Desk.{Desk, desk_at, with_fired, with_skipped}
+use Rattle.eng_log.specs.Log.{noted}
+use Rattle.eng_state.specs.Moves.{Fired, id_of}
+use Rattle.eng_state.specs.Room.{HasRoom}
+use Rattle.eng_state.specs.Sound.{IsSound}
 use Rattle.eng_array.specs.Steady.{IsSteady}
-use Rattle.eng_events.specs.Steps.{Follows}
+use Rattle.eng_state.specs.Steps.{Follows}
 use Rattle.eng_array.proofs.Changed.{changed-keeps}
 use Rattle.eng_array.proofs.Kept.{same}
-use Rattle.eng_events.proofs.Running.{runs_below}
+use Rattle.eng_state.proofs.Running.{runs_below}
 use Rattle.eng_array.proofs.Steady.{Keeps, notes-of, node-room, steady-on}
 
 module _ {L D : Type 0} (lay : LayoutGhosts L) (disk : DiskGhosts D) (old new : Array L D) (c n : ℕ) (steady : IsSteady lay disk old) where

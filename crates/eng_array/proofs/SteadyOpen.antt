@@ -11,15 +11,15 @@ use Rattle.eng_world.specs.Step.{IsOpening}
 use Rattle.eng_rest.specs.Left.{below, alive, left, item_left, current_left}
 use Rattle.eng_rest.proofs.Items.{left-now, left-later}
 use Rattle.eng_rest.proofs.Summing.{below-le}
-use Rattle.eng_events.specs.declared.array.Array.{Array}
-use Rattle.eng_events.specs.Copied.{AreLaid}
+use Rattle.eng_state.specs.declared.array.Array.{Array}
+use Rattle.eng_ends.specs.Copied.{AreLaid}
 use Rattle.eng_array.specs.Run.{Notes}
 use Rattle.eng_array.specs.Serving.{AreServing}
 use Rattle.eng_events.specs.Opened.{FitThePool}
-use Rattle.eng_events.specs.Shows.{Shows}
-use Rattle.eng_events.specs.Sound.{IsSound}
+use Rattle.eng_state.specs.Shows.{Shows}
+use Rattle.eng_state.specs.Sound.{IsSound}
 use Rattle.eng_array.specs.Steady.{events_left, HasPlaces, IsSteady}
-use Rattle.eng_events.specs.Steps.{graphs_of, Follows}
+use Rattle.eng_state.specs.Steps.{graphs_of, Follows}
 use Rattle.eng_array.proofs.Reaching.{run-on}
 
 -- ## The room that an opening needs

@@ -2,10 +2,10 @@
 use Rattle.std.proofs.Common.{◌≡◌, ℕ, None}
 use Rattle.blk_disk.specs.declared.disk.Disk.{Ghosts as DiskGhosts}
 use Rattle.lay_core.specs.declared.layout.Layout.{Ghosts as LayoutGhosts}
-use Rattle.eng_events.specs.declared.array.Array.{Array}
-use Rattle.eng_events.specs.Serves.{Stands}
+use Rattle.eng_state.specs.declared.array.Array.{Array}
+use Rattle.eng_state.specs.Serves.{Stands}
 use Rattle.eng_array.specs.Steady.{IsSteady}
-use Rattle.eng_events.proofs.Picking.{sound-moved, shows-moved}
+use Rattle.eng_choice.proofs.Picking.{sound-moved, shows-moved}
 use Rattle.eng_array.proofs.Reached.{run-stands}
 
 module _ {L D : Type 0} (lay : LayoutGhosts L) (disk : DiskGhosts D) (core : Array L D) where

@@ -23,26 +23,27 @@ use Rattle.eng_world.specs.declared.item.Reply.{Reply}
 use Rattle.eng_world.specs.declared.item.Reply.TheVariants as reply
 use Rattle.eng_world.specs.declared.item.Traced.{Traced}
 use Rattle.eng_world.specs.declared.item.Traced.TheVariants as event
-use Rattle.eng_parts.specs.declared.stage.Stage.TheVariants.{Nothing, Waits, Runs}
-use Rattle.eng_events.specs.declared.array.Array.{Array}
-use Rattle.eng_parts.specs.Desk.{Desk, desk_at, item_at, graph_of, with_reply, with_started, with_lease}
-use Rattle.eng_parts.specs.Log.{noted}
-use Rattle.eng_events.specs.Moves.{id_of}
-use Rattle.eng_parts.specs.Planned.{IsInside, IsPlanned, IsDrawn, CanRun, span_of, whole, lease_for, Replanned}
-use Rattle.eng_events.specs.Room.{HasRoom}
-use Rattle.eng_events.specs.Serves.{Serves, Stands, CanTake, CanBack}
+use Rattle.eng_clients.specs.declared.stage.Stage.TheVariants.{Nothing, Waits, Runs}
+use Rattle.eng_state.specs.declared.array.Array.{Array}
+use Rattle.eng_clients.specs.Desk.{Desk, desk_at, item_at, graph_of, with_reply, with_started, with_lease}
+use Rattle.eng_log.specs.Log.{noted}
+use Rattle.eng_state.specs.Moves.{id_of}
+use Rattle.eng_plan.specs.Asked.{IsInside, span_of, whole, lease_for}
+use Rattle.eng_clients.specs.Planned.{IsPlanned, IsDrawn, CanRun, Replanned}
+use Rattle.eng_state.specs.Room.{HasRoom}
+use Rattle.eng_state.specs.Serves.{Serves, Stands, CanTake, CanBack}
 use Rattle.eng_array.specs.Serving.{WasPlanned, IsServing, most_for_span, most_for_unit, most_drawn, most_for}
-use Rattle.eng_events.specs.Sound.{IsSound}
+use Rattle.eng_state.specs.Sound.{IsSound}
 use Rattle.eng_array.specs.Steady.{IsSteady}
-use Rattle.eng_events.specs.Steps.{Follows}
-use Rattle.eng_events.specs.Taken.{Taken, IsTaken, Replaced, GivenUp, BackAs, IsBack}
-use Rattle.eng_parts.proofs.Lacking.{missing-each}
-use Rattle.eng_parts.proofs.Maps.{whole-one, not-past}
+use Rattle.eng_state.specs.Steps.{Follows}
+use Rattle.eng_state.specs.Taken.{Taken, IsTaken, Replaced, GivenUp, BackAs, IsBack}
+use Rattle.eng_plan.proofs.Lacking.{missing-each}
+use Rattle.eng_plan.proofs.Maps.{whole-one, not-past}
 use Rattle.eng_array.proofs.OneServing.{each-set, idle-serving, planned-serving, items-set}
-use Rattle.eng_events.proofs.Plans.{task-sound}
+use Rattle.eng_state.proofs.Plans.{task-sound}
 use Rattle.eng_array.proofs.Reached.{run-stands}
-use Rattle.eng_events.proofs.Served as served
-use Rattle.eng_events.proofs.Settling.{lent-file}
+use Rattle.eng_state.proofs.Served as served
+use Rattle.eng_state.proofs.Settling.{lent-file}
 use Rattle.eng_array.proofs.Steady.{Keeps, notes-of, item-among, steady-on, waits-room, undone-room}
 
 -- a graph of the library has no more nodes than one for its operation may have

@@ -12,7 +12,7 @@ use Rattle.eng_world.specs.World.{World}
 use Rattle.eng_world.specs.Causes.{ItemAt}
 use Rattle.eng_world.specs.Legal.{ReplyOf}
 use Rattle.eng_world.specs.Rows.{HasHad}
-use Rattle.eng_events.specs.declared.array.Array.{Array}
+use Rattle.eng_state.specs.declared.array.Array.{Array}
 use Rattle.eng_array.specs.Tickets.{faults_at}
 
 -- The events led from a core that shows world w to one that shows world x. Since then:

@@ -4,10 +4,10 @@ use Rattle.blk_disk.specs.declared.disk.Disk.{Ghosts as DiskGhosts}
 use Rattle.lay_core.specs.declared.layout.Layout.{Ghosts as LayoutGhosts}
 use Rattle.eng_world.specs.declared.item.Traced.{Traced}
 use Rattle.eng_rest.specs.Left.{IsLater}
-use Rattle.eng_parts.specs.declared.stage.Stage.TheVariants.{Runs}
-use Rattle.eng_events.specs.declared.array.Array.{Array}
-use Rattle.eng_parts.specs.Desk.{desk_at}
-use Rattle.eng_events.specs.Steps.{graphs_of, Follows}
+use Rattle.eng_clients.specs.declared.stage.Stage.TheVariants.{Runs}
+use Rattle.eng_state.specs.declared.array.Array.{Array}
+use Rattle.eng_clients.specs.Desk.{desk_at}
+use Rattle.eng_state.specs.Steps.{graphs_of, Follows}
 
 module _ {L D : Type 0} where
   -- an operation that runs client c's item i has a graph of at most m nodes

@@ -1,8 +1,8 @@
 -- An event of one client.
 use Rattle.std.specs.Prelude.{◌≡◌, ℕ, slice_set}
 use Rattle.eng_world.specs.declared.item.Traced.{Traced}
-use Rattle.eng_events.specs.declared.array.Array.{Array}
-use Rattle.eng_parts.specs.Desk.{Desk}
+use Rattle.eng_state.specs.declared.array.Array.{Array}
+use Rattle.eng_clients.specs.Desk.{Desk}
 use Rattle.eng_array.specs.Run.{Notes}
 
 -- by a traced event client c alone has become another; of devices, columns, pool, locks and lists nothing is said

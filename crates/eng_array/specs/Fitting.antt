@@ -11,9 +11,9 @@ use Rattle.eng_world.specs.declared.item.Item.{Item}
 use Rattle.eng_world.specs.declared.item.Item.TheVariants as item
 use Rattle.eng_rest.specs.Left.{below, alive}
 use Rattle.eng_parts.specs.declared.setup.Setup.{Setup}
-use Rattle.eng_events.specs.declared.array.Array.{Array}
-use Rattle.eng_parts.specs.Desk.{desk_at}
-use Rattle.eng_parts.specs.Given.{items_at}
+use Rattle.eng_state.specs.declared.array.Array.{Array}
+use Rattle.eng_clients.specs.Desk.{desk_at}
+use Rattle.eng_log.specs.Given.{items_at}
 use Rattle.eng_events.specs.Opened.{states_of}
 use Rattle.eng_array.specs.Serving.{most_for_unit, most_for}
 

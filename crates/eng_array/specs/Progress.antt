@@ -3,12 +3,12 @@ use Rattle.std.specs.Prelude.{◌<◌, ℕ, [], false, Option}
 use Rattle.eng_cols.specs.declared.spot.Loss.{Loss}
 use Rattle.eng_world.specs.World.{Current, Client, World, Nothing as Idles, Waits as IsWaiting, Runs as IsRunning}
 use Rattle.eng_rest.specs.Left.{left, all_left}
-use Rattle.eng_parts.specs.declared.stage.Stage.{Stage}
-use Rattle.eng_parts.specs.declared.stage.Stage.TheVariants.{Nothing, Waits, Runs}
-use Rattle.eng_events.specs.declared.array.Array.{Array}
-use Rattle.eng_parts.specs.Desk.{Desk, desk_at}
-use Rattle.eng_events.specs.Shows.{running_as}
-use Rattle.eng_parts.specs.Replied.{replies_of}
+use Rattle.eng_clients.specs.declared.stage.Stage.{Stage}
+use Rattle.eng_clients.specs.declared.stage.Stage.TheVariants.{Nothing, Waits, Runs}
+use Rattle.eng_state.specs.declared.array.Array.{Array}
+use Rattle.eng_clients.specs.Desk.{Desk, desk_at}
+use Rattle.eng_state.specs.Shows.{running_as}
+use Rattle.eng_clients.specs.Replied.{replies_of}
 
 -- ## What is left
 

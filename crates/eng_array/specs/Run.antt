@@ -5,10 +5,10 @@ use Rattle.lay_core.specs.declared.layout.Layout.{Ghosts as LayoutGhosts}
 use Rattle.eng_world.specs.declared.item.Traced.{Traced}
 use Rattle.eng_world.specs.World.{World}
 use Rattle.eng_world.specs.Step.{IsOpening, Run}
-use Rattle.eng_events.specs.declared.array.Array.{Array}
-use Rattle.eng_parts.specs.Log.{Logged, noted}
-use Rattle.eng_events.specs.Shows.{Shows}
-use Rattle.eng_events.specs.Steps.{graphs_of}
+use Rattle.eng_state.specs.declared.array.Array.{Array}
+use Rattle.eng_log.specs.Log.{Logged, noted}
+use Rattle.eng_state.specs.Shows.{Shows}
+use Rattle.eng_state.specs.Steps.{graphs_of}
 
 -- the event was traced, where events are; the history may have grown, and there is as much room in all, and the same regions for what reads hand out
 pub record Notes (old : Logged) (event : Traced) (new : Logged) : Type 0 where

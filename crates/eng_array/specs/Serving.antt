@@ -9,11 +9,11 @@ use Rattle.lay_core.specs.Touched.{IsSpanSplit, stripe_count}
 use Rattle.graph_mean.specs.Graph.{Held}
 use Rattle.eng_world.specs.declared.item.Item.{Item}
 use Rattle.eng_world.specs.declared.item.Item.TheVariants as item
-use Rattle.eng_parts.specs.declared.stage.Stage.TheVariants.{Runs}
-use Rattle.eng_events.specs.declared.array.Array.{Array}
-use Rattle.eng_events.specs.Beginning.{IsAsked}
-use Rattle.eng_parts.specs.Desk.{Desk, desk_at, item_at, no_graph}
-use Rattle.eng_parts.specs.Planned.{span_of, lease_for}
+use Rattle.eng_clients.specs.declared.stage.Stage.TheVariants.{Runs}
+use Rattle.eng_state.specs.declared.array.Array.{Array}
+use Rattle.eng_state.specs.Beginning.{IsAsked}
+use Rattle.eng_clients.specs.Desk.{Desk, desk_at, item_at}
+use Rattle.eng_plan.specs.Asked.{no_graph, span_of, lease_for}
 
 -- the graph that an item names is one of the file
 abbrev pub IsGraphOf : List Held → Option ℕ → Type 0

@@ -8,9 +8,9 @@ use Rattle.eng_cols.specs.declared.column.Column.{Column}
 use Rattle.eng_cols.specs.declared.column.Column.TheVariants as column
 use Rattle.eng_world.specs.declared.item.Item.{Item}
 use Rattle.eng_world.specs.Step.{MayBeAsked}
-use Rattle.eng_events.specs.Beginning.{IsAsked}
+use Rattle.eng_state.specs.Beginning.{IsAsked}
 use Rattle.eng_events.specs.Opened.{NamesGraph}
-use Rattle.eng_parts.specs.Laid.{item_sectors}
+use Rattle.eng_log.specs.Laid.{item_sectors}
 
 -- the sectors that a device of a column has at least
 abbrev pub needed : Shape → ℕ

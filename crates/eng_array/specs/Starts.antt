@@ -6,8 +6,8 @@ use Rattle.eng_cols.specs.Cols.{Columns, ColumnState}
 use Rattle.eng_cols.specs.Changes.{begun_filling, begun_spreading}
 use Rattle.eng_world.specs.declared.item.Traced.{Traced}
 use Rattle.eng_world.specs.declared.item.Traced.TheVariants as event
-use Rattle.eng_events.specs.declared.array.Array.{Array}
-use Rattle.eng_events.specs.Rebuilding.{CanFill, CanSpread}
+use Rattle.eng_state.specs.declared.array.Array.{Array}
+use Rattle.eng_starts.specs.Rebuilding.{CanFill, CanSpread}
 use Rattle.eng_array.specs.declared.start.Start.{Start}
 use Rattle.eng_array.specs.declared.start.Start.TheVariants as start
 

@@ -6,14 +6,14 @@ use Rattle.lay_core.specs.declared.layout.Layout.{Ghosts as LayoutGhosts}
 use Rattle.eng_world.specs.declared.item.Item.TheVariants as item
 use Rattle.eng_world.specs.World.{World}
 use Rattle.eng_rest.specs.Left.{below, alive, all_left}
-use Rattle.eng_events.specs.declared.array.Array.{Array}
-use Rattle.eng_events.specs.Copied.{AreLaid}
-use Rattle.eng_parts.specs.Desk.{desk_at}
+use Rattle.eng_state.specs.declared.array.Array.{Array}
+use Rattle.eng_ends.specs.Copied.{AreLaid}
+use Rattle.eng_clients.specs.Desk.{desk_at}
 use Rattle.eng_array.specs.Run.{HasRun}
 use Rattle.eng_array.specs.Serving.{AreServing, most_for}
 use Rattle.eng_events.specs.Opened.{FitThePool}
-use Rattle.eng_events.specs.Sound.{IsSound}
-use Rattle.eng_events.specs.Steps.{graphs_of}
+use Rattle.eng_state.specs.Sound.{IsSound}
+use Rattle.eng_state.specs.Steps.{graphs_of}
 
 -- how many events may still come, where no graph of client c's item i has more than most c i nodes: those of all items, and the failure of each column
 abbrev pub events_left : (ℕ → ℕ → ℕ) → World → ℕ

@@ -14,14 +14,14 @@ use Rattle.eng_world.specs.declared.item.Traced.TheVariants as event
 use Rattle.eng_world.specs.Pool.{job_of}
 use Rattle.eng_world.specs.Planning.{Graphs}
 use Rattle.eng_rest.specs.Left.{IsOwn}
-use Rattle.eng_parts.specs.declared.stage.Stage.{Stage}
-use Rattle.eng_parts.specs.declared.stage.Stage.TheVariants.{Nothing, Waits, Runs}
-use Rattle.eng_events.specs.declared.array.Array.{Array}
+use Rattle.eng_clients.specs.declared.stage.Stage.{Stage}
+use Rattle.eng_clients.specs.declared.stage.Stage.TheVariants.{Nothing, Waits, Runs}
+use Rattle.eng_state.specs.declared.array.Array.{Array}
 use Rattle.eng_parts.specs.Shelf.{Seen, seen_at, has_failed}
-use Rattle.eng_parts.specs.Desk.{Desk, desk_at}
-use Rattle.eng_events.specs.Out.{IsOut}
+use Rattle.eng_clients.specs.Desk.{Desk, desk_at}
+use Rattle.eng_state.specs.Out.{IsOut}
 use Rattle.eng_array.specs.Steady.{IsSteady}
-use Rattle.eng_events.specs.Steps as steps
+use Rattle.eng_state.specs.Steps as steps
 
 -- ## Kinds of events. `IsOwn` is of eng_rest: not Fill, Spread or Fail.
 

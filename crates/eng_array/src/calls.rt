@@ -3,24 +3,27 @@ ghost use Rattle.std.specs.Prelude.{◌≡◌, ◌<◌, Some, None, length, slic
 ghost use Rattle.graph_mean.specs.Graph.{kind_at};
 ghost use Rattle.eng_cols.specs.Cols.{Dead};
 ghost use Rattle.eng_world.specs.declared.item.Traced.TheVariants as event;
-ghost use Rattle.eng_parts.specs.Log.{noted};
-ghost use Rattle.eng_events.specs.Can.{CanFire, CanSkip};
-ghost use Rattle.eng_events.specs.Beginning.{CanBegin};
-ghost use Rattle.eng_events.specs.Moves.{id_of};
-ghost use Rattle.eng_parts.specs.Desk.{desk_at, spot_at};
-ghost use Rattle.eng_events.specs.EndLog.{LogEnds};
-ghost use Rattle.eng_events.specs.Homes.{device_in, slots_home};
-ghost use Rattle.eng_events.specs.Out.{IsOut, CameBack, OthersStay};
-ghost use Rattle.eng_events.specs.Returned.{ended_by};
-ghost use Rattle.eng_events.specs.Serves.{CanTake, CanBack};
-ghost use Rattle.eng_events.specs.Steps.{Follows};
+ghost use Rattle.eng_log.specs.Log.{noted};
+ghost use Rattle.eng_state.specs.Can.{CanFire, CanSkip};
+ghost use Rattle.eng_state.specs.Beginning.{CanBegin};
+ghost use Rattle.eng_state.specs.Moves.{id_of};
+ghost use Rattle.eng_clients.specs.Desk.{desk_at, spot_at};
+ghost use Rattle.eng_ends.specs.EndLog.{LogEnds};
+ghost use Rattle.eng_state.specs.Homes.{device_in, slots_home};
+ghost use Rattle.eng_state.specs.Out.{IsOut, CameBack, OthersStay};
+ghost use Rattle.eng_fails.specs.Returned.{ended_by};
+ghost use Rattle.eng_state.specs.Serves.{CanTake, CanBack};
+ghost use Rattle.eng_state.specs.Steps.{Follows};
 ghost use Rattle.eng_array.specs.Steady.{IsSteady};
 ghost use Rattle.eng_array.specs.Tickets.{IsEndOf, Happens, KeepsJobs, Lends, GetsBack};
 
 use blk_disk::Disk;
 use blk_plain::Outcome;
-use eng_events::Array;
+use eng_events::goes_home;
+use eng_fails::{fail, is_dead};
 use eng_job::Job;
+use eng_starts::{back, begin, fire, skip, take};
+use eng_state::Array;
 use lay_core::Layout;
 
 /// An array engine. What it keeps between two calls is `IsSteady`.
@@ -43,7 +46,7 @@ impl<L: Layout, D: Disk> Core<L, D> {
         ensures happens { Happens L.Layout D.Disk (event.Fire (id_of self.old.array.clients client) node) self.old.array self.new.array }
         ensures lends { Lends L.Layout D.Disk result self.old.array self.new.array }
     {
-        self.array.fire(client, node)
+        fire(&mut self.array, client, node)
     }
 
     /// A job that was out comes home, performed with this outcome: what left with it is put back, and its node ends, bad
@@ -60,7 +63,7 @@ impl<L: Layout, D: Disk> Core<L, D> {
         ensures devices { self.new.array.devices.slots ≡ slots_home (device_in job.work) (spot_at (desk_at self.old.array.clients job.client) job.node) self.old.array.devices }
         ensures gets { GetsBack L.Layout D.Disk job.client job.node self.old.array self.new.array }
     {
-        self.array.goes_home(job, outcome);
+        goes_home(&mut self.array, job, outcome);
     }
 
     /// Passes over a ready write whose unit is missing, or of a rebuild, whose target is dead.
@@ -74,7 +77,7 @@ impl<L: Layout, D: Disk> Core<L, D> {
         ensures happens { Happens L.Layout D.Disk (event.Skip (id_of self.old.array.clients client) node) self.old.array self.new.array }
         ensures keeps { KeepsJobs L.Layout D.Disk self.old.array self.new.array }
     {
-        self.array.skip(client, node);
+        skip(&mut self.array, client, node);
     }
 
     /// Begins the client's next item, where it has no operation. An operation out of range is replied so, and else one
@@ -89,7 +92,7 @@ impl<L: Layout, D: Disk> Core<L, D> {
         ensures happens { Happens L.Layout D.Disk (event.Begin (id_of self.old.array.clients client)) self.old.array self.new.array }
         ensures keeps { KeepsJobs L.Layout D.Disk self.old.array self.new.array }
     {
-        self.array.begin(client);
+        begin(&mut self.array, client);
     }
 
     /// The column fails, not by an item and not by a node. A dead one stays as it is.
@@ -105,10 +108,10 @@ impl<L: Layout, D: Disk> Core<L, D> {
         ensures happens { (slice_get self.old.array.cols.states column ≡ Some Dead → ⊥) → Happens L.Layout D.Disk (event.Fail column) self.old.array self.new.array }
         ensures keeps { KeepsJobs L.Layout D.Disk self.old.array self.new.array }
     {
-        if self.array.is_dead(column) {
+        if is_dead(&self.array, column) {
             return;
         }
-        self.array.fail(column);
+        fail(&mut self.array, column);
     }
 
     /// Takes the client's operation, which waits: it is planned, holds its stripes, leases its buffers and begins. Where
@@ -123,7 +126,7 @@ impl<L: Layout, D: Disk> Core<L, D> {
         ensures happens { Happens L.Layout D.Disk (event.Take (id_of self.old.array.clients client)) self.old.array self.new.array }
         ensures keeps { KeepsJobs L.Layout D.Disk self.old.array self.new.array }
     {
-        self.array.take(client);
+        take(&mut self.array, client);
     }
 
     /// The client's operation, which was undone, is planned anew; or, by a graph of the file, replied undone.
@@ -137,6 +140,6 @@ impl<L: Layout, D: Disk> Core<L, D> {
         ensures happens { Happens L.Layout D.Disk (event.Back (id_of self.old.array.clients client)) self.old.array self.new.array }
         ensures keeps { KeepsJobs L.Layout D.Disk self.old.array self.new.array }
     {
-        self.array.back(client);
+        back(&mut self.array, client);
     }
 }

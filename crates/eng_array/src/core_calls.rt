@@ -1,15 +1,16 @@
 //! What an engine tells of itself, and which event is next.
 ghost use Rattle.std.specs.Prelude.{◌≡◌, ◌↔◌, None, IsTrue, MatchOption, IfSome};
 ghost use Rattle.eng_world.specs.World.{World};
-ghost use Rattle.eng_events.specs.Doing.{CanDo};
-ghost use Rattle.eng_events.specs.Out.{IsOut};
-ghost use Rattle.eng_events.specs.Picked.{next_after, IsPicked, IsResting, IsStuck};
-ghost use Rattle.eng_events.specs.Shows.{Shows};
+ghost use Rattle.eng_state.specs.Doing.{CanDo};
+ghost use Rattle.eng_state.specs.Out.{IsOut};
+ghost use Rattle.eng_choice.specs.Picked.{next_after, IsPicked, IsResting, IsStuck};
+ghost use Rattle.eng_state.specs.Shows.{Shows};
 ghost use Rattle.eng_array.specs.Steady.{IsSteady};
 ghost use Rattle.eng_array.specs.Tickets.{Quiet};
 
 use crate::calls::Core;
 use blk_disk::Disk;
+use eng_choice::{can, pick, rest};
 use eng_job::Job;
 use eng_world::Event;
 use lay_core::Layout;
@@ -22,7 +23,7 @@ impl<L: Layout, D: Disk> Core<L, D> {
     {
         match self.array.lost {
             Some(_) => false,
-            None => self.array.can(event),
+            None => can(&self.array, event),
         }
     }
 
@@ -42,7 +43,7 @@ impl<L: Layout, D: Disk> Core<L, D> {
     {
         match self.array.lost {
             Some(_) => None,
-            None => self.array.pick(),
+            None => pick(&mut self.array),
         }
     }
 
@@ -51,6 +52,6 @@ impl<L: Layout, D: Disk> Core<L, D> {
         requires { IsSteady L.Layout D.Disk self.now.array }
         ensures { IsTrue result ↔ IsResting self.now.array }
     {
-        self.array.rest()
+        rest(&self.array)
     }
 }

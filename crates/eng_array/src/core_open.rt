@@ -2,17 +2,17 @@
 ghost use Rattle.std.specs.Prelude.{◌≡◌, ℕ, length, MatchResult, IfOk, IfErr};
 ghost use Rattle.eng_cols.specs.Lost.{NotLost};
 ghost use Rattle.eng_events.specs.Closed.{IsClosed};
-ghost use Rattle.eng_events.specs.Copied.{AreLaid};
+ghost use Rattle.eng_ends.specs.Copied.{AreLaid};
 ghost use Rattle.eng_array.specs.Fitting.{FitsTrace, FitsRebuild, FitsRebuilding};
 ghost use Rattle.eng_events.specs.Opened.{states_of, IsSetup, IsOpened, NoneOut, OpensWorlds};
-ghost use Rattle.eng_events.specs.Serves.{Stands};
+ghost use Rattle.eng_state.specs.Serves.{Stands};
 ghost use Rattle.eng_array.specs.Steady.{IsSteady};
-ghost use Rattle.eng_parts.specs.Handed.{AreRegions};
+ghost use Rattle.eng_log.specs.Handed.{AreRegions};
 ghost use Rattle.eng_parts.specs.Fresh.{IsRoomFor, IsFault};
 
 use crate::calls::Core;
 use blk_disk::Disk;
-use eng_events::Array;
+use eng_events::{close, open};
 use eng_parts::{Closed, CoreRoom, OpenFault, Setup};
 use lay_core::Layout;
 
@@ -36,7 +36,7 @@ impl<L: Layout, D: Disk + Drop> Core<L, D> {
         ensures steady { IfOk result (λ engine. IsSteady L.Layout D.Disk engine.array) }
         ensures rebuilds { IfOk result (λ engine. (column : ℕ) → FitsRebuilding L.Layout setup column → FitsRebuild L.Layout engine.array column) }
     {
-        match Array::open(setup, room) {
+        match open(setup, room) {
             Ok(array) => Ok(Core { array }),
             Err(fault) => Err(fault),
         }
@@ -56,6 +56,6 @@ impl<L: Layout, D: Disk + Drop> Core<L, D> {
         requires none_out { NoneOut self.array.clients }
         ensures { IsClosed self.array result }
     {
-        self.array.close()
+        close(self.array)
     }
 }

@@ -4,16 +4,17 @@ ghost use Rattle.eng_cols.specs.Changes.{begun_filling, begun_spreading};
 ghost use Rattle.eng_cols.specs.Seats.{HasStripeLeft, IsWhole};
 ghost use Rattle.eng_world.specs.declared.item.Traced.TheVariants as event;
 ghost use Rattle.eng_array.specs.Fitting.{FitsRebuild};
-ghost use Rattle.eng_parts.specs.Log.{noted};
-ghost use Rattle.eng_events.specs.Rebuilding.{CanFill, CanSpread, Started};
+ghost use Rattle.eng_log.specs.Log.{noted};
+ghost use Rattle.eng_starts.specs.Rebuilding.{CanFill, CanSpread, Started};
 ghost use Rattle.eng_array.specs.Starts.{CanStart, begun_by, column_of, event_of};
 ghost use Rattle.eng_array.specs.Steady.{IsSteady};
-ghost use Rattle.eng_events.specs.Steps.{Follows};
+ghost use Rattle.eng_state.specs.Steps.{Follows};
 ghost use Rattle.eng_array.specs.Tickets.{Happens, KeepsJobs};
 
 use crate::calls::Core;
 use crate::start::Start;
 use blk_disk::Disk;
+use eng_starts::{fill, spread};
 use lay_core::Layout;
 
 impl<L: Layout, D: Disk> Core<L, D> {
@@ -30,7 +31,7 @@ impl<L: Layout, D: Disk> Core<L, D> {
         ensures happens { Happens L.Layout D.Disk (event.Fill column device) self.old.array self.new.array }
         ensures keeps { KeepsJobs L.Layout D.Disk self.old.array self.new.array }
     {
-        self.array.fill(column, device);
+        fill(&mut self.array, column, device);
     }
 
     /// Starts a rebuild of a dead column into the spare places, before any operation has begun. Client 16 gets a rebuild
@@ -46,7 +47,7 @@ impl<L: Layout, D: Disk> Core<L, D> {
         ensures happens { Happens L.Layout D.Disk (event.Spread column) self.old.array self.new.array }
         ensures keeps { KeepsJobs L.Layout D.Disk self.old.array self.new.array }
     {
-        self.array.spread(column);
+        spread(&mut self.array, column);
     }
 
     /// Starts a rebuild of a dead column so, before any operation has begun. Client 16 gets a rebuild for each of the

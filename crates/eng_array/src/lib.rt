@@ -11,10 +11,12 @@ mod start;
 mod tickets;
 
 pub use calls::Core;
+pub use eng_choice::what_is_possible_can_be_done;
 pub use eng_cols::{Column, Loss, Spot};
-pub use eng_events::{Array, what_is_possible_can_be_done};
 pub use eng_job::{Job, Lists, Outcome};
-pub use eng_parts::{Closed, CoreRoom, Memory, OpenFault, Region, Regions, Setup};
+pub use eng_log::{Region, Regions};
+pub use eng_parts::{Closed, CoreRoom, Memory, OpenFault, Setup};
+pub use eng_state::Array;
 pub use eng_world::{Event, Item, Reply, Traced};
 pub use fitting::what_is_counted_fits_the_trace;
 pub use progress::{each_event_leaves_less, events_of_an_item_are_few, somebody_goes_on};

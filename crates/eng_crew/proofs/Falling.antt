@@ -5,7 +5,7 @@ use Rattle.lay_core.specs.declared.layout.Layout.{Ghosts as LayoutGhosts}
 use Rattle.eng_job.specs.declared.job.Job.{Job}
 use Rattle.eng_world.specs.declared.item.Traced.{Traced}
 use Rattle.eng_rest.specs.Left.{IsOwn}
-use Rattle.eng_events.specs.declared.array.Array.{Array}
+use Rattle.eng_state.specs.declared.array.Array.{Array}
 use Rattle.eng_array.specs.Progress.{left_of, Falls}
 use Rattle.eng_array.specs.Steady.{IsSteady}
 use Rattle.eng_array.specs.Tickets.{Happens, IsEndOf, Quiet, Acts}

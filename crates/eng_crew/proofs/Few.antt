@@ -5,7 +5,7 @@ use Rattle.lay_core.specs.declared.layout.Layout.{Ghosts as LayoutGhosts}
 use Rattle.eng_world.specs.declared.item.Traced.{Traced}
 use Rattle.eng_world.specs.declared.item.Traced.TheVariants as event
 use Rattle.eng_rest.specs.Left.{IsOwn, IsLater}
-use Rattle.eng_events.specs.declared.array.Array.{Array}
+use Rattle.eng_state.specs.declared.array.Array.{Array}
 use Rattle.eng_array.specs.Chain.{Leads, Chain, HaveFewNodes}
 use Rattle.eng_events.specs.Opened.{NoneOut}
 use Rattle.eng_array.specs.Steady.{IsSteady}

@@ -10,8 +10,8 @@ use Rattle.eng_world.specs.Invariant.{Reached}
 use Rattle.eng_world.specs.Continuing.{Continues}
 use Rattle.eng_world.proofs.Continuing.{run-continues}
 use Rattle.eng_world.proofs.Reaching.{reaches}
-use Rattle.eng_events.specs.declared.array.Array.{Array}
-use Rattle.eng_events.specs.Shows.{Shows}
+use Rattle.eng_state.specs.declared.array.Array.{Array}
+use Rattle.eng_state.specs.Shows.{Shows}
 use Rattle.eng_array.specs.Steady.{IsSteady}
 use Rattle.eng_array.specs.Tickets.{After, shape_of, graphs_of}
 use Rattle.eng_array.proofs.Chains.{goes-same, goes-leads}

@@ -11,13 +11,13 @@ use Rattle.eng_job.specs.declared.job.Job.{Job}
 use Rattle.eng_job.specs.Performed.{Performed}
 use Rattle.eng_world.specs.declared.item.Traced.{Traced}
 use Rattle.eng_world.specs.Pool.{job_of}
-use Rattle.eng_parts.specs.declared.stage.Stage.{Stage}
-use Rattle.eng_parts.specs.declared.stage.Stage.TheVariants.{Nothing, Waits, Runs}
-use Rattle.eng_events.specs.declared.array.Array.{Array}
+use Rattle.eng_clients.specs.declared.stage.Stage.{Stage}
+use Rattle.eng_clients.specs.declared.stage.Stage.TheVariants.{Nothing, Waits, Runs}
+use Rattle.eng_state.specs.declared.array.Array.{Array}
 use Rattle.eng_array.specs.declared.calls.Core.{Core}
-use Rattle.eng_parts.specs.Desk.{desk_at}
+use Rattle.eng_clients.specs.Desk.{desk_at}
 use Rattle.eng_events.specs.Opened.{NoneOut}
-use Rattle.eng_events.specs.Out.{IsOut}
+use Rattle.eng_state.specs.Out.{IsOut}
 use Rattle.eng_array.specs.Steady.{IsSteady}
 use Rattle.eng_array.specs.Tickets.{AllOf, IsEndOf, is_of, out_by, out_at, IsHeld, KeepsJobs, Lends, GetsBack, Happens, Quiet, Acts, Shared, Turned, nothing, plain, fired, ended}
 use Rattle.eng_array.proofs.OutNodes.{node-here}

@@ -4,12 +4,12 @@ use Rattle.blk_disk.specs.declared.disk.Disk.{Ghosts as DiskGhosts}
 use Rattle.lay_core.specs.declared.layout.Layout.{Ghosts as LayoutGhosts}
 use Rattle.eng_one.specs.Control.{mark_of}
 use Rattle.eng_job.specs.declared.job.Job.{Job}
-use Rattle.eng_parts.specs.declared.stage.Stage.TheVariants.{Runs}
-use Rattle.eng_events.specs.declared.array.Array.{Array}
-use Rattle.eng_parts.specs.Desk.{desk_at}
-use Rattle.eng_parts.specs.Seats.{seat_of}
+use Rattle.eng_clients.specs.declared.stage.Stage.TheVariants.{Runs}
+use Rattle.eng_state.specs.declared.array.Array.{Array}
+use Rattle.eng_clients.specs.Desk.{desk_at}
+use Rattle.eng_clients.specs.Seats.{seat_of}
 use Rattle.eng_parts.specs.Shelf.{seen_at, IsHome}
-use Rattle.eng_events.specs.Sound.{IsOutOf}
+use Rattle.eng_state.specs.Sound.{IsOutOf}
 use Rattle.eng_array.specs.Tickets.{is_of, Shared}
 use Rattle.eng_crew.specs.Places.{IsDeviceOut, IsBufferOut, HavePlaces}
 use Rattle.eng_crew.proofs.Keeps.{out-one}

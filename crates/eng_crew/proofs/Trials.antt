@@ -18,12 +18,12 @@ use Rattle.eng_world.specs.declared.item.Item.TheVariants as item
 use Rattle.eng_world.specs.Step.{MayBeAsked}
 use Rattle.eng_rest.specs.Left.{below}
 use Rattle.eng_parts.specs.declared.setup.Setup.{Setup}
-use Rattle.eng_events.specs.Beginning.{IsAsked}
-use Rattle.eng_parts.specs.Given.{items_in, items_at}
-use Rattle.eng_parts.specs.Laid.{item_sectors, sectors_in, sectors_at, row_sectors, sectors_before, items_before}
+use Rattle.eng_state.specs.Beginning.{IsAsked}
+use Rattle.eng_log.specs.Given.{items_in, items_at}
+use Rattle.eng_log.specs.Laid.{item_sectors, sectors_in, sectors_at, row_sectors, sectors_before, items_before}
 use Rattle.eng_events.specs.Opened.{states_of, NamesGraph, FitThePool, IsSetup}
-use Rattle.eng_events.specs.Steps.{graphs_of}
-use Rattle.eng_parts.specs.Desk.{no_graph}
+use Rattle.eng_state.specs.Steps.{graphs_of}
+use Rattle.eng_plan.specs.Asked.{no_graph}
 use Rattle.eng_crew.specs.Trial.{IsSmallOp, IsSmall, AreSmall}
 
 -- ## Sums

@@ -5,9 +5,9 @@ use Rattle.lay_core.specs.declared.layout.Layout.{Ghosts as LayoutGhosts}
 use Rattle.eng_world.specs.declared.item.Traced.{Traced}
 use Rattle.eng_rest.specs.Left.{alive}
 use Rattle.eng_rest.specs.Few.{count_of}
-use Rattle.eng_events.specs.declared.array.Array.{Array}
+use Rattle.eng_state.specs.declared.array.Array.{Array}
 use Rattle.eng_array.specs.Chain.{HasFewNodes}
-use Rattle.eng_parts.specs.Desk.{desk_at}
+use Rattle.eng_clients.specs.Desk.{desk_at}
 use Rattle.eng_array.specs.Tickets.{Goes, After}
 
 module _ {L D : Type 0} (lay : LayoutGhosts L) (disk : DiskGhosts D) where

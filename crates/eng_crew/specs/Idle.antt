@@ -3,9 +3,9 @@ use Rattle.std.specs.Prelude.{◌≡◌, ◌⊎◌, Option, Some, None}
 use Rattle.blk_disk.specs.declared.disk.Disk.{Ghosts as DiskGhosts}
 use Rattle.lay_core.specs.declared.layout.Layout.{Ghosts as LayoutGhosts}
 use Rattle.eng_job.specs.declared.job.Job.{Job}
-use Rattle.eng_events.specs.declared.array.Array.{Array}
+use Rattle.eng_state.specs.declared.array.Array.{Array}
 use Rattle.eng_array.specs.declared.calls.Core.{Core}
-use Rattle.eng_events.specs.Picked.{IsResting, IsStuck}
+use Rattle.eng_choice.specs.Picked.{IsResting, IsStuck}
 use Rattle.eng_array.specs.Tickets.{After}
 use Rattle.eng_turn.specs.declared.turn.Pass.{Pass}
 use Rattle.eng_turn.specs.declared.turn.Turn.{Turn}

@@ -7,7 +7,7 @@ use Rattle.eng_job.specs.declared.job.Job.{Job}
 use Rattle.eng_world.specs.declared.item.Traced.{Traced}
 use Rattle.eng_world.specs.declared.item.Traced.TheVariants as event
 use Rattle.eng_rest.specs.Left.{IsOwn}
-use Rattle.eng_events.specs.declared.array.Array.{Array}
+use Rattle.eng_state.specs.declared.array.Array.{Array}
 use Rattle.eng_array.specs.declared.calls.Core.{Core}
 use Rattle.eng_array.specs.Tickets.{AllOf, IsPlain, IsFiringOf, IsEndOf, is_of, IsHeld, Goes, After, Fits, Turned, nothing, plain, fired, ended}
 

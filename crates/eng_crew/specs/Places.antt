@@ -2,12 +2,12 @@
 use Rattle.std.specs.Prelude.{◌≡◌, ◌<◌, ◌⊎◌, ℕ, List, length, false, Option, Some, sum_by}
 use Rattle.eng_job.specs.declared.job.Job.{Job}
 use Rattle.eng_world.specs.Nodes.{Takes}
-use Rattle.eng_parts.specs.declared.stage.Stage.TheVariants.{Runs}
-use Rattle.eng_events.specs.declared.array.Array.{Array}
-use Rattle.eng_parts.specs.Desk.{desk_at}
-use Rattle.eng_parts.specs.Seats.{seat_of}
+use Rattle.eng_clients.specs.declared.stage.Stage.TheVariants.{Runs}
+use Rattle.eng_state.specs.declared.array.Array.{Array}
+use Rattle.eng_clients.specs.Desk.{desk_at}
+use Rattle.eng_clients.specs.Seats.{seat_of}
 use Rattle.eng_parts.specs.Shelf.{Seen, seen_at, IsHome}
-use Rattle.eng_events.specs.Sound.{IsOutOf, HasAway}
+use Rattle.eng_state.specs.Sound.{IsOutOf, HasAway}
 use Rattle.eng_array.specs.Tickets.{is_of}
 
 module _ {L D : Type 0} (core : Array L D) (tickets : List (Option (Job D))) where

@@ -76,9 +76,7 @@ fn split_all<L: Layout + Drop, D: Disk + Drop>(
     ensures count { vec_len others.new ≡ count }
 {
     for _ in 0..count {
-        let other = turn.split(pass);
-        let done = others.push(other).is_ok();
-        prove!(done);
+        others.push_reserved(turn.split(pass));
     }
 }
 

@@ -1,7 +1,7 @@
 //! The drain: it serves the core alone, on this thread, waits for nobody and takes no memory.
 ghost use Rattle.std.specs.Prelude.{◌≡◌, ◌≤◌, true, false, [], ◌∷◌, None};
 ghost use Rattle.eng_events.specs.Opened.{NoneOut};
-ghost use Rattle.eng_events.specs.Picked.{IsResting};
+ghost use Rattle.eng_choice.specs.Picked.{IsResting};
 ghost use Rattle.eng_array.specs.Progress.{left_of, Falls};
 ghost use Rattle.eng_array.specs.Steady.{IsSteady};
 ghost use Rattle.eng_array.specs.Tickets.{After, Shared};

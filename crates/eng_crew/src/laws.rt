@@ -9,7 +9,7 @@ ghost use Rattle.eng_world.specs.Invariant.{Reached};
 ghost use Rattle.eng_world.specs.Continuing.{Continues};
 ghost use Rattle.eng_array.specs.declared.calls.Core.{Core as AnyCore};
 ghost use Rattle.eng_events.specs.Opened.{NoneOut};
-ghost use Rattle.eng_events.specs.Shows.{Shows};
+ghost use Rattle.eng_state.specs.Shows.{Shows};
 ghost use Rattle.eng_array.specs.Steady.{IsSteady};
 ghost use Rattle.eng_array.specs.Tickets.{shape_of, graphs_of, keeps_trace, traced, size_at, faults_at};
 ghost use Rattle.eng_crew.specs.Drained.{Drained};

@@ -1,6 +1,6 @@
 //! One turn: at most one event, and what it gives to do outside.
 ghost use Rattle.std.specs.Prelude.{◌≡◌, ◌⊎◌, None, Some};
-ghost use Rattle.eng_events.specs.Doing.{CanDo};
+ghost use Rattle.eng_state.specs.Doing.{CanDo};
 ghost use Rattle.eng_array.specs.Progress.{Falls};
 ghost use Rattle.eng_array.specs.Steady.{IsSteady};
 ghost use Rattle.eng_array.specs.Tickets.{Turned, Acts};

@@ -8,12 +8,12 @@ use Rattle.eng_cols.specs.declared.spot.Spot.{Spot}
 use Rattle.eng_job.specs.declared.job.Work.{Work}
 use Rattle.eng_job.specs.declared.job.Work.TheVariants.{Write}
 use Rattle.eng_job.specs.declared.job.Job.{Job}
-use Rattle.eng_events.specs.declared.array.Array.{Array}
-use Rattle.eng_parts.specs.Desk.{desk_at, spot_at}
-use Rattle.eng_events.specs.Out.{CameBack}
-use Rattle.eng_events.specs.Returned.{is_bad_end}
-use Rattle.eng_events.proofs.Leaving.{seen-below}
-use Rattle.eng_events.proofs.Returning.{write-back}
+use Rattle.eng_state.specs.declared.array.Array.{Array}
+use Rattle.eng_clients.specs.Desk.{desk_at, spot_at}
+use Rattle.eng_state.specs.Out.{CameBack}
+use Rattle.eng_fails.specs.Returned.{is_bad_end}
+use Rattle.eng_state.proofs.Leaving.{seen-below}
+use Rattle.eng_state.proofs.Returning.{write-back}
 
 -- what doesn't end bad was good
 pub is-good : {D : Type 0} → (o : Outcome) (w : Work D) (failed : Bool) → is_bad_end o w failed ≡ false → o ≡ Good

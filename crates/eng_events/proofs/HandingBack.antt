@@ -12,14 +12,14 @@ use Rattle.eng_cols.specs.declared.spot.Loss.{Loss}
 use Rattle.eng_cols.specs.Cols.{ColumnState, column_of}
 use Rattle.eng_world.specs.declared.item.Item.{Item}
 use Rattle.eng_world.specs.declared.item.Reply.{Reply}
-use Rattle.eng_events.specs.declared.array.Array.{Array}
+use Rattle.eng_state.specs.declared.array.Array.{Array}
 use Rattle.eng_parts.specs.Shelf.{Seen, seen_at}
-use Rattle.eng_parts.specs.Desk.{Desk, desk_at, no_desk}
+use Rattle.eng_clients.specs.Desk.{Desk, desk_at, no_desk}
 use Rattle.eng_parts.specs.Brought.{at_home}
-use Rattle.eng_parts.specs.Given.{items_in}
+use Rattle.eng_log.specs.Given.{items_in}
 use Rattle.eng_events.specs.Opened.{NoneOut}
-use Rattle.eng_events.specs.Sound.{IsSound}
-use Rattle.eng_parts.specs.Replied.{replies_of, replies_in, AreClosed}
+use Rattle.eng_state.specs.Sound.{IsSound}
+use Rattle.eng_clients.specs.Replied.{replies_of, replies_in, AreClosed}
 
 -- ## Devices
 

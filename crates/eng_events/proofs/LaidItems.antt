@@ -10,19 +10,19 @@ use Rattle.blk_disk.specs.declared.disk.Disk.{Ghosts as DiskGhosts}
 use Rattle.lay_core.specs.declared.layout.Layout.{Ghosts as LayoutGhosts}
 use Rattle.eng_world.specs.declared.item.Item.{Item}
 use Rattle.eng_world.specs.declared.item.Item.TheVariants as item
-use Rattle.eng_parts.specs.declared.region.Region.{Region}
+use Rattle.eng_log.specs.declared.region.Region.{Region}
 use Rattle.eng_parts.specs.declared.setup.Setup.{Setup}
-use Rattle.eng_events.specs.declared.array.Array.{Array}
-use Rattle.eng_events.specs.Copied.{AreLaid}
-use Rattle.eng_parts.specs.Desk.{Desk, desk_at}
-use Rattle.eng_parts.specs.Given.{items_in, items_at}
-use Rattle.eng_parts.specs.Handed.{Handout, region_at}
-use Rattle.eng_parts.specs.Laid.{sectors_in, items_before, IsLaidOut}
+use Rattle.eng_state.specs.declared.array.Array.{Array}
+use Rattle.eng_ends.specs.Copied.{AreLaid}
+use Rattle.eng_clients.specs.Desk.{Desk, desk_at}
+use Rattle.eng_log.specs.Given.{items_in, items_at}
+use Rattle.eng_log.specs.Handed.{Handout, region_at}
+use Rattle.eng_log.specs.Laid.{sectors_in, items_before, IsLaidOut}
 use Rattle.eng_events.specs.Opened.{IsOpened}
-use Rattle.eng_parts.proofs.Laying.{below-within}
+use Rattle.eng_log.proofs.Laying.{below-within}
 use Rattle.eng_events.proofs.OpeningDesks.{item-of}
-use Rattle.eng_parts.specs.Fresh.{new_desk}
-use Rattle.eng_parts.proofs.FewItems.{none-past}
+use Rattle.eng_clients.specs.Fresh.{new_desk}
+use Rattle.eng_log.proofs.FewItems.{none-past}
 
 module _ (given : List (Vec Item Global)) (own : ℕ) (h : Handout) (laid : IsLaidOut given own h) where
   -- a client has a region for each item

@@ -22,24 +22,24 @@ use Rattle.eng_world.specs.declared.item.Reply.TheVariants as reply
 use Rattle.eng_world.specs.World.{World, Nothing as Idles}
 use Rattle.eng_world.specs.Step.{IsOpening}
 use Rattle.eng_parts.specs.declared.setup.Setup.{Setup}
-use Rattle.eng_parts.specs.declared.stage.Stage.{Stage}
-use Rattle.eng_parts.specs.declared.stage.Stage.TheVariants.{Nothing}
-use Rattle.eng_events.specs.declared.array.Array.{Array}
+use Rattle.eng_clients.specs.declared.stage.Stage.{Stage}
+use Rattle.eng_clients.specs.declared.stage.Stage.TheVariants.{Nothing}
+use Rattle.eng_state.specs.declared.array.Array.{Array}
 use Rattle.eng_parts.specs.Shelf.{Seen, Shelved, seen_at, has_failed}
-use Rattle.eng_parts.specs.Desk.{Desk, desk_at}
-use Rattle.eng_parts.specs.Log.{Logged}
-use Rattle.eng_events.specs.Beginning.{AllAsked}
+use Rattle.eng_clients.specs.Desk.{Desk, desk_at}
+use Rattle.eng_log.specs.Log.{Logged}
+use Rattle.eng_state.specs.Beginning.{AllAsked}
 use Rattle.eng_parts.specs.Brought.{brought}
 use Rattle.stripe_lock.specs.Table.{Table, IsIdle}
 use Rattle.eng_parts.specs.declared.core_room.CoreRoom.{CoreRoom}
-use Rattle.eng_parts.specs.Given.{items_at}
+use Rattle.eng_log.specs.Given.{items_at}
 use Rattle.eng_events.specs.Opened.{states_of, IsAssembled, IsSetup, IsOpened, NoneOut, HandsOutNothing, OpensWorlds}
-use Rattle.eng_parts.specs.Laid.{IsLaidOut}
-use Rattle.eng_events.specs.Serves.{Stands}
-use Rattle.eng_events.specs.Shows.{Shows, ShowsCurrent, AreTold, told_by, device_byte}
-use Rattle.eng_events.specs.Sound.{IsSound, Seated}
+use Rattle.eng_log.specs.Laid.{IsLaidOut}
+use Rattle.eng_state.specs.Serves.{Stands}
+use Rattle.eng_state.specs.Shows.{Shows, ShowsCurrent, AreTold, told_by, device_byte}
+use Rattle.eng_state.specs.Sound.{IsSound, Seated}
 use Rattle.eng_events.proofs.OpeningDesks as desks
-use Rattle.eng_parts.specs.Replied.{told_of}
+use Rattle.eng_clients.specs.Replied.{told_of}
 use Rattle.eng_parts.specs.Fresh.{fresh_log, IsRoomFor}
 
 -- ## Devices that are brought in

@@ -10,11 +10,11 @@ use Rattle.lay_core.specs.Layout.{Shape}
 use Rattle.graph_mean.specs.Graph.{Held}
 use Rattle.eng_cols.specs.declared.spot.Spot.{Spot}
 use Rattle.eng_world.specs.declared.item.Item.{Item}
-use Rattle.eng_parts.specs.declared.stage.Stage.TheVariants.{Nothing, Runs}
-use Rattle.eng_parts.specs.Desk.{Desk, desk_at, no_desk}
+use Rattle.eng_clients.specs.declared.stage.Stage.TheVariants.{Nothing, Runs}
+use Rattle.eng_clients.specs.Desk.{Desk, desk_at, no_desk}
 use Rattle.eng_events.specs.Opened.{NoneOut}
-use Rattle.eng_events.specs.Sound.{AreWell, SeatsOut, Locked, jobs_of}
-use Rattle.eng_parts.specs.Fresh.{new_desk}
+use Rattle.eng_state.specs.Sound.{AreWell, SeatsOut, Locked, jobs_of}
+use Rattle.eng_clients.specs.Fresh.{new_desk}
 
 -- where no desk has a job out, none has
 none-sum : (desks : List Desk) → ((c : ℕ) → jobs_of (desk_at desks c) ≡ 0) → sum_by jobs_of desks ≡ 0

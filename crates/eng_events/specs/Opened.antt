@@ -21,23 +21,24 @@ use Rattle.eng_world.specs.declared.item.Item.TheVariants as item
 use Rattle.eng_world.specs.World.{World}
 use Rattle.eng_world.specs.Planning.{Graphs}
 use Rattle.eng_world.specs.Step.{MayBeAsked, IsOpening}
-use Rattle.eng_parts.specs.declared.stage.Stage.TheVariants.{Nothing}
+use Rattle.eng_clients.specs.declared.stage.Stage.TheVariants.{Nothing}
 use Rattle.eng_parts.specs.declared.core_room.CoreRoom.{CoreRoom}
 use Rattle.eng_parts.specs.declared.setup.Setup.{Setup}
 use Rattle.eng_parts.specs.declared.setup.OpenFault.{OpenFault}
 use Rattle.eng_parts.specs.declared.setup.OpenFault.TheVariants as fault
-use Rattle.eng_events.specs.declared.array.Array.{Array}
+use Rattle.eng_state.specs.declared.array.Array.{Array}
 use Rattle.eng_parts.specs.Brought.{brought}
-use Rattle.eng_parts.specs.Desk.{Desk, desk_at}
-use Rattle.eng_parts.specs.Given.{items_at}
-use Rattle.eng_parts.specs.Handed.{Handout}
-use Rattle.eng_parts.specs.Laid.{items_before, IsLaidOut}
-use Rattle.eng_parts.specs.Log.{Logged}
-use Rattle.eng_events.specs.Beginning.{IsAsked}
-use Rattle.eng_events.specs.Shows.{Shows}
-use Rattle.eng_events.specs.Sound.{IsOutOf}
-use Rattle.eng_events.specs.Steps.{graphs_of}
-use Rattle.eng_parts.specs.Fresh.{new_desk, fresh_log}
+use Rattle.eng_clients.specs.Desk.{Desk, desk_at}
+use Rattle.eng_log.specs.Given.{items_at}
+use Rattle.eng_log.specs.Handed.{Handout}
+use Rattle.eng_log.specs.Laid.{items_before, IsLaidOut}
+use Rattle.eng_log.specs.Log.{Logged}
+use Rattle.eng_state.specs.Beginning.{IsAsked}
+use Rattle.eng_state.specs.Shows.{Shows}
+use Rattle.eng_state.specs.Sound.{IsOutOf}
+use Rattle.eng_state.specs.Steps.{graphs_of}
+use Rattle.eng_clients.specs.Fresh.{new_desk}
+use Rattle.eng_parts.specs.Fresh.{fresh_log}
 
 -- ## What may be opened
 

@@ -1,7 +1,7 @@
 //! Drivers: events are done while there are any. A job that is fired is performed and comes home at once.
 ghost use Rattle.std.specs.Prelude.{IfSome, IsTrue};
-ghost use Rattle.eng_events.specs.Doing.{CanDo};
-ghost use Rattle.eng_events.specs.Out.{CameBack};
+ghost use Rattle.eng_state.specs.Doing.{CanDo};
+ghost use Rattle.eng_state.specs.Out.{CameBack};
 ghost use Rattle.eng_array.specs.Fitting.{FitsTrace};
 ghost use Rattle.eng_array.specs.Steady.{IsSteady};
 

@@ -1,6 +1,5 @@
 //! Operations by a graph of the file.
 ghost use Rattle.std.specs.Prelude.{◌≡◌, IfOk, false};
-ghost use Rattle.graph_mean.specs.Graph.{blank};
 ghost use Rattle.graph_mean.specs.LargeWrite.{in_room, large_bufs, large_front};
 
 use super::closed::{handed, has_calls, holds, replied};
@@ -8,59 +7,13 @@ use super::driving::run;
 use super::{id, read, setup, write};
 use crate::{Column, Item, Reply, Setup};
 use blk_disk::MemDisk;
-use graph_mean::{Buf, Graph, Node, Refusal};
+use graph_mean::samples::{large_bufs, large_front, large_write};
+use graph_mean::{Graph, Node, Refusal};
 use lay_plain::Raid5;
 use std::alloc::Global;
 use std::test::Fail;
 
-// The new data of unit 0, what is read of unit 1, and the new check unit.
-fn push_bufs(graph: &mut Graph)
-    requires { graph.old ≡ in_room blank }
-    ensures { graph.new ≡ in_room large_bufs }
-{
-    let plain = Buf {
-        stripe: 0,
-        from: 0,
-        count: 1,
-        new_of: None,
-    };
-    graph.push_buf(Buf {
-        new_of: Some(0),
-        ..plain
-    });
-    graph.push_buf(plain);
-    graph.push_buf(plain);
-}
-
-// The read of unit 1, the sum that makes the check unit, and the commit.
-fn push_front(graph: &mut Graph)
-    requires { graph.old ≡ in_room large_bufs }
-    ensures { graph.new ≡ in_room large_front }
-{
-    graph.push_node(Node::Rd { unit: 1, buf: 1 });
-    graph.push_node(Node::Xor { to: 2 });
-    graph.push_source(1);
-    graph.push_source(0);
-    graph.push_ante(0);
-    graph.push_node(Node::Cmt);
-    graph.push_ante(0);
-    graph.push_ante(1);
-}
-
-// The two writes and the terminator.
-fn push_back(graph: &mut Graph)
-    requires { graph.old ≡ in_room large_front }
-{
-    graph.push_node(Node::Wr { unit: 0, buf: 0 });
-    graph.push_ante(2);
-    graph.push_node(Node::Wr { unit: 2, buf: 2 });
-    graph.push_ante(2);
-    graph.push_node(Node::Trm);
-    graph.push_ante(3);
-    graph.push_ante(4);
-}
-
-// The same, but that the write of unit 0 doesn't follow the commit.
+// The two writes and the terminator, but that the write of unit 0 doesn't follow the commit.
 fn push_early_back(graph: &mut Graph)
     requires { graph.old ≡ in_room large_front }
 {
@@ -92,26 +45,15 @@ fn push_wrong_nodes(graph: &mut Graph)
     graph.push_ante(4);
 }
 
-// The large write of unit 0 of three columns, which reads unit 1.
-fn large(alloc: Global) -> Result<Graph, Fail> {
-    let mut graph = Graph::with_room(alloc, 6, 3, 9)?;
-    push_bufs(&mut graph);
-    push_front(&mut graph);
-    push_back(&mut graph);
-    Ok(graph)
-}
-
+// The large write, but that the write of unit 0 doesn't follow the commit.
 fn early(alloc: Global) -> Result<Graph, Fail> {
-    let mut graph = Graph::with_room(alloc, 6, 3, 9)?;
-    push_bufs(&mut graph);
-    push_front(&mut graph);
+    let mut graph = large_front(alloc)?;
     push_early_back(&mut graph);
     Ok(graph)
 }
 
 fn wrong(alloc: Global) -> Result<Graph, Fail> {
-    let mut graph = Graph::with_room(alloc, 6, 3, 9)?;
-    push_bufs(&mut graph);
+    let mut graph = large_bufs(alloc)?;
     push_wrong_nodes(&mut graph);
     Ok(graph)
 }
@@ -145,7 +87,13 @@ fn an_operation_by_a_graph_of_the_file_is_replied_undone(rt: HostRuntime) -> Res
     let alloc = rt.alloc();
     let layout = Raid5::new(3, 1, 64).expect(&rt, "a layout");
     let items = [by_graph(write(0, 1, 0xa5)), read(0, 1)];
-    let setup = with_graph(alloc, layout, large(alloc)?, &[&[], &[0], &[]], &items)?;
+    let setup = with_graph(
+        alloc,
+        layout,
+        large_write(alloc)?,
+        &[&[], &[0], &[]],
+        &items,
+    )?;
     let closed = run(alloc, setup)?;
     replied(&rt, &closed, 0, &[Reply::Undone { device: 1 }, Reply::Data]);
     assert_eq!(rt; closed.history.as_slice(), [id(0, 1)].as_slice());
@@ -162,7 +110,7 @@ fn an_operation_goes_by_a_graph_of_the_file(rt: HostRuntime) -> Result<(), Fail>
     let alloc = rt.alloc();
     let layout = Raid5::new(3, 1, 64).expect(&rt, "a layout");
     let items = [by_graph(write(0, 1, 0xa5))];
-    let setup = with_graph(alloc, layout, large(alloc)?, &[&[], &[], &[]], &items)?;
+    let setup = with_graph(alloc, layout, large_write(alloc)?, &[&[], &[], &[]], &items)?;
     let closed = run(alloc, setup)?;
     replied(&rt, &closed, 0, &[Reply::Done]);
     holds(&rt, &closed, 0, 64, &[0xa5]);

@@ -1,8 +1,8 @@
 //! Openings of small setups: what an opening asks is tested, and the test is proved.
 ghost use Rattle.std.specs.Prelude.{ℕ, ◌≡◌, ◌≤◌, ◌*◌, ◌+◌, length, IfOk, IsTrue, All};
-ghost use Rattle.eng_parts.specs.Laid.{item_sectors};
+ghost use Rattle.eng_log.specs.Laid.{item_sectors};
 ghost use Rattle.eng_world.specs.Step.{MayBeAsked};
-ghost use Rattle.eng_events.specs.Beginning.{IsAsked};
+ghost use Rattle.eng_state.specs.Beginning.{IsAsked};
 ghost use Rattle.eng_events.specs.Opened.{IsSetup, IsOpened, NamesGraph};
 ghost use Rattle.eng_array.specs.Fitting.{FitsTrace, FitsRebuild, FitsRebuilding};
 ghost use Rattle.eng_array.specs.Small.{HasSectors, IsOwn, AreOwn, IsSmall, IsSlim, IsScript, AreScripts, needed};

@@ -1,4 +1,4 @@
-use Rattle.eng_parts.specs.Desk.{desk_at}
+use Rattle.eng_clients.specs.Desk.{desk_at}
 use Rattle.eng_array.proofs.OutAt.{out-of, is-out, out-once, none-at, at-none, device-with, buffer-with}
 use Rattle.eng_array.proofs.tickets.what_is_out_has_one_place.Goals as goal
 

@@ -1,5 +1,5 @@
 use Rattle.std.proofs.Common.{[], None}
-use Rattle.eng_events.specs.Returned.{ended_by}
+use Rattle.eng_fails.specs.Returned.{ended_by}
 use Rattle.eng_crew.specs.Laws.{later_step}
 use Rattle.eng_crew.proofs.Falling.{end-left}
 use Rattle.eng_crew.proofs.Keeps.{come-home, ticket-out, shared-keeps}

@@ -1,5 +1,5 @@
 use Rattle.std.proofs.Common.{◌∙◌, None}
-use Rattle.eng_events.specs.Returned.{ended_by}
+use Rattle.eng_fails.specs.Returned.{ended_by}
 use Rattle.eng_turn.specs.Turn.{opening_of, ticket_of}
 use Rattle.eng_crew.proofs.Keeps.{come-home, ticket-out, turned-keeps}
 use Rattle.eng_crew.proofs.turns.bring_back.Goals as goal

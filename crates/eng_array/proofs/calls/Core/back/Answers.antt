@@ -9,10 +9,10 @@ pub back-requires-clause-place : goal.back-requires-clause-place
 back-requires-clause-place g c = back-room g.L.Layout g.D.Disk c.args.self.now.array c.args.self.now.array c.args.client c.requires.steady c.requires.can.not_lost c.requires.can
 
 pub returns-clause-steady : goal.returns-clause-steady
-returns-clause-steady g c = back-steady g.L.Layout g.D.Disk c.args.self.now.array c.back.new.self c.args.client c.requires.steady c.requires.can.not_lost c.requires.can c.back.ensures.became c.back.ensures.sound c.back.ensures.step
+returns-clause-steady g c = back-steady g.L.Layout g.D.Disk c.args.self.now.array c.back.new.array c.args.client c.requires.steady c.requires.can.not_lost c.requires.can c.back.ensures.became c.back.ensures.sound c.back.ensures.step
 
 pub returns-clause-happens : goal.returns-clause-happens
-returns-clause-happens g c = back-happens g.L.Layout g.D.Disk c.args.self.now.array c.back.new.self c.requires.steady (returns-clause-steady g c) c.args.client c.requires.can.not_lost c.requires.can c.back.ensures.became c.back.ensures.step
+returns-clause-happens g c = back-happens g.L.Layout g.D.Disk c.args.self.now.array c.back.new.array c.requires.steady (returns-clause-steady g c) c.args.client c.requires.can.not_lost c.requires.can c.back.ensures.became c.back.ensures.step
 
 pub returns-clause-keeps : goal.returns-clause-keeps
-returns-clause-keeps g c = back-jobs g.L.Layout g.D.Disk c.args.self.now.array c.back.new.self c.requires.steady (returns-clause-steady g c) c.args.client c.requires.can.not_lost c.requires.can c.back.ensures.became c.back.ensures.step c.back.ensures.stays
+returns-clause-keeps g c = back-jobs g.L.Layout g.D.Disk c.args.self.now.array c.back.new.array c.requires.steady (returns-clause-steady g c) c.args.client c.requires.can.not_lost c.requires.can c.back.ensures.became c.back.ensures.step c.back.ensures.stays

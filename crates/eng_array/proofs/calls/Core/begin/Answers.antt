@@ -11,14 +11,14 @@ begin-requires-clause-room g c = item-room g.L.Layout g.D.Disk c.args.self.now.a
 pub returns-clause-steady : goal.returns-clause-steady
 returns-clause-steady g c =
     let b = c.begin.ensures.begun in
-    begin-steady g.L.Layout g.D.Disk c.args.self.now.array c.requires.steady c.args.client c.requires.can b.0 b.1 c.begin.new.self b.3 b.4 c.begin.ensures.sound c.begin.ensures.step
+    begin-steady g.L.Layout g.D.Disk c.args.self.now.array c.requires.steady c.args.client c.requires.can b.0 b.1 c.begin.new.array b.3 b.4 c.begin.ensures.sound c.begin.ensures.step
 
 pub returns-clause-happens : goal.returns-clause-happens
 returns-clause-happens g c =
     let b = c.begin.ensures.begun in
-    begin-happens g.L.Layout g.D.Disk c.args.self.now.array c.begin.new.self c.requires.steady (returns-clause-steady g c) c.args.client c.requires.can b.0 b.1 b.3 b.4 c.begin.ensures.step
+    begin-happens g.L.Layout g.D.Disk c.args.self.now.array c.begin.new.array c.requires.steady (returns-clause-steady g c) c.args.client c.requires.can b.0 b.1 b.3 b.4 c.begin.ensures.step
 
 pub returns-clause-keeps : goal.returns-clause-keeps
 returns-clause-keeps g c =
     let b = c.begin.ensures.begun in
-    begin-jobs g.L.Layout g.D.Disk c.args.self.now.array c.begin.new.self c.requires.steady (returns-clause-steady g c) c.args.client c.requires.can b.0 b.1 b.3 b.4 c.begin.ensures.step c.begin.ensures.stays
+    begin-jobs g.L.Layout g.D.Disk c.args.self.now.array c.begin.new.array c.requires.steady (returns-clause-steady g c) c.args.client c.requires.can b.0 b.1 b.3 b.4 c.begin.ensures.step c.begin.ensures.stays

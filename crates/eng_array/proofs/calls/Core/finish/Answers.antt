@@ -1,7 +1,7 @@
 use Rattle.eng_array.proofs.SteadyHome.{home-room, home-enters, home-counts, home-standing, home-within, home-on, home-steady}
 use Rattle.eng_array.proofs.HappeningHome.{end-of, home-happens, home-gets}
-use Rattle.eng_events.specs.Moves.{id_of}
-use Rattle.eng_events.specs.Returned.{ends_bad}
+use Rattle.eng_state.specs.Moves.{id_of}
+use Rattle.eng_fails.specs.Returned.{ends_bad}
 use Rattle.eng_array.proofs.calls.Core.finish.Goals as goal
 
 pub goes_home-requires-clause-place : goal.goes_home-requires-clause-place
@@ -27,13 +27,13 @@ goes_home-requires-clause-count g c = λ none end. home-counts g.L.Layout g.D.Di
 
 pub returns-clause-steady : goal.returns-clause-steady
 returns-clause-steady g c =
-    home-steady g.L.Layout g.D.Disk c.args.self.now.array c.args.job c.args.outcome c.requires.steady c.requires.back c.goes_home.new.self
+    home-steady g.L.Layout g.D.Disk c.args.self.now.array c.args.job c.args.outcome c.requires.steady c.requires.back c.goes_home.new.array
     c.goes_home.ensures.step c.goes_home.ensures.sound c.goes_home.ensures.goes c.goes_home.ensures.trace
 
 pub returns-clause-happens : goal.returns-clause-happens
 returns-clause-happens g c =
     let e = c.goes_home.ensures in
-    home-happens g.L.Layout g.D.Disk c.args.self.now.array c.goes_home.new.self c.args.job c.args.outcome c.requires.steady c.requires.back e.devices (returns-clause-steady g c) e.step e.goes e.trace
+    home-happens g.L.Layout g.D.Disk c.args.self.now.array c.goes_home.new.array c.args.job c.args.outcome c.requires.steady c.requires.back e.devices (returns-clause-steady g c) e.step e.goes e.trace
 
 pub returns-clause-end : goal.returns-clause-end
 returns-clause-end g c = end-of (ends_bad c.args.self.now.array c.args.job c.args.outcome) (id_of c.args.self.now.array.clients c.args.job.client) c.args.job.node
@@ -41,4 +41,4 @@ returns-clause-end g c = end-of (ends_bad c.args.self.now.array c.args.job c.arg
 pub returns-clause-gets : goal.returns-clause-gets
 returns-clause-gets g c =
     let e = c.goes_home.ensures in
-    home-gets g.L.Layout g.D.Disk c.args.self.now.array c.goes_home.new.self c.args.job c.args.outcome c.requires.steady c.requires.back e.devices (returns-clause-steady g c) e.step e.goes e.trace e.stays
+    home-gets g.L.Layout g.D.Disk c.args.self.now.array c.goes_home.new.array c.args.job c.args.outcome c.requires.steady c.requires.back e.devices (returns-clause-steady g c) e.step e.goes e.trace e.stays

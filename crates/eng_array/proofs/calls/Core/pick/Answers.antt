@@ -1,6 +1,6 @@
 use Rattle.std.proofs.Common.{◌≡◌, refl, subst, sym}
-use Rattle.eng_events.specs.declared.array.Array.{Array}
-use Rattle.eng_events.specs.Picked.{next_after}
+use Rattle.eng_state.specs.declared.array.Array.{Array}
+use Rattle.eng_choice.specs.Picked.{next_after}
 use Rattle.eng_array.specs.Steady.{IsSteady}
 use Rattle.eng_array.proofs.SteadyPick.{steady-stands, steady-moved}
 use Rattle.eng_array.proofs.calls.Core.pick.Goals as goal

@@ -1,5 +1,5 @@
 use Rattle.std.proofs.Common.{sym, subst}
-use Rattle.eng_events.specs.Steps.{Follows}
+use Rattle.eng_state.specs.Steps.{Follows}
 use Rattle.eng_array.specs.declared.start.Start.{Start}
 use Rattle.eng_array.specs.Starts.{event_of}
 use Rattle.eng_array.proofs.calls.Core.start.Goals as goal

@@ -9,10 +9,10 @@ pub take-requires-clause-place : goal.take-requires-clause-place
 take-requires-clause-place g c = take-room g.L.Layout g.D.Disk c.args.self.now.array c.args.self.now.array c.args.client c.requires.steady c.requires.can.not_lost c.requires.can
 
 pub returns-clause-steady : goal.returns-clause-steady
-returns-clause-steady g c = take-steady g.L.Layout g.D.Disk c.args.self.now.array c.take.new.self c.args.client c.requires.steady c.requires.can.not_lost c.requires.can c.take.ensures.became c.take.ensures.sound c.take.ensures.step
+returns-clause-steady g c = take-steady g.L.Layout g.D.Disk c.args.self.now.array c.take.new.array c.args.client c.requires.steady c.requires.can.not_lost c.requires.can c.take.ensures.became c.take.ensures.sound c.take.ensures.step
 
 pub returns-clause-happens : goal.returns-clause-happens
-returns-clause-happens g c = take-happens g.L.Layout g.D.Disk c.args.self.now.array c.take.new.self c.requires.steady (returns-clause-steady g c) c.args.client c.requires.can.not_lost c.requires.can c.take.ensures.became c.take.ensures.step
+returns-clause-happens g c = take-happens g.L.Layout g.D.Disk c.args.self.now.array c.take.new.array c.requires.steady (returns-clause-steady g c) c.args.client c.requires.can.not_lost c.requires.can c.take.ensures.became c.take.ensures.step
 
 pub returns-clause-keeps : goal.returns-clause-keeps
-returns-clause-keeps g c = take-jobs g.L.Layout g.D.Disk c.args.self.now.array c.take.new.self c.requires.steady (returns-clause-steady g c) c.args.client c.requires.can.not_lost c.requires.can c.take.ensures.became c.take.ensures.step c.take.ensures.stays
+returns-clause-keeps g c = take-jobs g.L.Layout g.D.Disk c.args.self.now.array c.take.new.array c.requires.steady (returns-clause-steady g c) c.args.client c.requires.can.not_lost c.requires.can c.take.ensures.became c.take.ensures.step c.take.ensures.stays

@@ -2,7 +2,7 @@ use Rattle.std.proofs.Common.{◌≤◌, List, sym, subst}
 use Rattle.std.specs.Prelude.{Vec}
 use Rattle.std.specs.declared.alloc.Global.{Global}
 use Rattle.eng_world.specs.declared.item.Item.{Item}
-use Rattle.eng_parts.specs.Laid.{items_before, sectors_before}
+use Rattle.eng_log.specs.Laid.{items_before, sectors_before}
 use Rattle.eng_crew.proofs.Trials.{items-few, sectors-few, is-setup}
 use Rattle.eng_crew.proofs.tests.opened.opened.Goals as goal
 

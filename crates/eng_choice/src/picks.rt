@@ -1,0 +1,114 @@
+//! Which event is done next.
+ghost use Rattle.std.specs.Prelude.{◌≡◌, MatchOption, IfSome};
+ghost use Rattle.eng_world.specs.World.{World};
+ghost use Rattle.eng_state.specs.Out.{IsOut};
+ghost use Rattle.eng_state.specs.Serves.{Stands};
+ghost use Rattle.eng_state.specs.Shows.{Shows};
+ghost use Rattle.eng_state.specs.Sound.{IsSound};
+ghost use Rattle.eng_state.specs.Doing.{CanDo};
+ghost use Rattle.eng_choice.specs.Picked.{client_of, next_after, NoneReadyOf, IsLeastReadyOf, CanNoNode, IsFirstNode, CanNothing, IsFirstOf, IsPicked, IsStuck};
+
+use crate::doable::{can_back, can_begin, can_fire, can_skip};
+use crate::takable::can_take;
+use blk_disk::Disk;
+use eng_clients::Stage;
+use eng_job::Job;
+use eng_state::Array;
+use eng_world::Event;
+use lay_core::Layout;
+
+// How many clients there are.
+const CLIENTS: u32 = 17;
+
+// Whose event it is.
+fn client_of(event: Event) -> u32
+    ensures { result ≡ client_of event }
+{
+    match event {
+        Event::Begin { client } | Event::Take { client } | Event::Back { client } => client,
+        Event::Fire { client, .. } | Event::Skip { client, .. } => client,
+    }
+}
+
+// The first node that is ready, from this number on, of a client's run.
+fn ready_from<L: Layout, D: Disk>(array: &Array<L, D>, client: u32, from: u32) -> Option<u32>
+    requires { IsSound L.Layout D.Disk array.now }
+    ensures { MatchOption result (NoneReadyOf array.now client from) (IsLeastReadyOf array.now client from) }
+{
+    match array.clients.stage(client) {
+        Stage::Runs => array.clients.least_ready(client, from),
+        Stage::Nothing | Stage::Waits => None,
+    }
+}
+
+// The first node of the client's that can be skipped or fired. Only nodes that are ready are looked at.
+fn pick_node<L: Layout, D: Disk>(array: &Array<L, D>, client: u32) -> Option<Event>
+    requires { IsSound L.Layout D.Disk array.now }
+    ensures { MatchOption result (CanNoNode L.Layout array.now client) (IsFirstNode L.Layout array.now client) }
+{
+    let mut from = 0;
+    while let Some(node) = ready_from(array, client, from) {
+        if can_skip(array, client, node) {
+            return Some(Event::Skip { client, node });
+        }
+        if can_fire(array, client, node) {
+            return Some(Event::Fire { client, node });
+        }
+        from = node + 1;
+    }
+    None
+}
+
+// The client's first event that can be done.
+fn pick_of<L: Layout, D: Disk>(array: &Array<L, D>, client: u32) -> Option<Event>
+    requires sound { IsSound L.Layout D.Disk array.now }
+    requires stands { Stands L.Layout array.now }
+    ensures { MatchOption result (CanNothing L.Layout array.now client) (IsFirstOf L.Layout array.now client) }
+{
+    if can_begin(array, client) {
+        return Some(Event::Begin { client });
+    }
+    if can_take(array, client) {
+        return Some(Event::Take { client });
+    }
+    if can_back(array, client) {
+        return Some(Event::Back { client });
+    }
+    pick_node(array, client)
+}
+
+// The first event of the first client in the ring that has one.
+fn pick_first<L: Layout, D: Disk>(array: &Array<L, D>) -> Option<Event>
+    requires sound { IsSound L.Layout D.Disk array.now }
+    requires stands { Stands L.Layout array.now }
+    ensures { MatchOption result (IsStuck L.Layout array.now) (IsPicked L.Layout array.now) }
+{
+    for turn in 0..CLIENTS {
+        let event = pick_of(array, (array.next % CLIENTS + turn) % CLIENTS);
+        if event.is_some() {
+            return event;
+        }
+    }
+    None
+}
+
+/// Chooses the event that is done next: the clients are tried in a ring, from the one after that of the last
+/// choice on, and of a client its begin, take and back, and then the least node that can be skipped or fired. None
+/// exactly where no event can be done but the end of a job.
+pub fn pick<L: Layout, D: Disk>(array: &mut Array<L, D>) -> Option<Event>
+    requires sound { IsSound L.Layout D.Disk array.old }
+    requires stands { Stands L.Layout array.old }
+    ensures event { MatchOption result (IsStuck L.Layout array.old) (IsPicked L.Layout array.old) }
+    ensures can { IfSome result (CanDo L.Layout array.new) }
+    ensures next { array.new ≡ record array.old { next = next_after array.old.next result } }
+    ensures sound { IsSound L.Layout D.Disk array.new }
+    ensures stands { Stands L.Layout array.new }
+    ensures shows { (w : World) → Shows D.Disk array.old w → Shows D.Disk array.new w }
+    ensures stays { (job : Job D) → IsOut D.Disk L.Layout array.old job → IsOut D.Disk L.Layout array.new job }
+{
+    let event = pick_first(array);
+    if let Some(event) = event {
+        array.next = (client_of(event) + 1) % CLIENTS;
+    }
+    event
+}

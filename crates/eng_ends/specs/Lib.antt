@@ -1,0 +1,4 @@
+pub mod Ends
+pub mod Summed
+pub mod Copied
+pub mod EndLog

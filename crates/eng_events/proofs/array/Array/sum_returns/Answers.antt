@@ -1,9 +1,0 @@
-use Rattle.blk_plain.specs.declared.op.Outcome.TheVariants as outcome
-use Rattle.eng_events.proofs.ReturningSum.{sum-back}
-use Rattle.eng_events.proofs.array.Array.sum_returns.Goals as goal
-
-pub sum_ends-requires-clause-back : goal.sum_ends-requires-clause-back
-sum_ends-requires-clause-back g c = let h = c.in-Sum in (sum-back g.L.Layout g.D.Disk c.args.self.now c.args.job outcome.Good h.to h.count c.requires.back h.is).0
-
-pub sum_ends-requires-clause-room : goal.sum_ends-requires-clause-room
-sum_ends-requires-clause-room g c = let h = c.in-Sum in (sum-back g.L.Layout g.D.Disk c.args.self.now c.args.job outcome.Good h.to h.count c.requires.back h.is).1

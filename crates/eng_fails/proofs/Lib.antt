@@ -1,0 +1,13 @@
+pub mod Keeping
+pub mod Dying
+pub mod Suffering
+pub mod SufferingAll
+pub mod Failing
+pub mod Failed
+pub mod EndingBad
+pub mod FinishingBad
+pub mod LosingBad
+pub mod ReturningBad
+pub mod LosingPlain
+pub mod FailStays
+pub mod HomeStays

@@ -1,0 +1,17 @@
+pub mod Room
+pub mod Shows
+pub mod Sound
+pub mod Out
+pub mod Can
+pub mod Moves
+pub mod Steps
+pub mod Failing
+pub mod Back
+pub mod Beginning
+pub mod Bad
+pub mod Serves
+pub mod Taken
+pub mod Doing
+pub mod GoesOn
+pub mod Homes
+pub mod Restored
