@@ -4,11 +4,11 @@
 # instructions, beside nodes times edges, by which the work is bounded.
 set -eu
 top=$(cd "$(dirname "$0")/.." && pwd)
-program=$top/crates/bench_check/out/bench_check
-[ -x "$program" ] || (cd "$top/crates/bench_check" && rt run > /dev/null)
+program=$top/crates/bench/out/bench
+[ -x "$program" ] || (cd "$top/crates/bench" && rt run > /dev/null)
 
 begin=$(date +%s%N)
-answer=$("$program")
+answer=$("$program" check)
 end=$(date +%s%N)
 echo "$answer"
 checks=$(echo "$answer" | sed -n 's/^checked \([0-9]*\) times.*/\1/p')
@@ -19,7 +19,7 @@ awk -v ns="$((end - begin))" -v checks="$checks" \
 echo "nodes times edges: $((nodes * edges))"
 
 if command -v valgrind > /dev/null; then
-    counted=$(valgrind --tool=callgrind --callgrind-out-file=/dev/null "$program" 2>&1 > /dev/null |
+    counted=$(valgrind --tool=callgrind --callgrind-out-file=/dev/null "$program" check 2>&1 > /dev/null |
         sed -n 's/.*Collected *: *\([0-9]*\).*/\1/p')
     echo "instructions for one check, reading the graph counted in: $((counted / checks))"
 fi

@@ -4,19 +4,19 @@
 # plan and, where valgrind is there, its counted instructions.
 set -eu
 top=$(cd "$(dirname "$0")/.." && pwd)
-program=$top/crates/bench_plan/out/bench_plan
-[ -x "$program" ] || (cd "$top/crates/bench_plan" && rt run > /dev/null)
+program=$top/crates/bench/out/bench
+[ -x "$program" ] || (cd "$top/crates/bench" && rt run > /dev/null)
 
 few=100
 many=10100
 plans=$((many - few))
-"$program" "$few"
+"$program" plan "$few"
 
 # The nanoseconds of a run that plans so often.
 clocked() {
     local begin end
     begin=$(date +%s%N)
-    "$program" "$1" > /dev/null
+    "$program" plan "$1" > /dev/null
     end=$(date +%s%N)
     echo $((end - begin))
 }
@@ -25,7 +25,7 @@ awk -v less="$(clocked "$few")" -v more="$(clocked "$many")" -v plans="$plans" \
 
 # The instructions of such a run.
 counted() {
-    valgrind --tool=callgrind --callgrind-out-file=/dev/null "$program" "$1" 2>&1 > /dev/null |
+    valgrind --tool=callgrind --callgrind-out-file=/dev/null "$program" plan "$1" 2>&1 > /dev/null |
         sed -n 's/.*Collected *: *\([0-9]*\).*/\1/p'
 }
 if command -v valgrind > /dev/null; then

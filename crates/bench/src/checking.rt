@@ -4,9 +4,7 @@
 //! 16,384 sources and antecedents: one read, 2,043 sums, each behind the seven or eight nodes before it, the commit,
 //! two writes and the terminator. Only the first sum is written. Each sum has to follow the read whose buffer it uses,
 //! so the checker goes back from each of them.
-#![tactic(auto)]
-
-use blk_plain::Span;
+use blk_plain::{Span, limits};
 use graph_check::{Scratch, check};
 use graph_mean::{Graph, Kind, Task};
 use graph_text::{Book, read_graphs};
@@ -14,7 +12,6 @@ use lay_core::{StripeMap, split};
 use lay_plain::Raid5;
 use std::alloc::{AllocError, Global};
 use std::fmt::Write;
-use std::process::ExitCode;
 
 // How often the graph is checked.
 const CHECKS: u32 = 20;
@@ -22,15 +19,13 @@ const CHECKS: u32 = 20;
 // The buffers of new data, all of the one block, and those that nodes fill.
 const NEW: u32 = 4;
 
-const BUFFERS: u32 = 2048;
-
 // The sums, which are the nodes from 1 on; those up to the last of the first few follow one node more.
 const SUMS: u32 = 2043;
 
 const CLOSER: u32 = 62;
 
 fn add_buffers(text: &mut String) -> Result<(), AllocError> {
-    for i in 0..BUFFERS {
+    for i in 0..limits::BUFFERS {
         write!(text, "buffer {i} stripe 0 from 0 count 1")?;
         text.push_str(if i < NEW { " new 0\n" } else { "\n" })?;
     }
@@ -67,7 +62,7 @@ fn text_of(alloc: Global) -> Result<String, AllocError> {
 // The graph, alone in its file.
 fn read_graph(alloc: Global) -> Option<Book> {
     let text = text_of(alloc).ok()?;
-    if text.len() > 16_777_216 {
+    if text.len() > limits::TEXT_BYTES as usize {
         return None;
     }
     read_graphs(alloc, text.as_bytes()).ok()
@@ -109,7 +104,8 @@ fn check_often(graph: &Graph, task: &Task, room: &mut Scratch) -> u32 {
     accepted
 }
 
-fn run(rt: &HostRuntime) -> Option<()> {
+/// Checks the graph, and prints its size and how often it was accepted.
+pub(crate) fn run(rt: &HostRuntime) -> Option<()> {
     let alloc = rt.alloc();
     let book = read_graph(alloc)?;
     let task = make_task(alloc)?;
@@ -127,11 +123,4 @@ fn run(rt: &HostRuntime) -> Option<()> {
     )
     .ok()?;
     println!(rt; "checked {CHECKS} times, accepted {accepted} times").ok()
-}
-
-fn main(rt: HostRuntime) -> ExitCode {
-    match run(&rt) {
-        Some(()) => ExitCode::SUCCESS,
-        None => ExitCode::FAILURE,
-    }
 }
