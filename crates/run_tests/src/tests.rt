@@ -44,13 +44,14 @@ enum Step {
     Spoil(&'static str, u16, u8),
 }
 
-/// A configuration `r5`, a script `s1` and another text `t1`; how many sectors each component has; which calls of which
+/// A configuration `r5`, a script `s1` and other texts `t1` and `t2`; how many sectors each component has; which calls of which
 /// components fail, by their numbers, and which calls of the bay; and what is done.
 #[derive(Clone, Copy)]
 struct Session {
     conf: &'static str,
     script: &'static str,
     other: &'static str,
+    more: &'static str,
     sectors: u16,
     fails: &'static [(&'static str, u32)],
     faults: &'static [u32],
@@ -62,6 +63,7 @@ const PLAIN: Session = Session {
     conf: CONF,
     script: SCRIPT,
     other: "",
+    more: "",
     sectors: 128,
     fails: &[],
     faults: &[],
@@ -96,6 +98,7 @@ fn bay_of(alloc: Global, session: &Session) -> Result<MemBay<MemDisk>, Fail> {
         text(alloc, "r5", session.conf)?,
         text(alloc, "s1", session.script)?,
         text(alloc, "t1", session.other)?,
+        text(alloc, "t2", session.more)?,
     ]?;
     let mut disks = Vec::new(alloc);
     for name in NAMES {

@@ -68,20 +68,24 @@ fn a_write_fails_among_workers(rt: HostRuntime) -> Result<(), Fail> {
     Ok(())
 }
 
-// Column 3 of five is rebuilt onto the spare beside two clients with stripes of their own, by four workers. Which of their
-// operations commits first isn't settled.
+// Column 3 of five has died by the write of a client, its call 72. It is rebuilt onto the spare beside two clients with stripes
+// of their own, by four workers. Which of their operations commits first isn't settled.
 #[test]
 fn a_column_is_rebuilt_beside_two_clients(rt: HostRuntime) -> Result<(), Fail> {
     let alloc = rt.alloc();
     let session = Session {
         conf: letters::WIDE,
         script: "0 write 64 256 5a\n0 read 64 256\n1 write 4096 256 c3\n1 read 4096 256\n",
+        other: "0 write 64 256 5a\n0 read 64 256\n",
         sectors: 2112,
+        fails: &[("d3", 72)],
         ..PLAIN
     };
     let mut bay = bay_of(alloc, &session)?;
     answer(&rt, alloc, &mut bay, "r5 -I 1001")?;
     answer(&rt, alloc, &mut bay, "r5 -i")?;
+    let (_, lines) = answer(&rt, alloc, &mut bay, "r5 --io t1 -w 0")?;
+    assert!(rt; lines.ends_with(b"\ndead 3\nstatus ok\n"));
     let (number, lines) = answer(&rt, alloc, &mut bay, "r5 -F d3 --io s1 -w 4")?;
     let replies =
         b"reply 0.0 done\nreply 0.1 data\nblock 64 256 5a\nreply 1.0 done\nreply 1.1 data\nblock 4096 256 c3\ncommit ";

@@ -5,6 +5,10 @@ use super::*;
 pub(super) const WIDE: &str =
     "START array\n1 5 1\nSTART disks\nd0\nd1\nd2\nd3\nd4\nSTART spare\ns0\nSTART layout\n32 1 1 5\nSTART queue\nfifo 100\n";
 
+// The same with another component in the place of d2.
+const WIDE_FOREIGN: &str =
+    "START array\n1 5 1\nSTART disks\nd0\nd1\nd5\nd3\nd4\nSTART spare\ns0\nSTART layout\n32 1 1 5\nSTART queue\nfifo 100\n";
+
 const FOREIGN: &str = "START array\n1 3 0\nSTART disks\nd0\nd1\nd3\nSTART layout\n1 1 1 5\n";
 
 // On five columns the check unit of stripe s is on column 3 where s is 1 modulo 5, which 13 of 64 stripes are. So d3 gets its
@@ -40,7 +44,7 @@ fn an_array_is_labelled_and_run_and_rebuilt(rt: HostRuntime) -> Result<(), Fail>
             Step::Run("r5 -p", 0, "parity clean\ndead 3\nstatus ok\n"),
             Step::Run("r5 -g d0", 0, "label 1 1001 5 0 5 32 64 53 1\nstatus ok\n"),
             Step::Run(
-                "r5 -F d3",
+                "r5 -F d3 -w 0",
                 0,
                 "reconstruct column 3 device 5 done 64\nstatus ok\n",
             ),
@@ -192,31 +196,46 @@ fn an_array_goes_by_its_labels(rt: HostRuntime) -> Result<(), Fail> {
     play(&rt, rt.alloc(), &sessions)
 }
 
-// In the place of d2 a component of another array of the same shape, which is labelled as d3; and one without a label. No
-// sector changes.
+// In the place of d2 a component that another array of the same shape has there, of five columns, and of three; and then one
+// without a label. No sector changes.
 #[test]
 fn labels_are_refused(rt: HostRuntime) -> Result<(), Fail> {
-    let sessions = [Session {
-        other: FOREIGN,
-        steps: &[
-            Step::Run("t1 -I 7", 0, "labels written 3\nstatus ok\n"),
-            Step::Run("r5 -I 1001", 0, "labels written 3\nstatus ok\n"),
-            Step::Copy("d3", "d2"),
-            Step::Run("r5 -s", 9, "status label 2 2 7 1001\n"),
-            Step::Run("r5 -p", 9, "status label 2 2 7 1001\n"),
-            Step::Run("r5 -i", 9, "status label 2 2 7 1001\n"),
-            Step::Run("r5 -P", 9, "status label 2 2 7 1001\n"),
-            Step::Run("r5 -f d0", 9, "status label 2 2 7 1001\n"),
-            Step::Run("r5 -F d0", 9, "status label 2 2 7 1001\n"),
-            Step::Run("r5 --io s1", 9, "status label 2 2 7 1001\n"),
-            Step::Run("r5 -g d0", 0, "label 1 1001 1 0 3 1 64 53 0\nstatus ok\n"),
-            Step::Run("r5 -g d2", 0, "label 1 7 1 2 3 1 64 53 0\nstatus ok\n"),
-            Step::Renew("d2"),
-            Step::Run("r5 -s", 9, "status label 2 1 0 0\n"),
-            Step::Run("r5 --io s1", 9, "status label 2 1 0 0\n"),
-            Step::Holds("d2", ""),
-        ],
-        ..PLAIN
-    }];
+    let sessions = [
+        Session {
+            conf: WIDE,
+            other: WIDE_FOREIGN,
+            sectors: 2112,
+            steps: &[
+                Step::Run("t1 -I 7", 0, "labels written 5\nstatus ok\n"),
+                Step::Run("r5 -I 1001", 0, "labels written 5\nstatus ok\n"),
+                Step::Run("r5 -i", 0, "parity initialised 64\nstatus ok\n"),
+                Step::Copy("d5", "d2"),
+                Step::Run("r5 -s", 9, "status label 2 2 7 1001\n"),
+            ],
+            ..PLAIN
+        },
+        Session {
+            other: FOREIGN,
+            steps: &[
+                Step::Run("t1 -I 7", 0, "labels written 3\nstatus ok\n"),
+                Step::Run("r5 -I 1001", 0, "labels written 3\nstatus ok\n"),
+                Step::Copy("d3", "d2"),
+                Step::Run("r5 -s", 9, "status label 2 2 7 1001\n"),
+                Step::Run("r5 -p", 9, "status label 2 2 7 1001\n"),
+                Step::Run("r5 -i", 9, "status label 2 2 7 1001\n"),
+                Step::Run("r5 -P", 9, "status label 2 2 7 1001\n"),
+                Step::Run("r5 -f d0", 9, "status label 2 2 7 1001\n"),
+                Step::Run("r5 -F d0", 9, "status label 2 2 7 1001\n"),
+                Step::Run("r5 --io s1", 9, "status label 2 2 7 1001\n"),
+                Step::Run("r5 -g d0", 0, "label 1 1001 1 0 3 1 64 53 0\nstatus ok\n"),
+                Step::Run("r5 -g d2", 0, "label 1 7 1 2 3 1 64 53 0\nstatus ok\n"),
+                Step::Renew("d2"),
+                Step::Run("r5 -s", 9, "status label 2 1 0 0\n"),
+                Step::Run("r5 --io s1", 9, "status label 2 1 0 0\n"),
+                Step::Holds("d2", ""),
+            ],
+            ..PLAIN
+        },
+    ];
     play(&rt, rt.alloc(), &sessions)
 }

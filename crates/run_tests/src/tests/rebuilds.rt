@@ -10,9 +10,8 @@ const MIRROR: &str =
 const PLACES: &str =
     "START array\n1 7 0\nSTART disks\nd0\nd1\nd2\nd3\nd4\nd5\nd6\nSTART layout\n1 1 1 D\ncyclic 7 : 0 1 3\n";
 
-// What is read of 16 blocks before column 2 fails, and behind that.
-const READ: &str =
-    "reply 0.0 data\nblock 0 16 c3\nreply 0.1 ok\nreply 0.2 data\nblock 0 16 c3\ncommit 0.0\ncommit 0.2\ndead 2\nstatus ok\n";
+// What is read of 16 blocks behind the failure of column 2.
+const READ: &str = "reply 0.0 ok\nreply 0.1 data\nblock 0 16 c3\ncommit 0.1\ndead 2\nstatus ok\n";
 
 // Column 4 of seven has a unit of 42 stripes. Rebuilt into their spare places, it lets another column fail. That one's disk is
 // replaced, and rebuilt: 42 stripes have a unit on it, and 7 have one on column 4 and their spare place on it; block 1 is read
@@ -22,23 +21,33 @@ fn columns_are_rebuilt_into_spare_places(rt: HostRuntime) -> Result<(), Fail> {
     let sessions = [Session {
         conf: PLACES,
         script: "0 write 0 16 c3\n",
-        other: "0 read 0 16\n0 fail 2\n0 read 0 16\n",
+        other: "0 fail 2\n0 read 0 16\n",
+        more: "0 read 0 16\n",
         steps: &[
             Step::Run("r5 -I 7", 0, "labels written 7\nstatus ok\n"),
             Step::Run("r5 -i", 0, "parity initialised 147\nstatus ok\n"),
-            Step::Run("r5 --io s1", 0, "reply 0.0 done\ncommit 0.0\nstatus ok\n"),
             Step::Run(
-                "r5 -F d4",
+                "r5 --io s1 -w 0",
+                0,
+                "reply 0.0 done\ncommit 0.0\nstatus ok\n",
+            ),
+            Step::Run(
+                "r5 -F d4 -w 0",
                 0,
                 "reconstruct column 4 spread done 42\nstatus ok\n",
             ),
             Step::Run("r5 -F d4", 12, "status nospare\n"),
-            Step::Run("r5 --io t1", 0, READ),
+            Step::Run("r5 --io t1 -w 0", 0, READ),
             Step::Renew("d2"),
             Step::Run(
-                "r5 -R d2",
+                "r5 -R d2 -w 0",
                 0,
                 "reconstruct column 2 device 2 done 49\nstatus ok\n",
+            ),
+            Step::Run(
+                "r5 --io t2 -w 0",
+                0,
+                "reply 0.0 data\nblock 0 16 c3\ncommit 0.0\nstatus ok\n",
             ),
             Step::Run("r5 -p", 0, "parity clean\nstatus ok\n"),
             Step::Run("r5 --io t1", 0, READ),
@@ -48,18 +57,26 @@ fn columns_are_rebuilt_into_spare_places(rt: HostRuntime) -> Result<(), Fail> {
     play(&rt, rt.alloc(), &sessions)
 }
 
-// Calls 0 and 1 of the spare read its first sector, and the write of sector 96 is that of stripe 32, call 34: the column stays
-// dead, and the spare free; and the data of before are there. Without a spare that is free nothing is written. The disk of
-// column 1 fails as its first sector is read, by its call 71, behind 64 units that its parity took: it isn't rebuilt.
+// Calls 0 to 2 of the spare read its first sector, and the write of sector 96 is that of stripe 32, call 35: the column stays
+// dead, and the spare free; and the data of before are there. Without a spare that is free nothing is written, no label
+// either. The disk of column 1 fails as its first sector is read, by its call 72, behind 64 units that its parity took: it
+// isn't rebuilt.
 #[test]
 fn a_rebuild_is_stopped(rt: HostRuntime) -> Result<(), Fail> {
     let sessions = [
         Session {
             conf: SPARED,
-            fails: &[("s0", 34)],
+            script: "0 write 0 4 a5\n",
+            other: "0 read 0 4\n",
+            fails: &[("s0", 35)],
             steps: &[
                 Step::Run("r5 -I 7", 0, "labels written 3\nstatus ok\n"),
                 Step::Run("r5 -i", 0, "parity initialised 64\nstatus ok\n"),
+                Step::Run(
+                    "r5 --io s1 -w 0",
+                    0,
+                    "reply 0.0 done\ncommit 0.0\nstatus ok\n",
+                ),
                 Step::Run(
                     "r5 -F d1 -w 0",
                     0,
@@ -71,9 +88,9 @@ fn a_rebuild_is_stopped(rt: HostRuntime) -> Result<(), Fail> {
                     "column 0 d0 optimal\ncolumn 1 d1 failed\ncolumn 2 d2 optimal\nspare 0 s0 free\nparity clean\nstatus ok\n",
                 ),
                 Step::Run(
-                    "r5 --io s1",
+                    "r5 --io t1 -w 0",
                     0,
-                    "reply 0.0 done\nreply 0.1 data\nblock 0 1 a5\ncommit 0.0\ncommit 0.1\ndead 1\nstatus ok\n",
+                    "reply 0.0 data\nblock 0 4 a5\ncommit 0.0\ndead 1\nstatus ok\n",
                 ),
                 Step::Run("r5 -F d2", 8, "dead 1\ndead 2\nstatus lost 1 2 0\n"),
                 Step::Run(
@@ -85,11 +102,13 @@ fn a_rebuild_is_stopped(rt: HostRuntime) -> Result<(), Fail> {
             ..PLAIN
         },
         Session {
-            fails: &[("d1", 71)],
+            fails: &[("d1", 72)],
             steps: &[
                 Step::Run("r5 -I 7", 0, "labels written 3\nstatus ok\n"),
                 Step::Run("r5 -F d1", 12, "status nospare\n"),
                 Step::Run("r5 -g d0", 0, "label 1 7 1 0 3 1 64 53 0\nstatus ok\n"),
+                Step::Run("r5 -g d1", 0, "label 1 7 1 1 3 1 64 53 0\nstatus ok\n"),
+                Step::Run("r5 -g d2", 0, "label 1 7 1 2 3 1 64 53 0\nstatus ok\n"),
                 Step::Run("r5 -i", 0, "parity initialised 64\nstatus ok\n"),
                 Step::Run(
                     "r5 -R d1 --io s1 -w 0",
@@ -100,6 +119,28 @@ fn a_rebuild_is_stopped(rt: HostRuntime) -> Result<(), Fail> {
             ..PLAIN
         },
     ];
+    play(&rt, rt.alloc(), &sessions)
+}
+
+// A disk without a label is refused, and its column is rebuilt on it.
+#[test]
+fn a_replaced_disk_is_rebuilt(rt: HostRuntime) -> Result<(), Fail> {
+    let sessions = [Session {
+        conf: letters::WIDE,
+        sectors: 2112,
+        steps: &[
+            Step::Run("r5 -I 1001", 0, "labels written 5\nstatus ok\n"),
+            Step::Run("r5 -i", 0, "parity initialised 64\nstatus ok\n"),
+            Step::Renew("d2"),
+            Step::Run("r5 -s", 9, "status label 2 1 0 0\n"),
+            Step::Run(
+                "r5 -R d2 -w 0",
+                0,
+                "reconstruct column 2 device 2 done 64\nstatus ok\n",
+            ),
+        ],
+        ..PLAIN
+    }];
     play(&rt, rt.alloc(), &sessions)
 }
 
