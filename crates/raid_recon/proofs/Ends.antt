@@ -20,7 +20,7 @@ use Rattle.raid_recon.specs.Turns.{Turn, Left, Unread, Sound, Unsound, Written, 
 use Rattle.raid_recon.specs.Log.{columns_in, count_in, turn_at, AreTurns, IsRewritten}
 use Rattle.raid_recon.specs.Swept.{IsSwept}
 use Rattle.raid_recon.specs.Counts.{count_below}
-use Rattle.raid_recon.specs.Ends.{IsDue, MayRewrite, ChecksHold, IsCounted}
+use Rattle.raid_recon.specs.Ends.{IsToCount, MayRewrite, ChecksHold, IsCounted}
 use Rattle.raid_recon.proofs.Places.{states-killed}
 use Rattle.raid_recon.proofs.Bytes.{zero-from}
 use Rattle.raid_recon.proofs.Frames.{last-unit, check-alone, byte-same, sum-same}
@@ -190,23 +190,23 @@ count-least : (ts : List Turn) (p : ℕ → Bool) → ((s : ℕ) (t : Turn) → 
 count-least [] p h = omega arith
 count-least (x ∷ ts) p h = omega (arith, count-least ts p (λ s t at. h s t (turn-older ts x t s at)), bool-le (p (length ts)) (does_count x) (h (length ts) x (turn-newest ts x)))
 
-due-written : (kind : Sweep) (P : Type 0) → Rewrites kind P → IsDue kind P
+due-written : (kind : Sweep) (P : Type 0) → Rewrites kind P → IsToCount kind P
 due-written Check P h = absurd h
 due-written Sync P h = h
 due-written Init P h = tt
 
-due-unsound : (kind : Sweep) (P : Type 0) → is_check kind ≡ true → P → IsDue kind P
+due-unsound : (kind : Sweep) (P : Type 0) → is_check kind ≡ true → P → IsToCount kind P
 due-unsound Check P e h = h
 due-unsound Sync P e h = no-bool e
 due-unsound Init P e h = no-bool e
 
-due-looked : (kind : Sweep) (P : Type 0) → is_init kind ≡ false → IsDue kind P → P
+due-looked : (kind : Sweep) (P : Type 0) → is_init kind ≡ false → IsToCount kind P → P
 due-looked Check P e h = h
 due-looked Sync P e h = h
 due-looked Init P e h = no-bool (sym e)
 
 module _ {D : Type 0} (g : Ghosts D) (kind : Sweep) (y : Shape) (layout : IsLayout y) (one : y.checks ≡ 1) (columns after : List Column) (old new : List (Option D)) (n : ℕ) (w : IsSwept g kind y y.stripes columns after old new n) where
-  counted-of : (s : ℕ) (t : Turn) → does_count t ≡ true → Had g.tells kind y (contents_of g old) columns w.turns s t → IsComplete y (states_of y columns) s × IsDue kind (g.tells → IsNotZero y (contents_of g old) (states_of y columns) s)
+  counted-of : (s : ℕ) (t : Turn) → does_count t ≡ true → Had g.tells kind y (contents_of g old) columns w.turns s t → IsComplete y (states_of y columns) s × IsToCount kind (g.tells → IsNotZero y (contents_of g old) (states_of y columns) s)
   counted-of s Left e h = no-bool e
   counted-of s (Unread i) e h = no-bool e
   counted-of s Sound e h = no-bool e
@@ -214,7 +214,7 @@ module _ {D : Type 0} (g : Ghosts D) (kind : Sweep) (y : Shape) (layout : IsLayo
   counted-of s Written e h = (complete-then g.tells kind y layout one (contents_of g old) columns w.turns s h.rest h.is.0, due-written kind _ (rewrites-more kind _ _ (λ f t. not-zero-then g.tells kind y layout one (contents_of g old) columns w.turns s h.rest h.is.0 (f t)) h.is.1))
   counted-of s Unwritten e h = no-bool e
 
-  counts : (s : ℕ) (t : Turn) → Had g.tells kind y (contents_of g old) columns w.turns s t → Whole t → IsDue kind (g.tells × IsNotZero y (contents_of g old) (states_of y columns) s) → does_count t ≡ true
+  counts : (s : ℕ) (t : Turn) → Had g.tells kind y (contents_of g old) columns w.turns s t → Whole t → IsToCount kind (g.tells × IsNotZero y (contents_of g old) (states_of y columns) s) → does_count t ≡ true
   counts s t h (unsound e) due = ap does_count e
   counts s t h (written e) due = ap does_count e
   counts s t h (sound e) due =

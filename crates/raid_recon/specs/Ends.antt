@@ -17,10 +17,10 @@ use Rattle.raid_recon.specs.Turns.{Rewrites, call_at}
 use Rattle.raid_recon.specs.Counts.{count_below}
 
 -- a stripe that lacks no unit is to be counted: at an initialisation any, else one whose sum isn't zero
-abbrev pub IsDue : Sweep → Type 0 → Type 0
-IsDue Check not_zero = not_zero
-IsDue Sync not_zero = not_zero
-IsDue Init not_zero = Unit {0}
+abbrev pub IsToCount : Sweep → Type 0 → Type 0
+IsToCount Check not_zero = not_zero
+IsToCount Sync not_zero = not_zero
+IsToCount Init not_zero = Unit {0}
 
 -- Each check unit of a stripe that lacked no unit, if it is available in the end, holds the sum of its stripe's data units, or what it held.
 abbrev pub ChecksHold : {D : Type 0} → Ghosts D → Shape → (columns after : List Column) (old new : List (Option D)) → Type 0
@@ -38,8 +38,8 @@ module _ {D : Type 0} (g : Ghosts D) (kind : Sweep) (y : Shape) where
 
   -- Counted were at most the stripes that lacked no unit and were due, and at least those of them that still lack none.
   pub record IsCounted (columns after : List Column) (old : List (Option D)) (n : ℕ) : Type 0 where
-    pub most : (p : ℕ → Bool) → ((s : ℕ) → s < y.stripes → IsComplete y (states_of y columns) s → IsDue kind (g.tells → IsNotZero y (contents_of g old) (states_of y columns) s) → p s ≡ true) → n ≤ count_below p y.stripes
-    pub least : (p : ℕ → Bool) → ((s : ℕ) → s < y.stripes → p s ≡ true → IsComplete y (states_of y after) s × IsDue kind (g.tells × IsNotZero y (contents_of g old) (states_of y columns) s)) → count_below p y.stripes ≤ n
+    pub most : (p : ℕ → Bool) → ((s : ℕ) → s < y.stripes → IsComplete y (states_of y columns) s → IsToCount kind (g.tells → IsNotZero y (contents_of g old) (states_of y columns) s) → p s ≡ true) → n ≤ count_below p y.stripes
+    pub least : (p : ℕ → Bool) → ((s : ℕ) → s < y.stripes → p s ≡ true → IsComplete y (states_of y after) s × IsToCount kind (g.tells × IsNotZero y (contents_of g old) (states_of y columns) s)) → count_below p y.stripes ≤ n
 
 -- ## Calls
 

@@ -77,15 +77,15 @@ module _ {D : Type 0} (g : Ghosts D) where
     pub not_zero : differs ≡ true → g.tells → IsNotZero y (contents_of g old) cols s
 
   -- what is answered of a turn: whether it counts, or whose device failed
-  abbrev pub Answers : Shape → List ColumnState → ℕ → Turn → Result Bool FailedAt → Type 0
-  Answers y cols s turn (Ok counted) = (failed_at y cols s turn ≡ None) × (counted ≡ does_count turn)
-  Answers y cols s turn (Err e) = (at : Spot) × (failed_at y cols s turn ≡ Some at) × (e.column ≡ at.column)
+  abbrev pub AnswersTurn : Shape → List ColumnState → ℕ → Turn → Result Bool FailedAt → Type 0
+  AnswersTurn y cols s turn (Ok counted) = (failed_at y cols s turn ≡ None) × (counted ≡ does_count turn)
+  AnswersTurn y cols s turn (Err e) = (at : Spot) × (failed_at y cols s turn ≡ Some at) × (e.column ≡ at.column)
 
   -- the stripe had its turn
   pub record Visits (kind : Sweep) (y : Shape) (cols : List ColumnState) (s : ℕ) (old new : List (Option D)) (result : Result Bool FailedAt) : Type 0 where
     pub turn : Turn
     pub visit : IsVisit g kind y cols s old new turn
-    pub answer : Answers y cols s turn result
+    pub answer : AnswersTurn y cols s turn result
 
   -- and its column died where a device failed
   pub record SweepsStripe (kind : Sweep) (y : Shape) (s : ℕ) (columns after : List Column) (old new : List (Option D)) (counted : Bool) : Type 0 where

@@ -4,14 +4,14 @@ use Rattle.std.specs.Prelude.{flat_map, bytes_eq, All}
 use Rattle.std.proofs.lemmas.Slice.Eq.{bytes_eq-Decides}
 use Rattle.std.proofs.lemmas.Bool.{cases_lt, false_from_ne_true, false≢true}
 use Rattle.std.proofs.lemmas.List.{take-append-drop, length-take-le, length-replicate, get_or-take, get_or-replicate, get_or_default, same_lists, drop_more, drop_all}
-use Rattle.raid_script.specs.Runs.{Run, run_of, joined, runs, EndsBefore, AreApart, AreRuns}
+use Rattle.raid_script.specs.Runs.{SectorRun, run_of, joined, runs, EndsBefore, AreApart, AreRuns}
 
 abbrev pub Sector : Type 0
 Sector = List ℕ
 
 -- all sectors of the runs
-abbrev pub spread : List Run → List Sector
-spread all = flat_map (λ (run : Run). replicate run.count run.sector) all
+abbrev pub spread : List SectorRun → List Sector
+spread all = flat_map (λ (run : SectorRun). replicate run.count run.sector) all
 
 -- the first of these has other bytes
 abbrev pub IsOther : Sector → List Sector → Type 0
@@ -25,11 +25,11 @@ other_bytes : (s t : Sector) → s ≢ t → bytes_eq s t ≡ false
 other_bytes s t apart = false_from_ne_true _ (λ e. apart ((bytes_eq-Decides s t).0 e))
 
 -- what is joined begins with that sector
-joined_head : (s : Sector) (all : List Run) → (n : ℕ) × (others : List Run) × (joined s all ≡ run_of s n ∷ others)
+joined_head : (s : Sector) (all : List SectorRun) → (n : ℕ) × (others : List SectorRun) × (joined s all ≡ run_of s n ∷ others)
 joined_head s [] = (1, [], refl)
 joined_head s (first ∷ rest) = pick (bytes_eq s first.sector)
   where
-    pick : (b : Bool) → (n : ℕ) × (others : List Run) × (cond b (run_of s (first.count + 1) ∷ rest) (run_of s 1 ∷ first ∷ rest) ≡ run_of s n ∷ others)
+    pick : (b : Bool) → (n : ℕ) × (others : List SectorRun) × (cond b (run_of s (first.count + 1) ∷ rest) (run_of s 1 ∷ first ∷ rest) ≡ run_of s n ∷ others)
     pick true = (first.count + 1, rest, refl)
     pick false = (1, first ∷ rest, refl)
 
@@ -38,14 +38,14 @@ joined_other : (s : Sector) (tail : List Sector) → IsOther s tail → joined s
 joined_other s [] other = refl
 joined_other s (t ∷ ts) other =
     let h = joined_head t (runs ts) in
-    subst (λ (all : List Run). joined s all ≡ run_of s 1 ∷ all) (sym h.2) (ap (λ (b : Bool). cond b (run_of s (h.0 + 1) ∷ h.1) (run_of s 1 ∷ run_of t h.0 ∷ h.1)) (other_bytes s t other))
+    subst (λ (all : List SectorRun). joined s all ≡ run_of s 1 ∷ all) (sym h.2) (ap (λ (b : Bool). cond b (run_of s (h.0 + 1) ∷ h.1) (run_of s 1 ∷ run_of t h.0 ∷ h.1)) (other_bytes s t other))
 
 -- equal sectors before others are one run
 runs_of_repeat : (n : ℕ) (s : Sector) (tail : List Sector) → 0 < n → IsOther s tail → runs (replicate n s ++ tail) ≡ run_of s n ∷ runs tail
 runs_of_repeat zero s tail some other = absurd (omega arith)
 runs_of_repeat (suc zero) s tail some other = joined_other s tail other
 runs_of_repeat (suc (suc n)) s tail some other =
-    ap (λ (all : List Run). joined s all) (runs_of_repeat (suc n) s tail (omega arith) other)
+    ap (λ (all : List SectorRun). joined s all) (runs_of_repeat (suc n) s tail (omega arith) other)
     ∙ (ap (λ (b : Bool). cond b (run_of s (suc n + 1) ∷ runs tail) (run_of s 1 ∷ run_of s (suc n) ∷ runs tail)) (same_bytes s s refl)
     ∙ ap (λ (k : ℕ). run_of s k ∷ runs tail) (add-one (suc n)))
 
@@ -76,27 +76,27 @@ first_run sectors n d some within equal maximal =
     past : length sectors ≤ n → IsOther (get_or sectors 0 d) (drop n sectors)
     past le = subst (λ (tail : List Sector). IsOther (get_or sectors 0 d) tail) (sym (drop_all n sectors le)) tt
 
-joined_are : (s : Sector) (sectors : List Sector) (all : List Run) → AreRuns sectors all → AreRuns (s ∷ sectors) (joined s all)
+joined_are : (s : Sector) (sectors : List Sector) (all : List SectorRun) → AreRuns sectors all → AreRuns (s ∷ sectors) (joined s all)
 joined_are s sectors [] are = record {
   whole = ap (λ (rest : List Sector). s ∷ rest) are.whole;
   some = λ k d h. first_count k d h;
   apart = (tt, tt);
 }
   where
-    first_count : (k : ℕ) (d : Run) → k < 1 → 0 < (get_or (run_of s 1 ∷ []) k d).count
+    first_count : (k : ℕ) (d : SectorRun) → k < 1 → 0 < (get_or (run_of s 1 ∷ []) k d).count
     first_count zero d h = omega arith
     first_count (suc k) d h = absurd (omega arith)
 joined_are s sectors (first ∷ rest) are = pick (bytes_eq s first.sector) refl
   where
-    longer : (k : ℕ) (d : Run) → k < length (first ∷ rest) → 0 < (get_or (run_of s (first.count + 1) ∷ rest) k d).count
+    longer : (k : ℕ) (d : SectorRun) → k < length (first ∷ rest) → 0 < (get_or (run_of s (first.count + 1) ∷ rest) k d).count
     longer zero d h = omega arith
     longer (suc k) d h = are.some (suc k) d h
 
-    more : (k : ℕ) (d : Run) → k < suc (length (first ∷ rest)) → 0 < (get_or (run_of s 1 ∷ first ∷ rest) k d).count
+    more : (k : ℕ) (d : SectorRun) → k < suc (length (first ∷ rest)) → 0 < (get_or (run_of s 1 ∷ first ∷ rest) k d).count
     more zero d h = omega arith
     more (suc k) d h = are.some k d (omega arith)
 
-    ends : (others : List Run) → s ≡ first.sector → EndsBefore first others → EndsBefore (run_of s (first.count + 1)) others
+    ends : (others : List SectorRun) → s ≡ first.sector → EndsBefore first others → EndsBefore (run_of s (first.count + 1)) others
     ends [] e h = tt
     ends (next ∷ others) e h = λ same. h (sym e ∙ same)
 
@@ -125,17 +125,17 @@ other_repeat : (n : ℕ) (s t : Sector) (tail : List Sector) → 0 < n → s ≢
 other_repeat zero s t tail some apart = absurd (omega arith)
 other_repeat (suc n) s t tail some apart = apart
 
-other_spread : (run : Run) (others : List Run) → EndsBefore run others → All (λ (r : Run). 0 < r.count) others → IsOther run.sector (spread others)
+other_spread : (run : SectorRun) (others : List SectorRun) → EndsBefore run others → All (λ (r : SectorRun). 0 < r.count) others → IsOther run.sector (spread others)
 other_spread run [] ends some = tt
 other_spread run (next ∷ others) ends some = other_repeat next.count run.sector next.sector (spread others) (some 0 next (omega arith)) ends
 
-from_spread : (all : List Run) → All (λ (r : Run). 0 < r.count) all → AreApart all → all ≡ runs (spread all)
+from_spread : (all : List SectorRun) → All (λ (r : SectorRun). 0 < r.count) all → AreApart all → all ≡ runs (spread all)
 from_spread [] some apart = refl
 from_spread (run ∷ others) some apart =
-    let rest : All (λ (r : Run). 0 < r.count) others = λ k d h. some (suc k) d (omega arith) in
-    ap (λ (tail : List Run). run ∷ tail) (from_spread others rest apart.1)
+    let rest : All (λ (r : SectorRun). 0 < r.count) others = λ k d h. some (suc k) d (omega arith) in
+    ap (λ (tail : List SectorRun). run ∷ tail) (from_spread others rest apart.1)
     ∙ sym (runs_of_repeat run.count run.sector (spread others) (some 0 run (omega arith)) (other_spread run others apart.0 rest))
 
 -- no other list of runs is that
-pub only_runs : (sectors : List Sector) (all : List Run) → AreRuns sectors all → all ≡ runs sectors
+pub only_runs : (sectors : List Sector) (all : List SectorRun) → AreRuns sectors all → all ≡ runs sectors
 only_runs sectors all are = from_spread all are.some are.apart ∙ ap runs are.whole

@@ -3,7 +3,7 @@ use Rattle.std.specs.Prelude.{ℕ, ◌+◌, List, [], ◌∷◌, ◌++◌, codes
 use Rattle.hex.specs.Hex.{encode_lower}
 use Rattle.put_line.specs.Line.{line}
 use Rattle.raid_script.specs.Repetition.{shortest}
-use Rattle.raid_script.specs.Runs.{Run, runs}
+use Rattle.raid_script.specs.Runs.{SectorRun, runs}
 
 -- block FIRST COUNT HEX
 unfoldable pub block_line : ℕ → ℕ → List ℕ → List ℕ
@@ -11,7 +11,7 @@ block_line first count sector = line
     (codes "block " ∷ decimal first ∷ codes " " ∷ decimal count ∷ codes " " ∷ encode_lower (shortest sector) ∷ codes "\n" ∷ [])
 
 -- the lines of runs, of which the first begins at this block and each other one behind the one before it
-abbrev pub run_lines : ℕ → List Run → List ℕ
+abbrev pub run_lines : ℕ → List SectorRun → List ℕ
 run_lines first [] = []
 run_lines first (run ∷ others) = block_line first run.count run.sector ++ run_lines (first + run.count) others
 

@@ -2,38 +2,38 @@
 use Rattle.std.specs.Prelude.{◌≡◌, ◌≢◌, ℕ, ◌+◌, ◌<◌, List, [], ◌∷◌, All, replicate, flat_map, bytes_eq, if◌then◌else◌}
 
 -- so many sectors of these bytes
-pub record Run : Type 0 where
+pub record SectorRun : Type 0 where
   pub sector : List ℕ
   pub count : ℕ
 
 -- a run of so many of these
-abbrev pub run_of : List ℕ → ℕ → Run
+abbrev pub run_of : List ℕ → ℕ → SectorRun
 run_of sector count = record { sector = sector; count = count }
 
 -- the runs as a sector comes in front of them: it joins the first one where that has its bytes
-abbrev pub joined : List ℕ → List Run → List Run
+abbrev pub joined : List ℕ → List SectorRun → List SectorRun
 joined sector [] = run_of sector 1 ∷ []
 joined sector (first ∷ others) =
     if bytes_eq sector first.sector then run_of sector (first.count + 1) ∷ others else run_of sector 1 ∷ first ∷ others
 
 -- the maximal runs of equal sectors that follow one another
-abbrev pub runs : List (List ℕ) → List Run
+abbrev pub runs : List (List ℕ) → List SectorRun
 runs [] = []
 runs (sector ∷ sectors) = joined sector (runs sectors)
 
 -- the run doesn't go on in the first of these
-abbrev pub EndsBefore : Run → List Run → Type 0
+abbrev pub EndsBefore : SectorRun → List SectorRun → Type 0
 EndsBefore run [] = Unit {0}
 EndsBefore run (next ∷ others) = run.sector ≢ next.sector
 
 -- no run goes on in the next one
-abbrev pub AreApart : List Run → Type 0
+abbrev pub AreApart : List SectorRun → Type 0
 AreApart [] = Unit {0}
 AreApart (run ∷ others) = EndsBefore run others × AreApart others
 
 -- These are the maximal runs of the sectors: one behind the other they are the sectors, each has
 -- a sector, and none goes on in the next one.
-pub record AreRuns (sectors : List (List ℕ)) (all : List Run) : Type 0 where
+pub record AreRuns (sectors : List (List ℕ)) (all : List SectorRun) : Type 0 where
   pub whole : flat_map (λ run. replicate run.count run.sector) all ≡ sectors
   pub some : All (λ run. 0 < run.count) all
   pub apart : AreApart all

@@ -5,12 +5,12 @@ ghost use Rattle.raid_bay.specs.Sink.{Puts};
 ghost use Rattle.raid_script.specs.History.{commit_line, commit_text, history_text};
 
 use blk_disk::Failed;
-use blk_plain::OpId;
+use blk_plain::{OpId, limits};
 use put_line::Line;
 use raid_bay::Sink;
 
 /// The client whose operations are the array's own.
-pub const OWN: u32 = 16;
+const OWN: u32 = limits::CLIENTS;
 
 // The line of an operation in the history.
 #[tactic(auto, unfolding(crate::specs::History::commit_line))]

@@ -9,16 +9,10 @@ use crate::codes::{LIMIT, WORD};
 use crate::entry::Entry;
 use crate::kinds::item_in;
 use crate::words::{next_client, next_word};
-use blk_plain::Op;
+use blk_plain::{Op, limits};
 use eng_world::Item;
 use graph_text::Book;
 use raid_text::{Line, Words};
-
-/// The most items of a script.
-const ITEMS: usize = 65_536;
-
-/// The most sectors that a script reads.
-const SECTORS: u64 = 262_144;
 
 // A client and its item.
 #[tactic(auto, unfolding(crate::specs::Format::request_of))]
@@ -71,7 +65,9 @@ pub fn next_entry(
     ensures bound { IfOk result (λ e. sectors + read_sectors (seen e.item) ≤ 262144) }
 {
     let entry = read_line(book, columns, line)?;
-    if items < ITEMS && sectors + read_sectors(&entry.item) <= SECTORS {
+    if items < limits::ITEMS as usize
+        && sectors + read_sectors(&entry.item) <= limits::READ_SECTORS as u64
+    {
         Ok(entry)
     } else {
         Err(LIMIT)

@@ -2,7 +2,7 @@
 ghost use Rattle.std.specs.Prelude.{◌≡◌, ◌≢◌, ◌≤◌, ◌<◌, ℕ, List, length, slice_index_or, is_ok, OnErr};
 ghost use Rattle.blk_disk.specs.Disk.{Rose};
 ghost use Rattle.raid_bay.specs.Sink.{Puts};
-ghost use Rattle.raid_script.specs.Runs.{Run, AreRuns, runs};
+ghost use Rattle.raid_script.specs.Runs.{SectorRun, AreRuns, runs};
 ghost use Rattle.raid_script.specs.Blocks.{block_line, blocks_text};
 
 use crate::repetition::shortest_string;
@@ -55,7 +55,7 @@ pub fn put_blocks<K: Sink>(first: u64, sectors: &[[u8; 512]], out: &mut K) -> Re
 
     // The runs of the text are the maximal ones, and no other list of runs is that.
     ensures maximal { AreRuns sectors.now (runs sectors.now) }
-    ensures only { (others : List Run) → AreRuns sectors.now others → others ≡ runs sectors.now }
+    ensures only { (others : List SectorRun) → AreRuns sectors.now others → others ≡ runs sectors.now }
 {
     let mut line = Line::new();
     // Of 128 bits, since the sum behind the last block may not fit in 64.

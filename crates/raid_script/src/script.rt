@@ -3,12 +3,10 @@ ghost use Rattle.std.specs.Prelude.{◌≡◌, map, filter, nat_eq, IfOk};
 ghost use Rattle.raid_script.specs.Asked.{by_client, seen, seen_entry};
 
 use crate::entry::Entry;
+use blk_plain::limits;
 use eng_world::Item;
 use std::alloc::{AllocError, Global};
 use std::marker::Model;
-
-/// How many clients a text has, with items or without.
-const CLIENTS: u32 = 16;
 
 /// The items of each client, in order. Contracts see what each of them asks for.
 #[derive(Drop)]
@@ -49,8 +47,8 @@ fn items_of(alloc: Global, entries: &[Entry], client: u32) -> Result<Vec<Item>, 
 pub fn by_client(alloc: Global, entries: &[Entry]) -> Result<Script, AllocError>
     ensures { IfOk result (λ s. s ≡ by_client (map seen_entry entries.now)) }
 {
-    let mut clients = Vec::with_capacity(alloc, CLIENTS as usize)?;
-    for client in 0..CLIENTS {
+    let mut clients = Vec::with_capacity(alloc, limits::CLIENTS as usize)?;
+    for client in 0..limits::CLIENTS {
         clients.push(items_of(alloc, entries, client)?)?;
     }
     Ok(Script { clients })

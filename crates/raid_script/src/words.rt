@@ -9,12 +9,9 @@ ghost use Rattle.graph_text.specs.FormatSteps.{at_end, next_number, next_word};
 ghost use Rattle.raid_script.specs.Format.{next_client, next_column, next_graph, next_pattern, next_span};
 
 use crate::codes::{CLIENT, COLUMN, GRAPH, NUMBER, PATTERN, WORD};
-use blk_plain::{Pattern, Span};
+use blk_plain::{Pattern, Span, limits};
 use graph_text::Book;
 use raid_text::{Words, number, pattern};
-
-/// How many clients there are.
-const CLIENTS: u32 = 16;
 
 /// The next word.
 #[tactic(auto, unfolding(graph_text::specs::FormatSteps::next_word))]
@@ -58,7 +55,7 @@ pub fn next_client(words: &mut Words) -> Result<u32, u8>
     ensures { Gives (λ n. (n, words_left words.new)) result (next_client (words_left words.old)) }
 {
     let client = next_number(words)?;
-    if client < CLIENTS {
+    if client < limits::CLIENTS {
         Ok(client)
     } else {
         Err(CLIENT)

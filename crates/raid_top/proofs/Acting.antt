@@ -15,13 +15,13 @@ use Rattle.top_duty.specs.declared.duty.Duty.{Duty as DeclaredDuty}
 use Rattle.top_duty.specs.declared.duty.Duty.TheVariants as declared
 use Rattle.top_duty.specs.Duty.{Duty, IsWanted, asked_of, duty_in}
 use Rattle.top_duty.specs.Opening.{reads_fronts}
-use Rattle.top_duty.specs.Taken.{IsTaken, Reads, RefusedFor, WasRead}
+use Rattle.top_duty.specs.Taken.{DevicesAreTaken, Reads, RefusedFor, WasRead}
 use Rattle.top_duty.specs.Views as views
 use Rattle.top_duty.specs.Views.{duty_seen}
 use Rattle.raid_top.specs.Ends.{Acted}
 use Rattle.raid_top.specs.Outcome.{Outcome}
-use Rattle.raid_top.specs.Refused.{IsRefused}
-use Rattle.raid_top.specs.Served.{IsDone, IsMemory}
+use Rattle.raid_top.specs.Refused.{CallIsRefused}
+use Rattle.raid_top.specs.Served.{IsPerformed, IsMemory}
 use Rattle.raid_top.proofs.Backs.{back_are_named, home_as_it_was, others_same}
 use Rattle.raid_top.proofs.Reading.{reads_still}
 use Rattle.raid_top.proofs.Wanted.{asked_is, is_made}
@@ -31,11 +31,11 @@ use Rattle.raid_top.proofs.Wanted.{asked_is, is_made}
 -- `mid` is what is at home while the devices are out, and `first` says that the bay's count of faults had risen by then
 module _ {D : Type 0} (g : Ghosts D) (b : Told D) (words : List Text) (mid : Text → Option D) (first : Type 0) (k : Asked) (duty : Duty) (fronts : List Front) (old : List (Option D))
     (same : asked_of duty ≡ k) (command : command_of words ≡ Ok k.command) (wanted : b.tells → IsWanted (duty_in g.size b words fronts) (Ok duty))
-    (taken : IsTaken g (record { tells = b.tells; rose = first; texts = b.texts; home = b.home; after = mid }) k old fronts) where
+    (taken : DevicesAreTaken g (record { tells = b.tells; rose = first; texts = b.texts; home = b.home; after = mid }) k old fronts) where
   still : Changes g (λ _ _. ⊥) taken.taken old
   still = reads_still g taken.taken old old fronts (reads_fronts k.command.action) taken.read
 
-  pub acted_of : (o : Outcome) → length old ≡ length (names_for k) → IsDone g b.tells mid b.after (names_for k) duty fronts old o → Acted g b words o
+  pub acted_of : (o : Outcome) → length old ≡ length (names_for k) → IsPerformed g b.tells mid b.after (names_for k) duty fronts old o → Acted g b words o
   acted_of o many d =
       record {
         duty = duty;
@@ -76,7 +76,7 @@ module _ {D : Type 0} (g : Ghosts D) (b : Told D) (words : List Text) (mid : Tex
   memory_kind r (inl plain) = ap (λ (x : Refused). x.status) plain
   memory_kind r (inr at) = ap (λ (x : Refused). x.status) at.2
 
-  pub refused_of : (r : Refused) (is_out : Text → Type 0) → length old ≡ length (names_for k) → AreOut is_out (names_for k) old → IsMemory duty r → (b.tells → AreBack mid b.after (names_for k) old) → IsRefused g b words r
+  pub refused_of : (r : Refused) (is_out : Text → Type 0) → length old ≡ length (names_for k) → AreOut is_out (names_for k) old → IsMemory duty r → (b.tells → AreBack mid b.after (names_for k) old) → CallIsRefused g b words r
   refused_of r is_out many out memory back = record {
     kind = subst (λ (s : _). views.IsRefusal b.rose s) (sym (memory_kind r memory)) tt;
     usage = λ i e. absurd (let z : ⊥ = cc (e, command) in z);

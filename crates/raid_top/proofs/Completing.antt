@@ -13,7 +13,7 @@ use Rattle.top_duty.specs.Duty.{Duty, asked_of, duty_in}
 use Rattle.top_duty.specs.Opening.{reads_fronts}
 use Rattle.top_duty.specs.Taken.{RefusedAt, RefusedFor}
 use Rattle.blk_disk.proofs.DeviceLaws.{changes-refl}
-use Rattle.raid_top.specs.Ends.{Acted, Acts, Answers, EndsWell, IsRight, MayRead, Survives}
+use Rattle.raid_top.specs.Ends.{Acted, Acts, Answers, EndsWell, IsRight, MayRead, SurvivesCall}
 use Rattle.raid_top.specs.Outcome.{Outcome, Ran, Did, Looked, Refuses, status_of}
 use Rattle.raid_top.proofs.Frames.{AnySector, due_moves}
 use Rattle.raid_top.proofs.Reading.{may_read, reads_still}
@@ -32,7 +32,7 @@ module _ {D : Type 0} (g : Ghosts D) (b : Told D) (words : List Text) (told : b.
       (may_read g acted.taken acted.old acted.back acted.fronts (reads_fronts (asked_of acted.duty).command.action) moves acted.read) in
       let due = right.due acted.taken acted.back acted.fronts before after read in
       let one : due.duty ≡ acted.duty = one_duty (duty_in g.size b words acted.fronts) due.duty acted.duty due.wanted (acted.asked told) in
-      let survives = subst (λ (d : Duty). Survives g d acted.taken acted.back) one due.survives in
+      let survives = subst (λ (d : Duty). SurvivesCall g d acted.taken acted.back) one due.survives in
       due_well g words acted.duty acted.fronts acted.taken acted.old acted.back o
       (reads_still g acted.taken acted.old acted.back acted.fronts (reads_fronts (asked_of acted.duty).command.action) acted.read)
       survives acted.words_are (is_named g.size b words acted.fronts acted.duty made.is) acted.does

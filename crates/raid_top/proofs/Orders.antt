@@ -7,7 +7,7 @@ use Rattle.raid_conf.specs.Layouts.{shape_of}
 use Rattle.raid_label.specs.declared.label.Label.{Label}
 use Rattle.raid_recon.specs.Array.{IsArray}
 use Rattle.top_bay.specs.Asked.{Asked, names_by, names_of}
-use Rattle.top_bay.specs.Views.{IsKnown, IsWithin}
+use Rattle.top_bay.specs.Views.{IsKnown, IsWithinLimits}
 use Rattle.top_open.specs.Opening.{Opened}
 use Rattle.top_words.specs.Asked.{Action, Io, Sweep, Show, Init, Check, Rewrite, Print, Fail, ShowLabel, Label as Labels, Rebuild}
 use Rattle.top_duty.specs.Duty.{Admitted, columns_of, layout_of}
@@ -67,7 +67,7 @@ run_writes (Rebuild in_place name beside workers) comp is = refl
 same_order : (x z : Order) → Some x ≡ Some z → x ≡ z
 same_order x z e = cc e
 
-module _ {D : Type 0} (g : Ghosts D) (k : Asked) (o : Opened) (devices : List (Option D)) (within : IsWithin k) (fit : IsFit g k o devices) where
+module _ {D : Type 0} (g : Ghosts D) (k : Asked) (o : Opened) (devices : List (Option D)) (within : IsWithinLimits k) (fit : IsFit g k o devices) where
   rounds_of : (l : Label) → (needs_of k).writes ≡ true → o.newest ≡ Some l → HasRounds l
   rounds_of l writes is = let at = fit.newest l is in record { held = at.0; counter = omega (arith, at.1 writes) }
 

@@ -22,7 +22,7 @@ use Rattle.eng_parts.specs.declared.setup.Setup.{Setup}
 use Rattle.raid_conf.specs.Layouts.{shape_of}
 use Rattle.raid_conf.proofs.TableLaws.{shape-rows, shape-unit}
 use Rattle.top_bay.specs.Asked.{Asked}
-use Rattle.top_bay.specs.Views.{IsWithin}
+use Rattle.top_bay.specs.Views.{IsWithinLimits}
 use Rattle.top_close.specs.Settled.{IsLiveOn}
 use Rattle.top_close.proofs.DyingLaws.{columns_die, lost_no_less}
 use Rattle.top_open.specs.Opening.{Opened}
@@ -93,7 +93,7 @@ module _ (columns : List Column) (c : ℕ) (below : c < length columns) where
 
 -- ## The setup
 
-module _ {L D : Type 0} (lay : LayoutGhosts L) (g : Ghosts D) (setup : Setup L D) (k : Asked) (o : Opened) (within : IsWithin k)
+module _ {L D : Type 0} (lay : LayoutGhosts L) (g : Ghosts D) (setup : Setup L D) (k : Asked) (o : Opened) (within : IsWithinLimits k)
     (fit : IsFit g k o setup.devices.items) (columns : setup.columns.items ≡ o.columns) (shape : lay.shape setup.layout ≡ shape_of k.conf o.rows) where
   abbrev y : Shape
   y = lay.shape setup.layout

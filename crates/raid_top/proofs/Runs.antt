@@ -6,14 +6,14 @@ use Rattle.std.proofs.lemmas.List.{length-map}
 use Rattle.blk_disk.specs.declared.disk.Disk.{Ghosts}
 use Rattle.eng_array.specs.declared.start.Start.{Start}
 use Rattle.eng_world.specs.declared.item.Item.{Item as AnyItem}
-use Rattle.lay_core.specs.Layout.{IsLayout, blocks_in}
+use Rattle.lay_core.specs.Layout.{IsLayout, SparesLieByUnits, blocks_in}
 use Rattle.raid_conf.specs.declared.conf.Conf.{Conf}
 use Rattle.raid_conf.specs.Layouts.{shape_of}
 use Rattle.raid_label.specs.declared.label.Label.{Label}
 use Rattle.raid_script.specs.Asked.{AreFew, Asked as Item}
 use Rattle.raid_script.specs.Drawn.{drawn}
 use Rattle.top_bay.specs.Asked.{Asked}
-use Rattle.top_bay.specs.Views.{IsWithin}
+use Rattle.top_bay.specs.Views.{IsWithinLimits}
 use Rattle.top_bound.specs.Laws.{asked_of}
 use Rattle.top_bound.proofs.Limits.{few-have-room}
 use Rattle.top_duty.specs.Duty.{Admitted, admitted_with, clients_by, layout_of}
@@ -30,13 +30,14 @@ use Rattle.top_run.specs.Ran as run
 use Rattle.top_run.specs.Work.{Service}
 use Rattle.top_run.proofs.InTurnHeld.{swept-by-seed}
 use Rattle.top_run.proofs.Outlived.{answered, runs-answered}
-use Rattle.top_words.specs.Asked.{Action, IsInRange, Sweep}
+use Rattle.top_run.proofs.Rebuilt.{worth}
+use Rattle.top_words.specs.Asked.{Action, AreNumbersInRange, Sweep}
 use Rattle.raid_top.specs.declared.came.Came.{Came}
 use Rattle.raid_top.specs.declared.came.Came.TheVariants as came
 use Rattle.raid_top.specs.Does.{DoesRun, RunsLabelled, RunsPlain}
 use Rattle.raid_top.specs.Served.{CameOf, ComesLabelled}
 use Rattle.lay_core.specs.declared.layout.Layout.{Ghosts as LayoutGhosts}
-use Rattle.top_labelled.specs.Given.{CameTo, Stands}
+use Rattle.top_labelled.specs.Given.{CameTo, OutcomeCanBePrinted}
 use Rattle.top_labelled.specs.declared.labelled.Labelled.{Labelled}
 use Rattle.top_labelled.specs.declared.labelled.Outcome.{Outcome as Ended}
 use Rattle.top_labelled.specs.declared.labelled.Outcome.TheVariants as ended
@@ -54,7 +55,7 @@ no_start : (action : Action) (comp : Option ℕ) (conf : Conf) (o : Opened) (siz
 no_start action comp conf o sizes fronts seed clients ops workers is = ap (λ (x : Action). start_by x comp conf o sizes fronts) is
 
 module _ {D : Type 0} (g : Ghosts D) (k : Asked) (o : Opened) (start : Option Start) (failed : Bool) (sizes : List ℕ) (fronts : List Front) (starts : start ≡ start_in k o sizes fronts)
-    (old back : List (Option D)) (within : IsWithin k) (law : IsLayout (shape_of k.conf o.rows)) where
+    (old back : List (Option D)) (within : IsWithinLimits k) (law : IsLayout (shape_of k.conf o.rows)) (units : SparesLieByUnits (shape_of k.conf o.rows)) where
   abbrev a : Admitted
   a = admitted_with k o start
 
@@ -67,7 +68,7 @@ module _ {D : Type 0} (g : Ghosts D) (k : Asked) (o : Opened) (start : Option St
       ap (λ (x : Action). clients_by x k.clients blocks) is ∙ drawn_are seed clients ops workers k.clients blocks
 
   some : (seed clients ops workers : ℕ) → k.command.action ≡ Sweep seed clients ops workers → 0 < clients
-  some seed clients ops workers is = let range : IsInRange (Sweep seed clients ops workers) = subst (λ (x : Action). IsInRange x) is within.action in omega (arith, range.0)
+  some seed clients ops workers is = let range : AreNumbersInRange (Sweep seed clients ops workers) = subst (λ (x : Action). AreNumbersInRange x) is within.action in omega (arith, range.0)
 
   runs_plain : (s : Service) → run.Ran g (work_of a) old s back → RunsPlain g a failed old back s
   runs_plain s ran = record {
@@ -81,6 +82,7 @@ module _ {D : Type 0} (g : Ghosts D) (k : Asked) (o : Opened) (start : Option St
     ran = ran;
     answered = runs-answered g (opened_as (work_of a) (without start ran.begun) ran.began) ran.opened back s ran.run;
     in_turn = λ seed clients ops workers is none. labelled.by-seed g (work_of a) l old s back failed ran seed clients ops (unstarted seed clients ops workers is) (some seed clients ops workers is) (some_blocks (layout_of a) law) (drawn_so seed clients ops workers is) none;
+    rebuilt = λ how done. worth g (opened_as (work_of a) (without start ran.begun) ran.began) ran.opened back s ran.run how done law units;
   }
 
   pub came_does : (newest : Option Label) (action : Action) (conf : Conf) (c : Came) → action ≡ k.command.action → CameOf g (work_of a) newest failed old back c → DoesRun g a failed old back newest (outcome_seen action conf c)
@@ -100,7 +102,7 @@ module _ {D : Type 0} (g : Ghosts D) (k : Asked) (o : Opened) (start : Option St
 lengths-mapped : {X Z : Type 0} (f : X → Z) (xs zs : List X) → map f xs ≡ map f zs → length xs ≡ length zs
 lengths-mapped f xs zs e = sym (length-map xs f) ∙ (ap length e ∙ length-map zs f)
 
-pub few_asked : (k : Asked) (blocks : ℕ) (given : List (Vec AnyItem Global)) → IsWithin k → AreFew (drawn_by k.command.action blocks) → asked_of given ≡ clients_by k.command.action k.clients blocks → length given ≤ 16
+pub few_asked : (k : Asked) (blocks : ℕ) (given : List (Vec AnyItem Global)) → IsWithinLimits k → AreFew (drawn_by k.command.action blocks) → asked_of given ≡ clients_by k.command.action k.clients blocks → length given ≤ 16
 few_asked k blocks given within drawn is = (few-have-room given (subst (λ rows. AreFew rows) (sym is) (either_few k.command.action k.clients blocks within.few drawn))).clients
 
 -- ## A run over an array with labels
@@ -110,6 +112,6 @@ module _ {L D : Type 0} (lay : LayoutGhosts L) (g : Ghosts D) (l : Labelled L D)
   came_so (ended.Ran service) back h = h
   came_so (ended.Lost ending) back h = (refl, h)
 
-  pub printed_so : (o : Ended) (back : List (Option D)) → CameTo lay g l o back → Stands o → CanBePrinted (came_from o)
+  pub printed_so : (o : Ended) (back : List (Option D)) → CameTo lay g l o back → OutcomeCanBePrinted o → CanBePrinted (came_from o)
   printed_so (ended.Ran service) back h stands = (stands, h.run.tells.few)
   printed_so (ended.Lost ending) back h stands = tt

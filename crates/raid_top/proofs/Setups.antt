@@ -16,9 +16,9 @@ use Rattle.eng_array.specs.Fitting.{FitsRebuilding, HasAtMost}
 use Rattle.eng_array.specs.Starts.{column_of}
 use Rattle.eng_array.specs.declared.start.Start.{Start}
 use Rattle.eng_cols.specs.Laws.{HaveSpares}
-use Rattle.eng_events.specs.Beginning as begin
+use Rattle.eng_state.specs.Beginning as begin
 use Rattle.eng_events.specs.Opened.{IsSetup, NamesGraph, states_of}
-use Rattle.eng_parts.specs.Given.{items_at, items_in}
+use Rattle.eng_log.specs.Given.{items_at, items_in}
 use Rattle.eng_parts.specs.declared.setup.Setup.{Setup}
 use Rattle.eng_world.specs.declared.item.Item.{Item}
 use Rattle.eng_world.specs.declared.item.Item.TheVariants as item
@@ -27,7 +27,7 @@ use Rattle.raid_script.specs.Asked.{AreFew, IsAsked, seen}
 use Rattle.top_bound.specs.Bound.{rebuilds_sum, trace_sum}
 use Rattle.top_bound.specs.Laws.{asked_of}
 use Rattle.top_bound.proofs.Counted.{what-fits, what-fits-rebuilt}
-use Rattle.top_bound.specs.Traced.{IsScriptOf}
+use Rattle.top_bound.specs.Traced.{AreScriptAndBook}
 use Rattle.top_bound.proofs.Limits.{few-have-room, graphs-fit}
 use Rattle.std.proofs.lemmas.List.{length-append}
 use Rattle.lay_core.specs.Layout.{blocks_in}
@@ -35,11 +35,11 @@ use Rattle.eng_cols.specs.Lost.{NotLost}
 use Rattle.raid_conf.specs.Layouts.{shape_of}
 use Rattle.raid_script.specs.Asked.{Asked as Asks}
 use Rattle.top_bay.specs.Asked.{Asked, names_of}
-use Rattle.top_bay.specs.Views.{IsWithin}
+use Rattle.top_bay.specs.Views.{IsWithinLimits}
 use Rattle.top_open.specs.Opening.{Opened}
 use Rattle.top_open.specs.declared.fronts.Front.{Front}
 use Rattle.top_duty.specs.Duty.{admitted_with, clients_by, rebuilds_by, rebuilds_of, traces, with_dead}
-use Rattle.top_duty.specs.Fit.{IsFit, IsStart, MayStart}
+use Rattle.top_duty.specs.Fit.{IsFit, IsStart, IsStartIf}
 use Rattle.top_duty.specs.Opening.{needs_of}
 use Rattle.top_duty.specs.Views.{IsReady, drawn_by}
 use Rattle.top_duty.proofs.Drawing.{either_asked, either_few}
@@ -118,7 +118,7 @@ IsApart z columns = (c e device : ℕ) → HasDevice (states_of z columns) c dev
 module _ {L D : Type 0} (lay : LayoutGhosts L) (disk : Ghosts D) (setup : Setup L D) where
   is_setup : (columns : ℕ) (book : List Named) (k : Asked) (o : Opened)
       → columns ≡ (lay.shape setup.layout).columns
-      → IsWithin k → IsFit disk k o setup.devices.items → k.conf.columns ≡ columns
+      → IsWithinLimits k → IsFit disk k o setup.devices.items → k.conf.columns ≡ columns
       → lay.shape setup.layout ≡ shape_of k.conf o.rows → setup.columns.items ≡ o.columns
       → All (All (IsAsked columns (length book))) (asked_of setup.clients.items)
       → AreGraphs book → map (λ g. g.drawn) setup.graphs.items ≡ map (λ g. g.graph) book
@@ -138,7 +138,7 @@ module _ {L D : Type 0} (lay : LayoutGhosts L) (disk : Ghosts D) (setup : Setup 
       }
 
   -- what was admitted may be served
-  pub may_serve : (k : Asked) (o : Opened) (start : Option Start) (sizes : List ℕ) (fronts : List Front) → IsWithin k → IsReady k sizes fronts o start → IsFit disk k o setup.devices.items
+  pub may_serve : (k : Asked) (o : Opened) (start : Option Start) (sizes : List ℕ) (fronts : List Front) → IsWithinLimits k → IsReady k sizes fronts o start → IsFit disk k o setup.devices.items
       → lay.shape setup.layout ≡ shape_of k.conf o.rows → setup.columns.items ≡ o.columns → length setup.devices.items ≡ length (names_of k.conf)
       → asked_of setup.clients.items ≡ clients_by k.command.action k.clients (blocks_in (shape_of k.conf o.rows))
       → All (All (IsAsked k.conf.columns (length k.book))) (drawn_by k.command.action (blocks_in (shape_of k.conf o.rows)))
@@ -182,10 +182,10 @@ named_bound y columns s c excused t n devices named h =
 
 module _ {L D : Type 0} (lay : LayoutGhosts L) (disk : Ghosts D) (setup : Setup L D) where
   -- a trace that is kept has room for the rebuild of this column
-  fits_so : (k : Asked) (o : Opened) (s : Start) (sizes : List ℕ) (fronts : List Front) → IsWithin k → IsReady k sizes fronts o (Some s) → IsFit disk k o setup.devices.items → IsStart disk k o setup.devices.items s
+  fits_so : (k : Asked) (o : Opened) (s : Start) (sizes : List ℕ) (fronts : List Front) → IsWithinLimits k → IsReady k sizes fronts o (Some s) → IsFit disk k o setup.devices.items → IsStart disk k o setup.devices.items s
       → lay.shape setup.layout ≡ shape_of k.conf o.rows → setup.columns.items ≡ o.columns → column_of s < length setup.columns.items
       → asked_of setup.clients.items ≡ clients_by k.command.action k.clients (blocks_in (shape_of k.conf o.rows))
-      → IsScriptOf k.conf.columns k.book setup.graphs.items setup.clients.items
+      → AreScriptAndBook k.conf.columns k.book setup.graphs.items setup.clients.items
       → setup.trace ≡ traces k.command.action
       → FitsRebuilding lay (given.with_dead setup (column_of s)) (column_of s)
   fits_so k o s sizes fronts within ready fit h shape columns below clients script trace kept =
@@ -208,7 +208,7 @@ module _ {L D : Type 0} (lay : LayoutGhosts L) (disk : Ghosts D) (setup : Setup 
       (within_sum y z k.book n rebuilds (asked_of setup.clients.items) others (traces k.command.action) shape clients (sym trace ∙ kept) bound) kept
 
   -- a column that was admitted to be rebuilt may be, if one was
-  pub may_rebuild_if : (k : Asked) (o : Opened) (start : Option Start) (sizes : List ℕ) (fronts : List Front) → IsWithin k → IsReady k sizes fronts o start → IsFit disk k o setup.devices.items → MayStart disk k o setup.devices.items start
+  pub may_rebuild_if : (k : Asked) (o : Opened) (start : Option Start) (sizes : List ℕ) (fronts : List Front) → IsWithinLimits k → IsReady k sizes fronts o start → IsFit disk k o setup.devices.items → IsStartIf disk k o setup.devices.items start
       → lay.shape setup.layout ≡ shape_of k.conf o.rows → setup.columns.items ≡ o.columns
       → asked_of setup.clients.items ≡ clients_by k.command.action k.clients (blocks_in (shape_of k.conf o.rows))
       → All (All (IsAsked k.conf.columns (length k.book))) (drawn_by k.command.action (blocks_in (shape_of k.conf o.rows)))
@@ -221,7 +221,7 @@ module _ {L D : Type 0} (lay : LayoutGhosts L) (disk : Ghosts D) (setup : Setup 
       let blocks = blocks_in (shape_of k.conf o.rows) in
       let asked = subst (λ (rows : List (List Asks)). All (All (IsAsked k.conf.columns (length k.book))) rows) (sym clients) (either_asked k.conf.columns (length k.book) k.command.action k.clients blocks within.asked drawn_asked) in
       let few = subst (λ (rows : List (List Asks)). AreFew rows) (sym clients) (either_few k.command.action k.clients blocks within.few drawn_few) in
-      let script : IsScriptOf k.conf.columns k.book setup.graphs.items setup.clients.items = record { clients = (few-have-room setup.clients.items few).clients; asked = asked; graphs_are = graphs } in
+      let script : AreScriptAndBook k.conf.columns k.book setup.graphs.items setup.clients.items = record { clients = (few-have-room setup.clients.items few).clients; asked = asked; graphs_are = graphs } in
       let below : column_of s < length setup.columns.items = subst (λ (n : ℕ). column_of s < n) (sym (ap (λ (l : List Column). length l) columns ∙ fit.entries)) h.within in
       may_rebuild lay disk setup k o within fit columns shape s h ready.kept (fits_so k o s sizes fronts within ready fit h shape columns below clients script trace)
 
@@ -229,7 +229,7 @@ module _ {L D : Type 0} (lay : LayoutGhosts L) (disk : Ghosts D) (setup : Setup 
 
 module _ {L D : Type 0} (lay : LayoutGhosts L) (disk : Ghosts D) (setup : Setup L D) where
   -- the labels that it has may be written anew, and a column may be rebuilt
-  pub may_label : (k : Asked) (o : Opened) (start : Option Start) (newest : Option Label) → IsWithin k → IsFit disk k o setup.devices.items → (needs_of k).writes ≡ true → setup.columns.items ≡ o.columns → o.newest ≡ newest
+  pub may_label : (k : Asked) (o : Opened) (start : Option Start) (newest : Option Label) → IsWithinLimits k → IsFit disk k o setup.devices.items → (needs_of k).writes ≡ true → setup.columns.items ≡ o.columns → o.newest ≡ newest
       → RebuildsIf lay disk setup start → (o.newest ≡ None → start ≡ None) → MayLabelIf lay disk setup start newest
   may_label k o start None within fit writes columns is rebuilds unlabelled = unlabelled is
   may_label k o start (Some l) within fit writes columns is rebuilds unlabelled = record {
@@ -240,7 +240,7 @@ module _ {L D : Type 0} (lay : LayoutGhosts L) (disk : Ghosts D) (setup : Setup 
   }
 
 -- columns that may be settled
-pub settable : {D : Type 0} (disk : Ghosts D) (k : Asked) (o : Opened) (devices : List (Option D)) (y : Shape) → IsWithin k → IsFit disk k o devices → y ≡ shape_of k.conf o.rows → IsSettable y o.columns
+pub settable : {D : Type 0} (disk : Ghosts D) (k : Asked) (o : Opened) (devices : List (Option D)) (y : Shape) → IsWithinLimits k → IsFit disk k o devices → y ≡ shape_of k.conf o.rows → IsSettable y o.columns
 settable disk k o devices y within fit shape = record {
   entries = fit.entries ∙ (sym (shape-columns k.conf o.rows within.conf) ∙ sym (ap (λ (z : Shape). z.columns) shape));
   filling = fit.filling;

@@ -16,7 +16,7 @@ use Rattle.eng_cols.proofs.Losing.{lost-excludes}
 use Rattle.raid_label.specs.declared.label.Label.{Label}
 use Rattle.raid_recon.specs.Array.{Failed}
 use Rattle.raid_text.specs.Text.{Text}
-use Rattle.top_close.specs.Ended.{IsLossOf, states_of}
+use Rattle.top_close.specs.Ended.{IsLossBy, states_of}
 use Rattle.top_close.specs.Settled.{IsLiveOn}
 use Rattle.top_acts.specs.declared.done.Done.{Done}
 use Rattle.top_acts.specs.declared.done.Done.TheVariants as done
@@ -35,12 +35,12 @@ use Rattle.top_duty.specs.Duty.{Admitted, columns_of, layout_of, states_in}
 use Rattle.top_duty.specs.Opening.{needs_of}
 use Rattle.top_run.specs.Work.{Ending}
 use Rattle.raid_top.specs.Arrays.{Renews}
-use Rattle.raid_top.specs.Ends.{EndsWell, MayDie}
+use Rattle.raid_top.specs.Ends.{EndsWell, MayEndDead}
 use Rattle.raid_top.specs.Outcome.{status_of_act, status_of_done}
 use Rattle.raid_top.proofs.Reading.{NoSector, rises_late}
 
 -- an array that isn't lost by its columns isn't said to be
-pub not_lost : (y : Shape) (cols : List ColumnState) (lost : Option Loss) → IsLossOf y None cols lost → NotLost y cols → lost ≡ None
+pub not_lost : (y : Shape) (cols : List ColumnState) (lost : Option Loss) → IsLossBy y None cols lost → NotLost y cols → lost ≡ None
 not_lost y cols None is kept = refl
 not_lost y cols (Some loss) is kept = absurd (lost-excludes y cols loss is kept)
 
@@ -70,7 +70,7 @@ dies_named cause columns c why = elim (cases_lt c (length columns)) [
 
 module _ {D : Type 0} (g : Ghosts D) (a : Admitted) (taken old back : List (Option D)) (read : Changes g NoSector taken old) where
   abbrev may : ℕ → Type 0
-  may = MayDie g a taken back
+  may = MayEndDead g a taken back
 
   loses : (c : ℕ) → LosesDevice g (columns_of a) old back c → may c
   loses c h = inr (inr (h.device, live_has (layout_of a) (columns_of a) c h.device h.had, rises_late g taken old back [] h.device read h.rose))
@@ -88,7 +88,7 @@ module _ {D : Type 0} (g : Ghosts D) (a : Admitted) (taken old back : List (Opti
       (dies-more _ may mid after (λ c h. loses c (record { device = h.device; had = live_before may (columns_of a) mid c h.device one h.had; rose = h.rose })) two)
 
   module _ (survives : (cols : List Column) → Dies may (columns_of a) cols → NotLost (layout_of a) (states_of (layout_of a) cols)) where
-    kept : (after : List Column) (lost : Option Loss) → Dies may (columns_of a) after → IsLossOf (layout_of a) None (states_of (layout_of a) after) lost → lost ≡ None
+    kept : (after : List Column) (lost : Option Loss) → Dies may (columns_of a) after → IsLossBy (layout_of a) None (states_of (layout_of a) after) lost → lost ≡ None
     kept after lost dies is = not_lost (layout_of a) (states_of (layout_of a) after) lost is (survives after dies)
 
     pub checked : (e : Ending) (act : Done) → IsChecked g (layout_of a) (columns_of a) e.columns old back e.lost act → e.lost ≡ None

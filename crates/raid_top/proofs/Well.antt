@@ -14,7 +14,7 @@ use Rattle.top_acts.specs.declared.sweeping.Renewal.TheVariants as renewal
 use Rattle.top_acts.specs.Labelled.{alive}
 use Rattle.top_labelled.proofs.Outlived as labelled_laws
 use Rattle.top_open.specs.declared.fronts.Front.{Front}
-use Rattle.top_run.specs.Outliving.{MayDie as MayDieOf, Outlives}
+use Rattle.top_run.specs.Outliving.{MayDie as MayDieOf, OutlivesCall}
 use Rattle.top_run.proofs.Outlived.{outlived}
 use Rattle.top_status.specs.Status.{status_of_loss}
 use Rattle.top_words.specs.Asked.{Action, Io, Sweep, Show, Init, Check, Rewrite, Print, Fail, ShowLabel, Label as Labels, Rebuild, command_of}
@@ -24,7 +24,7 @@ use Rattle.top_duty.specs.Start.{has_failed}
 use Rattle.top_run.specs.Work.{Ending}
 use Rattle.raid_top.specs.Arrays.{Renews}
 use Rattle.raid_top.specs.Does.{Does, DoesArray, DoesIt, DoesRun, Says, SaysLabel}
-use Rattle.raid_top.specs.Ends.{EndsWell, MayDie, Survives}
+use Rattle.raid_top.specs.Ends.{EndsWell, MayEndDead, SurvivesCall}
 use Rattle.raid_top.specs.Orders.{kill_of}
 use Rattle.raid_top.specs.Outcome.{Outcome, Ran, Did, Looked, Refuses, status_of, status_of_done}
 use Rattle.raid_top.specs.Works.{work_of}
@@ -36,15 +36,15 @@ module _ {D : Type 0} (g : Ghosts D) (words : List Text) where
   run_well : (lost : Option Loss) → lost ≡ None → EndsWell words (status_of_loss lost)
   run_well lost none = subst (λ (l : Option Loss). EndsWell words (status_of_loss l)) (sym none) tt
 
-  module _ (a : Admitted) (failed : Bool) (taken old back : List (Option D)) (read : Changes g NoSector taken old) (survives : Survives g (OnArray a) taken back) (command : command_of words ≡ Ok a.asked.command) (named : IsNamed (OnArray a)) where
-    may_so : (c : ℕ) → MayDieOf g (work_of a) old back c → MayDie g a taken back c
+  module _ (a : Admitted) (failed : Bool) (taken old back : List (Option D)) (read : Changes g NoSector taken old) (survives : SurvivesCall g (OnArray a) taken back) (command : command_of words ≡ Ok a.asked.command) (named : IsNamed (OnArray a)) where
+    may_so : (c : ℕ) → MayDieOf g (work_of a) old back c → MayEndDead g a taken back c
     may_so c (inl fail) = inr (inl fail)
     may_so c (inr (inl rebuilt)) = inl (named rebuilt.0 rebuilt.1 ∙ ap (λ (n : ℕ). Some n) rebuilt.2)
     may_so c (inr (inr device)) = inr (inr (device.0, device.1, rises_late g taken old back [] device.0 read device.2))
 
     -- whatever may die of the devices as they were read may die of those that were taken
-    outlives : Outlives g (work_of a) old back
-    outlives = λ cols dies. survives cols (dies-more _ (MayDie g a taken back) (columns_of a) cols may_so dies)
+    outlives : OutlivesCall g (work_of a) old back
+    outlives = λ cols dies. survives cols (dies-more _ (MayEndDead g a taken back) (columns_of a) cols may_so dies)
 
     ran_well : (newest : Option Label) (o : Outcome) → DoesRun g a failed old back newest o → EndsWell words (status_of o)
     ran_well None (Ran action s) h = run_well s.ending.lost (outlived g (work_of a) old back s h.1.ran outlives)
@@ -104,7 +104,7 @@ module _ {D : Type 0} (g : Ghosts D) (words : List Text) where
   label_well old back (front ∷ []) o h = said_well old back _ o h
   label_well old back (front ∷ (other ∷ fronts)) o h = absurd h
 
-  pub due_well : (duty : Duty) (fronts : List Front) (taken old back : List (Option D)) (o : Outcome) → Changes g NoSector taken old → Survives g duty taken back → command_of words ≡ Ok (asked_of duty).command → IsNamed duty
+  pub due_well : (duty : Duty) (fronts : List Front) (taken old back : List (Option D)) (o : Outcome) → Changes g NoSector taken old → SurvivesCall g duty taken back → command_of words ≡ Ok (asked_of duty).command → IsNamed duty
       → Does g duty fronts old back o → EndsWell words (status_of o)
   due_well (OnArray a) fronts taken old back o read survives command named h = array_well a (has_failed a.start fronts) taken old back read survives command named a.asked.command.action o refl h
   due_well (Shows k opened) fronts taken old back o read survives command named h = said_well old back _ o h

@@ -2,6 +2,7 @@
 use Rattle.std.specs.Prelude.{◌≡◌, ℕ, Bool, List, [], ◌∷◌, Option, Some, None}
 use Rattle.blk_disk.specs.Devices.{contents_of}
 use Rattle.blk_disk.specs.declared.disk.Disk.{Ghosts}
+use Rattle.eng_array.specs.declared.start.Start.{Start}
 use Rattle.eng_cols.specs.Contents.{decode}
 use Rattle.raid_conf.specs.Form.{conf_text}
 use Rattle.raid_label.specs.declared.label.Label.{Label}
@@ -14,6 +15,7 @@ use Rattle.top_duty.specs.Start.{has_failed}
 use Rattle.top_run.specs.Ran as run
 use Rattle.top_run.specs.InTurn.{SweptInTurn}
 use Rattle.top_run.specs.Outliving.{AllAnswered}
+use Rattle.top_run.specs.Rebuilding as rebuilding
 use Rattle.top_run.specs.Work.{Service}
 use Rattle.top_labelled.specs.Begun.{opened_as, without}
 use Rattle.top_labelled.specs.Ran.{IsLostBefore, RanLabelled}
@@ -36,12 +38,14 @@ module _ {D : Type 0} (g : Ghosts D) where
       pub in_turn : (seed clients ops workers : ℕ) → a.asked.command.action ≡ Sweep seed clients ops workers → s.ending.lost ≡ None
           → SweptInTurn g (work_of a) old s back (decode (layout_of a) (contents_of g old) (states_in a))
 
-    -- The same over an array whose newest label is this one, by its columns and devices as the core was opened; beside them a column is rebuilt, if one is to be, unless the device onto which that goes has failed before.
+    -- The same over an array whose newest label is this one, by its columns and devices as the core was opened; beside them a column is rebuilt, if one is to be, unless the device onto which that goes has failed before. Where that is done its column's units are there again.
     pub record RunsLabelled (newest : Label) (s : Service) : Type 0 where
       pub ran : RanLabelled g (work_of a) newest old s back failed
       pub answered : s.ending.lost ≡ None → AllAnswered g (opened_as (work_of a) (without a.start ran.begun) ran.began) ran.opened back s ran.run
       pub in_turn : (seed clients ops workers : ℕ) → a.asked.command.action ≡ Sweep seed clients ops workers → s.ending.lost ≡ None
           → SweptInTurn g (opened_as (work_of a) (without a.start ran.begun) ran.began) ran.opened s back ran.run.start.blocks
+      pub rebuilt : (how : Start) → rebuilding.RebuildIsDone g (opened_as (work_of a) (without a.start ran.begun) ran.began) ran.opened back s ran.run how
+          → rebuilding.IsWorth g (opened_as (work_of a) (without a.start ran.begun) ran.began) ran.opened back s ran.run how
 
     -- clients were served; or the array, which has labels, was lost before that
     abbrev pub DoesRun : Option Label → Outcome → Type 0

@@ -20,7 +20,7 @@ use Rattle.top_duty.specs.Taken.{Reads}
 use Rattle.top_run.specs.Outliving.{HasFail}
 use Rattle.raid_top.specs.Does.{Does}
 use Rattle.raid_top.specs.Outcome.{Outcome, Ran, Did, Looked, Refuses, outcome_text, status_of}
-use Rattle.raid_top.specs.Refused.{IsRefused}
+use Rattle.raid_top.specs.Refused.{CallIsRefused}
 use Rattle.raid_top.specs.Works.{work_of}
 
 module _ {D : Type 0} (g : Ghosts D) (b : Told D) (words : List Text) where
@@ -41,7 +41,7 @@ module _ {D : Type 0} (g : Ghosts D) (b : Told D) (words : List Text) where
 
   -- what is so of an outcome
   abbrev pub Acts : Outcome → Type 0
-  Acts (Refuses r) = IsRefused g b words r
+  Acts (Refuses r) = CallIsRefused g b words r
   Acts (Ran action s) = Acted (Ran action s)
   Acts (Did act e) = Acted (Did act e)
   Acts (Looked text) = Acted (Looked text)
@@ -71,16 +71,16 @@ pub record Answers {D : Type 0} (g : Ghosts D) (b : Told D) (words : List Text) 
 module _ {D : Type 0} (g : Ghosts D) where
   module _ (a : Admitted) (taken back : List (Option D)) where
     -- a column that may be dead in the end: the action names it, an item asks that it fail, or its device's count of faults rose
-    abbrev pub MayDie : ℕ → Type 0
-    MayDie c = ((needs_of a.asked).excused ≡ Some c)
+    abbrev pub MayEndDead : ℕ → Type 0
+    MayEndDead c = ((needs_of a.asked).excused ≡ Some c)
         ⊎ (HasFail (work_of a) c ⊎ ((d : ℕ) × HasDevice (states_in a) c d × RisesOn g taken back d))
 
   -- an array that something is done to outlives the call: it isn't lost, whichever of these columns be dead
-  abbrev pub Survives : Duty → (taken back : List (Option D)) → Type 0
-  Survives (OnArray a) taken back = (cols : List Column) → Dies (MayDie a taken back) (columns_of a) cols → NotLost (layout_of a) (states_of (layout_of a) cols)
-  Survives (Shows k opened) taken back = Unit {0}
-  Survives (OneLabel k) taken back = Unit {0}
-  Survives (PrintConf k) taken back = Unit {0}
+  abbrev pub SurvivesCall : Duty → (taken back : List (Option D)) → Type 0
+  SurvivesCall (OnArray a) taken back = (cols : List Column) → Dies (MayEndDead a taken back) (columns_of a) cols → NotLost (layout_of a) (states_of (layout_of a) cols)
+  SurvivesCall (Shows k opened) taken back = Unit {0}
+  SurvivesCall (OneLabel k) taken back = Unit {0}
+  SurvivesCall (PrintConf k) taken back = Unit {0}
 
   -- sector 0 of each device may have been read so, between these; or none was
   abbrev pub MayRead : Bool → (taken back : List (Option D)) → List Front → Type 0
@@ -91,7 +91,7 @@ module _ {D : Type 0} (g : Ghosts D) where
   pub record IsDue (b : Told D) (words : List Text) (taken back : List (Option D)) (fronts : List Front) : Type 0 where
     pub duty : Duty
     pub wanted : IsWanted (duty_in g.size b words fronts) (Ok duty)
-    pub survives : Survives duty taken back
+    pub survives : SurvivesCall duty taken back
 
 -- Words, texts and names are right; and by whatever may have been read of the first sectors, sizes and labels are too, and the array isn't lost and outlives the call.
 pub record IsRight {D : Type 0} (g : Ghosts D) (b : Told D) (words : List Text) : Type 0 where

@@ -73,7 +73,7 @@ ComesOfOrder g y columns old back order (came.Did act ending) = DoesOrder g y co
 ComesOfOrder g y columns old back order _ = ⊥
 
 -- What was due is done, and the devices, as they are then, are put back under the names; one is there exactly where a name isn't empty.
-pub record IsDone {D : Type 0} (g : Ghosts D) (tells : Type 0) (home after : Text → Option D) (names : List Text) (duty : Duty) (fronts : List Front) (old : List (Option D)) (o : Outcome) : Type 0 where
+pub record IsPerformed {D : Type 0} (g : Ghosts D) (tells : Type 0) (home after : Text → Option D) (names : List Text) (duty : Duty) (fronts : List Front) (old : List (Option D)) (o : Outcome) : Type 0 where
   pub back : List (Option D)
   pub count : length back ≡ length old
   pub there : (d : ℕ) (n : Text) → d < length back → slice_get names d ≡ Some n → (IsSome (device_at back d)) ↔ (n ≡ [] → ⊥)

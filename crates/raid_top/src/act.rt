@@ -5,13 +5,13 @@ ghost use Rattle.raid_conf.specs.Form.{IsConf};
 ghost use Rattle.top_bay.specs.Asked.{names_for};
 ghost use Rattle.top_bay.specs.Lent.{AreBack, AreOut};
 ghost use Rattle.top_bay.specs.Told.{Told};
-ghost use Rattle.top_bay.specs.Views.{IsWithin, asked_seen};
+ghost use Rattle.top_bay.specs.Views.{IsWithinLimits, asked_seen};
 ghost use Rattle.top_duty.specs.Opening.{sizes_of};
 ghost use Rattle.top_duty.specs.Views.{IsDutyOver, IsFitFor, duty_seen};
 ghost use Rattle.top_words.specs.Views.{action_seen};
 ghost use Rattle.raid_top.specs.Ends.{Acted};
-ghost use Rattle.raid_top.specs.Refused.{IsRefused};
-ghost use Rattle.raid_top.specs.Served.{IsDone, IsMemory};
+ghost use Rattle.raid_top.specs.Refused.{CallIsRefused};
+ghost use Rattle.raid_top.specs.Served.{IsPerformed, IsMemory};
 ghost use Rattle.raid_top.specs.Views.{CanBePrinted, outcome_seen};
 
 use crate::came::Ended;
@@ -34,14 +34,14 @@ fn end<'a, B: Bay, R: Threads + Wait + Sync>(
 ) -> Result<Ended<'a>, Refusal>
 where
     B::D: Send + Drop,
-    requires within { IsWithin (asked_seen admitted.asked) }
+    requires within { IsWithinLimits (asked_seen admitted.asked) }
     requires duty { IsDutyOver (asked_seen admitted.asked) (sizes_of B.D.size admitted.devices.items) admitted.fronts.items admitted.duty }
     requires fit { IsFitFor B.D.Disk (asked_seen admitted.asked) admitted.devices.items admitted.duty }
     requires sizes { admitted.sizes.items ≡ sizes_of B.D.size admitted.devices.items }
     requires fronts { length admitted.fronts.items ≡ length admitted.devices.items }
     requires many { length admitted.devices.items ≡ length (names_for (asked_seen admitted.asked)) }
     requires out { AreOut (B.is_out bay.old) (names_for (asked_seen admitted.asked)) admitted.devices.items }
-    ensures done { IfOk result (λ e. IsDone B.D.Disk B.tells (B.home bay.old) (B.home bay.new)
+    ensures done { IfOk result (λ e. IsPerformed B.D.Disk B.tells (B.home bay.old) (B.home bay.new)
         (names_for (asked_seen admitted.entry.asked)) (duty_seen (asked_seen admitted.entry.asked) admitted.entry.duty) admitted.entry.fronts.items
         admitted.entry.devices.items (outcome_seen (action_seen e.action) e.conf e.came)) }
     ensures printed { IfOk result (λ e. CanBePrinted e.came) }
@@ -83,7 +83,7 @@ where
         }) words.entry.now (outcome_seen (action_seen e.action) e.conf e.came)) }
     ensures printed { IfOk result (λ e. CanBePrinted e.came) }
     ensures conf { IfOk result (λ e. IsConf e.conf) }
-    ensures refused { IfErr result (IsRefused B.D.Disk
+    ensures refused { IfErr result (CallIsRefused B.D.Disk
         (record {
           tells = B.tells;
           rose = Rose (B.faults bay.old) (B.faults bay.new);

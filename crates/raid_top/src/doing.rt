@@ -1,5 +1,5 @@
 //! What is done to an array without a core.
-ghost use Rattle.raid_top.specs.Arrays.{DoesOrder, IsNewest, IsSound, MayDo, Renews, ending_seen};
+ghost use Rattle.raid_top.specs.Arrays.{DoesOrder, IsNewest, IsSoundArray, MayDo, Renews, ending_seen};
 ghost use Rattle.raid_recon.specs.Array.{IsArray};
 
 use crate::array::{Array, Order};
@@ -15,7 +15,7 @@ fn rewrite<L: Layout, D: Disk>(
     devices: &mut [Option<D>],
     array: &mut Array<L>,
 ) -> Done
-    requires sound { IsSound L.Layout D.Disk array.old devices.old }
+    requires sound { IsSoundArray L.Layout D.Disk array.old devices.old }
     requires large { IsArray D.Disk (L.shape array.old.layout) array.old.ending.columns.items devices.old }
     requires newest { IsNewest newest }
     ensures { Renews D.Disk (L.shape array.old.layout) array.old.ending.columns.items devices.old
@@ -37,7 +37,7 @@ pub(crate) fn alter<L: Layout, D: Disk>(
     devices: &mut [Option<D>],
     array: &mut Array<L>,
 ) -> Done
-    requires sound { IsSound L.Layout D.Disk array.old devices.old }
+    requires sound { IsSoundArray L.Layout D.Disk array.old devices.old }
     requires may { MayDo D.Disk (L.shape array.old.layout) array.old.ending.columns.items order devices.old }
     ensures { DoesOrder D.Disk (L.shape array.old.layout) array.old.ending.columns.items devices.old
         devices.new result (ending_seen array.new.ending) order }

@@ -2,9 +2,9 @@
 ghost use Rattle.std.specs.Prelude.{◌≡◌, List, [], ◌∷◌, length, IfOk, IfErr, OnErr};
 ghost use Rattle.raid_conf.specs.Form.{IsConf};
 ghost use Rattle.top_bay.specs.Asked.{names_for, names_of};
-ghost use Rattle.top_bay.specs.Views.{IsWithin, asked_seen};
+ghost use Rattle.top_bay.specs.Views.{IsWithinLimits, asked_seen};
 ghost use Rattle.top_duty.specs.Duty.{admitted_with, beside_dead};
-ghost use Rattle.top_duty.specs.Fit.{IsFit, MayStart};
+ghost use Rattle.top_duty.specs.Fit.{IsFit, IsStartIf};
 ghost use Rattle.top_duty.specs.Opening.{kind_of, sizes_of};
 ghost use Rattle.top_duty.specs.Views.{IsDutyOver, IsFitFor, IsPrepared, duty_seen};
 ghost use Rattle.top_open.specs.Opening.{opened_seen};
@@ -48,10 +48,10 @@ fn run_array<'a, D: Disk + Drop + Send, R: Threads + Wait + Sync>(
     ready: Ready,
     devices: Vec<Option<D>>,
 ) -> Performed<'a, D>
-    requires within { IsWithin (asked_seen asked) }
+    requires within { IsWithinLimits (asked_seen asked) }
     requires ready { (fronts : List Front) × IsPrepared (asked_seen asked) (sizes_of D.size devices.items) fronts ready }
     requires fit { IsFit D.Disk (asked_seen asked) (opened_seen ready.opened) devices.items }
-    requires start { MayStart D.Disk (asked_seen asked) (opened_seen ready.opened) devices.items ready.start }
+    requires start { IsStartIf D.Disk (asked_seen asked) (opened_seen ready.opened) devices.items ready.start }
     requires many { length devices.items ≡ length (names_of asked.conf) }
     requires run { IsRun (action_seen asked.command.action) }
     ensures action { result.action ≡ asked.entry.command.action }
@@ -89,11 +89,11 @@ fn act_on_array<'a, D: Disk + Drop + Send, R: Threads + Wait + Sync>(
     ready: Ready,
     devices: Vec<Option<D>>,
 ) -> Performed<'a, D>
-    requires within { IsWithin (asked_seen asked) }
+    requires within { IsWithinLimits (asked_seen asked) }
     requires ready { (fronts : List Front) × IsPrepared (asked_seen asked) (sizes_of D.size devices.items) fronts ready }
     requires kind { kind_of (action_seen asked.command.action) ≡ kind_of Init }
     requires fit { IsFit D.Disk (asked_seen asked) (opened_seen ready.opened) devices.items }
-    requires start { MayStart D.Disk (asked_seen asked) (opened_seen ready.opened) devices.items ready.start }
+    requires start { IsStartIf D.Disk (asked_seen asked) (opened_seen ready.opened) devices.items ready.start }
     requires many { length devices.items ≡ length (names_of asked.conf) }
     ensures action { result.action ≡ asked.entry.command.action }
     ensures conf { result.conf ≡ asked.entry.conf }
@@ -171,7 +171,7 @@ pub(crate) fn perform<'a, D: Disk + Drop + Send, R: Threads + Wait + Sync>(
     alloc: Global,
     admitted: Admitted<'a, D>,
 ) -> Performed<'a, D>
-    requires within { IsWithin (asked_seen admitted.asked) }
+    requires within { IsWithinLimits (asked_seen admitted.asked) }
     requires duty { IsDutyOver (asked_seen admitted.asked) (sizes_of D.size admitted.devices.items) admitted.fronts.items admitted.duty }
     requires fit { IsFitFor D.Disk (asked_seen admitted.asked) admitted.devices.items admitted.duty }
     requires sizes { admitted.sizes.items ≡ sizes_of D.size admitted.devices.items }

@@ -1,6 +1,6 @@
 //! What is served, as it is handed to the core.
 ghost use Rattle.std.specs.Prelude.{◌≡◌, ◌≤◌, ℕ, map};
-ghost use Rattle.top_words.specs.Asked.{IsInRange};
+ghost use Rattle.top_words.specs.Asked.{AreNumbersInRange};
 ghost use Rattle.top_words.specs.Views.{action_seen};
 ghost use Rattle.top_duty.specs.Duty.{clients_by, traces};
 ghost use Rattle.top_duty.specs.Views.{drawn_by, items_seen};
@@ -76,7 +76,7 @@ pub(crate) fn work_of<D>(
 
 /// With how many workers beside the caller clients are served.
 pub(crate) fn workers_of(action: Action<'_>) -> u32
-    requires { IsInRange (action_seen action) }
+    requires { AreNumbersInRange (action_seen action) }
     ensures { result ≤ 16 }
 {
     match action {

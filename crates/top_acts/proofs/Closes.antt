@@ -16,7 +16,7 @@ use Rattle.top_rounds.specs.Labels.{with_round}
 use Rattle.top_rounds.specs.Passes.{IsFirstInUse, LosesDevice}
 use Rattle.top_rounds.specs.Rounds.{IsInUse, clean_in_end}
 use Rattle.top_rounds.proofs.RoundLaws.{round_again}
-use Rattle.top_acts.specs.Closed.{AreCounted, IsBroken, IsClosed}
+use Rattle.top_acts.specs.Closed.{AreCounted, IsBroken, ClosesLabelled}
 use Rattle.top_acts.proofs.Counted.{Behind, counted-then}
 use Rattle.top_acts.proofs.Staged.{closes-refl}
 
@@ -56,7 +56,7 @@ module _ {D : Type 0} (g : Ghosts D) where
     pub label_again : (clean : ℕ) → next ≡ with_round before next.counter clean next.seats → next ≡ with_round label next.counter clean next.seats
     label_again clean is = round_again label before next label.clean next.counter clean next.seats same is
 
-    pub closed_then : (lost : Option Loss) → IsClosed g before next mid after dev new lost → IsClosed g label next columns after old new lost
+    pub closed_then : (lost : Option Loss) → ClosesLabelled g before next mid after dev new lost → ClosesLabelled g label next columns after old new lost
     closed_then lost h = record {
       counted = counted-then g 0 label before next columns mid after old dev new was (behind 1 before next mid after dev new h.counted) 1 (omega (arith, was.least, h.counted.least)) (omega (arith, was.most, h.counted.most));
       label_is = label_again (clean_in_end lost label.clean) (h.label_is ∙ ap (λ k. with_round before next.counter (clean_in_end lost k) next.seats) (ap (λ (l : Label). l.clean) same));

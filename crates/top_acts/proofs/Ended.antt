@@ -9,12 +9,12 @@ use Rattle.eng_cols.specs.Cols.{ColumnState}
 use Rattle.eng_cols.specs.Deaths.{Dies}
 use Rattle.raid_label.specs.declared.label.Label.{Label}
 use Rattle.raid_label.specs.Bytes.{IsHeld}
-use Rattle.top_close.specs.Ended.{IsLossOf, states_of}
+use Rattle.top_close.specs.Ended.{IsLossBy, states_of}
 use Rattle.top_close.specs.Settled.{AreSettled}
 use Rattle.top_close.proofs.DyingLaws.{columns_die, lost_no_less}
 use Rattle.top_rounds.specs.Labels.{with_round}
 use Rattle.top_rounds.specs.Rounds.{AreRounds, HaveRounds, clean_in_end}
-use Rattle.top_acts.specs.Closed.{AreCounted, IsClosed}
+use Rattle.top_acts.specs.Closed.{AreCounted, ClosesLabelled}
 use Rattle.top_acts.proofs.Closes.{behind, counted-none}
 use Rattle.top_acts.proofs.Counted.{counted-then, counted_rounds}
 use Rattle.top_acts.proofs.Settled.{settled}
@@ -24,14 +24,14 @@ pub no_loss : {A : Type 0} → false ≡ true → A
 no_loss h = absurd (let u : ⊥ = cc in u)
 
 -- an array that was lost is lost
-pub still_lost : (y : Shape) (cause : ℕ → Type 0) (columns after : List Column) (before lost : Option Loss) → Dies cause columns after → IsLossOf y None (states_of y columns) before → is_some before ≡ true → IsLossOf y None (states_of y after) lost → is_some lost ≡ true
+pub still_lost : (y : Shape) (cause : ℕ → Type 0) (columns after : List Column) (before lost : Option Loss) → Dies cause columns after → IsLossBy y None (states_of y columns) before → is_some before ≡ true → IsLossBy y None (states_of y after) lost → is_some lost ≡ true
 still_lost y cause columns after before None dies was some is =
     let none = not_lost y (states_of y columns) before was (lost_no_less y (states_of y columns) (states_of y after) (columns_die cause y columns after dies) is) in
     let z : false ≡ true = ap is_some (sym none) ∙ some in absurd (let u : ⊥ = cc in u)
 still_lost y cause columns after before (Some loss) dies was some is = refl
 
 -- and one that stays lost by what it was
-pub kept_loss : (y : Shape) (cols : List ColumnState) (before lost : Option Loss) → is_some before ≡ true → IsLossOf y before cols lost → is_some lost ≡ true
+pub kept_loss : (y : Shape) (cols : List ColumnState) (before lost : Option Loss) → is_some before ≡ true → IsLossBy y before cols lost → is_some lost ≡ true
 kept_loss y cols None lost some is = no_loss some
 kept_loss y cols (Some loss) lost some is = ap is_some is ∙ refl
 
@@ -57,7 +57,7 @@ module _ {D : Type 0} (g : Ghosts D) where
   rounds_of (Some loss) label next columns after old new h = h
 
   -- one round of a lost array ends it
-  pub closed_lost : (lost : Option Loss) (label next : Label) (columns mid after : List Column) (old dev new : List (Option D)) → is_some lost ≡ true → AreCounted g 0 label label columns mid old dev → next ≡ with_round label next.counter 0 next.seats → HaveRounds g lost label next mid after dev new → IsClosed g label next columns after old new lost
+  pub closed_lost : (lost : Option Loss) (label next : Label) (columns mid after : List Column) (old dev new : List (Option D)) → is_some lost ≡ true → AreCounted g 0 label label columns mid old dev → next ≡ with_round label next.counter 0 next.seats → HaveRounds g lost label next mid after dev new → ClosesLabelled g label next columns after old new lost
   closed_lost None label next columns mid after old dev new some was is h = no_loss some
   closed_lost (Some loss) label next columns mid after old dev new some was is h =
       let rounds = h.1 in

@@ -12,7 +12,7 @@ use Rattle.eng_cols.specs.Deaths.{Dies}
 use Rattle.eng_cols.proofs.DeathLaws.{dies-set}
 use Rattle.raid_label.specs.declared.label.Label.{Label}
 use Rattle.top_close.specs.Dying.{AnyCause}
-use Rattle.top_close.specs.Ended.{IsLossOf, states_of}
+use Rattle.top_close.specs.Ended.{IsLossBy, states_of}
 use Rattle.top_rounds.specs.Passes.{IsFirstInUse}
 use Rattle.top_acts.specs.Begun.{CanAct}
 use Rattle.top_acts.specs.Failed.{EndsFailed}
@@ -26,7 +26,7 @@ failed_dies columns c within = dies-set AnyCause columns c within tt
 module _ {D : Type 0} (g : Ghosts D) where
   -- where it was lost before, or isn't lost in the end
   pub fails_quiet : (y : Shape) (before lost : Option Loss) (label : Label) (columns after : List Column) (old : List (Option D)) → Dies AnyCause columns after
-      → IsLossOf y None (states_of y columns) before → IsLossOf y None (states_of y after) lost → (is_some before ≡ true) ⊎ (is_some lost ≡ false) → EndsFailed g before lost label label after after old old
+      → IsLossBy y None (states_of y columns) before → IsLossBy y None (states_of y after) lost → (is_some before ≡ true) ⊎ (is_some lost ≡ false) → EndsFailed g before lost label label after after old old
   fails_quiet y None None label columns after old dies was is why = record { label_is = refl; columns_are = refl; devices_are = refl }
   fails_quiet y (Some before) (Some loss) label columns after old dies was is why = record { label_is = refl; columns_are = refl; devices_are = refl }
   fails_quiet y None (Some loss) label columns after old dies was is why = elim why [

@@ -11,7 +11,7 @@ use Rattle.eng_cols.specs.Contents.{byte_of, sector_at, InSync}
 use Rattle.raid_recon.specs.declared.kind.Sweep.{Sweep}
 use Rattle.raid_recon.specs.declared.kind.Sweep.TheVariants.{Check, Sync, Init}
 use Rattle.raid_recon.specs.Array.{states_of, IsComplete, Lacks}
-use Rattle.raid_recon.specs.Ends.{IsDue, MayRewrite, ChecksHold, IsCounted}
+use Rattle.raid_recon.specs.Ends.{IsToCount, MayRewrite, ChecksHold, IsCounted}
 use Rattle.raid_recon.specs.Sums.{sum_of, IsNotZero}
 use Rattle.raid_recon.specs.Turns.{Rewrites}
 use Rattle.raid_recon.proofs.Backs.{Back, byte-back, check-back, sum-back}
@@ -64,7 +64,7 @@ module _ {D : Type 0} (g : Ghosts D) (y : Shape) where
   rewrites_same Sync P Q f h = f h
   rewrites_same Init P Q f h = h
 
-  due_same : (kind : Sweep) (P Q : Type 0) → (P → Q) → IsDue kind P → IsDue kind Q
+  due_same : (kind : Sweep) (P Q : Type 0) → (P → Q) → IsToCount kind P → IsToCount kind Q
   due_same Check P Q f h = f h
   due_same Sync P Q f h = f h
   due_same Init P Q f h = h

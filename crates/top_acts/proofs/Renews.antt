@@ -13,7 +13,7 @@ use Rattle.raid_label.specs.declared.label.Label.{Label}
 use Rattle.raid_recon.specs.Array.{states_of}
 use Rattle.raid_recon.specs.Ends.{MayRewrite}
 use Rattle.top_close.specs.Calls.{EndsSettled, IsSettle}
-use Rattle.top_close.specs.Ended.{IsLossOf}
+use Rattle.top_close.specs.Ended.{IsLossBy}
 use Rattle.top_close.specs.Settled.{AreSettled, HaveDevices, IsLiveOn}
 use Rattle.top_rounds.specs.Calls.{IsLabelWrite}
 use Rattle.top_rounds.specs.Labels.{with_round}
@@ -25,7 +25,7 @@ use Rattle.top_acts.specs.declared.done.Done.{Done}
 use Rattle.top_acts.specs.declared.done.Done.TheVariants as done
 use Rattle.top_acts.specs.declared.sweeping.Renewal.{Renewal}
 use Rattle.top_acts.specs.Begun.{AreLast, HasBegun, MayBegin, MaySweep}
-use Rattle.top_acts.specs.Closed.{IsClosed}
+use Rattle.top_acts.specs.Closed.{ClosesLabelled}
 use Rattle.top_acts.specs.Done.{unless_lost}
 use Rattle.top_acts.specs.Renewed.{IsRenewed, IsRenewedPlain, renewed, sweep_of}
 use Rattle.top_acts.specs.Stages.{IsClosing, SettlesFirst, SettlesFirstOn}
@@ -40,7 +40,7 @@ use Rattle.top_acts.proofs.Staged.{AreNone, last_closes, more-closes, more-settl
 
 module _ {D : Type 0} (g : Ghosts D) (kind : Renewal) (y : Shape) where
   -- the array was lost before the closing round
-  pub renewed_lost : (label next : Label) (columns after : List Column) (old new : List (Option D)) (lost : Option Loss) (n : ℕ) → is_some lost ≡ true → IsLossOf y None (states_of y after) lost → HasBegun g (Some (sweep_of kind)) y label next columns after old new lost n
+  pub renewed_lost : (label next : Label) (columns after : List Column) (old new : List (Option D)) (lost : Option Loss) (n : ℕ) → is_some lost ≡ true → IsLossBy y None (states_of y after) lost → HasBegun g (Some (sweep_of kind)) y label next columns after old new lost n
       → IsRenewed g kind y label next columns after old new lost done.Nothing
   renewed_lost label next columns after old new None n some is b = no_loss some
   renewed_lost label next columns after old new (Some loss) n some is b = record {
@@ -65,7 +65,7 @@ module _ {D : Type 0} (g : Ghosts D) (kind : Renewal) (y : Shape) where
 
   -- it was closed
   pub renewed_closed : (label first before next : Label) (columns mid after : List Column) (old dev new : List (Option D)) (lost ended : Option Loss) (n : ℕ) (result : Done) → lost ≡ None → before ≡ with_round first first.counter 1 first.seats → result ≡ unless_lost ended (renewed kind n)
-      → IsLossOf y None (states_of y after) ended → HasBegun g (Some (sweep_of kind)) y label first columns mid old dev lost n → IsClosed g before next mid after dev new ended → ((c d : ℕ) → IsLiveOn mid c d → SettlesFirstOn (calls_of g dev d) (calls_of g new d)) → IsRenewed g kind y label next columns after old new ended result
+      → IsLossBy y None (states_of y after) ended → HasBegun g (Some (sweep_of kind)) y label first columns mid old dev lost n → ClosesLabelled g before next mid after dev new ended → ((c d : ℕ) → IsLiveOn mid c d → SettlesFirstOn (calls_of g dev d) (calls_of g new d)) → IsRenewed g kind y label next columns after old new ended result
   renewed_closed label first before next columns mid after old dev new lost ended n result none clean told is b k first_settled =
       let one = b.one none in
       let closing = named-as g 1 first before next mid after dev new (ap (λ (l : Label). l.counter) clean) (named-counted g 1 before next mid after dev new k.counted) in
@@ -98,7 +98,7 @@ module _ {D : Type 0} (g : Ghosts D) (kind : Renewal) (y : Shape) where
       }
 
   -- it has no labels
-  pub renewed_plain : (columns mid after : List Column) (old dev new : List (Option D)) (ended : Option Loss) (n : ℕ) (result : Done) → y.checks ≤ 1 → count_by is_set_filling columns ≡ 0 → result ≡ unless_lost ended (renewed kind n) → IsLossOf y None (states_of y after) ended
+  pub renewed_plain : (columns mid after : List Column) (old dev new : List (Option D)) (ended : Option Loss) (n : ℕ) (result : Done) → y.checks ≤ 1 → count_by is_set_filling columns ≡ 0 → result ≡ unless_lost ended (renewed kind n) → IsLossBy y None (states_of y after) ended
       → DoesSweep g (sweep_of kind) y columns mid old dev n → AreSettled g (length mid) mid after dev new → ((c d : ℕ) → IsLiveOn after c d → EndsSettled (calls_of g new d)) → IsRenewedPlain g kind y columns after old new ended result
   renewed_plain columns mid after old dev new ended n result most none told is s settled last =
       let quiet = changes-more g (λ _ _. ⊥) (λ d m. m ≡ 0) dev new (λ d m f. absurd f) settled.frame in

@@ -16,20 +16,20 @@ use Rattle.eng_cols.specs.Lost.{NotLost}
 use Rattle.raid_label.specs.declared.label.Label.{Label}
 use Rattle.top_close.specs.Calls.{EndsSettled}
 use Rattle.top_close.specs.Dying.{AnyCause}
-use Rattle.top_close.specs.Ended.{IsLossOf, states_of}
+use Rattle.top_close.specs.Ended.{IsLossBy, states_of}
 use Rattle.top_close.specs.Settled.{AreSettled, FailsToSettle, HaveDevices, IsLiveOn, is_live}
 use Rattle.top_rounds.specs.Labels.{seats_of, with_round}
 use Rattle.top_rounds.specs.Rounds.{AreRounds, IsInUse, clean_in_end, live_count}
 use Rattle.top_rounds.proofs.PassLaws.{live_before}
 use Rattle.top_rounds.proofs.RoundLaws.{live_less}
-use Rattle.top_acts.specs.Closed.{IsBroken, IsClosed, TriesToClose}
+use Rattle.top_acts.specs.Closed.{IsBroken, ClosesLabelled, TriesToClose}
 use Rattle.top_acts.proofs.Columns.{any_death}
 use Rattle.top_acts.proofs.Counted.{Behind, counted-then, counted_rounds}
 use Rattle.top_acts.proofs.Settled.{Death, death_of, settled}
 
 -- ## Lost or not
 
-pub not_lost : (y : Shape) (cols : List ColumnState) (lost : Option Loss) → IsLossOf y None cols lost → NotLost y cols → lost ≡ None
+pub not_lost : (y : Shape) (cols : List ColumnState) (lost : Option Loss) → IsLossBy y None cols lost → NotLost y cols → lost ≡ None
 not_lost y cols None is kept = refl
 not_lost y cols (Some loss) is kept =
     let k = kept loss.stripe is.stripe is.i is.j is.units.within.0 is.units.within.1 is.units.missing.0 is.units.missing.1 in
@@ -66,9 +66,9 @@ strict (x ∷ xs) (y ∷ ys) dies (suc i) live dead =
 -- ## The close
 
 module _ {D : Type 0} (g : Ghosts D) (y : Shape) (label next : Label) (columns mid after : List Column) (old dev new : List (Option D)) (lost : Option Loss)
-    (rounds : AreRounds g label next columns mid mid old dev) (label_is : next ≡ with_round label next.counter label.clean next.seats) (have : HaveDevices mid dev) (kept : NotLost y (states_of y mid)) (lost_is : IsLossOf y None (states_of y after) lost)
+    (rounds : AreRounds g label next columns mid mid old dev) (label_is : next ≡ with_round label next.counter label.clean next.seats) (have : HaveDevices mid dev) (kept : NotLost y (states_of y mid)) (lost_is : IsLossBy y None (states_of y after) lost)
     (s : AreSettled g (length mid) mid after dev new) (last : (c d : ℕ) → IsLiveOn after c d → EndsSettled (calls_of g new d)) where
-  closed : after ≡ mid → IsClosed g label next columns after old new lost
+  closed : after ≡ mid → ClosesLabelled g label next columns after old new lost
   closed same =
       let none = not_lost y (states_of y after) lost lost_is (subst (λ l. NotLost y (states_of y l)) (sym same) kept) in
       let quiet = settled g (length mid) mid after dev new s refl in

@@ -10,7 +10,7 @@ use Rattle.raid_recon.specs.declared.kind.Sweep.TheVariants as sweep
 use Rattle.raid_recon.specs.Array.{states_of, Failed}
 use Rattle.raid_recon.specs.Ends.{IsCounted, CallsUnits}
 use Rattle.raid_recon.specs.Swept.{IsSwept}
-use Rattle.top_close.specs.Ended.{IsLossOf}
+use Rattle.top_close.specs.Ended.{IsLossBy}
 use Rattle.top_acts.specs.declared.done.Done.{Done}
 use Rattle.top_acts.specs.declared.done.Done.TheVariants as done
 use Rattle.top_acts.specs.Done.{unless_lost}
@@ -25,4 +25,4 @@ pub record IsChecked {D : Type 0} (g : Ghosts D) (y : Shape) (columns after : Li
   pub dies : Dies (Failed g (states_of y columns) old new) columns after
   pub swept : y.checks ≡ 1 → IsSwept g sweep.Check y y.stripes columns after old new found
   pub calls : (d : ℕ) → CallsUnits y (states_of y columns) d (calls_of g old d) (calls_of g new d)
-  pub lost_is : IsLossOf y None (states_of y after) lost
+  pub lost_is : IsLossBy y None (states_of y after) lost

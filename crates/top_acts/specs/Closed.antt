@@ -29,7 +29,7 @@ module _ {D : Type 0} (g : Ghosts D) where
     pub told : (d : ℕ) → ClosesOn (calls_of g old d) (calls_of g new d)
 
   -- One round is named. Each device in use in the end has its label, which isn't clean where the array is lost; else the seats are those of the columns in the end, and each device in use is settled, last of all its calls.
-  pub record IsClosed (label next : Label) (columns after : List Column) (old new : List (Option D)) (lost : Option Loss) : Type 0 where
+  pub record ClosesLabelled (label next : Label) (columns after : List Column) (old new : List (Option D)) (lost : Option Loss) : Type 0 where
     pub counted : AreCounted 1 label next columns after old new
     pub label_is : next ≡ with_round label next.counter (clean_in_end lost label.clean) next.seats
     pub seats : lost ≡ None → next.seats ≡ seats_of after
@@ -44,5 +44,5 @@ module _ {D : Type 0} (g : Ghosts D) where
 
   -- the array was closed, or a device failed as it was settled
   abbrev pub TriesToClose : Label → Label → List Column → List Column → List (Option D) → List (Option D) → Option Loss → Bool → Type 0
-  TriesToClose label next columns after old new lost true = IsClosed label next columns after old new lost
+  TriesToClose label next columns after old new lost true = ClosesLabelled label next columns after old new lost
   TriesToClose label next columns after old new lost false = IsBroken label next columns after old new

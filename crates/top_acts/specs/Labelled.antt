@@ -6,7 +6,7 @@ use Rattle.eng_cols.specs.declared.column.Column.{Column}
 use Rattle.eng_cols.specs.declared.column.Column.TheVariants as column
 use Rattle.eng_cols.specs.declared.spot.Loss.{Loss}
 use Rattle.raid_label.specs.declared.label.Label.{Label}
-use Rattle.top_close.specs.Ended.{states_of, IsLossOf}
+use Rattle.top_close.specs.Ended.{states_of, IsLossBy}
 use Rattle.top_rounds.specs.Labels.{with_round}
 use Rattle.top_rounds.specs.Rounds.{HaveRounds}
 use Rattle.top_acts.specs.declared.done.Done.{Done}
@@ -32,4 +32,4 @@ pub record IsFirstLabelled {D : Type 0} (g : Ghosts D) (y : Shape) (label next :
   pub told : result ≡ unless_lost lost (done.Labelled (alive after))
   pub label_is : next ≡ with_round label next.counter 0 next.seats
   pub rounds : HaveRounds g lost (unlabelled label) next columns after old new
-  pub lost_is : IsLossOf y None (states_of y after) lost
+  pub lost_is : IsLossBy y None (states_of y after) lost

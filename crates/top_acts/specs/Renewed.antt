@@ -11,7 +11,7 @@ use Rattle.raid_recon.specs.declared.kind.Sweep.{Sweep}
 use Rattle.raid_recon.specs.declared.kind.Sweep.TheVariants as sweep
 use Rattle.raid_recon.specs.Array.{states_of}
 use Rattle.top_close.specs.Calls.{EndsSettled, IsSettle}
-use Rattle.top_close.specs.Ended.{IsLossOf}
+use Rattle.top_close.specs.Ended.{IsLossBy}
 use Rattle.top_close.specs.Settled.{IsLiveOn}
 use Rattle.top_rounds.specs.Calls.{IsLabelWrite}
 use Rattle.top_rounds.specs.Labels.{seats_of, with_round}
@@ -54,7 +54,7 @@ module _ {D : Type 0} (g : Ghosts D) where
     pub frame : Changes g (MayBegin g (Some (sweep_of kind)) y columns old) old new
     pub calls : (d : ℕ) → StagesOn (All IsLabelWrite) (All IsClosing) (Some (sweep_of kind)) y (states_of y columns) d (calls_of g old d) (calls_of g new d)
     pub uncalled : ToldNothing g columns old new
-    pub lost_is : IsLossOf y None (states_of y after) lost
+    pub lost_is : IsLossBy y None (states_of y after) lost
 
   -- Of an array without labels: the sweep, then each device in use settled once, whether the array is lost or not.
   pub record IsRenewedPlain (kind : Renewal) (y : Shape) (columns after : List Column) (old new : List (Option D)) (lost : Option Loss) (result : Done) : Type 0 where
@@ -66,4 +66,4 @@ module _ {D : Type 0} (g : Ghosts D) where
     pub frame : Changes g (MaySweep g (Some (sweep_of kind)) y columns old) old new
     pub calls : (d : ℕ) → StagesOn (λ calls. calls ≡ []) (All IsSettle) (Some (sweep_of kind)) y (states_of y columns) d (calls_of g old d) (calls_of g new d)
     pub uncalled : ToldNothing g columns old new
-    pub lost_is : IsLossOf y None (states_of y after) lost
+    pub lost_is : IsLossBy y None (states_of y after) lost

@@ -6,7 +6,7 @@ ghost use Rattle.raid_label.specs.Bytes.{IsHeld};
 ghost use Rattle.top_acts.specs.Begun.{CanAct, HasBegun, sweep_if};
 ghost use Rattle.top_acts.specs.Renewed.{sweep_of};
 ghost use Rattle.top_acts.specs.Sweeping.{SweepsLabelled};
-ghost use Rattle.top_close.specs.Ended.{IsLossOf, states_of};
+ghost use Rattle.top_close.specs.Ended.{IsLossBy, states_of};
 
 use crate::ending::write_lost;
 use crate::sweeping::{Renewal, sweep_and_judge};
@@ -35,7 +35,7 @@ fn sweep_labelled<L: Layout, D: Disk>(
     requires judge { IsFor (L.shape layout.now) judge.old }
     ensures swept { SweepsLabelled D.Disk (sweep_of kind) (L.shape layout.now) label.old label.new
         ending.old.columns.items ending.new.columns.items devices.old devices.new ending.new.lost result }
-    ensures lost { IsLossOf (L.shape layout.now) None
+    ensures lost { IsLossBy (L.shape layout.now) None
         (states_of (L.shape layout.now) ending.new.columns.items) ending.new.lost }
     ensures room { room.new ≡ room.old }
     ensures judge { IsFor (L.shape layout.now) judge.new }
@@ -66,7 +66,7 @@ pub(crate) fn begin<L: Layout, D: Disk>(
     requires judge { IsFor (L.shape layout.now) judge.old }
     ensures begun { HasBegun D.Disk (option_map sweep_of sweep) (L.shape layout.now) label.old label.new
         ending.old.columns.items ending.new.columns.items devices.old devices.new ending.new.lost result }
-    ensures lost { IsLossOf (L.shape layout.now) None
+    ensures lost { IsLossBy (L.shape layout.now) None
         (states_of (L.shape layout.now) ending.new.columns.items) ending.new.lost }
     ensures room { room.new ≡ room.old }
     ensures judge { IsFor (L.shape layout.now) judge.new }
@@ -110,7 +110,7 @@ pub fn begin_labelled<L: Layout, D: Disk>(
     requires judge { IsFor (L.shape layout.now) judge.old }
     ensures begun { HasBegun D.Disk (sweep_if dirty) (L.shape layout.now) label.old label.new
         ending.old.columns.items ending.new.columns.items devices.old devices.new ending.new.lost result }
-    ensures lost { IsLossOf (L.shape layout.now) None
+    ensures lost { IsLossBy (L.shape layout.now) None
         (states_of (L.shape layout.now) ending.new.columns.items) ending.new.lost }
     ensures can { CanAct D.Disk (L.shape layout.now) ending.new.columns.items devices.new }
     ensures held { IsHeld label.new }

@@ -3,8 +3,8 @@ ghost use Rattle.std.specs.Prelude.{◌≡◌, ◌≤◌, ◌<◌, ◌+◌, ◌^
 ghost use Rattle.eng_cols.specs.Cols.{IsFor};
 ghost use Rattle.raid_label.specs.Bytes.{IsHeld};
 ghost use Rattle.top_acts.specs.Acts.{IsSettable};
-ghost use Rattle.top_acts.specs.Closed.{IsClosed, TriesToClose};
-ghost use Rattle.top_close.specs.Ended.{IsLossOf, states_of};
+ghost use Rattle.top_acts.specs.Closed.{ClosesLabelled, TriesToClose};
+ghost use Rattle.top_close.specs.Ended.{IsLossBy, states_of};
 ghost use Rattle.top_close.specs.Settled.{is_live};
 ghost use Rattle.std.specs.Prelude.{Some, None};
 ghost use Rattle.top_rounds.specs.Passes.{CanBeLabelled};
@@ -56,7 +56,7 @@ fn try_close<L: Layout, D: Disk>(
     requires judge { IsFor (L.shape layout.now) judge.old }
     ensures tried { TriesToClose D.Disk label.old label.new ending.old.columns.items
         ending.new.columns.items devices.old devices.new ending.new.lost result }
-    ensures lost { IsLossOf (L.shape layout.now) None
+    ensures lost { IsLossBy (L.shape layout.now) None
         (states_of (L.shape layout.now) ending.new.columns.items) ending.new.lost }
     ensures judge { IsFor (L.shape layout.now) judge.new }
 {
@@ -90,9 +90,9 @@ pub fn close<L: Layout, D: Disk>(
     requires held { IsHeld label.old }
     requires counter { label.old.counter + 65 < 2 ^ 32 }
     requires judge { IsFor (L.shape layout.now) judge.old }
-    ensures closed { IsClosed D.Disk label.old label.new ending.old.columns.items
+    ensures closed { ClosesLabelled D.Disk label.old label.new ending.old.columns.items
         ending.new.columns.items devices.old devices.new ending.new.lost }
-    ensures lost { IsLossOf (L.shape layout.now) None
+    ensures lost { IsLossBy (L.shape layout.now) None
         (states_of (L.shape layout.now) ending.new.columns.items) ending.new.lost }
     ensures judge { IsFor (L.shape layout.now) judge.new }
 {

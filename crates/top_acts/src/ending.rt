@@ -4,9 +4,9 @@ ghost use Rattle.blk_disk.specs.Devices.{calls_of};
 ghost use Rattle.eng_cols.specs.Cols.{IsFor};
 ghost use Rattle.raid_label.specs.Bytes.{IsHeld};
 ghost use Rattle.top_acts.specs.Acts.{IsSettable};
-ghost use Rattle.top_acts.specs.Closed.{IsClosed};
+ghost use Rattle.top_acts.specs.Closed.{ClosesLabelled};
 ghost use Rattle.top_acts.specs.Stages.{SettlesFirstOn};
-ghost use Rattle.top_close.specs.Ended.{IsLossOf, states_of};
+ghost use Rattle.top_close.specs.Ended.{IsLossBy, states_of};
 ghost use Rattle.top_close.specs.Settled.{IsLiveOn};
 ghost use Rattle.top_rounds.specs.Labels.{with_round};
 ghost use Rattle.top_rounds.specs.Passes.{CanBeLabelled};
@@ -34,14 +34,14 @@ pub(crate) fn write_lost<L: Layout, D: Disk>(
     requires held { IsHeld label.old }
     requires counter { label.old.counter + 33 < 2 ^ 32 }
     requires lost { is_some ending.old.lost ≡ true }
-    requires by { IsLossOf (L.shape layout.now) None
+    requires by { IsLossBy (L.shape layout.now) None
         (states_of (L.shape layout.now) ending.old.columns.items) ending.old.lost }
     requires judge { IsFor (L.shape layout.now) judge.old }
     ensures label { label.new ≡ with_round label.old label.new.counter 0 label.new.seats }
     ensures rounds { HaveRounds D.Disk ending.new.lost label.old label.new
         ending.old.columns.items ending.new.columns.items devices.old devices.new }
     ensures lost { is_some ending.new.lost ≡ true }
-    ensures by { IsLossOf (L.shape layout.now) None
+    ensures by { IsLossBy (L.shape layout.now) None
         (states_of (L.shape layout.now) ending.new.columns.items) ending.new.lost }
     ensures judge { IsFor (L.shape layout.now) judge.new }
 {
@@ -64,11 +64,11 @@ fn settle_and_end<L: Layout, D: Disk>(
     requires held { IsHeld label.old }
     requires counter { label.old.counter + 65 < 2 ^ 32 }
     requires judge { IsFor (L.shape layout.now) judge.old }
-    ensures closed { IsClosed D.Disk label.old label.new ending.old.columns.items
+    ensures closed { ClosesLabelled D.Disk label.old label.new ending.old.columns.items
         ending.new.columns.items devices.old devices.new ending.new.lost }
     ensures first { (c d : ℕ) → IsLiveOn ending.old.columns.items c d → SettlesFirstOn
         (calls_of D.Disk devices.old d) (calls_of D.Disk devices.new d) }
-    ensures lost { IsLossOf (L.shape layout.now) None
+    ensures lost { IsLossBy (L.shape layout.now) None
         (states_of (L.shape layout.now) ending.new.columns.items) ending.new.lost }
     ensures judge { IsFor (L.shape layout.now) judge.new }
 {
@@ -103,11 +103,11 @@ pub fn end_labelled<L: Layout, D: Disk>(
     requires held { IsHeld label.old }
     requires counter { label.old.counter + 65 < 2 ^ 32 }
     requires judge { IsFor (L.shape layout.now) judge.old }
-    ensures closed { IsClosed D.Disk label.old label.new ending.old.columns.items
+    ensures closed { ClosesLabelled D.Disk label.old label.new ending.old.columns.items
         ending.new.columns.items devices.old devices.new ending.new.lost }
     ensures first { ending.old.lost ≡ None → (c d : ℕ) → IsLiveOn ending.old.columns.items c d →
         SettlesFirstOn (calls_of D.Disk devices.old d) (calls_of D.Disk devices.new d) }
-    ensures lost { IsLossOf (L.shape layout.now) ending.old.lost
+    ensures lost { IsLossBy (L.shape layout.now) ending.old.lost
         (states_of (L.shape layout.now) ending.new.columns.items) ending.new.lost }
     ensures judge { IsFor (L.shape layout.now) judge.new }
 {

@@ -5,7 +5,7 @@ ghost use Rattle.eng_cols.specs.declared.column.Column.TheVariants as set;
 ghost use Rattle.raid_label.specs.Bytes.{IsHeld};
 ghost use Rattle.top_acts.specs.Begun.{CanAct};
 ghost use Rattle.top_acts.specs.Failed.{EndsFailed};
-ghost use Rattle.top_close.specs.Ended.{IsLossOf, states_of};
+ghost use Rattle.top_close.specs.Ended.{IsLossBy, states_of};
 
 use crate::ending::write_lost;
 use crate::judging::loss_of;
@@ -34,13 +34,13 @@ pub fn fail_column<L: Layout, D: Disk>(
     requires can { CanAct D.Disk (L.shape layout.now) ending.old.columns.items devices.old }
     requires held { IsHeld label.old }
     requires counter { label.old.counter + 33 < 2 ^ 32 }
-    requires by { IsLossOf (L.shape layout.now) None
+    requires by { IsLossBy (L.shape layout.now) None
         (states_of (L.shape layout.now) ending.old.columns.items) ending.old.lost }
     requires judge { IsFor (L.shape layout.now) judge.old }
     ensures ends { EndsFailed D.Disk ending.old.lost ending.new.lost label.old label.new
         (slice_set ending.old.columns.items column set.Dead) ending.new.columns.items
         devices.old devices.new }
-    ensures lost { IsLossOf (L.shape layout.now) None
+    ensures lost { IsLossBy (L.shape layout.now) None
         (states_of (L.shape layout.now) ending.new.columns.items) ending.new.lost }
     ensures can { CanAct D.Disk (L.shape layout.now) ending.new.columns.items devices.new }
     ensures held { IsHeld label.new }

@@ -2,7 +2,7 @@
 ghost use Rattle.std.specs.Prelude.{◌≡◌, ◌≤◌, length, count_by};
 ghost use Rattle.eng_cols.specs.Cols.{IsFor, is_set_filling, is_set_spread};
 ghost use Rattle.top_acts.specs.Acts.{IsSettable};
-ghost use Rattle.top_close.specs.Ended.{states_of, IsLossOf};
+ghost use Rattle.top_close.specs.Ended.{states_of, IsLossBy};
 
 use eng_cols::{Cols, Column, Loss};
 use lay_core::Layout;
@@ -11,7 +11,7 @@ use lay_core::Layout;
 pub(crate) fn loss_of<L: Layout>(layout: &L, columns: &[Column], judge: &mut Cols) -> Option<Loss>
     requires columns { IsSettable (L.shape layout.now) columns.now }
     requires judge { IsFor (L.shape layout.now) judge.old }
-    ensures lost { IsLossOf (L.shape layout.now) None
+    ensures lost { IsLossBy (L.shape layout.now) None
         (states_of (L.shape layout.now) columns.now) result }
     ensures judge { IsFor (L.shape layout.now) judge.new }
 {

@@ -6,7 +6,7 @@ ghost use Rattle.top_acts.specs.Acts.{IsSettable};
 ghost use Rattle.top_acts.specs.Killed.{EndsAlive, IsKilled};
 ghost use Rattle.std.specs.Prelude.{length};
 ghost use Rattle.std.specs.Prelude.{None};
-ghost use Rattle.top_close.specs.Ended.{IsLossOf, states_of};
+ghost use Rattle.top_close.specs.Ended.{IsLossBy, states_of};
 ghost use Rattle.top_rounds.specs.Passes.{CanBeLabelled};
 
 use crate::closing::close;
@@ -35,7 +35,7 @@ pub fn settle_and_close<L: Layout, D: Disk>(
     requires judge { IsFor (L.shape layout.now) judge.old }
     ensures ends { EndsAlive D.Disk label.old label.new ending.old.columns.items
         ending.new.columns.items devices.old devices.new ending.new.lost }
-    ensures lost { IsLossOf (L.shape layout.now) None
+    ensures lost { IsLossBy (L.shape layout.now) None
         (states_of (L.shape layout.now) ending.new.columns.items) ending.new.lost }
     ensures judge { IsFor (L.shape layout.now) judge.new }
 {

@@ -5,7 +5,7 @@ ghost use Rattle.raid_recon.specs.Array.{IsArray};
 ghost use Rattle.top_acts.specs.Acts.{IsSettable};
 ghost use Rattle.top_acts.specs.Renewed.{sweep_of};
 ghost use Rattle.top_acts.specs.Sweeping.{DoesSweep};
-ghost use Rattle.top_close.specs.Ended.{IsLossOf, states_of};
+ghost use Rattle.top_close.specs.Ended.{IsLossBy, states_of};
 
 use crate::judging::loss_of;
 use blk_disk::Disk;
@@ -58,7 +58,7 @@ pub(crate) fn sweep_and_judge<L: Layout, D: Disk>(
     requires judge { IsFor (L.shape layout.now) judge.old }
     ensures swept { DoesSweep D.Disk (sweep_of kind) (L.shape layout.now)
         ending.old.columns.items ending.new.columns.items devices.old devices.new result }
-    ensures lost { IsLossOf (L.shape layout.now) None
+    ensures lost { IsLossBy (L.shape layout.now) None
         (states_of (L.shape layout.now) ending.new.columns.items) ending.new.lost }
     ensures room { room.new ≡ room.old }
     ensures judge { IsFor (L.shape layout.now) judge.new }

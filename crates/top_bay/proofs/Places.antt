@@ -13,7 +13,7 @@ use Rattle.raid_text.specs.Text.{Text}
 use Rattle.top_status.specs.declared.status.Status.{Status}
 use Rattle.top_status.specs.declared.status.Status.TheVariants as status
 use Rattle.top_status.specs.Refusals.{◌then◌, only, or_refusal}
-use Rattle.top_bay.specs.Answers.{Opens}
+use Rattle.top_bay.specs.Answers.{AnswersAs}
 use Rattle.top_bay.specs.Asked.{component_in}
 use Rattle.top_bay.specs.Views.{IsPlace}
 
@@ -103,9 +103,9 @@ component_unnamed names [] is = refl
 component_unnamed names (b ∷ name) is = cc is
 
 -- what is answered of names that are these
-pub opens_among : (result : Result (Option ℕ) Status) (all names : List Text) (name : Text) → all ≡ names → Opens (λ comp. comp) result (component_in all name) → Opens (λ comp. comp) result (component_in names name)
-opens_among result all names name same h = subst (λ (ns : List Text). Opens (λ comp. comp) result (component_in ns name)) same h
+pub opens_among : (result : Result (Option ℕ) Status) (all names : List Text) (name : Text) → all ≡ names → AnswersAs (λ comp. comp) result (component_in all name) → AnswersAs (λ comp. comp) result (component_in names name)
+opens_among result all names name same h = subst (λ (ns : List Text). AnswersAs (λ comp. comp) result (component_in ns name)) same h
 
-pub known_among : (result : Result (Option ℕ) Status) (names : List Text) (count : ℕ) (name : Text) → length names ≡ count → Opens (λ comp. comp) result (component_in names name) → IfOk result (λ comp. IsPlace names count name comp)
+pub known_among : (result : Result (Option ℕ) Status) (names : List Text) (count : ℕ) (name : Text) → length names ≡ count → AnswersAs (λ comp. comp) result (component_in names name) → IfOk result (λ comp. IsPlace names count name comp)
 known_among (Ok comp) names count name many h = is_place names count name comp many h
 known_among (Err s) names count name many h = tt

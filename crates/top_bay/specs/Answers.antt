@@ -11,9 +11,9 @@ RefusedAs status.Memory wanted = Unit {0}
 RefusedAs s wanted = wanted ≡ Err (only s)
 
 -- the value that is wanted, seen by a view, or the refusal
-abbrev pub Opens : {X A : Type 0} → (X → A) → Result X Status → Result A Refused → Type 0
-Opens view (Ok x) wanted = wanted ≡ Ok (view x)
-Opens view (Err s) wanted = RefusedAs s wanted
+abbrev pub AnswersAs : {X A : Type 0} → (X → A) → Result X Status → Result A Refused → Type 0
+AnswersAs view (Ok x) wanted = wanted ≡ Ok (view x)
+AnswersAs view (Err s) wanted = RefusedAs s wanted
 
 -- this refusal, or want of memory
 abbrev pub IsOrMemory : Status → Status → Type 0

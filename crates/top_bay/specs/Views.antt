@@ -5,7 +5,7 @@ use Rattle.raid_conf.specs.Form.{IsConf}
 use Rattle.raid_script.specs.Asked.{AreFew, IsAsked, seen}
 use Rattle.raid_conf.specs.declared.conf.Conf.{Conf}
 use Rattle.raid_text.specs.Text.{Text}
-use Rattle.top_words.specs.Asked.{Action, Io, Sweep, Show, Init, Check, Rewrite, Print, Fail, ShowLabel, Label, Rebuild, IsInRange}
+use Rattle.top_words.specs.Asked.{Action, Io, Sweep, Show, Init, Check, Rewrite, Print, Fail, ShowLabel, Label, Rebuild, AreNumbersInRange}
 use Rattle.top_words.specs.Views.{command_seen}
 use Rattle.top_bay.specs.Asked.{Asked, names_of}
 use Rattle.top_bay.specs.declared.asked.Asked as declared_asked
@@ -36,8 +36,8 @@ IsKnown conf Print comp = comp ≡ None
 IsKnown conf (Label serial) comp = comp ≡ None
 
 -- What is asked for lies within the limits: of a command, of a configuration and a component of it, of graphs, and of a script for so many columns beside so many graphs.
-pub record IsWithin (a : Asked) : Type 0 where
-  pub action : IsInRange a.command.action
+pub record IsWithinLimits (a : Asked) : Type 0 where
+  pub action : AreNumbersInRange a.command.action
   pub conf : IsConf a.conf
   pub known : IsKnown a.conf a.command.action a.comp
   pub graphs : AreGraphs a.book

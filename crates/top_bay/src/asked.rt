@@ -3,11 +3,11 @@ ghost use Rattle.std.specs.Prelude.{◌≡◌, ◌≤◌, ℕ, List, Ok, Err, le
 ghost use Rattle.blk_disk.specs.Disk.{Rose};
 ghost use Rattle.top_words.specs.Asked.{command_of};
 ghost use Rattle.top_words.specs.Views.{action_seen, command_seen, text_of};
-ghost use Rattle.top_bay.specs.Answers.{IsEarly, IsOrMemory, Opens, RefusedAs};
+ghost use Rattle.top_bay.specs.Answers.{IsEarly, IsOrMemory, AnswersAs, RefusedAs};
 ghost use Rattle.top_bay.specs.Asked.{asked_in, graphs_name, names_for, script_name, texts_in};
 ghost use Rattle.top_bay.specs.Lent.{AreOut, IsLent};
 ghost use Rattle.top_bay.specs.Told.{IsRead, Told};
-ghost use Rattle.top_bay.specs.Views.{IsWithin, asked_seen};
+ghost use Rattle.top_bay.specs.Views.{IsWithinLimits, asked_seen};
 
 use crate::component::open_component;
 use crate::devices::take_all;
@@ -70,11 +70,11 @@ fn read_texts<'a, B: Bay>(
     words: &'a [Name],
     bay: &mut B,
 ) -> Result<Asked<'a>, Status>
-    ensures answer { B.tells → Opens asked_seen result (texts_in (B.text_of bay.old) words.entry.now) }
+    ensures answer { B.tells → AnswersAs asked_seen result (texts_in (B.text_of bay.old) words.entry.now) }
     ensures command { IfOk result (λ a. command_of words.entry.now ≡ Ok (command_seen a.command)) }
     ensures usage { (i : ℕ) → command_of words.entry.now ≡ Err i →
         MatchResult result (λ _. ⊥) (IsOrMemory (Status.Usage i)) }
-    ensures within { IfOk result (λ a. IsWithin (asked_seen a)) }
+    ensures within { IfOk result (λ a. IsWithinLimits (asked_seen a)) }
     ensures kind { IfErr result IsEarly }
     ensures cause { IsErrOf result Status.BayFault → Rose (B.faults bay.old) (B.faults bay.new) }
     ensures read { IsRead B.tells (B.text_of bay.old) (B.text_of bay.new)
@@ -123,7 +123,7 @@ pub fn ask<'a, B: Bay>(
     words: &'a [Name],
     bay: &mut B,
 ) -> Result<Taken<'a, B::D>, Status>
-    ensures answer { B.tells → Opens (λ t. asked_seen t.asked) result (asked_in
+    ensures answer { B.tells → AnswersAs (λ t. asked_seen t.asked) result (asked_in
         (record {
           tells = B.tells;
           rose = Rose (B.faults bay.old) (B.faults bay.new);
@@ -134,7 +134,7 @@ pub fn ask<'a, B: Bay>(
     ensures command { IfOk result (λ t. command_of words.entry.now ≡ Ok (command_seen t.asked.command)) }
     ensures usage { (i : ℕ) → command_of words.entry.now ≡ Err i →
         MatchResult result (λ _. ⊥) (IsOrMemory (Status.Usage i)) }
-    ensures within { IfOk result (λ t. IsWithin (asked_seen t.asked)) }
+    ensures within { IfOk result (λ t. IsWithinLimits (asked_seen t.asked)) }
     ensures many { IfOk result (λ t. vec_len t.devices ≡ length (names_for (asked_seen t.asked))) }
     ensures lent { IfOk result (λ t. B.tells →
         IsLent (B.home bay.old) (B.home bay.new) (names_for (asked_seen t.asked)) t.devices.items) }

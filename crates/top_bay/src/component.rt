@@ -4,7 +4,7 @@ ghost use Rattle.std.specs.List.{position};
 ghost use Rattle.std.specs.Str.{bytes_eq};
 ghost use Rattle.raid_conf.specs.Form.{IsConf};
 ghost use Rattle.top_words.specs.Views.{action_seen};
-ghost use Rattle.top_bay.specs.Answers.{IsUsage, Opens};
+ghost use Rattle.top_bay.specs.Answers.{IsUsage, AnswersAs};
 ghost use Rattle.top_bay.specs.Asked.{comp_in, component_in, names_of};
 ghost use Rattle.top_bay.specs.Views.{IsKnown, IsPlace};
 
@@ -32,7 +32,7 @@ fn place_of(conf: &Conf, count: u32, name: &str) -> Option<u32>
 fn component(conf: &Conf, count: u32, name: &str) -> Result<Option<u32>, Status>
     requires conf { IsConf conf.now }
     requires within { count ≤ length (names_of conf.now) }
-    ensures answer { Opens (λ comp. comp) result (component_in (take count (names_of conf.now)) name.now) }
+    ensures answer { AnswersAs (λ comp. comp) result (component_in (take count (names_of conf.now)) name.now) }
     ensures kind { IfErr result IsUsage }
 {
     if name.is_empty() {
@@ -47,7 +47,7 @@ fn component(conf: &Conf, count: u32, name: &str) -> Result<Option<u32>, Status>
 // The place of a component among the columns' disks.
 fn column(conf: &Conf, name: &str) -> Result<Option<u32>, Status>
     requires { IsConf conf.now }
-    ensures answer { Opens (λ comp. comp) result (component_in conf.now.disks name.now) }
+    ensures answer { AnswersAs (λ comp. comp) result (component_in conf.now.disks name.now) }
     ensures known { IfOk result (IsPlace conf.now.disks conf.now.columns name.now) }
     ensures kind { IfErr result IsUsage }
 {
@@ -58,7 +58,7 @@ fn column(conf: &Conf, name: &str) -> Result<Option<u32>, Status>
 /// behind the columns; none where it names none.
 pub(crate) fn open_component(conf: &Conf, action: Action<'_>) -> Result<Option<u32>, Status>
     requires { IsConf conf.now }
-    ensures answer { Opens (λ comp. comp) result (comp_in conf.now (action_seen action.entry)) }
+    ensures answer { AnswersAs (λ comp. comp) result (comp_in conf.now (action_seen action.entry)) }
     ensures known { IfOk result (IsKnown conf.now (action_seen action.entry)) }
     ensures kind { IfErr result IsUsage }
 {

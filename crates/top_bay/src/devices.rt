@@ -3,7 +3,7 @@ ghost use Rattle.std.specs.Prelude.{◌≡◌, ◌≢◌, ◌⊎◌, ◌↔◌, 
 ghost use Rattle.blk_disk.specs.Disk.{Rose};
 ghost use Rattle.blk_disk.specs.Devices.{at_home, device_at};
 ghost use Rattle.raid_conf.specs.Form.{IsConf};
-ghost use Rattle.top_bay.specs.Answers.{IsEarly, Opens, RefusedAs};
+ghost use Rattle.top_bay.specs.Answers.{IsEarly, AnswersAs, RefusedAs};
 ghost use Rattle.top_words.specs.Views.{action_seen};
 ghost use Rattle.top_bay.specs.Asked.{device_in, devices_in, names_by};
 ghost use Rattle.top_bay.specs.Lent.{AreBack, AreOut, IsLent, IsMeant};
@@ -47,7 +47,7 @@ pub fn put_all<B: Bay>(bay: &mut B, conf: &Conf, action: Action<'_>, mut devices
 
 // The device of a name; none of an empty one.
 fn take_one<B: Bay>(alloc: Global, bay: &mut B, name: &str) -> Result<Option<B::D>, Status>
-    ensures answer { B.tells → Opens (λ _. tt) result (device_in (B.home bay.old) name.now) }
+    ensures answer { B.tells → AnswersAs (λ _. tt) result (device_in (B.home bay.old) name.now) }
     ensures ok { IfOk result (λ device. B.tells → device ≡ at_home (B.home bay.old) (Some name.now)) }
     ensures there { IfOk result (λ device. IsSome device ↔ (name.now ≡ [] → ⊥)) }
     ensures is_out { OnOk result ((name.now ≡ [] → ⊥) → B.is_out bay.new name.now) }
@@ -77,7 +77,7 @@ pub(crate) fn take_all<B: Bay>(
     action: Action<'_>,
 ) -> Result<Vec<Option<B::D>>, Status>
     requires { IsConf conf.now }
-    ensures answer { B.tells → Opens (λ _. tt) result (devices_in (B.home bay.old) (names_by conf.now (action_seen action.entry))) }
+    ensures answer { B.tells → AnswersAs (λ _. tt) result (devices_in (B.home bay.old) (names_by conf.now (action_seen action.entry))) }
     ensures many { IfOk result (λ v. vec_len v ≡ length (names_by conf.now (action_seen action.entry))) }
     ensures lent { IfOk result (λ v. B.tells → IsLent (B.home bay.old) (B.home bay.new) (names_by conf.now (action_seen action.entry)) v.items) }
     ensures out { IfOk result (λ v. AreOut (B.is_out bay.new) (names_by conf.now (action_seen action.entry)) v.items) }

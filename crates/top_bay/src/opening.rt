@@ -4,9 +4,9 @@ ghost use Rattle.blk_disk.specs.Disk.{Rose};
 ghost use Rattle.graph_text.specs.FormatForm.{AreGraphs};
 ghost use Rattle.raid_conf.specs.Form.{IsConf};
 ghost use Rattle.raid_script.specs.Asked.{AreFew, IsAsked, seen};
-ghost use Rattle.top_words.specs.Asked.{IsInRange, command_of};
+ghost use Rattle.top_words.specs.Asked.{AreNumbersInRange, command_of};
 ghost use Rattle.top_words.specs.Views.{action_seen, command_seen, text_of};
-ghost use Rattle.top_bay.specs.Answers.{IsEarly, IsUsage, Opens};
+ghost use Rattle.top_bay.specs.Answers.{IsEarly, IsUsage, AnswersAs};
 ghost use Rattle.top_bay.specs.Asked.{book_in, command_in, conf_in, script_in};
 ghost use Rattle.top_bay.specs.Told.{IsRead};
 
@@ -23,9 +23,9 @@ use top_words::{Command, WordsFault, read_words};
 /// The command that the words are.
 #[tactic(auto, unfolding(crate::specs::Asked::command_in))]
 pub(crate) fn open_words<'a>(alloc: Global, words: &'a [Name]) -> Result<Command<'a>, Status>
-    ensures answer { Opens command_seen result (command_in words.entry.now) }
+    ensures answer { AnswersAs command_seen result (command_in words.entry.now) }
     ensures command { IfOk result (λ c. command_of words.entry.now ≡ Ok (command_seen c)) }
-    ensures range { IfOk result (λ c. IsInRange (action_seen c.action)) }
+    ensures range { IfOk result (λ c. AreNumbersInRange (action_seen c.action)) }
     ensures kind { IfErr result IsUsage }
 {
     match read_words(alloc, words) {
@@ -38,7 +38,7 @@ pub(crate) fn open_words<'a>(alloc: Global, words: &'a [Name]) -> Result<Command
 /// The configuration of that name.
 #[tactic(auto, unfolding(crate::specs::Asked::conf_in))]
 pub(crate) fn open_conf<B: Bay>(alloc: Global, name: &str, bay: &mut B) -> Result<Conf, Status>
-    ensures answer { B.tells → Opens (λ conf. conf) result (conf_in (B.text_of bay.old) name.now) }
+    ensures answer { B.tells → AnswersAs (λ conf. conf) result (conf_in (B.text_of bay.old) name.now) }
     ensures conf { IfOk result IsConf }
     ensures kind { IfErr result IsEarly }
     ensures cause { IsErrOf result Status.BayFault → Rose (B.faults bay.old) (B.faults bay.new) }
@@ -75,7 +75,7 @@ pub(crate) fn open_book<B: Bay>(
     name: Option<&str>,
     bay: &mut B,
 ) -> Result<Book, Status>
-    ensures answer { B.tells → Opens (λ book. book) result (book_in (B.text_of bay.old) (text_of name.entry)) }
+    ensures answer { B.tells → AnswersAs (λ book. book) result (book_in (B.text_of bay.old) (text_of name.entry)) }
     ensures graphs { IfOk result AreGraphs }
     ensures kind { IfErr result IsEarly }
     ensures cause { IsErrOf result Status.BayFault → Rose (B.faults bay.old) (B.faults bay.new) }
@@ -105,7 +105,7 @@ pub(crate) fn open_script<B: Bay>(
     columns: u32,
     bay: &mut B,
 ) -> Result<Vec<Vec<Item>>, Status>
-    ensures answer { B.tells → Opens (λ clients. map (λ items. map seen items.items) clients.items) result
+    ensures answer { B.tells → AnswersAs (λ clients. map (λ items. map seen items.items) clients.items) result
         (script_in (B.text_of bay.old) (text_of name.entry) book.now columns) }
     ensures asked { IfOk result (λ clients.
         All (All (IsAsked columns (length book.now))) (map (λ items. map seen items.items) clients.items)) }

@@ -2,7 +2,7 @@
 ghost use Rattle.std.specs.Prelude.{◌≡◌, ◌≤◌, ◌<◌, ℕ, List, length, IfOk, IfErr, IsErrOf};
 ghost use Rattle.blk_disk.specs.Disk.{Rose};
 ghost use Rattle.top_status.specs.Refusals.{text_in};
-ghost use Rattle.top_bay.specs.Answers.{IsEarly, IsOrMemory, Opens};
+ghost use Rattle.top_bay.specs.Answers.{IsEarly, IsOrMemory, AnswersAs};
 ghost use Rattle.top_bay.specs.Told.{IsRead};
 
 use raid_bay::{Bay, Name, TextFault};
@@ -35,7 +35,7 @@ fn long_text(alloc: Global, name: &str) -> Status
 /// The text of a name, or why there is none.
 #[tactic(auto, unfolding(top_status::specs::Refusals::text_in))]
 pub(crate) fn open_text<B: Bay>(alloc: Global, name: &str, bay: &mut B) -> Result<Vec<u8>, Status>
-    ensures answer { B.tells → Opens (λ v. v.items) result (text_in (B.text_of bay.old) name.now) }
+    ensures answer { B.tells → AnswersAs (λ v. v.items) result (text_in (B.text_of bay.old) name.now) }
     ensures short { IfOk result (λ v. length v.items ≤ 16777216) }
     ensures kind { IfErr result IsEarly }
     ensures cause { IsErrOf result Status.BayFault → Rose (B.faults bay.old) (B.faults bay.new) }

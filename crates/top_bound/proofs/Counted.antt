@@ -14,13 +14,13 @@ use Rattle.graph_text.specs.Format.{Named}
 use Rattle.eng_world.specs.declared.item.Item.{Item}
 use Rattle.eng_world.specs.declared.item.Item.TheVariants.{Run, Fail}
 use Rattle.eng_parts.specs.declared.setup.Setup.{Setup}
-use Rattle.eng_parts.specs.Desk.{no_graph}
+use Rattle.eng_plan.specs.Asked.{no_graph}
 use Rattle.eng_array.specs.Fitting as core
 use Rattle.eng_array.proofs.CountedEvents.{counted-fits, counted-rebuilds}
 use Rattle.raid_script.specs.Asked.{Asked, IsAsked, seen}
 use Rattle.top_bound.specs.Bound.{span_nodes, nodes_in, graph_nodes, item_nodes, item_bound, row_sum, rebuilds_sum, trace_sum}
 use Rattle.top_bound.specs.Laws.{asked_of}
-use Rattle.top_bound.specs.Traced.{IsScriptOf, WhatFitsARebuild, WhatFitsHasRoom}
+use Rattle.top_bound.specs.Traced.{AreScriptAndBook, WhatFitsARebuild, WhatFitsHasRoom}
 use Rattle.top_bound.proofs.Below.{below-zero, below-all, below-clients}
 use Rattle.top_bound.proofs.Limits.{sum-map}
 
@@ -88,7 +88,7 @@ module _ (y : Shape) (book : List Named) (graphs : List Held) (devices columns :
   none : core.counted_events y graphs devices [] ≡ 0
   none = below-zero (λ i. (2 * core.most_in y graphs (slice_get [] i) + 4) * (1 + devices))
 
-pub traced-alike : (y : Shape) (book : List Named) (graphs : List Held) (devices columns : ℕ) (given : List (Vec Item Global)) → IsScriptOf columns book graphs given
+pub traced-alike : (y : Shape) (book : List Named) (graphs : List Held) (devices columns : ℕ) (given : List (Vec Item Global)) → AreScriptAndBook columns book graphs given
     → trace_sum y book devices (asked_of given) ≡ core.trace_sum y graphs devices given
 unfolding trace_sum
 traced-alike y book graphs devices columns given is =

@@ -12,9 +12,9 @@ use Rattle.graph_text.specs.Format.{Named}
 use Rattle.graph_text.specs.FormatForm.{AreGraphs, IsWritable}
 use Rattle.eng_world.specs.declared.item.Item.{Item}
 use Rattle.eng_world.specs.declared.item.Item.TheVariants.{Run, Fail}
-use Rattle.eng_parts.specs.Desk.{no_graph}
-use Rattle.eng_parts.specs.Given.{items_at}
-use Rattle.eng_parts.specs.Laid as laid
+use Rattle.eng_plan.specs.Asked.{no_graph}
+use Rattle.eng_log.specs.Given.{items_at}
+use Rattle.eng_log.specs.Laid as laid
 use Rattle.raid_script.specs.Asked.{Asked, AreFew, seen, read_sectors}
 use Rattle.raid_script.specs.Replies as replies
 use Rattle.top_bound.specs.Laws.{asked_of, HasRoomFor}

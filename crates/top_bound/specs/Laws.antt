@@ -5,9 +5,9 @@ use Rattle.graph_mean.specs.Graph.{Held}
 use Rattle.graph_text.specs.Format.{Named}
 use Rattle.graph_text.specs.FormatForm.{AreGraphs}
 use Rattle.eng_world.specs.declared.item.Item.{Item}
-use Rattle.eng_parts.specs.Laid.{items_before, sectors_before}
+use Rattle.eng_log.specs.Laid.{items_before, sectors_before}
 use Rattle.eng_events.specs.Opened.{FitThePool}
-use Rattle.eng_events.specs.Steps.{graphs_of}
+use Rattle.eng_state.specs.Steps.{graphs_of}
 use Rattle.raid_script.specs.Asked.{Asked, AreFew, seen}
 use Rattle.raid_script.specs.Replies as replies
 

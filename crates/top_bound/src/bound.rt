@@ -5,13 +5,13 @@ ghost use Rattle.lay_core.specs.Touched.{stripe_count};
 ghost use Rattle.raid_script.specs.Asked.{seen};
 ghost use Rattle.top_bound.specs.Bound.{span_nodes, graph_nodes, run_nodes, item_nodes, item_bound, row_sum, rebuilds_sum, trace_sum};
 
-use blk_plain::{Op, Span};
+use blk_plain::{Op, Span, limits};
 use eng_world::Item;
 use graph_text::Book;
 use lay_core::{Layout, blocks};
 
-/// The most events of items that a trace has room for.
-const EVENTS: u128 = 1_048_576;
+// The most events of items that a trace has room for.
+const EVENTS: u128 = limits::EVENTS as u128;
 
 // Whether a block of a span is past the end of so many.
 fn passes_end(blocks: u64, span: Span) -> bool

@@ -13,7 +13,7 @@ use Rattle.raid_conf.specs.Layouts.{shape_of}
 use Rattle.raid_label.specs.Bytes.{IsHeld}
 use Rattle.raid_label.specs.declared.label.Label.{Label}
 use Rattle.top_bay.specs.Asked.{Asked}
-use Rattle.top_bay.specs.Views.{IsWithin}
+use Rattle.top_bay.specs.Views.{IsWithinLimits}
 use Rattle.top_close.specs.Settled.{IsLiveOn}
 use Rattle.top_open.specs.declared.fronts.Front.{Front}
 use Rattle.top_open.specs.Opening.{Opened, opened_in, opened_seen}
@@ -123,7 +123,7 @@ module _ {D : Type 0} (g : Ghosts D) (k : Asked) (o : Opened) (devices : List (O
   }
 
 -- so is what is to be done
-pub fit_for : {D : Type 0} (g : Ghosts D) (k : Asked) (devices : List (Option D)) (fronts : List Front) (d : declared_duty.Duty) → IsWithin k
+pub fit_for : {D : Type 0} (g : Ghosts D) (k : Asked) (devices : List (Option D)) (fronts : List Front) (d : declared_duty.Duty) → IsWithinLimits k
     → IsDutyOver k (sizes_of g.size devices) fronts d → IsFitFor g k devices d
 fit_for g k devices fronts (duty.OnArray r) within over =
     let o = opened_seen r.opened in

@@ -6,7 +6,7 @@ use Rattle.eng_array.specs.declared.start.Start.{Start}
 use Rattle.eng_array.specs.declared.start.Start.TheVariants as start
 use Rattle.raid_conf.specs.declared.conf.Conf.{Conf}
 use Rattle.top_bay.specs.Asked.{Asked}
-use Rattle.top_bay.specs.Views.{IsKnown, IsWithin}
+use Rattle.top_bay.specs.Views.{IsKnown, IsWithinLimits}
 use Rattle.top_open.specs.declared.fronts.Front.{Front}
 use Rattle.top_open.specs.Opening.{Opened}
 use Rattle.top_words.specs.Asked.{Action, Io, Sweep, Show, Init, Check, Rewrite, Print, Fail, ShowLabel, Label, Rebuild}
@@ -37,5 +37,5 @@ module _ (fronts : List Front) (sizes : List ℕ) (k : Asked) (o : Opened) where
   by_action (ShowLabel name) known s h = absurd (let z : ⊥ = cc h in z)
   by_action (Label serial) known s h = absurd (let z : ⊥ = cc h in z)
 
-  pub start_named : IsWithin k → (s : Start) → start_in k o sizes fronts ≡ Some s → (needs_of k).excused ≡ Some (column_of s)
+  pub start_named : IsWithinLimits k → (s : Start) → start_in k o sizes fronts ≡ Some s → (needs_of k).excused ≡ Some (column_of s)
   start_named within s h = by_action k.command.action within.known s h

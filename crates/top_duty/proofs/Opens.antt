@@ -7,7 +7,7 @@ use Rattle.eng_cols.specs.Cols.{is_set_filling, is_set_spread}
 use Rattle.raid_conf.specs.declared.conf.Conf.{Conf}
 use Rattle.raid_conf.specs.Form.{IsConf}
 use Rattle.top_bay.specs.Asked.{Asked, names_by, names_of}
-use Rattle.top_bay.specs.Views.{IsKnown, IsWithin}
+use Rattle.top_bay.specs.Views.{IsKnown, IsWithinLimits}
 use Rattle.top_open.specs.declared.fault.OpenFault.{OpenFault}
 use Rattle.top_open.specs.declared.fronts.Front.{Front}
 use Rattle.top_open.specs.declared.plan.Needs.{Needs}
@@ -19,7 +19,7 @@ use Rattle.top_open.specs.Plan.{sectors_for}
 use Rattle.top_status.specs.Refusals.{◌then◌, only}
 use Rattle.top_words.specs.Asked.{Action, Io, Sweep, Show, Init, Check, Rewrite, Print, Fail, ShowLabel, Label, Rebuild}
 use Rattle.top_duty.specs.declared.kind.Kind.TheVariants as kind
-use Rattle.top_duty.specs.Opening.{AreRows, as_opened, is_named, kind_of, needs_for, needs_of, opened_by, or_fault, plan_of, present_of, status_of}
+use Rattle.top_duty.specs.Opening.{AreTableRows, as_opened, is_named, kind_of, needs_for, needs_of, opened_by, or_fault, plan_of, present_of, status_of}
 use Rattle.top_duty.proofs.Deadened.{small_fewer, small_length}
 use Rattle.top_duty.proofs.Tables.{plan_is, stripes-most}
 
@@ -59,7 +59,7 @@ module _ (k : Asked) (sizes : List ℕ) (fronts : List Front) (b : Opened) (is :
   pub before_count : length b.columns ≡ k.conf.columns
   before_count = columns_count (needs_of k) (plan_of k.conf) (present_of k.conf) sizes fronts b opens ∙ present_count k.conf is
 
-  pub as_rows : AreRows k.conf b.rows
+  pub as_rows : AreTableRows k.conf b.rows
   as_rows = whole_tables (needs_of k) (plan_of k.conf) (present_of k.conf) sizes fronts b (plan_is k.conf is) (stripes-most k.conf is) opens
 
   pub as_count : length (as_opened k sizes b).columns ≡ k.conf.columns
@@ -75,8 +75,8 @@ module _ (k : Asked) (sizes : List ℕ) (fronts : List Front) (o : Opened) (is :
   abbrev was : (b : Opened) × (opened_in (needs_of k) (plan_of k.conf) (present_of k.conf) sizes fronts ≡ Ok b) × (as_opened k sizes b ≡ o)
   was = was_opened k sizes fronts o opens
 
-  pub opened_rows : AreRows k.conf o.rows
-  opened_rows = subst (λ (x : Opened). AreRows k.conf x.rows) was.2 (as_rows k sizes fronts was.0 is was.1)
+  pub opened_rows : AreTableRows k.conf o.rows
+  opened_rows = subst (λ (x : Opened). AreTableRows k.conf x.rows) was.2 (as_rows k sizes fronts was.0 is was.1)
 
   pub opened_count : length o.columns ≡ k.conf.columns
   opened_count = subst (λ (x : Opened). length x.columns ≡ k.conf.columns) was.2 (as_count k sizes fronts was.0 is was.1)
@@ -88,7 +88,7 @@ module _ (k : Asked) (sizes : List ℕ) (fronts : List Front) (o : Opened) (is :
   opened_spread = subst (λ (x : Opened). count_by is_set_spread x.columns ≤ 1) was.2 (as_spread k sizes fronts was.0 is was.1)
 
 -- the column that is excused is one of them
-pub dead_within : (k : Asked) → IsWithin k → ForSome (needs_of k).excused (λ c. c < k.conf.columns)
+pub dead_within : (k : Asked) → IsWithinLimits k → ForSome (needs_of k).excused (λ c. c < k.conf.columns)
 dead_within k within = go k.command.action within.known
   where
     nothing : (c : ℕ) → None ≡ Some c → c < k.conf.columns

@@ -19,7 +19,7 @@ use Rattle.raid_conf.specs.Layouts.{shape_of}
 use Rattle.raid_recon.specs.Counts.{count_below, is_stripe_of}
 use Rattle.raid_recon.proofs.Counting.{stripe-of}
 use Rattle.top_bay.specs.Asked.{Asked}
-use Rattle.top_bay.specs.Views.{IsKnown, IsWithin}
+use Rattle.top_bay.specs.Views.{IsKnown, IsWithinLimits}
 use Rattle.top_close.specs.Settled.{IsLiveOn}
 use Rattle.top_open.specs.declared.fronts.Front.{Front}
 use Rattle.top_open.specs.Opening.{Opened, labelled_in, opened_in}
@@ -28,7 +28,7 @@ use Rattle.top_open.specs.Seats.{is_unread}
 use Rattle.raid_label.specs.declared.label.Label.{Label}
 use Rattle.top_words.specs.Asked.{Action, Io, Sweep, Show, Init, Check, Rewrite, Print, Fail, ShowLabel, Label as Labels, Rebuild}
 use Rattle.top_duty.specs.Duty.{rebuilds_by, states_of, with_dead}
-use Rattle.top_duty.specs.Fit.{HavePlaces, IsStart, IsTarget, MayGo, MayStart}
+use Rattle.top_duty.specs.Fit.{HaveSparePlaces, IsStart, IsTarget, MayGo, IsStartIf}
 use Rattle.top_duty.specs.Opening.{as_opened, needs_for, needs_of, opened_by, plan_of, present_of, sizes_of}
 use Rattle.top_duty.specs.Start.{first_of, free_spare, has_places, is_free, is_on, onto_spare, rebuild_if, rebuild_of, start_by, start_in}
 use Rattle.top_duty.proofs.Deadened.{small_get}
@@ -125,7 +125,7 @@ few_rebuilds y columns s stripes up each =
 
 -- ## The start
 
-module _ {D : Type 0} (g : Ghosts D) (k : Asked) (o : Opened) (devices : List (Option D)) (fronts : List Front) (within : IsWithin k) (opens : opened_by k (sizes_of g.size devices) fronts ≡ Ok o) where
+module _ {D : Type 0} (g : Ghosts D) (k : Asked) (o : Opened) (devices : List (Option D)) (fronts : List Front) (within : IsWithinLimits k) (opens : opened_by k (sizes_of g.size devices) fronts ≡ Ok o) where
   abbrev sizes : List ℕ
   sizes = sizes_of g.size devices
 
@@ -181,7 +181,7 @@ module _ {D : Type 0} (g : Ghosts D) (k : Asked) (o : Opened) (devices : List (O
         }
 
   -- into the spare places
-  into_places : has_places k.conf o.columns ≡ true → HavePlaces k o
+  into_places : has_places k.conf o.columns ≡ true → HaveSparePlaces k o
   into_places has =
       let spread : Bool = list_any is_set_spread o.columns in
       let level : k.conf.level ≡ 68 = eqb-true k.conf.level 68 (and_left (k.conf.level == 68) (not spread) has) in
@@ -251,6 +251,6 @@ module _ {D : Type 0} (g : Ghosts D) (k : Asked) (o : Opened) (devices : List (O
   start_by_action (ShowLabel name) e known s h = absurd (let z : ⊥ = cc h in z)
   start_by_action (Labels serial) e known s h = absurd (let z : ⊥ = cc h in z)
 
-  pub may_start : (start : Option Start) → start ≡ start_in k o sizes fronts → MayStart g k o devices start
+  pub may_start : (start : Option Start) → start ≡ start_in k o sizes fronts → IsStartIf g k o devices start
   may_start None e = tt
   may_start (Some s) e = start_by_action k.command.action refl within.known s (sym e)

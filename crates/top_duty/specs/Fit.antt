@@ -17,7 +17,7 @@ use Rattle.top_close.specs.Settled.{IsLiveOn}
 use Rattle.top_open.specs.Opening.{Opened}
 use Rattle.top_rounds.specs.Labels.{IsNumbered}
 use Rattle.top_duty.specs.Duty.{rebuilds_by, states_of, with_dead}
-use Rattle.top_duty.specs.Opening.{AreRows, needs_of}
+use Rattle.top_duty.specs.Opening.{AreTableRows, needs_of}
 
 -- There is one column for each of the configuration; none is filling, and at most one is spread, where each stripe has a spare place. Each device of a column is that of no other; it is a column's disk or a spare; it has a sector, and room for the rows. The rows are those of whole tables. The newest label is one that a sector may hold, and its counter has room where labels are to be written.
 pub record IsFit {D : Type 0} (g : Ghosts D) (k : Asked) (o : Opened) (devices : List (Option D)) : Type 0 where
@@ -29,7 +29,7 @@ pub record IsFit {D : Type 0} (g : Ghosts D) (k : Asked) (o : Opened) (devices :
   pub sized : (c d : ℕ) → IsLiveOn o.columns c d → 1 ≤ size_of g devices d
   pub large : (c d : ℕ) → IsLiveOn o.columns c d → 64 + o.rows * k.conf.unit ≤ size_of g devices d
   pub numbered : All (IsNumbered (length o.columns)) o.columns
-  pub rows : AreRows k.conf o.rows
+  pub rows : AreTableRows k.conf o.rows
   pub newest : (l : Label) → o.newest ≡ Some l → IsHeld l × ((needs_of k).writes ≡ true → l.counter ≤ 4294901760)
 
 -- A device onto which a column may be rebuilt has room for the rows, is in no other column, and is a column's disk or a spare.
@@ -39,13 +39,13 @@ pub record IsTarget {D : Type 0} (g : Ghosts D) (k : Asked) (o : Opened) (device
   pub numbered : IsNumbered (length o.columns) (column.Live d)
 
 -- A column may be rebuilt into the spare places where no column is spread, and each stripe has one.
-pub record HavePlaces (k : Asked) (o : Opened) : Type 0 where
+pub record HaveSparePlaces (k : Asked) (o : Opened) : Type 0 where
   pub none_spread : count_by is_set_spread o.columns ≡ 0
   pub each : (s : ℕ) → s < (shape_of k.conf o.rows).stripes → IsSome ((shape_of k.conf o.rows).spare s)
 
 abbrev pub MayGo : {D : Type 0} → Ghosts D → Asked → Opened → List (Option D) → Start → Type 0
 MayGo g k o devices (start.Fill column device) = IsTarget g k o devices column device
-MayGo g k o devices (start.Spread column) = HavePlaces k o
+MayGo g k o devices (start.Spread column) = HaveSparePlaces k o
 
 -- Where a column is rebuilt, the array has labels; the column is the one that the action names, and has at most as many stripes as rebuilds are counted.
 pub record IsStart {D : Type 0} (g : Ghosts D) (k : Asked) (o : Opened) (devices : List (Option D)) (s : Start) : Type 0 where
@@ -57,6 +57,6 @@ pub record IsStart {D : Type 0} (g : Ghosts D) (k : Asked) (o : Opened) (devices
       (rebuilds_by (shape_of k.conf o.rows) (with_dead (Some (column_of s)) o.columns) (Some s))
 
 -- a column may be rebuilt so, if one is
-abbrev pub MayStart : {D : Type 0} → Ghosts D → Asked → Opened → List (Option D) → Option Start → Type 0
-MayStart g k o devices None = Unit {0}
-MayStart g k o devices (Some s) = IsStart g k o devices s
+abbrev pub IsStartIf : {D : Type 0} → Ghosts D → Asked → Opened → List (Option D) → Option Start → Type 0
+IsStartIf g k o devices None = Unit {0}
+IsStartIf g k o devices (Some s) = IsStart g k o devices s

@@ -149,5 +149,5 @@ unfoldable pub opened_by : Asked → List ℕ → List Front → Result Opened R
 opened_by k sizes fronts = or_fault (opened_in (needs_of k) (plan_of k.conf) (present_of k.conf) sizes fronts) then λ o. Ok (as_opened k sizes o)
 
 -- so many rows are those of whole tables of the configuration
-abbrev pub AreRows : Conf → ℕ → Type 0
-AreRows conf rows = AreWholeTables (plan_of conf) rows
+abbrev pub AreTableRows : Conf → ℕ → Type 0
+AreTableRows conf rows = AreWholeTables (plan_of conf) rows

@@ -20,7 +20,7 @@ Reads g false old new fronts = (new ≡ old) × (fronts ≡ unread (length old))
 
 module _ {D : Type 0} (g : Ghosts D) (b : Told D) where
   -- The devices of the names that are asked for were taken as they were at home, and looked at, and they are out now. No other was taken.
-  pub record IsTaken (k : Asked) (devices : List (Option D)) (fronts : List Front) : Type 0 where
+  pub record DevicesAreTaken (k : Asked) (devices : List (Option D)) (fronts : List Front) : Type 0 where
     pub taken : List (Option D)
     pub named : b.tells → AreNamed b.home (names_for k) taken
     pub others : b.tells → (n : Text) → (IsMeant (names_for k) (length taken) n → ⊥) → b.after n ≡ b.home n

@@ -29,8 +29,8 @@ use Rattle.top_duty.specs.declared.duty.Duty.TheVariants as duty
 use Rattle.top_duty.specs.declared.duty.Ready as declared_ready
 use Rattle.top_duty.specs.declared.kind.Kind.TheVariants as kind
 use Rattle.top_duty.specs.Duty.{Admitted, Duty, OnArray, Shows, OneLabel, PrintConf, IsWanted, WantsMemory, admitted_with, is_past, is_past_bound, is_short, judged_states, layout_of, states_of, with_dead}
-use Rattle.top_duty.specs.Fit.{IsFit, MayStart}
-use Rattle.top_duty.specs.Opening.{AreRows, kind_of, opened_by, status_of}
+use Rattle.top_duty.specs.Fit.{IsFit, IsStartIf}
+use Rattle.top_duty.specs.Opening.{AreTableRows, kind_of, opened_by, status_of}
 use Rattle.top_duty.specs.Start.{has_failed, rebuilds, start_in}
 
 -- what items of clients ask for
@@ -72,7 +72,7 @@ pub record IsMade (k : Asked) (o : Opened) (layout : AnyLayout) (given : List (V
 pub record IsPrepared (k : Asked) (sizes : List ℕ) (fronts : List Front) (r : declared_ready.Ready) : Type 0 where
   pub ready : IsReady k sizes fronts (opened_seen r.opened) r.start
   pub failed : r.failed ≡ has_failed r.start fronts
-  pub rows : AreRows k.conf r.opened.rows
+  pub rows : AreTableRows k.conf r.opened.rows
   pub made : IsMade k (opened_seen r.opened) r.layout r.drawn.items r.judge r.room
 
 -- ## What is to be done
@@ -92,7 +92,7 @@ IsDutyOver k sizes fronts duty.PrintConf = kind_of k.command.action ≡ kind.Con
 
 -- and the array that something is done with is fit for it, and for the rebuild of a column, if one is rebuilt
 abbrev pub IsFitFor : {D : Type 0} → Ghosts D → Asked → List (Option D) → declared_duty.Duty → Type 0
-IsFitFor g k devices (duty.OnArray r) = IsFit g k (opened_seen r.opened) devices × MayStart g k (opened_seen r.opened) devices r.start
+IsFitFor g k devices (duty.OnArray r) = IsFit g k (opened_seen r.opened) devices × IsStartIf g k (opened_seen r.opened) devices r.start
 IsFitFor g k devices (duty.Shows o) = Unit {0}
 IsFitFor g k devices duty.OneLabel = Unit {0}
 IsFitFor g k devices duty.PrintConf = Unit {0}

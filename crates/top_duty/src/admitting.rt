@@ -7,11 +7,11 @@ ghost use Rattle.top_words.specs.Views.{action_seen, command_seen};
 ghost use Rattle.top_bay.specs.Asked.{names_for};
 ghost use Rattle.top_bay.specs.Lent.{AreOut};
 ghost use Rattle.top_bay.specs.Told.{Told};
-ghost use Rattle.top_bay.specs.Views.{IsWithin, asked_seen};
+ghost use Rattle.top_bay.specs.Views.{IsWithinLimits, asked_seen};
 ghost use Rattle.top_status.specs.Refusals.{only};
 ghost use Rattle.top_duty.specs.Duty.{IsWanted, duty_in};
 ghost use Rattle.top_duty.specs.Opening.{reads_fronts, sizes_of};
-ghost use Rattle.top_duty.specs.Taken.{IsTaken, Reads, RefusedFor, RefusedOver};
+ghost use Rattle.top_duty.specs.Taken.{DevicesAreTaken, Reads, RefusedFor, RefusedOver};
 ghost use Rattle.top_duty.specs.Views.{IsDutyOver, IsFitFor, IsRefusal, duty_seen};
 
 use crate::duty::Duty;
@@ -52,7 +52,7 @@ fn judge<D: Disk>(
     asked: &Asked<'_>,
     devices: &mut [Option<D>],
 ) -> Result<Judged, Refusal>
-    requires asked { IsWithin (asked_seen asked.now) }
+    requires asked { IsWithinLimits (asked_seen asked.now) }
     requires many { length devices.old ≡ length (names_for (asked_seen asked.now)) }
     ensures read { IfOk result (λ j. Reads D.Disk (reads_fronts (action_seen asked.now.command.action)) devices.old devices.new j.fronts.items) }
     ensures sizes { IfOk result (λ j. j.sizes.items ≡ sizes_of D.size devices.new) }
@@ -78,16 +78,17 @@ fn judge<D: Disk>(
 
 /// What the words ask for, the devices that it goes by, which the bay has then lent, and what is to be done.
 ///
-/// Refused are, in this order, what [`top_bay::ask`] refuses; labels and sizes that [`top_open::open_array`] refuses; an array
-/// that is lost by its columns, as the action makes them; a column that there is nowhere to rebuild to; and a trace that would
-/// pass its bound. What is only shown or printed isn't judged for the last three. Where it is refused, the bay has all devices again, of which nothing but sector 0 was read.
+/// Refused are, in this order, what [`top_bay::ask`] refuses; labels and sizes that [`top_open::open_array`] refuses;
+/// an array that is lost by its columns, as the action makes them; a column that there is nowhere to rebuild to; and a
+/// trace that would pass its bound. What is only shown or printed isn't judged for the last three. Where it is refused,
+/// the bay has all devices again, of which nothing but sector 0 was read.
 pub fn admit<'a, B: Bay>(
     alloc: Global,
     words: &'a [Name],
     bay: &mut B,
 ) -> Result<Admitted<'a, B::D>, Refusal>
     ensures command { IfOk result (λ a. command_of words.entry.now ≡ Ok (command_seen a.asked.command)) }
-    ensures within { IfOk result (λ a. IsWithin (asked_seen a.asked)) }
+    ensures within { IfOk result (λ a. IsWithinLimits (asked_seen a.asked)) }
     ensures wanted { IfOk result (λ a. B.tells → IsWanted
         (duty_in B.D.size
         (record {
@@ -98,7 +99,7 @@ pub fn admit<'a, B: Bay>(
           after = B.home bay.new;
         }) words.entry.now a.fronts.items)
         (Ok (duty_seen (asked_seen a.asked) a.duty))) }
-    ensures taken { IfOk result (λ a. IsTaken B.D.Disk
+    ensures taken { IfOk result (λ a. DevicesAreTaken B.D.Disk
         (record {
           tells = B.tells;
           rose = Rose (B.faults bay.old) (B.faults bay.new);

@@ -1,7 +1,7 @@
 //! The items of the clients.
 ghost use Rattle.std.specs.Prelude.{◌≡◌, ◌<◌, ◌≤◌, ◌^◌, ℕ, All, IfOk, IfErr};
 ghost use Rattle.raid_script.specs.Asked.{AreFew, IsAsked};
-ghost use Rattle.top_words.specs.Asked.{IsInRange};
+ghost use Rattle.top_words.specs.Asked.{AreNumbersInRange};
 ghost use Rattle.top_words.specs.Views.{action_seen};
 ghost use Rattle.top_duty.specs.Duty.{clients_by};
 ghost use Rattle.top_duty.specs.Views.{drawn_by, items_seen};
@@ -14,7 +14,7 @@ use top_words::Action;
 
 /// The items that are drawn for so many blocks; none where the action isn't a sweep.
 pub(crate) fn draw(alloc: Global, action: Action<'_>, blocks: u64) -> Result<Vec<Vec<Item>>, Status>
-    requires range { IsInRange (action_seen action) }
+    requires range { AreNumbersInRange (action_seen action) }
     requires blocks { 0 < blocks }
     requires most { blocks ≤ 2 ^ 32 }
     ensures asked { IfOk result (λ clients. (columns graphs : ℕ) → All (All (IsAsked columns graphs)) (items_seen clients.items)) }

@@ -1,7 +1,7 @@
 //! An array is opened.
 ghost use Rattle.std.specs.Prelude.{◌≡◌, ◌<◌, ◌+◌, ◌*◌, length};
 ghost use Rattle.std.specs.Option.{ForSome};
-ghost use Rattle.top_bay.specs.Views.{IsWithin, asked_seen};
+ghost use Rattle.top_bay.specs.Views.{IsWithinLimits, asked_seen};
 ghost use Rattle.top_open.specs.Opening.{opened_seen};
 ghost use Rattle.top_duty.specs.Opening.{kept_if_large, opened_by, status_of, without_small};
 ghost use Rattle.top_duty.specs.Views.{OpensSo};
@@ -80,7 +80,7 @@ pub(crate) fn open(
     sizes: &[u64],
     fronts: &[Front],
 ) -> Result<Opened, OpenFault>
-    requires asked { IsWithin (asked_seen asked.now) }
+    requires asked { IsWithinLimits (asked_seen asked.now) }
     requires fronts { length fronts.now ≡ asked.now.conf.columns + asked.now.conf.spares }
     ensures { OpensSo result (opened_by (asked_seen asked.now) sizes.now fronts.now) }
 {

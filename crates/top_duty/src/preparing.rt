@@ -7,10 +7,10 @@ ghost use Rattle.raid_conf.specs.Form.{IsConf};
 ghost use Rattle.raid_conf.specs.Layouts.{shape_of};
 ghost use Rattle.top_open.specs.Opening.{opened_seen};
 ghost use Rattle.top_bay.specs.Asked.{names_for};
-ghost use Rattle.top_bay.specs.Views.{IsWithin, asked_seen};
+ghost use Rattle.top_bay.specs.Views.{IsWithinLimits, asked_seen};
 ghost use Rattle.top_duty.specs.declared.kind.Kind.TheVariants as kind;
 ghost use Rattle.top_duty.specs.Duty.{admitted_with, duty_by, duty_for, with_dead};
-ghost use Rattle.top_duty.specs.Opening.{AreRows, kind_of, needs_of, opened_by};
+ghost use Rattle.top_duty.specs.Opening.{AreTableRows, kind_of, needs_of, opened_by};
 ghost use Rattle.top_duty.specs.Views.{IsDutyOver, IsMade, IsPrepared, IsRefusal, MayBeDone, RefusedAfter, RefusedHere, dead_beside};
 
 use crate::clients::draw;
@@ -55,7 +55,7 @@ fn memory_of(fault: AnyFault) -> Status
 // The layout over so many rows, which are those of whole tables: so there may be want of memory alone.
 fn layout_of(alloc: Global, conf: &Conf, rows: u32) -> Result<AnyLayout, Status>
     requires conf { IsConf conf.now }
-    requires rows { AreRows conf.now rows }
+    requires rows { AreTableRows conf.now rows }
     ensures shape { IfOk result (λ layout. ⟦<AnyLayout as Layout>⟧.shape layout ≡ shape_of conf.now rows) }
     ensures memory { IfErr result (λ status. status ≡ Status.Memory) }
 {
@@ -85,8 +85,8 @@ fn make(
     opened: &Opened,
     start: Option<Start>,
 ) -> Result<Parts, Status>
-    requires asked { IsWithin (asked_seen asked.now) }
-    requires rows { AreRows asked.now.conf opened.now.rows }
+    requires asked { IsWithinLimits (asked_seen asked.now) }
+    requires rows { AreTableRows asked.now.conf opened.now.rows }
     requires columns { length opened.now.columns.items ≡ asked.now.conf.columns }
     requires filling { count_by is_set_filling opened.now.columns.items ≤ 1 }
     requires spread { count_by is_set_spread opened.now.columns.items ≤ 1 }
@@ -157,7 +157,7 @@ fn make_ready(
     sizes: &[u64],
     fronts: &[Front],
 ) -> Result<Ready, Refusal>
-    requires asked { IsWithin (asked_seen asked.now) }
+    requires asked { IsWithinLimits (asked_seen asked.now) }
     requires fronts { length fronts.now ≡ asked.now.conf.columns + asked.now.conf.spares }
     ensures prepared { IfOk result (IsPrepared (asked_seen asked.now) sizes.now fronts.now) }
     ensures refused { IfErr result (RefusedHere (duty_for kind.Array (asked_seen asked.now) sizes.now fronts.now)) }
@@ -196,7 +196,7 @@ fn make_shown(
     sizes: &[u64],
     fronts: &[Front],
 ) -> Result<Opened, Refusal>
-    requires asked { IsWithin (asked_seen asked.now) }
+    requires asked { IsWithinLimits (asked_seen asked.now) }
     requires fronts { length fronts.now ≡ asked.now.conf.columns + asked.now.conf.spares }
     ensures opened { IfOk result (λ opened. opened_by (asked_seen asked.now) sizes.now fronts.now ≡ Ok (opened_seen opened)) }
     ensures refused { IfErr result (RefusedHere (duty_for kind.Shown (asked_seen asked.now) sizes.now fronts.now)) }
@@ -220,7 +220,7 @@ pub(crate) fn prepare(
     sizes: &[u64],
     fronts: &[Front],
 ) -> Result<Duty, Refusal>
-    requires asked { IsWithin (asked_seen asked.now) }
+    requires asked { IsWithinLimits (asked_seen asked.now) }
     requires fronts { length fronts.now ≡ length (names_for (asked_seen asked.now)) }
     ensures duty { IfOk result (IsDutyOver (asked_seen asked.now) sizes.now fronts.now) }
     ensures refused { IfErr result (RefusedHere (duty_by (asked_seen asked.now) sizes.now fronts.now)) }

@@ -3,7 +3,7 @@ ghost use Rattle.std.specs.Prelude.{◌≡◌, ◌≤◌, ◌<◌, length, count
 ghost use Rattle.std.specs.Option.{ForSome};
 ghost use Rattle.eng_array.specs.Starts.{column_of};
 ghost use Rattle.eng_cols.specs.Cols.{IsFor, is_set_filling, is_set_spread};
-ghost use Rattle.top_bay.specs.Views.{IsWithin, asked_seen};
+ghost use Rattle.top_bay.specs.Views.{IsWithinLimits, asked_seen};
 ghost use Rattle.top_duty.specs.Duty.{is_past, rebuilds_by, with_dead};
 ghost use Rattle.top_duty.specs.Views.{RefusedIf, RefusedUnlost};
 
@@ -32,7 +32,7 @@ fn rebuilds_by<L: Layout>(layout: &L, columns: &[Column], start: Option<Start>) 
 
 // Whether more events may come than a trace that is kept has room for.
 fn is_past<L: Layout>(layout: &L, asked: &Asked<'_>, rebuilds: u32) -> bool
-    requires { IsWithin (asked_seen asked.now) }
+    requires { IsWithinLimits (asked_seen asked.now) }
     ensures { result ≡ is_past (L.shape layout.now) (asked_seen asked.now) (asked_seen asked.now).clients rebuilds }
 {
     if !traces(asked.command.action) {
@@ -49,7 +49,7 @@ fn refusal_unlost<L: Layout>(
     columns: &[Column],
     start: Option<Start>,
 ) -> Option<Status>
-    requires asked { IsWithin (asked_seen asked.now) }
+    requires asked { IsWithinLimits (asked_seen asked.now) }
     requires columns { length columns.now ≡ (L.shape layout.now).columns }
     requires start { ForSome start (λ s. column_of s < length columns.now) }
     ensures { RefusedUnlost (L.shape layout.now) (asked_seen asked.now) (rebuilds_by (L.shape layout.now) columns.now start) start result }
@@ -70,7 +70,7 @@ pub(crate) fn refusal<L: Layout>(
     dead: Option<u32>,
     start: Option<Start>,
 ) -> Option<Status>
-    requires asked { IsWithin (asked_seen asked.now) }
+    requires asked { IsWithinLimits (asked_seen asked.now) }
     requires judge { IsFor (L.shape layout.now) judge.old }
     requires columns { length columns.now ≡ (L.shape layout.now).columns }
     requires filling { count_by is_set_filling columns.now ≤ 1 }

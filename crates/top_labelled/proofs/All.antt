@@ -23,10 +23,10 @@ use Rattle.top_run.specs.Works.{work_of}
 use Rattle.top_run.specs.Ends.{EndsSo}
 use Rattle.top_run.specs.Ran.{Runs}
 use Rattle.top_run.proofs.All.{runs, runs-kept, runs-now}
-use Rattle.top_labelled.specs.Begun.{Begins, began_of, opened_as, without}
+use Rattle.top_labelled.specs.Begun.{BeginsLabelled, began_of, opened_as, without}
 use Rattle.top_labelled.specs.Between.{HasEnded}
 use Rattle.top_labelled.specs.Given.{RebuildsIf}
-use Rattle.top_labelled.specs.Ran.{HasFailedSince, Leaves, RanLabelled, line_of}
+use Rattle.top_labelled.specs.Ran.{HasFailedSince, LeavesLabelled, RanLabelled, line_of}
 use Rattle.top_labelled.proofs.Holding.{holding}
 use Rattle.top_labelled.proofs.Labels.{relabelled}
 use Rattle.top_labelled.proofs.Leaving.{dies, ends-so, leaves, since, stays}
@@ -34,7 +34,7 @@ use Rattle.top_labelled.proofs.Without.{why-unbegun}
 
 module _ {L D : Type 0} (lay : LayoutGhosts L) (disk : DiskGhosts D) (old : Setup L D) (asked began : Option Start) (faulty : Bool) (devices : Vec (Option D) Global) (columns : Vec Column Global) (begun : List Column) (closed : Closed L D)
     (newest first : Label) (layout : IsLayout (lay.shape old.layout)) (can : RebuildsIf lay disk old asked)
-    (begins : Begins disk (work_of lay old asked) newest old.devices.items devices.items begun first None) (named : columns.items ≡ without asked begun) (began_is : began ≡ began_of faulty asked old.columns.items begun)
+    (begins : BeginsLabelled disk (work_of lay old asked) newest old.devices.items devices.items begun first None) (named : columns.items ≡ without asked begun) (began_is : began ≡ began_of faulty asked old.columns.items begun)
     (array : IsArray disk (lay.shape old.layout) old.columns.items old.devices.items) (kept : NotLost (lay.shape old.layout) (states_of (lay.shape old.layout) columns.items))
     (given : IsSetup lay disk (later old devices columns)) (few : IsFew (later old devices columns)) (s : served.IsServed lay disk (later old devices columns) began closed) (v : Service) (back : List (Option D)) (e : HasEnded lay disk closed first asked v back) where
   abbrev a : Work
@@ -60,7 +60,7 @@ module _ {L D : Type 0} (lay : LayoutGhosts L) (disk : DiskGhosts D) (old : Setu
   run = run-over.0
 
   -- the run changes no first sector
-  away : (d : ℕ) → 1 ≤ size_of disk devices.items d → served.MayChange lay disk (later old devices columns) began closed d 0 → ⊥
+  away : (d : ℕ) → 1 ≤ size_of disk devices.items d → served.CoreMayChange lay disk (later old devices columns) began closed d 0 → ⊥
   away d sized (inl rows) = let from = rows.1.0 in omega (arith, from)
   away d sized (inr past) = omega (arith, sized, past)
 
@@ -95,11 +95,11 @@ module _ {L D : Type 0} (lay : LayoutGhosts L) (disk : DiskGhosts D) (old : Setu
     line = line-is;
     holds = holding disk a layout newest old.devices.items devices.items begun first began begins array kept-so run.start run.opens;
     leaves =
-        subst (λ (w : World). Leaves disk a newest old.devices.items v back began w) (sym run-over.1)
+        subst (λ (w : World). LeavesLabelled disk a newest old.devices.items v back began w) (sym run-over.1)
         (leaves lay disk old asked began faulty devices columns begun closed newest first layout can begins named began_is given s v back e);
     since = since lay disk old asked began faulty devices columns begun closed newest first layout can begins named began_is given s v back e;
     labels =
-        relabelled disk a newest old.devices.items devices.items closed.devices.items back begun closed.columns.items first e.last v (served.MayChange lay disk (later old devices columns) began closed) begins
+        relabelled disk a newest old.devices.items devices.items closed.devices.items back begun closed.columns.items first e.last v (served.CoreMayChange lay disk (later old devices columns) began closed) begins
         s.leaves.frame away (stays lay disk old asked began faulty devices columns begun closed newest first layout can begins named began_is given s v back e) e.closes;
     dies = dies lay disk old asked began faulty devices columns begun closed newest first layout can begins named began_is given s v back e run run-over.2;
   }

@@ -25,7 +25,7 @@ use Rattle.top_rounds.specs.Passes.{LosesDevice}
 use Rattle.top_run.specs.Work.{Work}
 use Rattle.top_run.specs.Ran.{Opens, states_in}
 use Rattle.top_run.proofs.InTurnSame.{decode-same}
-use Rattle.top_labelled.specs.Begun.{Begins, Holds, IsBlockOf, WasSound, opened_as, without}
+use Rattle.top_labelled.specs.Begun.{BeginsLabelled, HoldsBlocks, IsBlockOf, WasSound, opened_as, without}
 use Rattle.top_labelled.proofs.Blocks.{same-blocks, swept-block}
 use Rattle.top_labelled.proofs.Unmade.{unmade}
 use Rattle.top_labelled.proofs.Without.{IsOf, without-dies}
@@ -34,7 +34,7 @@ zero-is : (n : ℕ) → n ≡ 0 → (n == 0) ≡ true
 zero-is n h = subst (λ m. (m == 0) ≡ true) (sym h) refl
 
 module _ {D : Type 0} (g : Ghosts D) (a : Work) (layout : IsLayout a.layout) (newest : Label) (taken opened : List (Option D)) (begun : List Column) (first : Label) (began : Option Start)
-    (begins : Begins g a newest taken opened begun first None) (array : IsArray g a.layout a.columns taken) (kept : NotLost a.layout (states_of a.layout (without a.start begun)))
+    (begins : BeginsLabelled g a newest taken opened begun first None) (array : IsArray g a.layout a.columns taken) (kept : NotLost a.layout (states_of a.layout (without a.start begun)))
     (start : World) (opens : Opens g (opened_as a (without a.start begun) began) opened start) where
   abbrev y : Shape
   y = a.layout
@@ -108,7 +108,7 @@ module _ {D : Type 0} (g : Ghosts D) (a : Work) (layout : IsLayout a.layout) (ne
             )
       ]
 
-  pub holding : Holds g a newest taken opened begun start.blocks
+  pub holding : HoldsBlocks g a newest taken opened begun start.blocks
   holding = record {
     in_sync = λ tells sound. sync-behind (in-sync (newest.clean == 0) refl begins.has tells sound);
     blocks = block-of (newest.clean == 0) refl begins.has;

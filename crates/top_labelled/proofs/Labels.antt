@@ -12,13 +12,13 @@ use Rattle.eng_cols.specs.declared.column.Column.TheVariants as column
 use Rattle.raid_label.specs.declared.label.Label.{Label}
 use Rattle.raid_recon.specs.declared.kind.Sweep.{Sweep}
 use Rattle.top_acts.specs.Begun.{MayBegin, MaySweep}
-use Rattle.top_acts.specs.Closed.{IsClosed}
+use Rattle.top_acts.specs.Closed.{ClosesLabelled}
 use Rattle.top_close.specs.Settled.{IsLiveOn}
 use Rattle.top_rounds.specs.Labels.{with_round}
 use Rattle.top_rounds.specs.Passes.{IsFirstInUse}
 use Rattle.top_rounds.specs.Rounds.{HaveFailed, IsInUse, clean_in_end}
 use Rattle.top_run.specs.Work.{Service, Work}
-use Rattle.top_labelled.specs.Begun.{Begins, sweep_in}
+use Rattle.top_labelled.specs.Begun.{BeginsLabelled, sweep_in}
 use Rattle.top_labelled.specs.Between.{closing_label}
 use Rattle.top_labelled.specs.Ran.{HoldsSome, IsRelabelled}
 use Rattle.top_labelled.proofs.Lists.{pairs-append, in-use-or-not}
@@ -36,10 +36,10 @@ same-device : (o : Option Column) (d e : ℕ) → o ≡ Some (column.Live d) →
 same-device o d e one two = let z : Some (column.Live d) ≡ Some (column.Live e) = sym one ∙ two in cc
 
 module _ {D : Type 0} (g : Ghosts D) (a : Work) (newest : Label) (taken opened served back : List (Option D)) (columns kept : List Column) (first last : Label) (s : Service) (may : ℕ → ℕ → Type 0)
-    (begins : Begins g a newest taken opened columns first None)
+    (begins : BeginsLabelled g a newest taken opened columns first None)
     (run : Changes g may opened served) (away : (d : ℕ) → 1 ≤ size_of g opened d → may d 0 → ⊥)
     (stays : (c d : ℕ) → IsLiveOn kept c d → IsInUse a.columns d → (k : ℕ) × IsLiveOn columns k d)
-    (closes : IsClosed g (closing_label first) last kept s.ending.columns served back s.ending.lost) where
+    (closes : ClosesLabelled g (closing_label first) last kept s.ending.columns served back s.ending.lost) where
   abbrev Begun : ℕ → ℕ → Type 0
   Begun = MayBegin g (sweep_in newest) a.layout a.columns taken
 

@@ -24,7 +24,7 @@ use Rattle.eng_array.specs.declared.start.Start.TheVariants as start
 use Rattle.eng_world.specs.World.{World}
 use Rattle.eng_world.specs.Rows.{IsInRows}
 use Rattle.eng_events.specs.Opened.{IsSetup, states_of}
-use Rattle.eng_events.specs.Shows.{AreTold}
+use Rattle.eng_state.specs.Shows.{AreTold}
 use Rattle.eng_parts.specs.declared.setup.Setup.{Setup}
 use Rattle.eng_parts.specs.declared.setup.Closed.{Closed}
 use Rattle.raid_label.specs.declared.label.Label.{Label}
@@ -49,10 +49,10 @@ use Rattle.top_run.specs.Ran.{RisesAt, Runs, WasFailed}
 use Rattle.top_run.specs.declared.service.Line.{Line}
 use Rattle.top_run.proofs.Columns.{live-before, live-set}
 use Rattle.top_run.proofs.AtEnd.{live-in-end, same-contents}
-use Rattle.top_labelled.specs.Begun.{Begins, IsWithin, began_of, opened_as, sweep_in, without}
+use Rattle.top_labelled.specs.Begun.{BeginsLabelled, IsColumnWithin, began_of, opened_as, sweep_in, without}
 use Rattle.top_labelled.specs.Between.{HasEnded}
 use Rattle.top_labelled.specs.Given.{RebuildsIf}
-use Rattle.top_labelled.specs.Ran.{IsUnbuilt, Leaves, MayChange, done_on, line_of}
+use Rattle.top_labelled.specs.Ran.{IsToldUnbuilt, LeavesLabelled, MayChangeLabelled, done_on, line_of}
 use Rattle.top_labelled.proofs.Rebuilt.{length-rebuilt, live-rebuilt}
 use Rattle.top_labelled.proofs.Restart.{rebuilds-within, target-alone}
 use Rattle.top_labelled.proofs.Without.{IsOf, began-asked, began-is, not-some, of-or-not, some-same, still-lives, without-dead, without-dies, without-other}
@@ -195,7 +195,7 @@ line-dead y (Some (start.Spread c)) t kept is dead =
 
 module _ {L D : Type 0} (lay : LayoutGhosts L) (disk : DiskGhosts D) (old : Setup L D) (asked began : Option Start) (faulty : Bool) (devices : Vec (Option D) Global) (columns : Vec Column Global) (begun : List Column) (closed : Closed L D)
     (newest first : Label) (layout : IsLayout (lay.shape old.layout)) (can : RebuildsIf lay disk old asked)
-    (begins : Begins disk (work_of lay old asked) newest old.devices.items devices.items begun first None) (named : columns.items ≡ without asked begun) (began_is : began ≡ began_of faulty asked old.columns.items begun)
+    (begins : BeginsLabelled disk (work_of lay old asked) newest old.devices.items devices.items begun first None) (named : columns.items ≡ without asked begun) (began_is : began ≡ began_of faulty asked old.columns.items begun)
     (given : IsSetup lay disk (later old devices columns)) (s : served.IsServed lay disk (later old devices columns) began closed) (v : Service) (back : List (Option D)) (e : HasEnded lay disk closed first asked v back) where
   abbrev setup : Setup L D
   setup = later old devices columns
@@ -219,10 +219,10 @@ module _ {L D : Type 0} (lay : LayoutGhosts L) (disk : DiskGhosts D) (old : Setu
   Begun = MayBegin disk (sweep_in newest) y old.columns.items taken
 
   abbrev May : ℕ → ℕ → Type 0
-  May = MayChange disk a newest taken v back began
+  May = MayChangeLabelled disk a newest taken v back began
 
-  within : IsWithin asked (length begun)
-  within = subst (λ n. IsWithin asked n) (sym begins.has.named.dies.count) (rebuilds-within lay disk old asked can)
+  within : IsColumnWithin asked (length begun)
+  within = subst (λ n. IsColumnWithin asked n) (sym begins.has.named.dies.count) (rebuilds-within lay disk old asked can)
 
   pub named-dies : Dies (IsOf asked) begun columns.items
   named-dies = subst (λ (cs : List Column). Dies (IsOf asked) begun cs) (sym named) (without-dies asked begun)
@@ -270,7 +270,7 @@ module _ {L D : Type 0} (lay : LayoutGhosts L) (disk : DiskGhosts D) (old : Setu
   begun-may d n (inl on) = inl (inl (on.col, inl (live-set y.stripes old.columns.items on.col d on.live)), inl on.first)
   begun-may d n (inr swept) = let h = swept-in-rows disk y layout (sweep_in newest) old.columns.items taken d n swept in inl (inl h.0, inr h.1)
 
-  served-may : (d n : ℕ) → served.MayChange lay disk setup began closed d n → May d n
+  served-may : (d n : ℕ) → served.CoreMayChange lay disk setup began closed d n → May d n
   served-may d n (inl rows) = elim (had-or-goes rows.0.0 d rows.0.1) [
     | inl was ↦ inl (inl (rows.0.0, was), inr rows.1)
     | inr is ↦ inl (inr (rows.0.0, is), inr rows.1)
@@ -286,7 +286,7 @@ module _ {L D : Type 0} (lay : LayoutGhosts L) (disk : DiskGhosts D) (old : Setu
   pub since : Changes disk May opened back
   since =
       changes-then disk May opened closed.devices.items back
-      (changes-more disk (served.MayChange lay disk setup began closed) May opened closed.devices.items served-may s.leaves.frame)
+      (changes-more disk (served.CoreMayChange lay disk setup began closed) May opened closed.devices.items served-may s.leaves.frame)
       (changes-more disk (IsFirstInUse closed.columns.items) May closed.devices.items back closed-may e.closes.counted.frame)
 
   pub frame : Changes disk May taken back
@@ -295,7 +295,7 @@ module _ {L D : Type 0} (lay : LayoutGhosts L) (disk : DiskGhosts D) (old : Setu
   told-behind : (d : ℕ) (told : List Call) → calls_of disk back d ≡ Some told → (closing : List Call) × (told ≡ s.now.calls d ++ closing) × All IsClosing closing
   told-behind d told is = closes-behind disk (calls_of disk closed.devices.items d) (s.now.calls d) told (s.leaves.calls d) (subst (λ o. ClosesOn (calls_of disk closed.devices.items d) o) is (e.closes.counted.told d))
 
-  pub leaves : Leaves disk a newest taken v back began s.now
+  pub leaves : LeavesLabelled disk a newest taken v back began s.now
   leaves = record {
     contents = λ tells d n k other kb. same-contents lay disk setup began closed given s v back so tells d n k other ∙ sym (s.leaves.contents tells d n k kb);
     calls = told-behind;
@@ -320,15 +320,15 @@ module _ {L D : Type 0} (lay : LayoutGhosts L) (disk : DiskGhosts D) (old : Setu
   had-mid : (c d : ℕ) → HasDevice (states_of y mid) c d → HasDevice (states_of y old.columns.items) c d
   had-mid c d h = had c d (subst (λ (cs : List Column). HasDevice (states_of y cs) c d) (sym named) h)
 
-  within-old : IsWithin asked (length old.columns.items)
+  within-old : IsColumnWithin asked (length old.columns.items)
   within-old = rebuilds-within lay disk old asked can
 
-  within-new : IsWithin asked (length columns.items)
-  within-new = subst (λ n. IsWithin asked n) (sym died.count) within-old
+  within-new : IsColumnWithin asked (length columns.items)
+  within-new = subst (λ n. IsColumnWithin asked n) (sym died.count) within-old
 
   module _ (run : Runs disk (opened_as a mid began) opened v back) (kept-is : run.ends.kept ≡ closed.columns.items) where
     abbrev Why : ℕ → Type 0
-    Why c = WasFailed run.now c ⊎ (RisesAt disk a taken v back c ⊎ IsUnbuilt disk a newest taken v back c)
+    Why c = WasFailed run.now c ⊎ (RisesAt disk a taken v back c ⊎ IsToldUnbuilt disk a newest taken v back c)
 
     abbrev Ends : ℕ → Type 0
     Ends c = (slice_get v.ending.columns c ≡ slice_get (with_rebuilt asked old.columns.items) c) ⊎ ((slice_get v.ending.columns c ≡ Some column.Dead) × Why c)
@@ -365,15 +365,15 @@ module _ {L D : Type 0} (lay : LayoutGhosts L) (disk : DiskGhosts D) (old : Setu
       k = column_of t
 
       old-has : k < length old.columns.items
-      old-has = subst (λ (o : Option Start). IsWithin o (length old.columns.items)) is within-old
+      old-has = subst (λ (o : Option Start). IsColumnWithin o (length old.columns.items)) is within-old
 
       new-has : k < length columns.items
-      new-has = subst (λ (o : Option Start). IsWithin o (length columns.items)) is within-new
+      new-has = subst (λ (o : Option Start). IsColumnWithin o (length columns.items)) is within-new
 
       mid-has : k < length mid
       mid-has = subst (λ (cs : List Column). k < length cs) named new-has
 
-      unbuilt : slice_get closed.columns.items k ≡ Some column.Dead → IsUnbuilt disk a newest taken v back k
+      unbuilt : slice_get closed.columns.items k ≡ Some column.Dead → IsToldUnbuilt disk a newest taken v back k
       unbuilt dead = let l = line-dead (lay.shape closed.layout) asked t closed.columns.items is dead in (l.0, e.line ∙ l.1, l.2, l.3)
 
       ends-dead : slice_get closed.columns.items k ≡ Some column.Dead → slice_get v.ending.columns k ≡ Some column.Dead

@@ -15,11 +15,11 @@ use Rattle.top_acts.specs.Begun.{MayBegin}
 use Rattle.top_acts.specs.Failed.{EndsFailed, StaysBegun}
 use Rattle.top_acts.proofs.Counted.{counted_rounds}
 use Rattle.top_close.specs.Dying.{AnyCause}
-use Rattle.top_close.specs.Ended.{IsLossOf, states_of}
+use Rattle.top_close.specs.Ended.{IsLossBy, states_of}
 use Rattle.top_rounds.specs.Passes.{IsFirstInUse, LosesDevice}
 use Rattle.top_run.specs.Work.{Work}
 use Rattle.top_run.proofs.Columns.{live-before}
-use Rattle.top_labelled.specs.Begun.{IsWithin, sweep_in, without}
+use Rattle.top_labelled.specs.Begun.{IsColumnWithin, sweep_in, without}
 use Rattle.top_labelled.specs.Between.{HasOpened}
 use Rattle.top_labelled.specs.Ran.{IsLostBefore}
 use Rattle.top_labelled.proofs.Without.{IsOf, without-dead, without-dies}
@@ -55,9 +55,9 @@ module _ {D : Type 0} (g : Ghosts D) (label next : Label) (columns after : List 
 -- ## All of it
 
 module _ {D : Type 0} (g : Ghosts D) (y : Shape) (asked : Option Start) (faulty : Bool) (newest next : Label) (columns after : List Column) (old new : List (Option D)) (lost : Option Loss) (began : Option Start)
-    (within : IsWithin asked (length columns)) (h : HasOpened g y asked faulty newest next columns after old new lost began) where
-  pub within-begun : IsWithin asked (length h.begun)
-  within-begun = subst (λ n. IsWithin asked n) (sym h.has.named.dies.count) within
+    (within : IsColumnWithin asked (length columns)) (h : HasOpened g y asked faulty newest next columns after old new lost began) where
+  pub within-begun : IsColumnWithin asked (length h.begun)
+  within-begun = subst (λ n. IsColumnWithin asked n) (sym h.has.named.dies.count) within
 
   abbrev Begun : ℕ → ℕ → Type 0
   Begun = MayBegin g (sweep_in newest) y columns old
@@ -109,7 +109,7 @@ module _ {D : Type 0} (g : Ghosts D) (y : Shape) (asked : Option Start) (faulty 
   ]
 
 -- an array that was lost so
-pub lost-before : {D : Type 0} (g : Ghosts D) (a : Work) (newest last : Label) (faulty : Bool) (taken back : List (Option D)) (columns : List Column) (lost : Option Loss) (began : Option Start) → IsWithin a.start (length a.columns)
+pub lost-before : {D : Type 0} (g : Ghosts D) (a : Work) (newest last : Label) (faulty : Bool) (taken back : List (Option D)) (columns : List Column) (lost : Option Loss) (began : Option Start) → IsColumnWithin a.start (length a.columns)
     → HasOpened g a.layout a.start faulty newest last a.columns columns taken back lost began → (loss : Loss) → lost ≡ Some loss → IsLostBefore g a newest taken (record { columns = columns; lost = lost }) back
 lost-before g a newest last faulty taken back columns lost began within h loss is = record {
   opened = h.opened;
@@ -121,7 +121,7 @@ lost-before g a newest last faulty taken back columns lost began within h loss i
   fails = h.fails;
   loss = loss;
   lost = is;
-  lost_is = subst (λ (o : Option Loss). IsLossOf a.layout None (states_of a.layout columns) o) is h.lost_is;
+  lost_is = subst (λ (o : Option Loss). IsLossBy a.layout None (states_of a.layout columns) o) is h.lost_is;
   named = λ c of. opened-dead g a.layout a.start faulty newest last a.columns columns taken back lost began within h c of;
   frame = opened-moved g a.layout a.start faulty newest last a.columns columns taken back lost began within h;
   dies = opened-dies g a.layout a.start faulty newest last a.columns columns taken back lost began within h;

@@ -18,13 +18,13 @@ use Rattle.top_acts.specs.Begun.{MayBegin}
 use Rattle.top_close.proofs.DyingLaws.{columns_die}
 use Rattle.top_rounds.specs.Passes.{LosesDevice}
 use Rattle.top_run.specs.Work.{Ending, Service, Work}
-use Rattle.top_run.specs.Outliving.{IsRebuilt, MayDie, Outlives}
+use Rattle.top_run.specs.Outliving.{IsRebuiltIn, MayDie, OutlivesCall}
 use Rattle.top_run.specs.InTurn.{SweptInTurn}
 use Rattle.top_run.proofs.Columns.{live-set}
 use Rattle.top_run.proofs.InTurn.{runs-in-turn}
 use Rattle.top_run.proofs.Outlived.{runs-outlived}
 use Rattle.top_labelled.specs.Begun.{began_of, opened_as, sweep_in, without}
-use Rattle.top_labelled.specs.Ran.{IsLostBefore, MayChange, RanLabelled}
+use Rattle.top_labelled.specs.Ran.{IsLostBefore, MayChangeLabelled, RanLabelled}
 use Rattle.top_labelled.proofs.Leaving.{had-before}
 use Rattle.top_labelled.proofs.Without.{IsOf, began-asked, began-none, without-dies}
 
@@ -34,14 +34,14 @@ module _ {D : Type 0} (g : Ghosts D) (a : Work) (newest : Label) (taken : List (
   begun-may opened back wider c why = inr (inr (why.device, inl (live-set a.layout.stripes a.columns c why.device why.had), wider why.device why.rose))
 
   -- so may the column that is to be rebuilt
-  lost-may : (back : List (Option D)) (c : ℕ) → IsRebuilt a c ⊎ LosesDevice g a.columns taken back c → MayDie g a taken back c
+  lost-may : (back : List (Option D)) (c : ℕ) → IsRebuiltIn a c ⊎ LosesDevice g a.columns taken back c → MayDie g a taken back c
   lost-may back c (inl of) = inr (inl of)
   lost-may back c (inr why) = begun-may back back (λ d rose. rose) c why
 
-  pub not-begun-lost : (e : Ending) (back : List (Option D)) → IsLostBefore g a newest taken e back → Outlives g a taken back → ⊥
+  pub not-begun-lost : (e : Ending) (back : List (Option D)) → IsLostBefore g a newest taken e back → OutlivesCall g a taken back → ⊥
   not-begun-lost e back h outlives =
       lost-excludes a.layout (states_of a.layout e.columns) h.loss h.lost_is
-      (outlives e.columns (dies-more (λ c. IsRebuilt a c ⊎ LosesDevice g a.columns taken back c) (MayDie g a taken back) a.columns e.columns (lost-may back) h.dies))
+      (outlives e.columns (dies-more (λ c. IsRebuiltIn a c ⊎ LosesDevice g a.columns taken back c) (MayDie g a taken back) a.columns e.columns (lost-may back) h.dies))
 
   module _ (s : Service) (back : List (Option D)) (faulty : Bool) (r : RanLabelled g a newest taken s back faulty) where
     abbrev Begun : ℕ → ℕ → Type 0
@@ -65,7 +65,7 @@ module _ {D : Type 0} (g : Ghosts D) (a : Work) (newest : Label) (taken : List (
 
     -- a count that rose as the array was begun has risen in all, since that of a device never falls
     wider : (d : ℕ) → RisesOn g taken r.opened d → RisesOn g taken back d
-    wider d rose = rises-wider g (λ _ _. ⊥) (MayChange g a newest taken s back r.began) taken taken r.opened back d (changes-refl g (λ _ _. ⊥) taken) rose r.since
+    wider d rose = rises-wider g (λ _ _. ⊥) (MayChangeLabelled g a newest taken s back r.began) taken taken r.opened back d (changes-refl g (λ _ _. ⊥) taken) rose r.since
 
     named : Dies (IsOf a.start) r.begun mid
     named = without-dies a.start r.begun
@@ -75,7 +75,7 @@ module _ {D : Type 0} (g : Ghosts D) (a : Work) (newest : Label) (taken : List (
         dies-then (MayDie g a taken back) a.columns r.begun mid (dies-more (LosesDevice g a.columns taken r.opened) (MayDie g a taken back) a.columns r.begun (begun-may r.opened back wider) r.begins.has.named.dies)
         (dies-more (IsOf a.start) (MayDie g a taken back) r.begun mid (λ c of. inr (inl of)) named)
 
-    pub outlived : Outlives g a taken back → s.ending.lost ≡ None
+    pub outlived : OutlivesCall g a taken back → s.ending.lost ≡ None
     outlived outlives = runs-outlived g (opened_as a mid r.began) r.opened back s r.run
         (λ cols dies. outlives cols (dies-then (MayDie g a taken back) a.columns mid cols first (dies-more (MayDie g (opened_as a mid r.began) r.opened back) (MayDie g a taken back) mid cols by dies)))
       where

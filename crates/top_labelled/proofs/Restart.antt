@@ -24,7 +24,7 @@ use Rattle.eng_array.specs.Starts.{column_of}
 use Rattle.eng_array.specs.declared.start.Start.{Start}
 use Rattle.eng_array.specs.declared.start.Start.TheVariants as start
 use Rattle.eng_events.specs.Opened.{states_of}
-use Rattle.eng_parts.specs.Given.{items_at}
+use Rattle.eng_log.specs.Given.{items_at}
 use Rattle.eng_parts.specs.declared.setup.Setup.{Setup}
 use Rattle.top_close.specs.Dying.{AnyCause}
 use Rattle.top_close.specs.Settled.{IsLiveOn}
@@ -32,7 +32,7 @@ use Rattle.top_rounds.proofs.PassLaws.{set_here}
 use Rattle.top_run.proofs.Columns.{live-before}
 use Rattle.top_serve.specs.Setups.{HasTarget, IsFreeDevice, HasSparePlaces, MayRebuild, MayStart}
 use Rattle.top_serve.proofs.Deaths.{alive-less, events-less, get-device, later, row-less, there-later}
-use Rattle.top_labelled.specs.Begun.{IsSeated, IsSeatedIf, IsWithin, without}
+use Rattle.top_labelled.specs.Begun.{IsSeated, IsSeatedIf, IsColumnWithin, without}
 use Rattle.top_labelled.specs.Given.{RebuildsIf, with_dead}
 use Rattle.top_labelled.proofs.Without.{dies-behind, never, not-some}
 
@@ -152,7 +152,7 @@ module _ {L D : Type 0} (lay : LayoutGhosts L) (disk : DiskGhosts D) (setup : Se
     | inr h ↦ let e : asked ≡ how = let z : Some how ≡ Some asked = h in cc in subst (λ (t : Start). MayRebuild lay disk next t) e (rebuild-later asked can.within can.may is)
   ]
 
-pub rebuilds-within : {L D : Type 0} (lay : LayoutGhosts L) (disk : DiskGhosts D) (setup : Setup L D) (asked : Option Start) → RebuildsIf lay disk setup asked → IsWithin asked (length setup.columns.items)
+pub rebuilds-within : {L D : Type 0} (lay : LayoutGhosts L) (disk : DiskGhosts D) (setup : Setup L D) (asked : Option Start) → RebuildsIf lay disk setup asked → IsColumnWithin asked (length setup.columns.items)
 rebuilds-within lay disk setup None can = tt
 rebuilds-within lay disk setup (Some how) can = can.within
 

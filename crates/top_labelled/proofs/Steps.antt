@@ -17,10 +17,10 @@ use Rattle.raid_label.specs.declared.label.Label.{Label}
 use Rattle.raid_label.specs.Bytes.{IsHeld}
 use Rattle.raid_script.specs.Replies.{StandFor}
 use Rattle.top_acts.specs.Begun.{CanAct, MayBegin}
-use Rattle.top_acts.specs.Closed.{IsClosed}
+use Rattle.top_acts.specs.Closed.{ClosesLabelled}
 use Rattle.top_acts.specs.Failed.{StaysBegun}
 use Rattle.top_close.specs.Dying.{AnyCause}
-use Rattle.top_close.specs.Ended.{states_of, IsLossOf}
+use Rattle.top_close.specs.Ended.{states_of, IsLossBy}
 use Rattle.top_rounds.specs.Passes.{LosesDevice}
 use Rattle.top_rounds.proofs.RoundLaws.{can-after}
 use Rattle.eng_array.specs.Fitting.{FitsTrace}
@@ -37,9 +37,9 @@ use Rattle.top_labelled.specs.declared.labelled.Labelled.{Labelled}
 use Rattle.top_labelled.specs.declared.labelled.Outcome.{Outcome}
 use Rattle.top_labelled.specs.declared.labelled.Outcome.TheVariants as outcome
 use Rattle.top_labelled.specs.declared.beginning.Started.{Started}
-use Rattle.top_labelled.specs.Begun.{Begins, IsSeatedIf, IsWithin, sweep_in, without}
-use Rattle.top_labelled.specs.Between.{CanServe, HasEnded, HasOpened, HasServed, IsBegun, IsLeft, MayClose, closing_label}
-use Rattle.top_labelled.specs.Given.{CameTo, CanRun}
+use Rattle.top_labelled.specs.Begun.{BeginsLabelled, IsSeatedIf, IsColumnWithin, sweep_in, without}
+use Rattle.top_labelled.specs.Between.{CanServe, HasEnded, HasOpened, HasServed, IsBegun, IsLeftBy, MayClose, closing_label}
+use Rattle.top_labelled.specs.Given.{CameTo, CanRunLabelled}
 use Rattle.top_labelled.specs.Ran.{RanLabelled, line_of}
 use Rattle.top_labelled.proofs.Arrays.{array-of, settable-of}
 use Rattle.top_labelled.proofs.All.{ran}
@@ -56,7 +56,7 @@ none-from (Some loss) h = let z : true ≡ false = h in absurd (let u : ⊥ = cc
 module _ {L D : Type 0} (lay : LayoutGhosts L) (disk : DiskGhosts D) where
   -- ## The beginning
 
-  pub can-act : (l : Labelled L D) → CanRun lay disk l → (lent : List (Option D)) → lent ≡ l.setup.devices.items → CanAct disk (shape_in lay l.setup) l.setup.columns.items lent
+  pub can-act : (l : Labelled L D) → CanRunLabelled lay disk l → (lent : List (Option D)) → lent ≡ l.setup.devices.items → CanAct disk (shape_in lay l.setup) l.setup.columns.items lent
   can-act l can lent is = subst (λ (ds : List (Option D)). CanAct disk (shape_in lay l.setup) l.setup.columns.items ds) (sym is)
       (record { array = array-of lay disk l.setup can.setup; labels = can.array; settable = settable-of lay disk l.setup can.setup })
 
@@ -82,7 +82,7 @@ module _ {L D : Type 0} (lay : LayoutGhosts L) (disk : DiskGhosts D) where
 
   -- ## Between the beginning and the run
 
-  module _ (l : Labelled L D) (b : Started L D) (can : CanRun lay disk l) (begun : IsBegun lay disk l b) where
+  module _ (l : Labelled L D) (b : Started L D) (can : CanRunLabelled lay disk l) (begun : IsBegun lay disk l b) where
     abbrev next : Setup L D
     next = later l.setup b.setup.devices b.setup.columns
 
@@ -92,7 +92,7 @@ module _ {L D : Type 0} (lay : LayoutGhosts L) (disk : DiskGhosts D) where
     abbrev opens : HasOpened disk y l.start l.failed l.label b.label l.setup.columns.items b.setup.columns.items l.setup.devices.items b.setup.devices.items b.lost b.began
     opens = begun.opens
 
-    within : IsWithin l.start (length l.setup.columns.items)
+    within : IsColumnWithin l.start (length l.setup.columns.items)
     within = rebuilds-within lay disk l.setup l.start can.rebuilds
 
     moved : Changes disk (MayBegin disk (sweep_in l.label) y l.setup.columns.items l.setup.devices.items) l.setup.devices.items b.setup.devices.items
@@ -118,7 +118,7 @@ module _ {L D : Type 0} (lay : LayoutGhosts L) (disk : DiskGhosts D) where
 
     module _ (none : b.lost ≡ None) where
       not-lost : IsNotLost lay next
-      not-lost = subst (λ (o : Option Loss). IsLossOf y None (states_of y b.setup.columns.items) o) none opens.lost_is
+      not-lost = subst (λ (o : Option Loss). IsLossBy y None (states_of y b.setup.columns.items) o) none opens.lost_is
 
       quiet : (opens.before ≡ None) × StaysBegun disk opens.first b.label (without l.start opens.begun) b.setup.columns.items opens.opened b.setup.devices.items
       quiet = fails-kept disk opens.first b.label (without l.start opens.begun) b.setup.columns.items opens.opened b.setup.devices.items opens.before b.lost none opens.fails
@@ -146,7 +146,7 @@ module _ {L D : Type 0} (lay : LayoutGhosts L) (disk : DiskGhosts D) where
             judge = subst (λ (st : Setup L D). IsFor (shape_in lay st) b.judge) back begun.judge;
             start = subst (λ (st : Setup L D). MayStart lay disk st b.began) back may-start;
             seated = subst (λ n. IsSeatedIf n b.began) (sym died.count) (rebuilds-seated lay disk l.setup l.start b.began can.rebuilds begins-or);
-            within = subst (λ (o : Option Start). IsWithin o (length b.setup.columns.items)) (sym begun.asked) (subst (λ n. IsWithin l.start n) (sym died.count) within);
+            within = subst (λ (o : Option Start). IsColumnWithin o (length b.setup.columns.items)) (sym begun.asked) (subst (λ n. IsColumnWithin l.start n) (sym died.count) within);
           }
 
       -- ### It was served
@@ -158,9 +158,9 @@ module _ {L D : Type 0} (lay : LayoutGhosts L) (disk : DiskGhosts D) where
         abbrev ended : HasEnded lay disk has.closed opens.first l.start v back
         ended = subst (λ (n : Label). HasEnded lay disk has.closed n l.start v back) quiet.1.label_is (subst (λ (o : Option Start). HasEnded lay disk has.closed b.label o v back) begun.asked has.ended)
 
-        abbrev first : Begins disk (work_of lay l.setup l.start) l.label l.setup.devices.items b.setup.devices.items opens.begun opens.first None
-        first = subst (λ (ds : List (Option D)). Begins disk (work_of lay l.setup l.start) l.label l.setup.devices.items ds opens.begun opens.first None) (sym quiet.1.devices_are)
-            (subst (λ (o : Option Loss). Begins disk (work_of lay l.setup l.start) l.label l.setup.devices.items opens.opened opens.begun opens.first o) quiet.0 (record { found = opens.found; has = opens.has; lost_is = opens.was_lost }))
+        abbrev first : BeginsLabelled disk (work_of lay l.setup l.start) l.label l.setup.devices.items b.setup.devices.items opens.begun opens.first None
+        first = subst (λ (ds : List (Option D)). BeginsLabelled disk (work_of lay l.setup l.start) l.label l.setup.devices.items ds opens.begun opens.first None) (sym quiet.1.devices_are)
+            (subst (λ (o : Option Loss). BeginsLabelled disk (work_of lay l.setup l.start) l.label l.setup.devices.items opens.opened opens.begun opens.first o) quiet.0 (record { found = opens.found; has = opens.has; lost_is = opens.was_lost }))
 
         pub came-to-run : RanLabelled disk (work_of lay l.setup l.start) l.label l.setup.devices.items v back l.failed
         came-to-run =
@@ -174,7 +174,7 @@ module _ {L D : Type 0} (lay : LayoutGhosts L) (disk : DiskGhosts D) where
 
     -- ### It is lost
 
-    pub came-to-loss : (o : Outcome) (devices : Vec (Option D) Global) → is_some b.lost ≡ true → IsLeft b o devices → CameTo lay disk l o devices.items
+    pub came-to-loss : (o : Outcome) (devices : Vec (Option D) Global) → is_some b.lost ≡ true → IsLeftBy b o devices → CameTo lay disk l o devices.items
     came-to-loss (outcome.Ran service) devices some left = absurd left
     came-to-loss (outcome.Lost ending) devices some left = by b.lost refl
       where
@@ -185,7 +185,7 @@ module _ {L D : Type 0} (lay : LayoutGhosts L) (disk : DiskGhosts D) where
             (subst (λ e. CameTo lay disk l (outcome.Lost e) b.setup.devices.items) (sym left.0)
             (lost-before disk (work_of lay l.setup l.start) l.label b.label l.failed l.setup.devices.items b.setup.devices.items b.setup.columns.items b.lost b.began within opens loss is))
 
-    pub left-many : (o : Outcome) (devices : Vec (Option D) Global) → IsLeft b o devices → length devices.items ≡ length l.setup.devices.items
+    pub left-many : (o : Outcome) (devices : Vec (Option D) Global) → IsLeftBy b o devices → length devices.items ≡ length l.setup.devices.items
     left-many (outcome.Ran service) devices left = absurd left
     left-many (outcome.Lost ending) devices left = ap (λ (ds : Vec (Option D) Global). length ds.items) left.1 ∙ moved.count
 
@@ -210,17 +210,17 @@ module _ {L D : Type 0} (lay : LayoutGhosts L) (disk : DiskGhosts D) where
       }
 
   -- the column that is to be rebuilt is one of those that are handed back
-  pub within-closed : (b : Started L D) (room : CoreRoom D) (closed : Closed L D) → CanServe lay disk b room → served.IsServed lay disk b.setup b.began closed → IsWithin b.asked (length closed.columns.items)
-  within-closed b room closed can s = subst (λ n. IsWithin b.asked n) (sym (s.causes.dies.count ∙ length-rebuilt b.began b.setup.columns.items)) can.within
+  pub within-closed : (b : Started L D) (room : CoreRoom D) (closed : Closed L D) → CanServe lay disk b room → served.IsServed lay disk b.setup b.began closed → IsColumnWithin b.asked (length closed.columns.items)
+  within-closed b room closed can s = subst (λ n. IsColumnWithin b.asked n) (sym (s.causes.dies.count ∙ length-rebuilt b.began b.setup.columns.items)) can.within
 
   pub ended-so : (closed : Closed L D) (label last : Label) (asked : Option Start) (v : Service) (lent back : List (Option D)) → v ≡ service_of closed v.line v.ending → v.line ≡ line_of (lay.shape closed.layout) asked closed.columns.items → lent ≡ closed.devices.items
-      → IsClosed disk (closing_label label) last closed.columns.items v.ending.columns lent back v.ending.lost
-      → IsLossOf (lay.shape closed.layout) closed.lost (states_of (lay.shape closed.layout) v.ending.columns) v.ending.lost
+      → ClosesLabelled disk (closing_label label) last closed.columns.items v.ending.columns lent back v.ending.lost
+      → IsLossBy (lay.shape closed.layout) closed.lost (states_of (lay.shape closed.layout) v.ending.columns) v.ending.lost
       → HasEnded lay disk closed label asked v back
   ended-so closed label last asked v lent back told line is closes lost = record {
     last = last;
     told = told;
     line = line;
-    closes = subst (λ (ds : List (Option D)). IsClosed disk (closing_label label) last closed.columns.items v.ending.columns ds back v.ending.lost) is closes;
+    closes = subst (λ (ds : List (Option D)). ClosesLabelled disk (closing_label label) last closed.columns.items v.ending.columns ds back v.ending.lost) is closes;
     lost = lost;
   }

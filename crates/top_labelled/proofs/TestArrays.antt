@@ -16,9 +16,9 @@ use Rattle.eng_events.specs.Opened.{states_of}
 use Rattle.eng_parts.specs.declared.setup.Setup.{Setup}
 use Rattle.raid_label.specs.Bytes.{IsHeld}
 use Rattle.top_rounds.specs.Labels.{IsNumbered}
-use Rattle.top_serve.specs.Trials.{IsReady}
+use Rattle.top_serve.specs.Trials.{IsReadyToServe}
 use Rattle.top_labelled.specs.declared.labelled.Labelled.{Labelled}
-use Rattle.top_labelled.specs.Given.{CanRun, IsRebuildable, RebuildsIf}
+use Rattle.top_labelled.specs.Given.{CanRunLabelled, IsRebuildable, RebuildsIf}
 use Rattle.top_labelled.proofs.Arrays.{labels-of}
 
 two-numbered : All (IsNumbered 2) (column.Live 0 ∷ column.Live 1 ∷ [])
@@ -60,8 +60,8 @@ two-asked lay disk setup asked why can = elim why [
 ]
 
 -- the judge was shown these columns
-pub two-can-run : {L D : Type 0} (lay : LayoutGhosts L) (disk : DiskGhosts D) (l : Labelled L D) (shown : List Column) → IsReady lay disk l.setup → lay.shape l.setup.layout ≡ left_symmetric 2 1 64 → l.setup.columns.items ≡ column.Live 0 ∷ column.Live 1 ∷ []
-    → shown ≡ l.setup.columns.items → NotLost (lay.shape l.setup.layout) (states_of (lay.shape l.setup.layout) shown) → IsHeld l.label → l.label.counter ≡ 5 → IsFor (lay.shape l.setup.layout) l.judge → l.room ≡ 1024 → RebuildsIf lay disk l.setup l.start → CanRun lay disk l
+pub two-can-run : {L D : Type 0} (lay : LayoutGhosts L) (disk : DiskGhosts D) (l : Labelled L D) (shown : List Column) → IsReadyToServe lay disk l.setup → lay.shape l.setup.layout ≡ left_symmetric 2 1 64 → l.setup.columns.items ≡ column.Live 0 ∷ column.Live 1 ∷ []
+    → shown ≡ l.setup.columns.items → NotLost (lay.shape l.setup.layout) (states_of (lay.shape l.setup.layout) shown) → IsHeld l.label → l.label.counter ≡ 5 → IsFor (lay.shape l.setup.layout) l.judge → l.room ≡ 1024 → RebuildsIf lay disk l.setup l.start → CanRunLabelled lay disk l
 two-can-run lay disk l shown ready shape columns are kept held counter judge room rebuilds =
     let two : length l.setup.columns.items ≡ 2 = ap (λ (cs : List Column). length cs) columns in
     let unit : (lay.shape l.setup.layout).unit_sectors ≡ 1 = ap (λ (y : Shape). y.unit_sectors) shape in

@@ -18,15 +18,15 @@ use Rattle.eng_world.specs.declared.item.Item.TheVariants as item
 use Rattle.eng_world.specs.Step.{MayBeAsked}
 use Rattle.eng_rest.specs.Left.{below}
 use Rattle.eng_parts.specs.declared.setup.Setup.{Setup}
-use Rattle.eng_parts.specs.Given.{items_at}
-use Rattle.eng_parts.specs.Laid.{row_sectors, sectors_at, sectors_before, items_before}
-use Rattle.eng_events.specs.Beginning.{IsAsked}
+use Rattle.eng_log.specs.Given.{items_at}
+use Rattle.eng_log.specs.Laid.{row_sectors, sectors_at, sectors_before, items_before}
+use Rattle.eng_state.specs.Beginning.{IsAsked}
 use Rattle.eng_events.specs.Opened.{states_of, NamesGraph, IsSetup}
-use Rattle.eng_parts.specs.Desk.{no_graph}
+use Rattle.eng_plan.specs.Asked.{no_graph}
 use Rattle.raid_label.specs.Bytes.{IsHeld}
 use Rattle.top_rounds.specs.Labels.{IsNumbered}
 use Rattle.top_labelled.specs.declared.labelled.Labelled.{Labelled}
-use Rattle.top_labelled.specs.Given.{CanRun, RebuildsIf}
+use Rattle.top_labelled.specs.Given.{CanRunLabelled, RebuildsIf}
 use Rattle.top_labelled.proofs.Arrays.{labels-of}
 
 -- ## Columns
@@ -143,7 +143,7 @@ module _ {L D : Type 0} (lay : LayoutGhosts L) (disk : DiskGhosts D) (l : Labell
   -- the judge was shown these columns
   pub three-can-run : lay.shape l.setup.layout ≡ left_symmetric 3 1 64 → l.setup.columns.items ≡ set.Live 0 ∷ set.Live 1 ∷ set.Live 2 ∷ [] → l.setup.devices.items ≡ Some first ∷ Some second ∷ Some third ∷ []
       → 128 ≤ disk.size first → 128 ≤ disk.size second → 128 ≤ disk.size third → v.items ≡ fails → l.setup.clients.items ≡ v ∷ [] → l.setup.graphs.items ≡ [] → l.setup.trace ≡ false
-      → shown ≡ l.setup.columns.items → NotLost (lay.shape l.setup.layout) (states_of (lay.shape l.setup.layout) shown) → IsHeld l.label → l.label.counter ≡ 5 → IsFor (lay.shape l.setup.layout) l.judge → l.room ≡ 1024 → l.start ≡ None → CanRun lay disk l
+      → shown ≡ l.setup.columns.items → NotLost (lay.shape l.setup.layout) (states_of (lay.shape l.setup.layout) shown) → IsHeld l.label → l.label.counter ≡ 5 → IsFor (lay.shape l.setup.layout) l.judge → l.room ≡ 1024 → l.start ≡ None → CanRunLabelled lay disk l
   three-can-run shape columns devices one two third_large is_fails clients graphs trace are kept held counter judge room unasked =
       let may = is-setup lay disk l.setup first second third v shape columns devices one two third_large is_fails clients graphs in
       let three_columns : length l.setup.columns.items ≡ 3 = ap (λ (cs : List Column). length cs) columns in

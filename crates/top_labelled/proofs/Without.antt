@@ -18,7 +18,7 @@ use Rattle.top_close.specs.Dying.{AnyCause}
 use Rattle.top_close.specs.Settled.{IsLiveOn}
 use Rattle.top_rounds.specs.Passes.{LosesDevice}
 use Rattle.top_rounds.proofs.PassLaws.{set_here}
-use Rattle.top_labelled.specs.Begun.{IsWithin, began_of, is_in_place, lives_on, without}
+use Rattle.top_labelled.specs.Begun.{IsColumnWithin, began_of, is_in_place, lives_on, without}
 
 -- it is the column of the rebuild
 abbrev pub IsOf : Option Start → ℕ → Type 0
@@ -48,7 +48,7 @@ without-dies (Some t) columns = record { count = length-set columns (column_of t
       ]
     ]
 
-pub without-dead : (s : Option Start) (columns : List Column) (c : ℕ) → IsWithin s (length columns) → IsOf s c → slice_get (without s columns) c ≡ Some column.Dead
+pub without-dead : (s : Option Start) (columns : List Column) (c : ℕ) → IsColumnWithin s (length columns) → IsOf s c → slice_get (without s columns) c ≡ Some column.Dead
 without-dead None columns c within (t, is, on) = not-some t is
 without-dead (Some u) columns c within (t, is, on) =
     let same : u ≡ t = some-same u t is in

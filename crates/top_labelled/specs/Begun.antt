@@ -16,7 +16,7 @@ use Rattle.eng_events.specs.Opened.{states_of}
 use Rattle.raid_label.specs.declared.label.Label.{Label}
 use Rattle.raid_recon.specs.declared.kind.Sweep.{Sweep}
 use Rattle.top_acts.specs.Begun.{HasBegun, sweep_if}
-use Rattle.top_close.specs.Ended.{IsLossOf}
+use Rattle.top_close.specs.Ended.{IsLossBy}
 use Rattle.top_rounds.specs.Passes.{LosesDevice}
 use Rattle.top_run.specs.Work.{Work}
 use Rattle.top_run.specs.Ran.{WasInSync, states_in}
@@ -32,9 +32,9 @@ sweep_in newest = sweep_if (newest.clean == 0)
 -- ## A rebuild
 
 -- its column is one of n
-abbrev pub IsWithin : Option Start → ℕ → Type 0
-IsWithin None n = Unit {0}
-IsWithin (Some s) n = column_of s < n
+abbrev pub IsColumnWithin : Option Start → ℕ → Type 0
+IsColumnWithin None n = Unit {0}
+IsColumnWithin (Some s) n = column_of s < n
 
 -- of n columns, the device has a seat onto which the rebuild goes
 abbrev pub IsSeated : ℕ → Start → Type 0
@@ -73,8 +73,8 @@ abbrev pub opened_as : Work → List Column → Option Start → Work
 opened_as a columns began = record a { columns = columns; start = began }
 
 -- on block b both are the same
-abbrev pub Same : ℕ → Blocks → Blocks → Type 0
-Same b one other = (k : ℕ) → k < 512 → one b k ≡ other b k
+abbrev pub SameAt : ℕ → Blocks → Blocks → Type 0
+SameAt b one other = (k : ℕ) → k < 512 → one b k ≡ other b k
 
 -- each block as the sum of its stripe's other units
 abbrev pub sums_of_others : Shape → Contents → List ColumnState → Blocks
@@ -87,10 +87,10 @@ module _ {D : Type 0} (g : Ghosts D) (a : Work) (newest : Label) (taken : List (
 
   module _ (opened : List (Option D)) (begun : List Column) where
     -- The array was begun: labels were written in an opening round, and then check units were swept where the newest label said that the array was in use. By the columns that are left the array is lost or isn't.
-    pub record Begins (first : Label) (lost : Option Loss) : Type 0 where
+    pub record BeginsLabelled (first : Label) (lost : Option Loss) : Type 0 where
       pub found : ℕ
       pub has : HasBegun g (sweep_in newest) a.layout newest first a.columns begun taken opened lost found
-      pub lost_is : IsLossOf a.layout None (states_of a.layout begun) lost
+      pub lost_is : IsLossBy a.layout None (states_of a.layout begun) lost
 
     -- The block's unit was available, and is of a column that has died since; or it stands there, as the unit of a spread one.
     pub record IsUnmade (b : ℕ) : Type 0 where
@@ -102,10 +102,10 @@ module _ {D : Type 0} (g : Ghosts D) (a : Work) (newest : Label) (taken : List (
 
     -- the block is what the devices held as they were taken; or, where the labels said that the array was in use and the block's unit was made missing, the sum of the others of its stripe as they were held then
     abbrev pub IsBlockOf : Blocks → ℕ → Type 0
-    IsBlockOf blocks b = Same b blocks (decode a.layout (contents_of g taken) (states_in a))
-        ⊎ (IsDirty newest × IsUnmade b × Same b blocks (sums_of_others a.layout (contents_of g taken) (states_in a)))
+    IsBlockOf blocks b = SameAt b blocks (decode a.layout (contents_of g taken) (states_in a))
+        ⊎ (IsDirty newest × IsUnmade b × SameAt b blocks (sums_of_others a.layout (contents_of g taken) (states_in a)))
 
     -- The array is in sync as the core is opened, once the column is dead that is to be rebuilt, and its blocks are these.
-    pub record Holds (start : Blocks) : Type 0 where
+    pub record HoldsBlocks (start : Blocks) : Type 0 where
       pub in_sync : g.tells → WasSound → InSync a.layout (contents_of g opened) (states_of a.layout (without a.start begun))
       pub blocks : g.tells → WasSound → (b : ℕ) → b < blocks_in a.layout → IsBlockOf start b

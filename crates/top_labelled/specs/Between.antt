@@ -16,9 +16,9 @@ use Rattle.raid_label.specs.declared.label.Label.{Label}
 use Rattle.raid_label.specs.Bytes.{IsHeld}
 use Rattle.top_acts.specs.Acts.{IsSettable}
 use Rattle.top_acts.specs.Begun.{CanAct, HasBegun}
-use Rattle.top_acts.specs.Closed.{IsClosed}
+use Rattle.top_acts.specs.Closed.{ClosesLabelled}
 use Rattle.top_acts.specs.Failed.{EndsFailed}
-use Rattle.top_close.specs.Ended.{states_of, IsLossOf}
+use Rattle.top_close.specs.Ended.{states_of, IsLossBy}
 use Rattle.top_rounds.specs.Passes.{CanBeLabelled}
 use Rattle.top_run.specs.Work.{Service}
 use Rattle.top_run.specs.Works.{service_of}
@@ -28,7 +28,7 @@ use Rattle.top_labelled.specs.declared.labelled.Labelled.{Labelled}
 use Rattle.top_labelled.specs.declared.labelled.Outcome.{Outcome}
 use Rattle.top_labelled.specs.declared.labelled.Outcome.TheVariants as outcome
 use Rattle.top_labelled.specs.declared.beginning.Started.{Started}
-use Rattle.top_labelled.specs.Begun.{IsSeatedIf, IsWithin, began_of, sweep_in, without}
+use Rattle.top_labelled.specs.Begun.{IsSeatedIf, IsColumnWithin, began_of, sweep_in, without}
 use Rattle.top_labelled.specs.Ran.{line_of}
 
 -- the label of a round that says that the array was closed in order
@@ -43,9 +43,9 @@ pub record HasOpened {D : Type 0} (g : DiskGhosts D) (y : Shape) (asked : Option
   pub before : Option Loss
   pub found : ℕ
   pub has : HasBegun g (sweep_in newest) y newest first columns begun old opened before found
-  pub was_lost : IsLossOf y None (states_of y begun) before
+  pub was_lost : IsLossBy y None (states_of y begun) before
   pub fails : EndsFailed g before lost first next (without asked begun) after opened new
-  pub lost_is : IsLossOf y None (states_of y after) lost
+  pub lost_is : IsLossBy y None (states_of y after) lost
   pub began_is : began ≡ began_of faulty asked columns begun
 
 module _ {L D : Type 0} (lay : LayoutGhosts L) (disk : DiskGhosts D) where
@@ -71,8 +71,8 @@ module _ {L D : Type 0} (lay : LayoutGhosts L) (disk : DiskGhosts D) where
     pub last : Label
     pub told : s ≡ service_of closed s.line s.ending
     pub line : s.line ≡ line_of (lay.shape closed.layout) asked closed.columns.items
-    pub closes : IsClosed disk (closing_label label) last closed.columns.items s.ending.columns closed.devices.items back s.ending.lost
-    pub lost : IsLossOf (lay.shape closed.layout) closed.lost (states_of (lay.shape closed.layout) s.ending.columns) s.ending.lost
+    pub closes : ClosesLabelled disk (closing_label label) last closed.columns.items s.ending.columns closed.devices.items back s.ending.lost
+    pub lost : IsLossBy (lay.shape closed.layout) closed.lost (states_of (lay.shape closed.layout) s.ending.columns) s.ending.lost
 
   -- what was begun can be served in the room, and closed
   pub record CanServe (b : Started L D) (room : CoreRoom D) : Type 0 where
@@ -86,7 +86,7 @@ module _ {L D : Type 0} (lay : LayoutGhosts L) (disk : DiskGhosts D) where
     pub judge : IsFor (shape_in lay b.setup) b.judge
     pub start : MayStart lay disk b.setup b.began
     pub seated : IsSeatedIf (length b.setup.columns.items) b.began
-    pub within : IsWithin b.asked (length b.setup.columns.items)
+    pub within : IsColumnWithin b.asked (length b.setup.columns.items)
 
   -- it was served, and closed
   pub record HasServed (b : Started L D) (s : Service) (back : List (Option D)) : Type 0 where
@@ -96,6 +96,6 @@ module _ {L D : Type 0} (lay : LayoutGhosts L) (disk : DiskGhosts D) where
 
 module _ {L D : Type 0} where
   -- its columns, its loss and its devices are what came
-  abbrev pub IsLeft : Started L D → Outcome → Vec (Option D) Global → Type 0
-  IsLeft b (outcome.Ran service) devices = ⊥
-  IsLeft b (outcome.Lost ending) devices = (ending ≡ record { columns = b.setup.columns; lost = b.lost }) × (devices ≡ b.setup.devices)
+  abbrev pub IsLeftBy : Started L D → Outcome → Vec (Option D) Global → Type 0
+  IsLeftBy b (outcome.Ran service) devices = ⊥
+  IsLeftBy b (outcome.Lost ending) devices = (ending ≡ record { columns = b.setup.columns; lost = b.lost }) × (devices ≡ b.setup.devices)

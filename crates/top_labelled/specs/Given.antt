@@ -45,7 +45,7 @@ module _ {L D : Type 0} (lay : LayoutGhosts L) (disk : DiskGhosts D) where
   RebuildsIf setup (Some s) = IsRebuildable setup s
 
   -- The setup may be served, and isn't lost by its columns; the device of each live column has a sector and a seat; the newest label leaves room for its counter; there is room for the sweep and the judge; and what is to be rebuilt may be.
-  pub record CanRun (l : Labelled L D) : Type 0 where
+  pub record CanRunLabelled (l : Labelled L D) : Type 0 where
     pub setup : IsSetup lay disk l.setup
     pub few : IsFew l.setup
     pub trace : FitsTrace lay l.setup
@@ -63,6 +63,6 @@ module _ {L D : Type 0} (lay : LayoutGhosts L) (disk : DiskGhosts D) where
   CameTo l (outcome.Lost ending) back = IsLostBefore disk (work_of lay l.setup l.start) l.label l.setup.devices.items (end_seen ending) back
 
 -- what a run tells can be printed
-abbrev pub Stands : Outcome → Type 0
-Stands (outcome.Ran service) = StandFor service.clients.items service.replies.items service.sectors.items
-Stands (outcome.Lost ending) = Unit {0}
+abbrev pub OutcomeCanBePrinted : Outcome → Type 0
+OutcomeCanBePrinted (outcome.Ran service) = StandFor service.clients.items service.replies.items service.sectors.items
+OutcomeCanBePrinted (outcome.Lost ending) = Unit {0}

@@ -26,12 +26,12 @@ use Rattle.top_close.specs.Settled.{IsLiveOn}
 use Rattle.top_rounds.specs.Labels.{for_column, seats_of, with_round}
 use Rattle.top_rounds.specs.Passes.{HoldsLabel, LosesDevice}
 use Rattle.top_rounds.specs.Rounds.{HaveFailed, clean_in_end}
-use Rattle.top_run.specs.Outliving.{IsRebuilt}
+use Rattle.top_run.specs.Outliving.{IsRebuiltIn}
 use Rattle.top_run.specs.Work.{Work, Ending, Service}
 use Rattle.top_run.specs.declared.service.Line.{Line}
 use Rattle.top_run.specs.Ran.{RisesAt, Runs, WasFailed, states_in}
 use Rattle.top_serve.specs.Setups.{with_rebuilt}
-use Rattle.top_labelled.specs.Begun.{Begins, Holds, began_of, opened_as, sweep_in, without}
+use Rattle.top_labelled.specs.Begun.{BeginsLabelled, HoldsBlocks, began_of, opened_as, sweep_in, without}
 
 -- ## The line of a rebuild
 
@@ -59,15 +59,15 @@ module _ {D : Type 0} (g : Ghosts D) (a : Work) (newest : Label) (taken : List (
 
   module _ (s : Service) (back : List (Option D)) where
     -- the sector may have changed: it is the label's or one of the array's rows, on a device that was in a column, or onto which the rebuild goes that began; or the device has no such sector
-    abbrev pub MayChange : Option Start → ℕ → ℕ → Type 0
-    MayChange began d n = ((((c : ℕ) × HasDevice (states_in a) c d) ⊎ GoesOnto began d) × ((n ≡ 0) ⊎ IsInRows a.layout n)) ⊎ (size_of g taken d ≤ n)
+    abbrev pub MayChangeLabelled : Option Start → ℕ → ℕ → Type 0
+    MayChangeLabelled began d n = ((((c : ℕ) × HasDevice (states_in a) c d) ⊎ GoesOnto began d) × ((n ≡ 0) ⊎ IsInRows a.layout n)) ⊎ (size_of g taken d ≤ n)
 
     -- Devices hold what they do at the run's end, but for labels, and have changed nowhere else since they were taken. Of the calls that they tell those behind the run's are settles and label writes; and where the array isn't lost each device of a column in the end has been settled last.
-    pub record Leaves (began : Option Start) (now : World) : Type 0 where
+    pub record LeavesLabelled (began : Option Start) (now : World) : Type 0 where
       pub contents : g.tells → (d n k : ℕ) → n ≢ 0 → k < 512 → contents_of g back d n k ≡ now.contents d n k
       pub calls : (d : ℕ) (told : List Call) → calls_of g back d ≡ Some told → (closing : List Call) × (told ≡ now.calls d ++ closing) × All IsClosing closing
       pub settled : s.ending.lost ≡ None → (c d : ℕ) → HasDevice (states_of a.layout s.ending.columns) c d → EndsSettled (calls_of g back d)
-      pub frame : Changes g (MayChange began) taken back
+      pub frame : Changes g (MayChangeLabelled began) taken back
 
     -- sector 0 of the device holds a label that was written in this call, in a round no later than that of this label
     pub record HoldsSome (last : Label) (d : ℕ) : Type 0 where
@@ -98,8 +98,8 @@ module _ {D : Type 0} (g : Ghosts D) (a : Work) (newest : Label) (taken : List (
       pub rose : RisesOn g taken opened device
 
     -- it is to be rebuilt, and isn't told to be done
-    abbrev pub IsUnbuilt : ℕ → Type 0
-    IsUnbuilt c = (line : Line) × (s.line ≡ Some line) × (line.column ≡ c) × (line.done ≡ None)
+    abbrev pub IsToldUnbuilt : ℕ → Type 0
+    IsToldUnbuilt c = (line : Line) × (s.line ≡ Some line) × (line.column ≡ c) × (line.done ≡ None)
 
     -- The array was begun, and the column was made dead that is to be rebuilt; it isn't lost. Its rebuild began, unless the device onto which it goes had failed, be it before, where that is `faulty`. A run of what is asked, over the devices and columns as they were then, tells this and leaves the columns so; then the array was closed. No more has changed since the core was opened. In all a column is what it was, or rebuilt as it is asked, or has died since an item was replied ok by which it failed, its device's count of faults rose, or its rebuild wasn't done.
     pub record RanLabelled (faulty : Bool) : Type 0 where
@@ -108,17 +108,17 @@ module _ {D : Type 0} (g : Ghosts D) (a : Work) (newest : Label) (taken : List (
       pub first : Label
       pub last : Label
       pub began : Option Start
-      pub begins : Begins g a newest taken opened begun first None
+      pub begins : BeginsLabelled g a newest taken opened begun first None
       pub kept : NotLost a.layout (states_of a.layout (without a.start begun))
       pub began_is : began ≡ began_of faulty a.start a.columns begun
       pub unbegun : began ≡ None → (a.start ≡ None) ⊎ ((faulty ≡ true) ⊎ HasFailedSince opened)
       pub run : Runs g (opened_as a (without a.start begun) began) opened s back
       pub line : s.line ≡ line_of a.layout a.start run.ends.kept
-      pub holds : Holds g a newest taken opened begun run.start.blocks
-      pub leaves : Leaves began run.now
-      pub since : Changes g (MayChange began) opened back
+      pub holds : HoldsBlocks g a newest taken opened begun run.start.blocks
+      pub leaves : LeavesLabelled began run.now
+      pub since : Changes g (MayChangeLabelled began) opened back
       pub labels : IsRelabelled last
-      pub dies : Dies (λ c. WasFailed run.now c ⊎ (RisesAt g a taken s back c ⊎ IsUnbuilt c)) (with_rebuilt a.start a.columns) s.ending.columns
+      pub dies : Dies (λ c. WasFailed run.now c ⊎ (RisesAt g a taken s back c ⊎ IsToldUnbuilt c)) (with_rebuilt a.start a.columns) s.ending.columns
 
   -- ## No run
 
@@ -129,11 +129,11 @@ module _ {D : Type 0} (g : Ghosts D) (a : Work) (newest : Label) (taken : List (
     pub first : Label
     pub last : Label
     pub before : Option Loss
-    pub begins : Begins g a newest taken opened begun first before
+    pub begins : BeginsLabelled g a newest taken opened begun first before
     pub fails : EndsFailed g before e.lost first last (without a.start begun) e.columns opened back
     pub loss : Loss
     pub lost : e.lost ≡ Some loss
     pub lost_is : IsLost a.layout (states_of a.layout e.columns) loss
-    pub named : (c : ℕ) → IsRebuilt a c → slice_get e.columns c ≡ Some column.Dead
+    pub named : (c : ℕ) → IsRebuiltIn a c → slice_get e.columns c ≡ Some column.Dead
     pub frame : Changes g (MayBegin g (sweep_in newest) a.layout a.columns taken) taken back
-    pub dies : Dies (λ c. IsRebuilt a c ⊎ LosesDevice g a.columns taken back c) a.columns e.columns
+    pub dies : Dies (λ c. IsRebuiltIn a c ⊎ LosesDevice g a.columns taken back c) a.columns e.columns

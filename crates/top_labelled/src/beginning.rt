@@ -1,5 +1,5 @@
 //! The array is begun.
-ghost use Rattle.top_labelled.specs.Given.{CanRun};
+ghost use Rattle.top_labelled.specs.Given.{CanRunLabelled};
 ghost use Rattle.top_labelled.specs.Between.{IsBegun};
 
 use crate::labelled::Labelled;
@@ -26,7 +26,7 @@ pub(crate) struct Started<L, D> {
 /// Writes the opening round, sweeps the check units where the newest label isn't clean, and lets the
 /// column die that is to be rebuilt.
 pub(crate) fn begun<L: Layout + Drop, D: Disk + Drop>(labelled: Labelled<L, D>) -> Started<L, D>
-    requires { CanRun L.Layout D.Disk labelled }
+    requires { CanRunLabelled L.Layout D.Disk labelled }
     ensures { IsBegun L.Layout D.Disk labelled result }
 {
     let Labelled {

@@ -2,7 +2,7 @@
 ghost use Rattle.std.specs.Prelude.{length};
 ghost use Rattle.eng_cols.specs.Cols.{IsFor};
 ghost use Rattle.top_run.specs.Works.{service_seen};
-ghost use Rattle.top_labelled.specs.Begun.{IsWithin};
+ghost use Rattle.top_labelled.specs.Begun.{IsColumnWithin};
 ghost use Rattle.top_labelled.specs.Between.{HasEnded, MayClose};
 
 use crate::line::line_for;
@@ -24,7 +24,7 @@ pub(crate) fn ended<L: Layout + Drop, D: Disk + Drop>(
 ) -> (Service, Vec<Option<D>>)
     requires closed { MayClose L.Layout D.Disk closed label }
     requires judge { IsFor (L.shape closed.layout) judge }
-    requires within { IsWithin asked (length closed.columns.items) }
+    requires within { IsColumnWithin asked (length closed.columns.items) }
     ensures { HasEnded L.Layout D.Disk closed label asked (service_seen result.0) result.1.items }
 {
     let Closed {

@@ -11,8 +11,8 @@ ghost use Rattle.top_labelled.specs.Ran.{RanLabelled};
 
 use blk_disk::Disk;
 
-/// A run of clients each of which has blocks of its own, beside which nothing is rebuilt, means what they mean client after client,
-/// unless the array is lost: the blocks that it leaves, its replies and what sums them up, over the
+/// A run of clients each of which has blocks of its own, beside which nothing is rebuilt, means what they mean client
+/// after client, unless the array is lost: the blocks that it leaves, its replies and what sums them up, over the
 /// blocks of the opening.
 pub fn a_sweep_comes_client_after_client<D: Disk>()
     ensures opening { (a : Work) (newest : Label) (taken back : List (Option D)) (s : Service)

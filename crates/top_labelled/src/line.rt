@@ -1,6 +1,6 @@
 //! The line of a rebuild.
 ghost use Rattle.std.specs.Prelude.{◌≡◌, ◌<◌, length, slice_get};
-ghost use Rattle.top_labelled.specs.Begun.{IsWithin};
+ghost use Rattle.top_labelled.specs.Begun.{IsColumnWithin};
 ghost use Rattle.top_labelled.specs.Ran.{done_on, line_of};
 
 use eng_array::{Column, Start};
@@ -29,7 +29,7 @@ pub(crate) fn line_for<L: Layout>(
     start: Option<Start>,
 ) -> Option<Line>
     requires entries { length columns.now ≡ (L.shape layout.now).columns }
-    requires within { IsWithin start (length columns.now) }
+    requires within { IsColumnWithin start (length columns.now) }
     ensures { result ≡ line_of (L.shape layout.now) start columns.now }
 {
     match start {

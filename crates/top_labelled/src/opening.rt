@@ -4,8 +4,8 @@ ghost use Rattle.eng_cols.specs.Cols.{IsFor};
 ghost use Rattle.raid_label.specs.Bytes.{IsHeld};
 ghost use Rattle.top_acts.specs.Begun.{CanAct};
 ghost use Rattle.top_acts.specs.Failed.{EndsFailed};
-ghost use Rattle.top_close.specs.Ended.{IsLossOf, states_of};
-ghost use Rattle.top_labelled.specs.Begun.{IsWithin, without};
+ghost use Rattle.top_close.specs.Ended.{IsLossBy, states_of};
+ghost use Rattle.top_labelled.specs.Begun.{IsColumnWithin, without};
 ghost use Rattle.top_labelled.specs.Between.{HasOpened};
 
 use crate::in_place::{is_in_place, unless_failed};
@@ -27,16 +27,16 @@ fn fail_asked<L: Layout, D: Disk>(
     label: &mut Label,
     judge: &mut Cols,
 )
-    requires within { IsWithin start (length ending.old.columns.items) }
+    requires within { IsColumnWithin start (length ending.old.columns.items) }
     requires can { CanAct D.Disk (L.shape layout.now) ending.old.columns.items devices.old }
     requires held { IsHeld label.old }
     requires counter { label.old.counter + 33 < 2 ^ 32 }
-    requires by { IsLossOf (L.shape layout.now) None
+    requires by { IsLossBy (L.shape layout.now) None
         (states_of (L.shape layout.now) ending.old.columns.items) ending.old.lost }
     requires judge { IsFor (L.shape layout.now) judge.old }
     ensures ends { EndsFailed D.Disk ending.old.lost ending.new.lost label.old label.new
         (without start ending.old.columns.items) ending.new.columns.items devices.old devices.new }
-    ensures lost { IsLossOf (L.shape layout.now) None
+    ensures lost { IsLossBy (L.shape layout.now) None
         (states_of (L.shape layout.now) ending.new.columns.items) ending.new.lost }
     ensures can { CanAct D.Disk (L.shape layout.now) ending.new.columns.items devices.new }
     ensures held { IsHeld label.new }
@@ -60,7 +60,7 @@ pub(crate) fn opened<L: Layout, D: Disk>(
     room: &mut Room,
     judge: &mut Cols,
 ) -> Option<Start>
-    requires within { IsWithin start (length ending.old.columns.items) }
+    requires within { IsColumnWithin start (length ending.old.columns.items) }
     requires can { CanAct D.Disk (L.shape layout.now) ending.old.columns.items devices.old }
     requires held { IsHeld label.old }
     requires counter { label.old.counter + 67 < 2 ^ 32 }

@@ -2,7 +2,7 @@
 ghost use Rattle.std.specs.Prelude.{◌≡◌, List, Bool, Option, None};
 ghost use Rattle.raid_label.specs.declared.label.Label.{Label};
 ghost use Rattle.top_run.specs.Work.{Work, Ending, Service};
-ghost use Rattle.top_run.specs.Outliving.{Outlives, AllAnswered};
+ghost use Rattle.top_run.specs.Outliving.{OutlivesCall, AllAnswered};
 ghost use Rattle.top_labelled.specs.Begun.{opened_as, without};
 ghost use Rattle.top_labelled.specs.Ran.{RanLabelled, IsLostBefore};
 
@@ -13,10 +13,10 @@ use blk_disk::Disk;
 /// faults rose.
 pub fn what_is_outlived_is_not_lost<D: Disk>()
     ensures ran { (a : Work) (newest : Label) (taken back : List (Option D)) (s : Service) (faulty : Bool)
-        → RanLabelled D.Disk a newest taken s back faulty → Outlives D.Disk a taken back
+        → RanLabelled D.Disk a newest taken s back faulty → OutlivesCall D.Disk a taken back
         → s.ending.lost ≡ None }
     ensures begun { (a : Work) (newest : Label) (taken back : List (Option D)) (e : Ending)
-        → IsLostBefore D.Disk a newest taken e back → Outlives D.Disk a taken back → ⊥ }
+        → IsLostBefore D.Disk a newest taken e back → OutlivesCall D.Disk a taken back → ⊥ }
 {}
 
 /// In a run that isn't lost each item has the reply that it ought to, and none is replied lost, as

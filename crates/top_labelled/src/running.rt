@@ -1,8 +1,8 @@
 //! What is asked is served over an array with labels.
 ghost use Rattle.std.specs.Prelude.{◌≡◌, ◌≤◌, IfOk, IfErr, length};
 ghost use Rattle.top_run.specs.Works.{service_seen};
-ghost use Rattle.top_labelled.specs.Between.{CanServe, HasServed, IsLeft};
-ghost use Rattle.top_labelled.specs.Given.{CameTo, CanRun, Stands};
+ghost use Rattle.top_labelled.specs.Between.{CanServe, HasServed, IsLeftBy};
+ghost use Rattle.top_labelled.specs.Given.{CameTo, CanRunLabelled, OutcomeCanBePrinted};
 
 use crate::beginning::{Started, begun};
 use crate::closing::ended;
@@ -36,9 +36,9 @@ pub fn run_labelled<L: Layout + Drop + Send, D: Disk + Drop + Send, R: Threads +
     workers: u32,
 ) -> Result<(Outcome, Vec<Option<D>>), Labelled<L, D>>
     requires workers { workers ≤ 16 }
-    requires can { CanRun L.Layout D.Disk labelled }
+    requires can { CanRunLabelled L.Layout D.Disk labelled }
     ensures came { IfOk result (λ r. CameTo L.Layout D.Disk labelled r.0 r.1.items) }
-    ensures stands { IfOk result (λ r. Stands r.0) }
+    ensures stands { IfOk result (λ r. OutcomeCanBePrinted r.0) }
     ensures many { IfOk result (λ r. length r.1.items ≡ length labelled.setup.devices.items) }
     ensures back { IfErr result (λ r. r ≡ labelled) }
 {
@@ -55,7 +55,7 @@ pub fn run_labelled<L: Layout + Drop + Send, D: Disk + Drop + Send, R: Threads +
 
 // What came of an array that was lost as it was begun.
 fn lost<L: Layout + Drop, D: Disk + Drop>(started: Started<L, D>) -> (Outcome, Vec<Option<D>>)
-    ensures { IsLeft started result.0 result.1 }
+    ensures { IsLeftBy started result.0 result.1 }
 {
     let Started { setup, lost, .. } = started;
     let Setup {

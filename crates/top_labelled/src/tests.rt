@@ -3,7 +3,7 @@
 ghost use Rattle.std.specs.Prelude.{◌≡◌, ◌≤◌, IfOk, All, length};
 ghost use Rattle.blk_disk.specs.Mem.{mem_bytes};
 ghost use Rattle.eng_crew.specs.Trial.{AreSmall};
-ghost use Rattle.top_labelled.specs.Given.{CanRun};
+ghost use Rattle.top_labelled.specs.Given.{CanRunLabelled};
 
 use crate::{Labelled, Outcome, run_labelled};
 use blk_disk::{Disk, MemDisk, SECTOR};
@@ -93,7 +93,7 @@ fn ran<R: Threads + Wait + Sync>(
     workers: u32,
 ) -> Result<(Service, Vec<Option<MemDisk>>), Fail>
     requires workers { workers ≤ 16 }
-    requires can { CanRun ⟦<Raid5 as Layout>⟧ ⟦<MemDisk as Disk>⟧ labelled }
+    requires can { CanRunLabelled ⟦<Raid5 as Layout>⟧ ⟦<MemDisk as Disk>⟧ labelled }
 {
     match run_labelled(rt, alloc, labelled, workers) {
         Ok((outcome, devices)) => match outcome {

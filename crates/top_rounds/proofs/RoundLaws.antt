@@ -19,7 +19,7 @@ use Rattle.eng_cols.proofs.DeathLaws.{dies-more, dies-refl, dies-then}
 use Rattle.raid_label.specs.declared.label.Label.{Label}
 use Rattle.lay_core.specs.Layout.{Shape}
 use Rattle.top_close.specs.Dying.{AnyCause}
-use Rattle.top_close.specs.Ended.{IsLossOf}
+use Rattle.top_close.specs.Ended.{IsLossBy}
 use Rattle.top_close.specs.Settled.{HaveDevices, IsLiveOn, is_live}
 use Rattle.top_rounds.specs.Labels.{IsNumbered, seats_of, with_round}
 use Rattle.top_rounds.specs.Passes.{AreLabelled, CanBeLabelled, EndsByDeath, EndsPass, IsFirstInUse, LosesDevice}
@@ -191,7 +191,7 @@ module _ {D : Type 0} (g : Ghosts D) where
   fewer n mid after dev new ends = omega (arith, fewer_by_one mid ends.col ends.loses.device ends.loses.had, ap live_count ends.after_is)
 
   -- the last round of an array that is lost
-  pub rounds_lost : (y : Shape) (cols : List ColumnState) (loss : Option Loss) (label next : Label) (columns mid after : List Column) (old new : List (Option D)) → IsLossOf y None cols loss → (NotLost y cols → ⊥) → AreRounds g label next columns mid after old new
+  pub rounds_lost : (y : Shape) (cols : List ColumnState) (loss : Option Loss) (label next : Label) (columns mid after : List Column) (old new : List (Option D)) → IsLossBy y None cols loss → (NotLost y cols → ⊥) → AreRounds g label next columns mid after old new
       → HaveRounds g loss label next columns after old new
   rounds_lost y cols None label next columns mid after old new is lost are = absurd (lost is)
   rounds_lost y cols (Some loss) label next columns mid after old new is lost are = (mid, are)
@@ -215,7 +215,7 @@ pub round_kept : (label before next : Label) (n : ℕ) (seats : List ℕ) → be
 round_kept label before next n seats was is = round_again label before next label.clean n label.clean seats was (is ∙ ap (λ (k : ℕ). with_round before n k seats) (ap (λ (l : Label). l.clean) was))
 
 -- the labels of a lost array aren't clean
-pub lost_clean : (y : Shape) (cols : List ColumnState) (loss : Option Loss) (clean : ℕ) → IsLossOf y None cols loss → (NotLost y cols → ⊥) → 0 ≡ clean_in_end loss clean
+pub lost_clean : (y : Shape) (cols : List ColumnState) (loss : Option Loss) (clean : ℕ) → IsLossBy y None cols loss → (NotLost y cols → ⊥) → 0 ≡ clean_in_end loss clean
 lost_clean y cols None clean is lost = absurd (lost is)
 lost_clean y cols (Some loss) clean is lost = refl
 

@@ -3,7 +3,7 @@ ghost use Rattle.std.specs.Prelude.{◌≡◌, ◌<◌, ◌≤◌, ◌+◌, ◌^
 ghost use Rattle.eng_cols.specs.Cols.{IsFor, is_set_filling, is_set_spread};
 ghost use Rattle.eng_cols.specs.Lost.{NotLost};
 ghost use Rattle.raid_label.specs.Bytes.{IsHeld};
-ghost use Rattle.top_close.specs.Ended.{IsLossOf, states_of};
+ghost use Rattle.top_close.specs.Ended.{IsLossBy, states_of};
 ghost use Rattle.top_rounds.specs.Labels.{with_round};
 ghost use Rattle.top_rounds.specs.Passes.{CanBeLabelled};
 ghost use Rattle.top_rounds.specs.Rounds.{AreRounds, HaveRounds, HaveTried, clean_in_end};
@@ -21,7 +21,7 @@ fn loss_of<L: Layout>(layout: &L, columns: &[Column], judge: &mut Cols) -> Optio
     requires filling { count_by is_set_filling columns.now ≡ 0 }
     requires spread { count_by is_set_spread columns.now ≤ 1 }
     requires judge { IsFor (L.shape layout.now) judge.old }
-    ensures lost { IsLossOf (L.shape layout.now) None
+    ensures lost { IsLossBy (L.shape layout.now) None
         (states_of (L.shape layout.now) columns.now) result }
     ensures judge { IsFor (L.shape layout.now) judge.new }
 {
@@ -103,7 +103,7 @@ fn rounds_of_kept<L: Layout, D: Disk>(
         ≡ with_round label.old label.new.counter (clean_in_end result label.old.clean) label.new.seats }
     ensures rounds { HaveRounds D.Disk result label.old label.new
         columns.old columns.new devices.old devices.new }
-    ensures lost { IsLossOf (L.shape layout.now) None
+    ensures lost { IsLossBy (L.shape layout.now) None
         (states_of (L.shape layout.now) columns.new) result }
     ensures judge { IsFor (L.shape layout.now) judge.new }
 {
@@ -146,7 +146,7 @@ pub fn round<L: Layout, D: Disk>(
         (clean_in_end ending.new.lost label.old.clean) label.new.seats }
     ensures rounds { HaveRounds D.Disk ending.new.lost label.old label.new
         ending.old.columns.items ending.new.columns.items devices.old devices.new }
-    ensures lost { IsLossOf (L.shape layout.now) ending.old.lost
+    ensures lost { IsLossBy (L.shape layout.now) ending.old.lost
         (states_of (L.shape layout.now) ending.new.columns.items) ending.new.lost }
     ensures judge { IsFor (L.shape layout.now) judge.new }
 {

@@ -4,7 +4,7 @@ use Rattle.blk_disk.specs.declared.disk.Disk.{Ghosts as DiskGhosts}
 use Rattle.lay_core.specs.declared.layout.Layout.{Ghosts as LayoutGhosts}
 use Rattle.eng_parts.specs.declared.setup.Setup.{Setup}
 use Rattle.eng_parts.specs.declared.setup.Closed.{Closed}
-use Rattle.eng_events.specs.declared.array.Array.{Array}
+use Rattle.eng_state.specs.declared.array.Array.{Array}
 use Rattle.eng_array.specs.declared.start.Start.{Start}
 use Rattle.top_serve.specs.Served.{IsServed}
 use Rattle.top_serve.proofs.Begins.{opens, rests}

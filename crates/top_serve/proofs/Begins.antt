@@ -14,19 +14,19 @@ use Rattle.eng_world.specs.declared.item.Reply.{Reply}
 use Rattle.eng_world.specs.Invariant.{AllReplied}
 use Rattle.eng_parts.specs.declared.setup.Setup.{Setup}
 use Rattle.eng_parts.specs.declared.setup.Closed.{Closed}
-use Rattle.eng_parts.specs.Desk.{Desk, desk_at}
+use Rattle.eng_clients.specs.Desk.{Desk, desk_at}
 use Rattle.eng_parts.specs.Shelf.{Seen, Shelved, seen_at, has_failed}
-use Rattle.eng_events.specs.declared.array.Array.{Array}
-use Rattle.eng_events.specs.Rebuilding.{AreRebuildsBelow, with_items}
-use Rattle.eng_events.specs.Shows.{device_byte, told_by, AreTold}
-use Rattle.eng_events.proofs.Resting.{all-home}
-use Rattle.eng_events.proofs.Shown.{desk-set, replies-shown}
+use Rattle.eng_state.specs.declared.array.Array.{Array}
+use Rattle.eng_starts.specs.Rebuilding.{AreRebuildsBelow, with_items}
+use Rattle.eng_state.specs.Shows.{device_byte, told_by, AreTold}
+use Rattle.eng_choice.proofs.Resting.{all-home}
+use Rattle.eng_state.proofs.Shown.{desk-set, replies-shown}
 use Rattle.eng_array.specs.declared.start.Start.{Start}
 use Rattle.eng_array.specs.declared.start.Start.TheVariants as start
 use Rattle.eng_array.specs.Starts as starts
-use Rattle.top_serve.specs.Judged.{HasBegun}
+use Rattle.top_serve.specs.Judged.{HasStarted}
 use Rattle.top_serve.specs.Setups.{shape_in, states_in, graphs_in, begun_in, with_start}
-use Rattle.top_serve.specs.Served.{IsRebuiltBy, Opens, Rests}
+use Rattle.top_serve.specs.Served.{IsRebuiltBy, CoreOpens, CoreRests}
 use Rattle.top_serve.proofs.Devices.{device_of, brought-at}
 use Rattle.top_serve.proofs.Between.{Course, no-items}
 use Rattle.top_serve.proofs.Alike.{AreBegun, kinds-set, kinds-begun, spread-alike}
@@ -86,7 +86,7 @@ module _ {L D : Type 0} (lay : LayoutGhosts L) (disk : DiskGhosts D) (setup : Se
   pub first-failed : (d : ℕ) → has_failed first.devices d ≡ false
   first-failed d = ap (λ (s : Shelved D). has_failed s d) p.between.opened.devices ∙ none-failed (length setup.devices.items) d
 
-  pub opens : Opens lay disk setup p.start
+  pub opens : CoreOpens lay disk setup p.start
   opens = record {
     opening = p.opening;
     columns = p.columns;
@@ -125,7 +125,7 @@ module _ {L D : Type 0} (lay : LayoutGhosts L) (disk : DiskGhosts D) (setup : Se
   rebuilds : IsRebuiltBy (shape_in lay setup) (begun_in lay setup how) how (p.now.clients 16).items
   rebuilds = by how p.between.begins
     where
-      by : (h : Option Start) → HasBegun lay disk first h p.between.begun → IsRebuiltBy (shape_in lay setup) (begun_in lay setup h) h (p.now.clients 16).items
+      by : (h : Option Start) → HasStarted lay disk first h p.between.begun → IsRebuiltBy (shape_in lay setup) (begun_in lay setup h) h (p.now.clients 16).items
       by None same =
           begun-items
           ∙ (ap (λ (core : Array L D). (desk_at core.clients 16).items) same
@@ -148,7 +148,7 @@ module _ {L D : Type 0} (lay : LayoutGhosts L) (disk : DiskGhosts D) (setup : Se
               ∙ sym (kinds-set (shape_in lay setup).stripes (with_start (Some rebuild) setup.columns.items))))
               (starts.column_of rebuild) (shape_in lay setup).stripes begins.1.items shaped
 
-  pub rests : Rests lay disk setup how p.start (p.own ++ first_of how) p.now
+  pub rests : CoreRests lay disk setup how p.start (p.own ++ first_of how) p.now
   rests = record {
     begins = p.begins;
     run = p.run;

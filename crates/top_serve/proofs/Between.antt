@@ -17,23 +17,23 @@ use Rattle.eng_world.specs.Step.{IsOpening, Run}
 use Rattle.eng_rest.specs.Left.{IsOwn}
 use Rattle.eng_parts.specs.declared.setup.Setup.{Setup}
 use Rattle.eng_parts.specs.declared.setup.Closed.{Closed}
-use Rattle.eng_parts.specs.Desk.{Desk, desk_at, no_desk}
-use Rattle.eng_parts.specs.Handed.{AreRegions}
-use Rattle.eng_parts.specs.Given.{items_in, items_at}
-use Rattle.eng_events.specs.declared.array.Array.{Array}
+use Rattle.eng_clients.specs.Desk.{Desk, desk_at, no_desk}
+use Rattle.eng_log.specs.Handed.{AreRegions}
+use Rattle.eng_log.specs.Given.{items_in, items_at}
+use Rattle.eng_state.specs.declared.array.Array.{Array}
 use Rattle.eng_events.specs.Opened.{IsSetup, IsOpened, NoneOut, OpensWorlds}
-use Rattle.eng_events.specs.Picked.{IsResting}
-use Rattle.eng_events.specs.Rebuilding.{with_items}
-use Rattle.eng_events.specs.Shows.{Shows}
-use Rattle.eng_events.specs.Steps as steps
-use Rattle.eng_events.proofs.Shown.{desk-else}
+use Rattle.eng_choice.specs.Picked.{IsResting}
+use Rattle.eng_starts.specs.Rebuilding.{with_items}
+use Rattle.eng_state.specs.Shows.{Shows}
+use Rattle.eng_state.specs.Steps as steps
+use Rattle.eng_state.proofs.Shown.{desk-else}
 use Rattle.eng_array.specs.declared.start.Start.{Start}
 use Rattle.eng_array.specs.declared.start.Start.TheVariants as at
 use Rattle.eng_array.specs.Steady.{IsSteady}
 use Rattle.eng_array.specs.Tickets.{AllOf, items_of, Goes, Same, After}
 use Rattle.eng_array.proofs.Chains.{goes-append, goes-same, goes-leads}
 use Rattle.eng_array.proofs.Promised.{library-promises}
-use Rattle.top_serve.specs.Judged.{HasBegun, IsClosedBy}
+use Rattle.top_serve.specs.Judged.{HasStarted, IsClosedBy}
 use Rattle.top_serve.specs.Served.{BeginsBy}
 use Rattle.top_serve.specs.Setups.{shape_in, states_in, graphs_in, MayStart, SectorsAreLong}
 use Rattle.top_serve.proofs.Columns.{AreOwn}
@@ -47,7 +47,7 @@ pub record Between {L D : Type 0} (lay : LayoutGhosts L) (disk : DiskGhosts D) (
   pub opened : IsOpened lay disk setup first
   pub worlds : OpensWorlds lay disk first
   pub begun : Array L D
-  pub begins : HasBegun lay disk first how begun
+  pub begins : HasStarted lay disk first how begun
   pub after : After lay disk begun last
   pub steady : IsSteady lay disk last
   pub home : NoneOut last.clients
@@ -73,12 +73,12 @@ module _ {L D : Type 0} (lay : LayoutGhosts L) (disk : DiskGhosts D) where
   goes-items old new (e ∷ events) own g c = g.2.items own.0 c ∙ goes-items old g.0 events own.1 g.1 c
 
   -- the start of a rebuild is a chain
-  goes-first : (how : Option Start) (old new : Array L D) → HasBegun lay disk old how new → Goes lay disk old (first_of how) new
+  goes-first : (how : Option Start) (old new : Array L D) → HasStarted lay disk old how new → Goes lay disk old (first_of how) new
   goes-first None old new h = h
   goes-first (Some how) old new h = (old, refl, h.0)
 
   -- it leaves each client's items, but for those of client 16
-  first-items : (how : Option Start) (old new : Array L D) → HasBegun lay disk old how new → (c : ℕ) → c ≢ 16 → items_of new c ≡ items_of old c
+  first-items : (how : Option Start) (old new : Array L D) → HasStarted lay disk old how new → (c : ℕ) → c ≢ 16 → items_of new c ≡ items_of old c
   first-items None old new h c ne = ap (λ (core : Array L D). items_of core c) h
   first-items (Some how) old new h c ne = ap (λ (core : Array L D). items_of core c) h.1.is ∙ ap (λ (d : Desk). d.items) (desk-else old.clients 16 c (with_items (desk_at old.clients 16) h.1.items) ne)
 

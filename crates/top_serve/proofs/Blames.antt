@@ -6,7 +6,7 @@ use Rattle.eng_cols.specs.declared.column.Column.TheVariants as set
 use Rattle.eng_cols.specs.Cols.{Dead, HasDevice}
 use Rattle.eng_parts.specs.declared.setup.Setup.{Setup}
 use Rattle.eng_parts.specs.declared.setup.Closed.{Closed}
-use Rattle.eng_events.specs.declared.array.Array.{Array}
+use Rattle.eng_state.specs.declared.array.Array.{Array}
 use Rattle.eng_array.specs.Blamed.{IsBlamed, rose, asked, outside}
 use Rattle.eng_array.specs.declared.start.Start.{Start}
 use Rattle.eng_array.proofs.ChainBlames.{blamed-in}

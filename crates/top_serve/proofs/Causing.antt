@@ -19,14 +19,14 @@ use Rattle.eng_world.proofs.Caused.{head-has, tail-has}
 use Rattle.eng_world.proofs.Answered.{run-causes}
 use Rattle.eng_parts.specs.declared.setup.Setup.{Setup}
 use Rattle.eng_parts.specs.declared.setup.Closed.{Closed}
-use Rattle.eng_events.specs.declared.array.Array.{Array}
+use Rattle.eng_state.specs.declared.array.Array.{Array}
 use Rattle.eng_array.specs.declared.start.Start.{Start}
 use Rattle.eng_array.specs.declared.start.Start.TheVariants as start
 use Rattle.eng_array.specs.Starts as starts
 use Rattle.top_serve.specs.Judged.{judged, IsJudged}
 use Rattle.top_serve.specs.Setups.{shape_in, graphs_in, begun_in, with_start, with_rebuilt}
 use Rattle.top_serve.specs.Caused.{WentBadOn}
-use Rattle.top_serve.specs.Served.{IsUnbuilt, IsLossIn, IsFailedBy, IsDeadBy, Causes}
+use Rattle.top_serve.specs.Served.{IsUnbuilt, IsLossIn, IsFailedBy, IsDeadBy, CoreCauses}
 use Rattle.top_serve.proofs.BadNodes.{went-bad}
 use Rattle.top_serve.proofs.Behind.{was-dead, start-here, mid-had, kinds-now, now-here}
 use Rattle.top_serve.proofs.Between.{Course}
@@ -173,7 +173,7 @@ module _ {L D : Type 0} (lay : LayoutGhosts L) (disk : DiskGhosts D) (setup : Se
       by None is = keeps-all (shape_in lay setup) (graphs_in setup) p.layout p.promises p.start p.opening (p.own ++ first_of how) p.now p.run is
       by (Some l) is = lost-by (shape_in lay setup) (graphs_in setup) p.start (p.own ++ first_of how) p.now p.opening p.run l is
 
-  pub causes : Causes lay disk setup how closed p.start (p.own ++ first_of how) p.now
+  pub causes : CoreCauses lay disk setup how closed p.start (p.own ++ first_of how) p.now
   causes = record {
     replies = run-causes (shape_in lay setup) (graphs_in setup) p.start p.layout p.promises p.opening (p.own ++ first_of how) p.now p.run;
     dies = dies;

@@ -60,18 +60,6 @@ done-same n s (Some (Filling device done)) h = absurd (h (Filling device done) r
 done-same n s (Some (Spread done)) h = ap (λ l. Some (Spread l)) (let e = h (Spread done) refl in ap (λ l. slice_set l s true) e ∙ (set-done n s ∙ sym e))
 done-same n s None h = refl
 
-state-back : (n : ℕ) (x : ColumnState) → IsSet n x → state_set n (column_of x) ≡ x
-state-back n (Live device) h = refl
-state-back n Dead h = refl
-state-back n (Filling device done) h = absurd h
-state-back n (Spread done) h = ap Spread (sym h)
-
--- so they are those that are set from what they are
-pub states-back : (n : ℕ) (cols : List ColumnState) → AreSet n cols → map (state_set n) (map column_of cols) ≡ cols
-states-back n [] h = refl
-states-back n (x ∷ cols) h =
-    ap (λ y. y ∷ map (state_set n) (map column_of cols)) (state-back n x (h zero x refl)) ∙ ap (λ l. x ∷ l) (states-back n cols (λ c y is. h (suc c) y is))
-
 -- a column that is set without filling
 set-one : (n : ℕ) (x : Column) → is_set_filling x ≡ false → IsSet n (state_set n x)
 set-one n (set.Live device) h = tt

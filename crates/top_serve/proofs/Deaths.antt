@@ -21,7 +21,7 @@ use Rattle.eng_rest.specs.Left.{alive, is_alive}
 use Rattle.eng_rest.proofs.Summing.{below-le}
 use Rattle.eng_parts.specs.declared.core_room.CoreRoom.{CoreRoom}
 use Rattle.eng_parts.specs.declared.setup.Setup.{Setup}
-use Rattle.eng_parts.specs.Given.{items_at}
+use Rattle.eng_log.specs.Given.{items_at}
 use Rattle.eng_events.specs.Opened.{IsSetup, states_of}
 use Rattle.eng_array.specs.Fitting.{FitsTrace, item_events, row_events, opening_events, most_in}
 use Rattle.top_serve.specs.Setups.{IsFew, IsRoomOf}

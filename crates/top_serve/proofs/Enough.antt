@@ -4,10 +4,10 @@ use Rattle.std.specs.Prelude.{Vec, slice_index_or}
 use Rattle.std.specs.declared.alloc.Global.{Global}
 use Rattle.eng_world.specs.declared.item.Item.{Item}
 use Rattle.eng_rest.specs.Left.{below}
-use Rattle.eng_parts.specs.declared.region.Region.{Region}
-use Rattle.eng_parts.specs.Given.{items_at}
-use Rattle.eng_parts.specs.Handed.{Handout, AreRegions}
-use Rattle.eng_parts.specs.Laid.{sectors_at, row_sectors, sectors_before, IsRow}
+use Rattle.eng_log.specs.declared.region.Region.{Region}
+use Rattle.eng_log.specs.Given.{items_at}
+use Rattle.eng_log.specs.Handed.{Handout, AreRegions}
+use Rattle.eng_log.specs.Laid.{sectors_at, row_sectors, sectors_before, IsRow}
 
 below-more : (f : ℕ → ℕ) (n : ℕ) → below f (suc n) ≡ below f n + f n
 unfolding below

@@ -6,7 +6,7 @@ use Rattle.blk_disk.specs.Devices.{RisesOn, Changes}
 use Rattle.lay_core.specs.declared.layout.Layout.{Ghosts as LayoutGhosts}
 use Rattle.eng_parts.specs.declared.setup.Setup.{Setup}
 use Rattle.eng_parts.specs.declared.setup.Closed.{Closed}
-use Rattle.eng_events.specs.declared.array.Array.{Array}
+use Rattle.eng_state.specs.declared.array.Array.{Array}
 use Rattle.eng_array.specs.declared.start.Start.{Start}
 use Rattle.eng_array.specs.HandedBack.{HandsBack}
 use Rattle.eng_array.specs.Tickets.{keeps_trace, traced, faults_at}

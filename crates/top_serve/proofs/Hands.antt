@@ -9,22 +9,22 @@ use Rattle.lay_core.specs.declared.layout.Layout.{Ghosts as LayoutGhosts}
 use Rattle.eng_cols.specs.Cols.{ColumnState, column_of}
 use Rattle.eng_world.specs.declared.item.Item.{Item}
 use Rattle.eng_world.specs.declared.item.Traced.{Traced}
-use Rattle.eng_parts.specs.declared.region.Region.{Region}
+use Rattle.eng_log.specs.declared.region.Region.{Region}
 use Rattle.eng_parts.specs.declared.setup.Setup.{Setup}
 use Rattle.eng_parts.specs.declared.setup.Closed.{Closed}
-use Rattle.eng_parts.specs.Given.{items_at}
-use Rattle.eng_parts.specs.Handed.{Handout, AreRegions, region_at, handed_byte}
-use Rattle.eng_parts.specs.Laid.{sectors_before, IsRow}
-use Rattle.eng_parts.specs.Log.{Logged}
-use Rattle.eng_parts.specs.Replied.{replies_in, replies_at}
-use Rattle.eng_events.specs.declared.array.Array.{Array}
+use Rattle.eng_log.specs.Given.{items_at}
+use Rattle.eng_log.specs.Handed.{Handout, AreRegions, region_at, handed_byte}
+use Rattle.eng_log.specs.Laid.{sectors_before, IsRow}
+use Rattle.eng_log.specs.Log.{Logged}
+use Rattle.eng_clients.specs.Replied.{replies_in, replies_at}
+use Rattle.eng_state.specs.declared.array.Array.{Array}
 use Rattle.eng_array.specs.declared.start.Start.{Start}
 use Rattle.eng_array.specs.Tickets.{keeps_trace, traced}
 use Rattle.eng_array.proofs.Chains.{goes-told}
 use Rattle.top_close.specs.Closes.{ClosesAs}
 use Rattle.top_serve.specs.Judged.{IsJudged}
 use Rattle.top_serve.specs.Setups.{shape_in}
-use Rattle.top_serve.specs.Served.{trace_of, handed_in, Tells, HandsOut}
+use Rattle.top_serve.specs.Served.{trace_of, handed_in, CoreTells, HandsOut}
 use Rattle.top_serve.proofs.Behind.{now-set, now-here}
 use Rattle.top_serve.proofs.Between.{Course, no-items}
 use Rattle.top_serve.proofs.Begins.{replied}
@@ -93,7 +93,7 @@ module _ {L D : Type 0} (lay : LayoutGhosts L) (disk : DiskGhosts D) (setup : Se
       by true on = goes-told lay disk first last (p.own ++ first_of how) p.goes on ∙ ap (λ (l : List Traced). l ++ reverse (p.own ++ first_of how)) log-trace
       by false off = untraced lay disk setup how first last closed p off ∙ log-trace
 
-  pub tells : Tells lay disk setup how closed (p.own ++ first_of how) p.now
+  pub tells : CoreTells lay disk setup how closed (p.own ++ first_of how) p.now
   tells = record {
     layout = layout-back lay disk setup how first last closed p;
     closes = closes;

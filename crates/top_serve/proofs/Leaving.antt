@@ -15,13 +15,13 @@ use Rattle.eng_world.proofs.Placed.{only-rows}
 use Rattle.eng_parts.specs.declared.setup.Setup.{Setup}
 use Rattle.eng_parts.specs.declared.setup.Closed.{Closed}
 use Rattle.eng_parts.specs.Shelf.{seen_at}
-use Rattle.eng_events.specs.declared.array.Array.{Array}
+use Rattle.eng_state.specs.declared.array.Array.{Array}
 use Rattle.eng_events.specs.Opened.{states_of}
-use Rattle.eng_events.specs.Shows.{AreTold}
+use Rattle.eng_state.specs.Shows.{AreTold}
 use Rattle.eng_array.specs.declared.start.Start.{Start}
 use Rattle.top_close.proofs.ClosingLaws.{closing_agrees}
 use Rattle.top_serve.specs.Setups.{shape_in, states_in, graphs_in, WasInSync}
-use Rattle.top_serve.specs.Served.{Means, MayChange, Leaves}
+use Rattle.top_serve.specs.Served.{CoreMeans, CoreMayChange, CoreLeaves}
 use Rattle.top_serve.proofs.Begins.{bytes-at, calls-at, start-contents, replied}
 use Rattle.top_serve.proofs.Between.{Course}
 use Rattle.top_serve.proofs.Devices.{device_of, closed-at}
@@ -44,14 +44,14 @@ module _ {L D : Type 0} (lay : LayoutGhosts L) (disk : DiskGhosts D) (setup : Se
   -- ## Where devices change
 
   -- byte by byte, by the run
-  byte-stays : disk.tells → (d n k : ℕ) → (MayChange lay disk setup how closed d n → ⊥) → k < 512 → contents_of disk closed.devices.items d n k ≡ contents_of disk setup.devices.items d n k
+  byte-stays : disk.tells → (d n k : ℕ) → (CoreMayChange lay disk setup how closed d n → ⊥) → k < 512 → contents_of disk closed.devices.items d n k ≡ contents_of disk setup.devices.items d n k
   byte-stays tells d n k not kb =
       sym (now-contents tells d n k kb)
       ∙ ((only-rows (shape_in lay setup) p.layout (graphs_in setup) p.promises p.start (p.own ++ first_of how) p.now p.opening p.run).contents d n k (λ c had rows. not (inl ((c, had-begun lay disk setup how first last closed p c d had), rows)))
       ∙ start-contents lay disk setup how first last closed p tells d n k kb)
 
   -- so sector by sector, where there is such a sector
-  sector-stays : disk.tells → (d n : ℕ) → (MayChange lay disk setup how closed d n → ⊥) → (x z : D) → device_at setup.devices.items d ≡ Some x → device_at closed.devices.items d ≡ Some z → disk.size z ≡ disk.size x → disk.sector z n ≡ disk.sector x n
+  sector-stays : disk.tells → (d n : ℕ) → (CoreMayChange lay disk setup how closed d n → ⊥) → (x z : D) → device_at setup.devices.items d ≡ Some x → device_at closed.devices.items d ≡ Some z → disk.size z ≡ disk.size x → disk.sector z n ≡ disk.sector x n
   sector-stays tells d n not x z was is size = elim (cases_lt n (disk.size x)) [
     | inl lt ↦
         let a : length (disk.sector z n) ≡ 512 = p.between.long z n tells (omega (arith, lt, size)) in
@@ -62,10 +62,10 @@ module _ {L D : Type 0} (lay : LayoutGhosts L) (disk : DiskGhosts D) (setup : Se
     | inr past ↦ absurd (not (inr (let e : size_of disk setup.devices.items d ≡ disk.size x = ap (λ (o : Option D). option_map_or disk.size o 0) was in omega (arith, past, e))))
   ]
 
-  frame : Changes disk (MayChange lay disk setup how closed) setup.devices.items closed.devices.items
+  frame : Changes disk (CoreMayChange lay disk setup how closed) setup.devices.items closed.devices.items
   frame = record { count = (devices-back lay disk setup how first last closed p).count; each = λ d. by d (device_at setup.devices.items d) (device_at closed.devices.items d) refl refl ((devices-back lay disk setup how first last closed p).each d) }
     where
-      by : (d : ℕ) (x z : Option D) → device_at setup.devices.items d ≡ x → device_at closed.devices.items d ≡ z → StaysIf disk (λ n. Unit {0}) x z → StaysIf disk (MayChange lay disk setup how closed d) x z
+      by : (d : ℕ) (x z : Option D) → device_at setup.devices.items d ≡ x → device_at closed.devices.items d ≡ z → StaysIf disk (λ n. Unit {0}) x z → StaysIf disk (CoreMayChange lay disk setup how closed d) x z
       by d None None was is h = tt
       by d None (Some z) was is h = absurd h
       by d (Some x) None was is h = absurd h
@@ -78,7 +78,7 @@ module _ {L D : Type 0} (lay : LayoutGhosts L) (disk : DiskGhosts D) (setup : Se
       subst (InSync (shape_in lay setup) p.start.contents) (sym p.columns)
       (sync-same (shape_in lay setup) (contents_of disk setup.devices.items) p.start.contents (λ d n k kb. sym (start-contents lay disk setup how first last closed p tells d n k kb)) (states_in lay setup) sync)
 
-  pub means : Means lay disk setup p.start p.now
+  pub means : CoreMeans lay disk setup p.start p.now
   means = record {
     legal = told (shape_in lay setup) (graphs_in setup) p.layout p.promises p.start p.opening (p.own ++ first_of how) p.now p.run;
     fits = λ tells sync. fits (shape_in lay setup) (graphs_in setup) p.layout p.promises p.start p.opening (p.own ++ first_of how) p.now p.run (start-sync tells sync);
@@ -93,7 +93,7 @@ module _ {L D : Type 0} (lay : LayoutGhosts L) (disk : DiskGhosts D) (setup : Se
             (agrees-same (shape_in lay setup) p.now.contents (contents_of disk closed.devices.items) (now-contents tells) p.now.columns (replay p.start.blocks a.0) AnyStripe a.2),
       )
 
-  pub leaves : Leaves lay disk setup how closed p.start p.now
+  pub leaves : CoreLeaves lay disk setup how closed p.start p.now
   leaves = record {
     contents = now-contents;
     calls = now-calls;

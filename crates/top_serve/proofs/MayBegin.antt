@@ -13,15 +13,15 @@ use Rattle.eng_cols.specs.declared.column.Column.{Column}
 use Rattle.eng_cols.specs.declared.column.Column.TheVariants as column
 use Rattle.eng_cols.specs.Cols.{ColumnState, Columns, Live, Dead, Filling, Spread, HasDevice, state_set, is_filling, is_spread}
 use Rattle.eng_parts.specs.Brought.{brought}
-use Rattle.eng_parts.specs.Desk.{Desk}
-use Rattle.eng_parts.specs.Given.{items_at}
-use Rattle.eng_parts.specs.Listing.{Listing}
+use Rattle.eng_clients.specs.Desk.{Desk}
+use Rattle.eng_log.specs.Given.{items_at}
+use Rattle.eng_clients.specs.Listing.{Listing}
 use Rattle.eng_parts.specs.Shelf.{Shelved, seen_at, has_failed}
 use Rattle.eng_parts.specs.declared.setup.Setup.{Setup}
-use Rattle.eng_parts.proofs.FewItems.{none-past}
-use Rattle.eng_events.specs.declared.array.Array.{Array}
+use Rattle.eng_log.proofs.FewItems.{none-past}
+use Rattle.eng_state.specs.declared.array.Array.{Array}
 use Rattle.eng_events.specs.Opened.{IsSetup, IsOpened}
-use Rattle.eng_events.specs.Rebuilding.{CanRebuild, CanFill, CanSpread}
+use Rattle.eng_starts.specs.Rebuilding.{CanRebuild, CanFill, CanSpread}
 use Rattle.eng_events.proofs.OpeningDesks.{idle, unreplied}
 use Rattle.eng_array.specs.Fitting.{FitsRebuild, FitsRebuilding}
 use Rattle.eng_array.specs.declared.start.Start.{Start}

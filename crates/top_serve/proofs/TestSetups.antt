@@ -17,15 +17,15 @@ use Rattle.eng_world.specs.declared.item.Item.{Item}
 use Rattle.eng_world.specs.declared.item.Item.TheVariants as item
 use Rattle.eng_world.specs.Step.{MayBeAsked}
 use Rattle.eng_parts.specs.declared.setup.Setup.{Setup}
-use Rattle.eng_parts.specs.Given.{items_in, items_at}
-use Rattle.eng_parts.specs.Desk.{no_graph}
-use Rattle.eng_parts.specs.Laid.{items_before, sectors_before}
-use Rattle.eng_events.specs.Beginning.{IsAsked}
+use Rattle.eng_log.specs.Given.{items_in, items_at}
+use Rattle.eng_plan.specs.Asked.{no_graph}
+use Rattle.eng_log.specs.Laid.{items_before, sectors_before}
+use Rattle.eng_state.specs.Beginning.{IsAsked}
 use Rattle.eng_events.specs.Opened.{states_of, NamesGraph}
 use Rattle.eng_crew.specs.Trial.{IsSmallOp, IsSmall, AreSmall}
 use Rattle.eng_crew.proofs.Trials.{items-few, sectors-few, is-setup}
 use Rattle.top_serve.specs.Setups.{IsNotLost}
-use Rattle.top_serve.specs.Trials.{IsReady, IsDegraded}
+use Rattle.top_serve.specs.Trials.{IsReadyToServe, IsDegraded}
 
 -- ## Small items
 
@@ -54,7 +54,7 @@ module _ {L D : Type 0} (lay : LayoutGhosts L) (disk : DiskGhosts D) (setup : Se
   untraced : {A : Type 0} → setup.trace ≡ true → A
   untraced on = let z : false ≡ true = sym trace ∙ on in absurd (let u : ⊥ = cc in u)
 
-  pub live-ready : setup.columns.items ≡ set.Live 0 ∷ set.Live 1 ∷ [] → 128 ≤ disk.size first → 128 ≤ disk.size second → length setup.clients.items ≤ 16 → All AreSmall setup.clients.items → IsReady lay disk setup
+  pub live-ready : setup.columns.items ≡ set.Live 0 ∷ set.Live 1 ∷ [] → 128 ≤ disk.size first → 128 ≤ disk.size second → length setup.clients.items ≤ 16 → All AreSmall setup.clients.items → IsReadyToServe lay disk setup
   live-ready columns one two few small = record {
     may = is-setup lay disk setup first second shape columns devices one two small graphs;
     few = record {
@@ -102,7 +102,7 @@ module _ {L D : Type 0} (lay : LayoutGhosts L) (disk : DiskGhosts D) (setup : Se
     none-fit : (n : ℕ) → length (slice_index_or setup.graphs.items n no_graph).drawn.bufs ≤ 2048
     none-fit n = subst (λ (l : List Held). length (slice_index_or l n no_graph).drawn.bufs ≤ 2048) (sym graphs) (omega arith)
 
-    half-ready : IsReady lay disk setup
+    half-ready : IsReadyToServe lay disk setup
     half-ready = record {
       may = record {
         entries = ap (λ (l : List Column). length l) columns ∙ sym (ap (λ (y : Shape). y.columns) shape);
@@ -175,7 +175,7 @@ module _ {L D : Type 0} (lay : LayoutGhosts L) (disk : DiskGhosts D) (setup : Se
     none-fits : (n : ℕ) → length (slice_index_or setup.graphs.items n no_graph).drawn.bufs ≤ 2048
     none-fits n = subst (λ (l : List Held). length (slice_index_or l n no_graph).drawn.bufs ≤ 2048) (sym graphs) (omega arith)
 
-    pub dead-ready : IsReady lay disk setup
+    pub dead-ready : IsReadyToServe lay disk setup
     dead-ready = record {
       may = record {
         entries = ap (λ (l : List Column). length l) columns ∙ sym (ap (λ (y : Shape). y.columns) shape);

@@ -9,9 +9,9 @@ use Rattle.eng_cols.specs.declared.column.Column.TheVariants as column
 use Rattle.eng_cols.specs.Cols.{ColumnState}
 use Rattle.eng_cols.specs.Seats.{HasStripeLeft, IsWhole}
 use Rattle.eng_parts.specs.declared.setup.Closed.{Closed}
-use Rattle.eng_events.specs.declared.array.Array.{Array}
+use Rattle.eng_state.specs.declared.array.Array.{Array}
 use Rattle.eng_events.specs.Closed.{IsClosed}
-use Rattle.eng_events.specs.Rebuilding.{Started}
+use Rattle.eng_starts.specs.Rebuilding.{Started}
 use Rattle.eng_array.specs.Fitting.{FitsRebuild}
 use Rattle.eng_array.specs.Starts.{CanStart, begun_by, column_of, event_of}
 use Rattle.eng_array.specs.Tickets.{Happens}
@@ -40,9 +40,9 @@ module _ {L D : Type 0} (lay : LayoutGhosts L) (disk : DiskGhosts D) where
   CanBegin core (Some how) = CanStart lay disk core how × FitsRebuild lay core (column_of how)
 
   -- it has started, by one event; where none is to start nothing has changed
-  abbrev pub HasBegun : Array L D → Option Start → Array L D → Type 0
-  HasBegun old None new = new ≡ old
-  HasBegun old (Some how) new = Happens lay disk (event_of how) old new × Started lay old (column_of how) (begun_by old.cols how) (event_of how) new
+  abbrev pub HasStarted : Array L D → Option Start → Array L D → Type 0
+  HasStarted old None new = new ≡ old
+  HasStarted old (Some how) new = Happens lay disk (event_of how) old new × Started lay old (column_of how) (begun_by old.cols how) (event_of how) new
 
   -- the column that was rebuilt, if one was, is one of the core's
   abbrev pub HasColumn : Array L D → Option Start → Type 0

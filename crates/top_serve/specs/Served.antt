@@ -28,13 +28,13 @@ use Rattle.eng_world.specs.Rows.{IsInRows}
 use Rattle.eng_rest.specs.Left.{IsOwn}
 use Rattle.eng_parts.specs.declared.setup.Setup.{Setup}
 use Rattle.eng_parts.specs.declared.setup.Closed.{Closed}
-use Rattle.eng_parts.specs.Given.{items_at}
-use Rattle.eng_parts.specs.Handed.{Handout, region_at, handed_byte}
-use Rattle.eng_parts.specs.Laid.{sectors_before, IsRow}
-use Rattle.eng_parts.specs.Replied.{replies_at}
+use Rattle.eng_log.specs.Given.{items_at}
+use Rattle.eng_log.specs.Handed.{Handout, region_at, handed_byte}
+use Rattle.eng_log.specs.Laid.{sectors_before, IsRow}
+use Rattle.eng_clients.specs.Replied.{replies_at}
 use Rattle.eng_events.specs.Opened.{states_of}
-use Rattle.eng_events.specs.Rebuilding.{AreRebuildsBelow}
-use Rattle.eng_events.specs.Shows.{AreTold}
+use Rattle.eng_starts.specs.Rebuilding.{AreRebuildsBelow}
+use Rattle.eng_state.specs.Shows.{AreTold}
 use Rattle.eng_array.specs.declared.start.Start.{Start}
 use Rattle.eng_array.specs.Starts.{column_of, event_of}
 use Rattle.eng_array.specs.Tickets.{AllOf}
@@ -81,7 +81,7 @@ module _ {L D : Type 0} (lay : LayoutGhosts L) (disk : DiskGhosts D) (setup : Se
   -- ## The run
 
   -- An opening of what was handed in: its columns and items; no device has failed, all 2,048 buffers are free, and devices hold and tell what they did. What a device holds is said where devices of this type tell it, and its calls where it tells them.
-  pub record Opens (w : World) : Type 0 where
+  pub record CoreOpens (w : World) : Type 0 where
     pub opening : IsOpening (shape_in lay setup) w
     pub columns : w.columns ≡ states_in lay setup
     pub items : (c : ℕ) → (w.clients c).items ≡ items_at setup.clients.items c
@@ -91,7 +91,7 @@ module _ {L D : Type 0} (lay : LayoutGhosts L) (disk : DiskGhosts D) (setup : Se
     pub calls : (d : ℕ) → AreTold disk (calls_of disk setup.devices.items d) (w.calls d)
 
   -- The events, the newest first, are the clients' own, behind the start of the rebuild where there is one, and lead to rest: each item has its reply, and no job is out. No items have come or gone but those of client 16, which are the rebuilds.
-  pub record Rests (how : Option Start) (start : World) (events : List Traced) (now : World) : Type 0 where
+  pub record CoreRests (how : Option Start) (start : World) (events : List Traced) (now : World) : Type 0 where
     pub begins : BeginsBy how events
     pub run : Run (shape_in lay setup) (graphs_in setup) start events now
     pub items : (c : ℕ) → c ≢ 16 → (now.clients c).items ≡ items_at setup.clients.items c
@@ -100,7 +100,7 @@ module _ {L D : Type 0} (lay : LayoutGhosts L) (disk : DiskGhosts D) (setup : Se
     pub out : now.out ≡ 0
 
   -- The history is legal over the blocks of the opening. Where the array was in sync and devices tell what they hold, each data reply is what the blocks held at its place.
-  pub record Means (start now : World) : Type 0 where
+  pub record CoreMeans (start now : World) : Type 0 where
     pub legal : IsTold start.blocks now
     pub fits : disk.tells → WasInSync lay disk setup → RepliesFit start.blocks now
 
@@ -108,7 +108,7 @@ module _ {L D : Type 0} (lay : LayoutGhosts L) (disk : DiskGhosts D) (setup : Se
 
   module _ (how : Option Start) (closed : Closed L D) where
     -- Layout and items are as they were handed in; replies, history, loss and trace are the run's; and so are the columns, of which one that is rebuilt is judged by its stripes that are left.
-    pub record Tells (events : List Traced) (now : World) : Type 0 where
+    pub record CoreTells (events : List Traced) (now : World) : Type 0 where
       pub layout : closed.layout ≡ setup.layout
       pub closes : ClosesAs (shape_in lay setup) now.columns closed.columns.items
       pub clients : length closed.clients.items ≡ length setup.clients.items
@@ -127,14 +127,14 @@ module _ {L D : Type 0} (lay : LayoutGhosts L) (disk : DiskGhosts D) (setup : Se
       pub handed : disk.tells → (c i b k : ℕ) → slice_get (now.clients c).replies i ≡ Some reply.Data → b < (region_at (handed_in closed) c i).count → k < 512 → (now.clients c).handed i b k ≡ handed_byte (handed_in closed) c i b k
 
     -- the sector may have changed: it is one of the array's rows, on a device that was in a column or is filled; or the device has no such sector
-    abbrev pub MayChange : ℕ → ℕ → Type 0
-    MayChange d n = (((c : ℕ) × HasDevice (begun_in lay setup how) c d) × IsInRows (shape_in lay setup) n) ⊎ (size_of disk setup.devices.items d ≤ n)
+    abbrev pub CoreMayChange : ℕ → ℕ → Type 0
+    CoreMayChange d n = (((c : ℕ) × HasDevice (begun_in lay setup how) c d) × IsInRows (shape_in lay setup) n) ⊎ (size_of disk setup.devices.items d ≤ n)
 
     -- Devices hold and tell what they do in the run's last world, and have changed nowhere else. Where the array was in sync and isn't lost, the units that are left on them, by the columns that are handed back, encode what the history makes of the opening's blocks.
-    pub record Leaves (start now : World) : Type 0 where
+    pub record CoreLeaves (start now : World) : Type 0 where
       pub contents : disk.tells → (d n k : ℕ) → k < 512 → now.contents d n k ≡ contents_of disk closed.devices.items d n k
       pub calls : (d : ℕ) → AreTold disk (calls_of disk closed.devices.items d) (now.calls d)
-      pub frame : Changes disk MayChange setup.devices.items closed.devices.items
+      pub frame : Changes disk CoreMayChange setup.devices.items closed.devices.items
       pub agrees : disk.tells → WasInSync lay disk setup → closed.lost ≡ None → (ops : List Op) × AreOps now now.history ops
           × Agrees (shape_in lay setup) (contents_of disk closed.devices.items) (states_of (shape_in lay setup) closed.columns.items) (replay start.blocks ops) AnyStripe
 
@@ -154,7 +154,7 @@ module _ {L D : Type 0} (lay : LayoutGhosts L) (disk : DiskGhosts D) (setup : Se
         ⊎ ((k : ℕ) × RestsOn (shape_in lay setup) rebuild k × ((slice_get (with_start how setup.columns.items) k ≡ Some column.Dead) ⊎ IsDeadBy now k))
 
     -- Each reply has its cause. Each column is what it was, and the one that is rebuilt what it is once that is done; or it is dead for a cause, or as its rebuild isn't done, which has its own. Each failed device has failed by something; so has each device on which a node went bad; and the loss is that of the columns as it came.
-    pub record Causes (start : World) (events : List Traced) (now : World) : Type 0 where
+    pub record CoreCauses (start : World) (events : List Traced) (now : World) : Type 0 where
       pub replies : HaveCauses (shape_in lay setup) (graphs_in setup) start events now
       pub dies : Dies (λ c. IsDeadBy now c ⊎ IsUnbuilt (shape_in lay setup) how now c) (with_rebuilt how setup.columns.items) closed.columns.items
       pub stopped : (rebuild : Start) → how ≡ Some rebuild → slice_get closed.columns.items (column_of rebuild) ≡ Some column.Dead → IsStoppedBy now rebuild
@@ -168,10 +168,10 @@ module _ {L D : Type 0} (lay : LayoutGhosts L) (disk : DiskGhosts D) (setup : Se
       pub start : World
       pub events : List Traced
       pub now : World
-      pub opens : Opens start
-      pub rests : Rests how start events now
-      pub means : Means start now
-      pub tells : Tells events now
+      pub opens : CoreOpens start
+      pub rests : CoreRests how start events now
+      pub means : CoreMeans start now
+      pub tells : CoreTells events now
       pub hands : HandsOut now
-      pub leaves : Leaves start now
-      pub causes : Causes start events now
+      pub leaves : CoreLeaves start now
+      pub causes : CoreCauses start events now

@@ -14,9 +14,9 @@ use Rattle.eng_world.specs.Planning.{Graphs}
 use Rattle.eng_parts.specs.declared.core_room.CoreRoom.{CoreRoom}
 use Rattle.eng_parts.specs.declared.setup.Setup.{Setup}
 use Rattle.eng_parts.specs.Fresh.{IsRoomFor}
-use Rattle.eng_parts.specs.Laid.{items_before, sectors_before}
+use Rattle.eng_log.specs.Laid.{items_before, sectors_before}
 use Rattle.eng_events.specs.Opened.{states_of}
-use Rattle.eng_events.specs.Steps as steps
+use Rattle.eng_state.specs.Steps as steps
 use Rattle.eng_array.specs.declared.start.Start.{Start}
 use Rattle.eng_array.specs.declared.start.Start.TheVariants as start
 use Rattle.eng_array.specs.Fitting.{FitsRebuilding}
@@ -53,9 +53,9 @@ module _ {L D : Type 0} (lay : LayoutGhosts L) where
   IsLostBy setup loss = IsLost (shape_in setup) (states_in setup) loss
 
   -- that, or there was want of memory, which says nothing of the array
-  abbrev pub IsRefusal : Setup L D → ServeFault → Type 0
-  IsRefusal setup (fault.Lost loss) = IsLostBy setup loss
-  IsRefusal setup fault.Memory = Unit {0}
+  abbrev pub IsServeRefusal : Setup L D → ServeFault → Type 0
+  IsServeRefusal setup (fault.Lost loss) = IsLostBy setup loss
+  IsServeRefusal setup fault.Memory = Unit {0}
 
   -- the room is one for what is to be served: its layout, as many devices, its items, and its trace
   abbrev pub IsRoomOf : Setup L D → CoreRoom D → Type 0

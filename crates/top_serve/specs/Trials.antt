@@ -8,13 +8,13 @@ use Rattle.eng_array.specs.declared.start.Start.TheVariants as start
 use Rattle.top_serve.specs.Setups.{IsFew, IsNotLost, MayRebuild}
 
 -- all that is asked of it
-pub record IsReady {L D : Type 0} (lay : LayoutGhosts L) (disk : DiskGhosts D) (setup : Setup L D) : Type 0 where
+pub record IsReadyToServe {L D : Type 0} (lay : LayoutGhosts L) (disk : DiskGhosts D) (setup : Setup L D) : Type 0 where
   pub may : IsSetup lay disk setup
   pub few : IsFew setup
   pub trace : FitsTrace lay setup
 
 -- and its second column may be rebuilt onto its second device
 pub record IsDegraded {L D : Type 0} (lay : LayoutGhosts L) (disk : DiskGhosts D) (setup : Setup L D) : Type 0 where
-  pub ready : IsReady lay disk setup
+  pub ready : IsReadyToServe lay disk setup
   pub kept : IsNotLost lay setup
   pub may : MayRebuild lay disk setup (start.Fill 1 1)

@@ -1,13 +1,13 @@
 //! A core is opened, served and closed.
 ghost use Rattle.std.specs.Prelude.{◌≡◌, ◌≤◌, IfOk, IfErr, None};
-ghost use Rattle.eng_parts.specs.Handed.{AreRegions};
+ghost use Rattle.eng_log.specs.Handed.{AreRegions};
 ghost use Rattle.eng_events.specs.Opened.{IsOpened, IsSetup, NoneOut, OpensWorlds};
-ghost use Rattle.eng_events.specs.Picked.{IsResting};
+ghost use Rattle.eng_choice.specs.Picked.{IsResting};
 ghost use Rattle.eng_array.specs.Fitting.{FitsTrace};
 ghost use Rattle.eng_array.specs.Steady.{IsSteady};
 ghost use Rattle.eng_array.specs.Tickets.{After};
-ghost use Rattle.top_serve.specs.Judged.{CanBegin, HasBegun, HasColumn, IsClosedBy};
-ghost use Rattle.top_serve.specs.Setups.{IsFew, IsNotLost, IsRefusal, IsRoomOf, MayStart, SectorsAreLong};
+ghost use Rattle.top_serve.specs.Judged.{CanBegin, HasStarted, HasColumn, IsClosedBy};
+ghost use Rattle.top_serve.specs.Setups.{IsFew, IsNotLost, IsServeRefusal, IsRoomOf, MayStart, SectorsAreLong};
 ghost use Rattle.top_serve.specs.Served.{IsServed};
 
 use crate::judging::judge;
@@ -38,7 +38,7 @@ pub fn serve<L: Layout + Drop + Send, D: Disk + Drop + Send, R: Threads + Wait +
     requires trace { FitsTrace L.Layout setup }
     ensures kept { IfOk result (λ closed. IsNotLost L.Layout setup) }
     ensures served { IfOk result (IsServed L.Layout D.Disk setup None) }
-    ensures fault { IfErr result (λ refused. IsRefusal L.Layout setup refused.fault) }
+    ensures fault { IfErr result (λ refused. IsServeRefusal L.Layout setup refused.fault) }
     ensures back { IfErr result (λ refused. refused.setup ≡ setup) }
 {
     let Some(room) = room_for(alloc, &setup) else {
@@ -108,7 +108,7 @@ fn begun<L: Layout, D: Disk>(mut core: Core<L, D>, start: Option<Start>) -> Core
     requires steady { IsSteady L.Layout D.Disk core.array }
     requires home { NoneOut core.array.clients }
     requires can { CanBegin L.Layout D.Disk core.array start }
-    ensures begun { HasBegun L.Layout D.Disk core.array start result.array }
+    ensures begun { HasStarted L.Layout D.Disk core.array start result.array }
     ensures steady { IsSteady L.Layout D.Disk result.array }
     ensures home { NoneOut result.array.clients }
     ensures column { HasColumn L.Layout D.Disk result.array start }

@@ -6,7 +6,7 @@ ghost use Rattle.eng_cols.specs.Lost.{NotLost};
 ghost use Rattle.eng_crew.specs.Trial.{AreSmall};
 ghost use Rattle.eng_events.specs.Opened.{states_of};
 ghost use Rattle.raid_label.specs.Bytes.{IsHeld};
-ghost use Rattle.top_labelled.specs.Given.{CanRun};
+ghost use Rattle.top_labelled.specs.Given.{CanRunLabelled};
 
 use crate::Labelled;
 use blk_disk::{Disk, MemDisk};
@@ -106,7 +106,7 @@ fn two_columns(
     requires small { All AreSmall clients.items }
     requires clean { clean ≤ 1 }
     requires start { (start ≡ None) ⊎ (start ≡ Some (how.Fill 1 1)) }
-    ensures { IfOk result (CanRun ⟦<Raid5 as Layout>⟧ ⟦<MemDisk as Disk>⟧) }
+    ensures { IfOk result (CanRunLabelled ⟦<Raid5 as Layout>⟧ ⟦<MemDisk as Disk>⟧) }
 {
     let Ok(layout) = Raid5::new(2, 1, 64) else {
         return Err(Fail::from("no layout"));
@@ -151,7 +151,7 @@ pub fn ready(
     requires few { length clients.items ≤ 16 }
     requires small { All AreSmall clients.items }
     requires clean { clean ≤ 1 }
-    ensures { IfOk result (CanRun ⟦<Raid5 as Layout>⟧ ⟦<MemDisk as Disk>⟧) }
+    ensures { IfOk result (CanRunLabelled ⟦<Raid5 as Layout>⟧ ⟦<MemDisk as Disk>⟧) }
 {
     two_columns(alloc, first, second, clients, clean, None, false)
 }
@@ -165,7 +165,7 @@ pub fn replacing(
 ) -> Result<Labelled<Raid5, MemDisk>, Fail>
     requires first { 128 ≤ ⟦<MemDisk as Disk>⟧.size first }
     requires second { 128 ≤ ⟦<MemDisk as Disk>⟧.size second }
-    ensures { IfOk result (CanRun ⟦<Raid5 as Layout>⟧ ⟦<MemDisk as Disk>⟧) }
+    ensures { IfOk result (CanRunLabelled ⟦<Raid5 as Layout>⟧ ⟦<MemDisk as Disk>⟧) }
 {
     let start = Start::Fill {
         column: 1,
@@ -193,7 +193,7 @@ pub fn losing(
     requires first { 128 ≤ ⟦<MemDisk as Disk>⟧.size first }
     requires second { 128 ≤ ⟦<MemDisk as Disk>⟧.size second }
     requires third { 128 ≤ ⟦<MemDisk as Disk>⟧.size third }
-    ensures { IfOk result (CanRun ⟦<Raid5 as Layout>⟧ ⟦<MemDisk as Disk>⟧) }
+    ensures { IfOk result (CanRunLabelled ⟦<Raid5 as Layout>⟧ ⟦<MemDisk as Disk>⟧) }
 {
     let Ok(layout) = Raid5::new(3, 1, 64) else {
         return Err(Fail::from("no layout"));

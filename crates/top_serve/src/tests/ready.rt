@@ -4,7 +4,7 @@ ghost use Rattle.eng_cols.specs.Cols.{is_set_filling, is_set_spread};
 ghost use Rattle.eng_cols.specs.Lost.{NotLost};
 ghost use Rattle.eng_crew.specs.Trial.{AreSmall};
 ghost use Rattle.eng_events.specs.Opened.{states_of};
-ghost use Rattle.top_serve.specs.Trials.{IsDegraded, IsReady};
+ghost use Rattle.top_serve.specs.Trials.{IsDegraded, IsReadyToServe};
 
 use blk_disk::{Disk, MemDisk};
 use eng_array::{Column, Item, Setup};
@@ -35,7 +35,7 @@ pub fn ready(
     requires second { 128 ≤ ⟦<MemDisk as Disk>⟧.size second }
     requires few { length clients.items ≤ 16 }
     requires small { All AreSmall clients.items }
-    ensures { IfOk result (IsReady ⟦<Raid5 as Layout>⟧ ⟦<MemDisk as Disk>⟧) }
+    ensures { IfOk result (IsReadyToServe ⟦<Raid5 as Layout>⟧ ⟦<MemDisk as Disk>⟧) }
 {
     let Ok(layout) = Raid5::new(2, 1, 64) else {
         return Err(Fail::from("no layout"));
@@ -101,7 +101,7 @@ pub fn degraded(
 
 // The same of which both columns are dead, without clients.
 pub fn lost(alloc: Global, first: MemDisk, second: MemDisk) -> Result<Setup<Raid5, MemDisk>, Fail>
-    ensures { IfOk result (IsReady ⟦<Raid5 as Layout>⟧ ⟦<MemDisk as Disk>⟧) }
+    ensures { IfOk result (IsReadyToServe ⟦<Raid5 as Layout>⟧ ⟦<MemDisk as Disk>⟧) }
 {
     let Ok(layout) = Raid5::new(2, 1, 64) else {
         return Err(Fail::from("no layout"));

@@ -1,13 +1,14 @@
 use Rattle.std.proofs.Common.{ap, sym, refl, subst, ◌∙◌, length}
 use Rattle.std.specs.Prelude.{All}
 use Rattle.std.proofs.lemmas.Result.{IfOk-weaker}
-use Rattle.lay_core.specs.Layout.{IsLayout, blocks_in}
+use Rattle.lay_core.specs.Layout.{IsLayout, SparesLieByUnits, blocks_in}
 use Rattle.raid_conf.specs.Layouts.{shape_lawful, shape_of}
+use Rattle.raid_conf.proofs.ByUnits.{spares_by_units}
 use Rattle.raid_conf.specs.contracts.layouts.AnyLayoutLayout.TheImpl as any
 use Rattle.raid_script.specs.Asked.{AreFew, IsAsked}
 use Rattle.top_bay.specs.Views.{asked_seen}
 use Rattle.top_duty.specs.Duty.{admitted_with}
-use Rattle.top_duty.specs.Fit.{IsFit, MayStart}
+use Rattle.top_duty.specs.Fit.{IsFit, IsStartIf}
 use Rattle.top_duty.specs.Opening.{sizes_of}
 use Rattle.top_open.specs.Opening.{opened_seen}
 use Rattle.top_run.specs.Works as run_works
@@ -50,7 +51,7 @@ serve-requires-clause-label g c κs w =
     (run_writes k.command.action k.comp c.requires.run)
     (ap (λ v. v.items) made.columns) (sym made.newest)
     (may_rebuild_if any.ghosts g.D.Disk c.work_of-work.result.setup k o c.args.ready.start sizes c.requires.ready.0 c.requires.within p.ready fit
-    (subst (λ ds. MayStart g.D.Disk k o ds.items c.args.ready.start) (sym made.devices) c.requires.start)
+    (subst (λ ds. IsStartIf g.D.Disk k o ds.items c.args.ready.start) (sym made.devices) c.requires.start)
     (ap (λ l. any.ghosts.shape l) made.layout ∙ p.made.shape)
     (ap (λ v. v.items) made.columns)
     (made.clients (blocks_in (shape_of k.conf o.rows)) p.made.drawn)
@@ -77,6 +78,7 @@ returns-clause-does g c =
     IfOk-weaker c.serve.result.came _ _ (λ x h.
     came_does g.D.Disk k o c.args.ready.start c.args.ready.failed (sizes_of g.D.Disk.size c.args.devices.items) c.requires.ready.0 p.ready.starts c.args.devices.items back c.requires.within
     (subst (λ y. IsLayout y) p.made.shape (shape_lawful c.args.ready.layout))
+    (subst (λ y. SparesLieByUnits y) p.made.shape (spares_by_units c.args.ready.layout))
     o.newest (action_seen c.args.asked.command.action) c.args.asked.conf x refl
     (subst (λ w. CameOf g.D.Disk w o.newest c.args.ready.failed c.args.devices.items back x) same
     (subst (λ f. CameOf g.D.Disk (run_works.work_of any.ghosts setup work.start) o.newest f c.args.devices.items back x) made.failed

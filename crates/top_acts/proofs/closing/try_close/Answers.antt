@@ -1,6 +1,6 @@
 use Rattle.std.proofs.Common.{◌≡◌, ◌∙◌, ap, subst, sym, true, false, arith, None}
 use Rattle.std.proofs.lemmas.Bool.{eqb-true, eq-eqb}
-use Rattle.top_close.specs.Ended.{IsLossOf, states_of}
+use Rattle.top_close.specs.Ended.{IsLossBy, states_of}
 use Rattle.top_rounds.specs.Labels.{with_round}
 use Rattle.top_rounds.specs.Passes.{IsFirstInUse, LosesDevice}
 use Rattle.top_rounds.specs.Rounds.{HaveRounds, clean_in_end, live_count}
@@ -23,11 +23,11 @@ returns-clause-tried g c =
     let dev = c.round.new.devices in
     let none : c.round.new.ending.lost ≡ None = none_of c.round.new.ending.lost (sym c.is_some.ensures ∙ c.if-is_some.false) in
     let rounds = subst (λ o. HaveRounds g.D.Disk o label next columns mid old dev) none c.round.ensures.rounds in
-    let kept = subst (λ o. IsLossOf y None (states_of y mid) o) none c.round.ensures.lost in
+    let kept = subst (λ o. IsLossBy y None (states_of y mid) o) none c.round.ensures.lost in
     let is = c.round.ensures.label ∙ ap (λ k. with_round label next.counter k next.seats) (ap (λ o. clean_in_end o label.clean) none) in
     let can = can-after g.D.Disk (LosesDevice g.D.Disk columns old dev) (IsFirstInUse columns) columns mid old dev rounds.began rounds.frame c.requires.array in
     tried g.D.Disk y label next columns mid after old dev c.end_unlabelled.new.devices c.end_unlabelled.new.ending.lost rounds is can.have kept
-    (subst (λ o. IsLossOf y o (states_of y after) c.end_unlabelled.new.ending.lost) none c.end_unlabelled.ensures.lost)
+    (subst (λ o. IsLossBy y o (states_of y after) c.end_unlabelled.new.ending.lost) none c.end_unlabelled.ensures.lost)
     c.end_unlabelled.ensures.settled c.end_unlabelled.ensures.last _
     (λ e. omega (arith, eqb-true c.count_live.result c.count_live-live.result e, c.count_live.ensures, c.count_live-live.ensures, ap live_count c.deref.ensures.value, ap live_count c.deref-2.ensures.value))
     (λ e same.

@@ -2,7 +2,7 @@ use Rattle.std.proofs.Common.{◌∙◌, List, None, inl, inr, subst, sym}
 use Rattle.std.specs.Prelude.{slice_set}
 use Rattle.eng_cols.specs.declared.column.Column.{Column}
 use Rattle.eng_cols.specs.declared.column.Column.TheVariants as set
-use Rattle.top_close.specs.Ended.{IsLossOf, states_of}
+use Rattle.top_close.specs.Ended.{IsLossBy, states_of}
 use Rattle.top_rounds.specs.Passes.{IsFirstInUse, LosesDevice}
 use Rattle.top_acts.proofs.Columns.{any_death}
 use Rattle.top_acts.proofs.Counted.{counted_rounds}
@@ -30,7 +30,7 @@ returns-then-is_some-clause-can g c =
 pub returns-else-not-before-clause-lost : goal.returns-else-not-before-clause-lost
 returns-else-not-before-clause-lost g c =
     let y = g.L.Layout.shape c.args.layout.now in
-    subst (λ (cs : List Column). IsLossOf y None (states_of y cs) c.loss_of-ending.result) c.deref.ensures.value c.loss_of-ending.ensures.lost
+    subst (λ (cs : List Column). IsLossBy y None (states_of y cs) c.loss_of-ending.result) c.deref.ensures.value c.loss_of-ending.ensures.lost
 
 pub returns-else-not-before-clause-ends : goal.returns-else-not-before-clause-ends
 returns-else-not-before-clause-ends g c =

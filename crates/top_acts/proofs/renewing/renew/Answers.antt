@@ -1,5 +1,5 @@
 use Rattle.std.proofs.Common.{◌≡◌, ◌∙◌, refl, subst, sym, Some, None}
-use Rattle.top_close.specs.Ended.{IsLossOf, states_of}
+use Rattle.top_close.specs.Ended.{IsLossBy, states_of}
 use Rattle.top_rounds.specs.Passes.{LosesDevice}
 use Rattle.top_rounds.proofs.RoundLaws.{can-after}
 use Rattle.top_acts.specs.Begun.{MayBegin}
@@ -29,6 +29,6 @@ returns-clause-renewed g c =
     let e = c.end_labelled in
     let first = b.new.label in
     let none : b.new.ending.lost ≡ None = none_of b.new.ending.lost (sym c.is_some.ensures ∙ c.if-is_some.false) in
-    let lost_is = subst (λ o. IsLossOf y o (states_of y e.new.ending.columns.items) e.new.ending.lost) none e.ensures.lost in
+    let lost_is = subst (λ o. IsLossBy y o (states_of y e.new.ending.columns.items) e.new.ending.lost) none e.ensures.lost in
     renewed_closed g.D.Disk c.args.kind y c.args.label.now first (record first { clean = 1 }) e.new.label c.args.ending.now.columns.items b.new.ending.columns.items e.new.ending.columns.items c.args.devices.now b.new.devices e.new.devices b.new.ending.lost e.new.ending.lost b.result c.done.result
     none refl c.done.ensures lost_is b.ensures.begun e.ensures.closed (e.ensures.first none)

@@ -1,5 +1,5 @@
 use Rattle.std.proofs.Common.{◌∙◌, ap, length, subst, sym, None}
-use Rattle.top_close.specs.Ended.{IsLossOf, states_of}
+use Rattle.top_close.specs.Ended.{IsLossBy, states_of}
 use Rattle.top_acts.proofs.Columns.{whole_slice}
 use Rattle.top_acts.proofs.sweeping.sweep_and_judge.Goals as goal
 
@@ -10,4 +10,4 @@ returns-clause-lost g c =
     let new = c.sweep-count.new.columns in
     let own = sym e.columns.ok.0 in
     let same = whole_slice e.columns.len new e.columns.items own (c.sweep-count.ensures.swept.dies.count ∙ (ap length c.as_mut_slice-columns.ensures.value ∙ own)) in
-    subst (λ l. IsLossOf y None (states_of y l) c.loss_of-ending.result) (sym same) c.loss_of-ending.ensures.lost
+    subst (λ l. IsLossBy y None (states_of y l) c.loss_of-ending.result) (sym same) c.loss_of-ending.ensures.lost

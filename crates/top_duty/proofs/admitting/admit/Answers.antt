@@ -10,7 +10,7 @@ use Rattle.top_bay.proofs.Homes.{lent_are_named}
 use Rattle.top_status.specs.Refusals.{Refused}
 use Rattle.top_words.specs.Views.{action_seen}
 use Rattle.top_duty.specs.Opening.{reads_fronts}
-use Rattle.top_duty.specs.Taken.{IsTaken, Reads, RefusedFor, RefusedOver}
+use Rattle.top_duty.specs.Taken.{DevicesAreTaken, Reads, RefusedFor, RefusedOver}
 use Rattle.top_duty.proofs.Returning.{back_named, home_stays, out_still, written_back}
 use Rattle.top_duty.proofs.Sized.{asked_same, is_wanted, refused_asking, refused_judging}
 use Rattle.top_duty.proofs.admitting.admit.Goals as goal
@@ -47,7 +47,7 @@ returns-in-Ok-judge-clause-taken g c =
     let whole : take c.in-Ok.taken.devices.len (now ++ drop (length now) ds) ≡ now = written_back c.in-Ok.taken.devices.len now ds long (omega (arith, long, stays.count)) in
     let many : length ds ≡ length names = omega (arith, c.in-Ok.ensures.many, c.in-Ok.taken.devices.ok.0) in
     let b : Told _ = record { tells = B.tells; rose = Rose (B.faults c.args.bay.now) (B.faults c.ask.new.bay); texts = B.text_of c.args.bay.now; home = B.home c.args.bay.now; after = B.home c.ask.new.bay } in
-    subst (λ l. IsTaken g.B.D.Disk b k l c.in-Ok-judge.field-0.fronts.items) (sym whole) (record {
+    subst (λ l. DevicesAreTaken g.B.D.Disk b k l c.in-Ok-judge.field-0.fronts.items) (sym whole) (record {
       taken = ds;
       named = λ told. lent_are_named (B.home c.args.bay.now) (B.home c.ask.new.bay) names ds many (c.in-Ok.ensures.lent told);
       others = λ told n apart. (c.in-Ok.ensures.lent told).others n apart;
