@@ -9,7 +9,7 @@ use Rattle.buf_pool.specs.declared.seat.Seat.{Seat}
 use Rattle.buf_pool.specs.declared.seat.Place.{Place}
 use Rattle.buf_pool.specs.declared.seat.Place.TheVariants.{Home, Out}
 use Rattle.std.specs.declared.snapshot.Snapshot.{Snapshot}
-use Rattle.buf_pool.specs.Pool.{View, Held, IsPool, seat_at, nowhere, claim, release, leased, leased_in, seen, bytes_in, taken, put, KeepsLeases}
+use Rattle.buf_pool.specs.Pool.{SeatView, PoolView, IsPool, seat_at, nowhere, claim, release, leased, leased_in, seen, bytes_in, taken, put, KeepsLeases}
 
 not_free : (o : Owner) (at : ℕ) → leased o ≡ 1 → o ≡ Free at → ⊥
 not_free o at l f = let z : leased o ≡ 0 = ap leased f in absurd (omega arith)
@@ -22,28 +22,28 @@ free_is a b e = ap place e
     place (Leased first at) = 0
 
 -- the seats with another in one place
-module _ (seats : List View) (k : ℕ) (w : View) (inside : k < length seats) where
+module _ (seats : List SeatView) (k : ℕ) (w : SeatView) (inside : k < length seats) where
   here : (j : ℕ) → j ≡ k → seat_at (set seats k w) j ≡ w
   here j e = ap (λ (i : ℕ). seat_at (set seats k w) i) e ∙ get_or-set_same seats k w nowhere inside
 
   else_ : (j : ℕ) → j ≢ k → seat_at (set seats k w) j ≡ seat_at seats j
   else_ j e = get_or-set_other seats k j w nowhere e
 
-abbrev as_view : Owner → Bool → List ℕ → View
+abbrev as_view : Owner → Bool → List ℕ → SeatView
 as_view o out bytes = record { owner = o; out = out; bytes = bytes }
 
-abbrev owner_of : View → Owner
+abbrev owner_of : SeatView → Owner
 owner_of v = v.owner
 
 -- each buffer has the unit's bytes still
-still_long : (p : Held) (k : ℕ) (w : View) (inside : k < length p.seats) → length w.bytes ≡ p.unit → IsPool p → (j : ℕ) → j < length (set p.seats k w) → length (seat_at (set p.seats k w) j).bytes ≡ p.unit
+still_long : (p : PoolView) (k : ℕ) (w : SeatView) (inside : k < length p.seats) → length w.bytes ≡ p.unit → IsPool p → (j : ℕ) → j < length (set p.seats k w) → length (seat_at (set p.seats k w) j).bytes ≡ p.unit
 still_long p k w inside many h j l = elim (cases_eq j k) [
-  | inl e ↦ ap (λ (v : View). length v.bytes) (here p.seats k w inside j e) ∙ many
-  | inr e ↦ let long = length-set p.seats k w in ap (λ (v : View). length v.bytes) (else_ p.seats k w inside j e) ∙ h.long j (omega arith)
+  | inl e ↦ ap (λ (v : SeatView). length v.bytes) (here p.seats k w inside j e) ∙ many
+  | inr e ↦ let long = length-set p.seats k w in ap (λ (v : SeatView). length v.bytes) (else_ p.seats k w inside j e) ∙ h.long j (omega arith)
 ]
 
 -- a lease's seat changes, and stays a lease's
-module _ (p : Held) (k : ℕ) (w : View) (inside : k < length p.seats) (was : leased_in (seat_at p.seats k) ≡ 1) (is : leased_in w ≡ 1) (many : length w.bytes ≡ p.unit) (h : IsPool p) where
+module _ (p : PoolView) (k : ℕ) (w : SeatView) (inside : k < length p.seats) (was : leased_in (seat_at p.seats k) ≡ 1) (is : leased_in w ≡ 1) (many : length w.bytes ≡ p.unit) (h : IsPool p) where
   still_listed : (at : ℕ) → at < length p.free → (get_or p.free at 0 < length (set p.seats k w)) × ((seat_at (set p.seats k w) (get_or p.free at 0)).owner ≡ Free at)
   still_listed at l =
       let old = h.listed at l in let long = length-set p.seats k w in
@@ -53,7 +53,7 @@ module _ (p : Held) (k : ℕ) (w : View) (inside : k < length p.seats) (was : le
   still_home : (j at : ℕ) → j < length (set p.seats k w) → (seat_at (set p.seats k w) j).owner ≡ Free at → (at < length p.free) × (get_or p.free at 0 ≡ j) × ((seat_at (set p.seats k w) j).out ≡ false)
   still_home j at l f = elim (cases_eq j k) [
     | inl e ↦ absurd (not_free w.owner at is (ap owner_of (sym (here p.seats k w inside j e)) ∙ f))
-    | inr e ↦ let long = length-set p.seats k w in let s = else_ p.seats k w inside j e in let o = h.home j at (omega arith) (ap owner_of (sym s) ∙ f) in (o.0, o.1, ap (λ (v : View). v.out) s ∙ o.2)
+    | inr e ↦ let long = length-set p.seats k w in let s = else_ p.seats k w inside j e in let o = h.home j at (omega arith) (ap owner_of (sym s) ∙ f) in (o.0, o.1, ap (λ (v : SeatView). v.out) s ∙ o.2)
   ]
 
   pub changes : IsPool (record p { seats = set p.seats k w })
@@ -66,7 +66,7 @@ module _ (p : Held) (k : ℕ) (w : View) (inside : k < length p.seats) (was : le
   }
 
 -- the last free seat goes to a lease
-module _ (p : Held) (xs : List ℕ) (k first place : ℕ) (last : p.free ≡ xs ++ k ∷ []) (h : IsPool p) where
+module _ (p : PoolView) (xs : List ℕ) (k first place : ℕ) (last : p.free ≡ xs ++ k ∷ []) (h : IsPool p) where
   many : length p.free ≡ length xs + 1
   many = ap length last ∙ length_push xs k
 
@@ -85,7 +85,7 @@ module _ (p : Held) (xs : List ℕ) (k first place : ℕ) (last : p.free ≡ xs 
   pub last_home : (seat_at p.seats k).out ≡ false
   last_home = (h.home k (length xs) last_inside owned).2
 
-  abbrev w : View
+  abbrev w : SeatView
   w = record (seat_at p.seats k) { owner = Leased first place }
 
   front_listed : (at : ℕ) → at < length xs → (get_or xs at 0 < length (set p.seats k w)) × ((seat_at (set p.seats k w) (get_or xs at 0)).owner ≡ Free at)
@@ -102,7 +102,7 @@ module _ (p : Held) (xs : List ℕ) (k first place : ℕ) (last : p.free ≡ xs 
         let m = many in
         let apart : at ≢ length xs = λ a. e (sym o.1 ∙ (ap (λ (i : ℕ). get_or p.free i 0) a ∙ at_last)) in
         let less : at < length xs = omega (arith, o.0, apart) in
-        (less, sym (in_front at less) ∙ o.1, ap (λ (v : View). v.out) s ∙ o.2)
+        (less, sym (in_front at less) ∙ o.1, ap (λ (v : SeatView). v.out) s ∙ o.2)
   ]
 
   pub claims : IsPool (record { unit = p.unit; free = xs; seats = claim first place k p.seats })
@@ -115,11 +115,11 @@ module _ (p : Held) (xs : List ℕ) (k first place : ℕ) (last : p.free ≡ xs 
   }
 
 -- a lease's seat is free again
-module _ (p : Held) (k : ℕ) (inside : k < length p.seats) (was : leased_in (seat_at p.seats k) ≡ 1) (home : (seat_at p.seats k).out ≡ false) (h : IsPool p) where
+module _ (p : PoolView) (k : ℕ) (inside : k < length p.seats) (was : leased_in (seat_at p.seats k) ≡ 1) (home : (seat_at p.seats k).out ≡ false) (h : IsPool p) where
   pub more_room : length p.free < length p.seats
   more_room = let u = h.whole in let s = get_or-le-sum_by leased_in p.seats k nowhere inside in omega arith
 
-  abbrev v : View
+  abbrev v : SeatView
   v = record (seat_at p.seats k) { owner = Free (length p.free) }
 
   more_listed : (at : ℕ) → at < length (p.free ++ k ∷ []) → (get_or (p.free ++ k ∷ []) at 0 < length (set p.seats k v)) × ((seat_at (set p.seats k v) (get_or (p.free ++ k ∷ []) at 0)).owner ≡ Free at)
@@ -136,9 +136,9 @@ module _ (p : Held) (k : ℕ) (inside : k < length p.seats) (was : leased_in (se
   more_home : (j at : ℕ) → j < length (set p.seats k v) → (seat_at (set p.seats k v) j).owner ≡ Free at → (at < length (p.free ++ k ∷ [])) × (get_or (p.free ++ k ∷ []) at 0 ≡ j) × ((seat_at (set p.seats k v) j).out ≡ false)
   more_home j at l f = elim (cases_eq j k) [
     | inl e ↦ let s = here p.seats k v inside j e in let is = free_is (length p.free) at (ap owner_of (sym s) ∙ f) in let m = length_push p.free k in
-        (omega arith, get_or_push p.free k 0 at is ∙ sym e, ap (λ (x : View). x.out) s ∙ home)
+        (omega arith, get_or_push p.free k 0 at is ∙ sym e, ap (λ (x : SeatView). x.out) s ∙ home)
     | inr e ↦ let long = length-set p.seats k v in let s = else_ p.seats k v inside j e in let o = h.home j at (omega arith) (ap owner_of (sym s) ∙ f) in let m = length_push p.free k in
-        (omega (arith, o.0), get_or_append_left p.free (k ∷ []) 0 at o.0 ∙ o.1, ap (λ (x : View). x.out) s ∙ o.2)
+        (omega (arith, o.0), get_or_append_left p.free (k ∷ []) 0 at o.0 ∙ o.1, ap (λ (x : SeatView). x.out) s ∙ o.2)
   ]
 
   pub releases : IsPool (record { unit = p.unit; free = p.free ++ k ∷ []; seats = release (length p.free) k p.seats })
@@ -151,32 +151,32 @@ module _ (p : Held) (k : ℕ) (inside : k < length p.seats) (was : leased_in (se
   }
 
 -- the seats as seen, with one written
-pub seen_set : (seats : List Seat) (k : ℕ) (s d : Seat) (w : View) → k < length seats → seen s ≡ w → map seen (set seats k s) ≡ set (map seen seats) k w
+pub seen_set : (seats : List Seat) (k : ℕ) (s d : Seat) (w : SeatView) → k < length seats → seen s ≡ w → map seen (set seats k s) ≡ set (map seen seats) k w
 seen_set seats k s d w inside e = map-set seen seats k s ∙ ap (set (map seen seats) k) e
 
 pub seen_at : (seats : List Seat) (k : ℕ) (s : Seat) → k < length seats → s ≡ get_or seats k s → seat_at (map seen seats) k ≡ seen s
 seen_at seats k s inside e = get_or-map seen seats k s nowhere inside ∙ ap seen (sym e)
 
 pub seen_claim : (seats : List Seat) (k : ℕ) (s : Seat) (first place : ℕ) → k < length seats → s ≡ get_or seats k s → map seen (set seats k (record s { owner = Leased first place })) ≡ claim first place k (map seen seats)
-seen_claim seats k s first place inside e = seen_set seats k (record s { owner = Leased first place }) s _ inside (ap (λ (v : View). record v { owner = Leased first place }) (sym (seen_at seats k s inside e)))
+seen_claim seats k s first place inside e = seen_set seats k (record s { owner = Leased first place }) s _ inside (ap (λ (v : SeatView). record v { owner = Leased first place }) (sym (seen_at seats k s inside e)))
 
 pub seen_release : (seats : List Seat) (k : ℕ) (s : Seat) (at : ℕ) → k < length seats → s ≡ get_or seats k s → map seen (set seats k (record s { owner = Free at })) ≡ release at k (map seen seats)
-seen_release seats k s at inside e = seen_set seats k (record s { owner = Free at }) s _ inside (ap (λ (v : View). record v { owner = Free at }) (sym (seen_at seats k s inside e)))
+seen_release seats k s at inside e = seen_set seats k (record s { owner = Free at }) s _ inside (ap (λ (v : SeatView). record v { owner = Free at }) (sym (seen_at seats k s inside e)))
 
 -- a seat of a lease is written in the pool's own list
 module _ (unit : ℕ) (free : List ℕ) (seats : List Seat) (k : ℕ) (s x : Seat) (inside : k < length seats) (read : s ≡ get_or seats k s) (was : leased s.owner ≡ 1) (is : leased x.owner ≡ 1) (many : length (seen x).bytes ≡ unit) where
   pub kept : IsPool (record { unit = unit; free = free; seats = map seen seats }) → IsPool (record { unit = unit; free = free; seats = map seen (set seats k x) })
   kept h =
       let long = length-map seats seen in
-      subst (λ (l : List View). IsPool (record { unit = unit; free = free; seats = l })) (sym (map-set seen seats k x))
+      subst (λ (l : List SeatView). IsPool (record { unit = unit; free = free; seats = l })) (sym (map-set seen seats k x))
       (changes (record { unit = unit; free = free; seats = map seen seats }) k (seen x) (omega arith) (ap leased_in (seen_at seats k s inside read) ∙ was) is many h)
 
-pub seat_read : (seats : List Seat) (k : ℕ) (s : Seat) (v : View) → k < length seats → s ≡ get_or seats k s → seat_at (map seen seats) k ≡ v → seen s ≡ v
+pub seat_read : (seats : List Seat) (k : ℕ) (s : Seat) (v : SeatView) → k < length seats → s ≡ get_or seats k s → seat_at (map seen seats) k ≡ v → seen s ≡ v
 seat_read seats k s v inside read e = sym (seen_at seats k s inside read) ∙ e
 
 -- a buffer leaves, or comes home
 module _ (unit : ℕ) (free : List ℕ) (seats : List Seat) (k : ℕ) (s : Seat) (inside : k < length seats) (read : s ≡ get_or seats k s) where
-  abbrev held : List View → Held
+  abbrev held : List SeatView → PoolView
   held l = record { unit = unit; free = free; seats = l }
 
   pub left : (dest : Place) (copy : Snapshot (List ℕ)) (b : List ℕ) → s.place ≡ Home b → dest ≡ Out copy → copy.value ≡ b → held (map seen (set seats k (record { owner = s.owner; place = dest }))) ≡ taken (held (map seen seats)) k
@@ -184,16 +184,16 @@ module _ (unit : ℕ) (free : List ℕ) (seats : List Seat) (k : ℕ) (s : Seat)
       let bytes : copy.value ≡ (seen s).bytes = same ∙ sym (ap bytes_in home) in
       let is : seen (record { owner = s.owner; place = dest }) ≡ record (seen s) { out = true } =
       ap (λ (p : Place). seen (record { owner = s.owner; place = p })) out ∙ ap (λ (l : List ℕ). as_view s.owner true l) bytes in
-      ap held (seen_set seats k (record { owner = s.owner; place = dest }) s _ inside (is ∙ ap (λ (v : View). record v { out = true }) (sym (seen_at seats k s inside read))))
+      ap held (seen_set seats k (record { owner = s.owner; place = dest }) s _ inside (is ∙ ap (λ (v : SeatView). record v { out = true }) (sym (seen_at seats k s inside read))))
 
   pub left_long : IsPool (held (map seen seats)) → (dest : Place) (copy : Snapshot (List ℕ)) (b : List ℕ) → s.place ≡ Home b → dest ≡ Out copy → copy.value ≡ b → length (seen (record { owner = s.owner; place = dest })).bytes ≡ unit
   left_long h dest copy b home out same =
       let many = length-map seats seen in
-      let long : length (seen s).bytes ≡ unit = ap (λ (v : View). length v.bytes) (sym (seen_at seats k s inside read)) ∙ h.long k (omega arith) in
+      let long : length (seen s).bytes ≡ unit = ap (λ (v : SeatView). length v.bytes) (sym (seen_at seats k s inside read)) ∙ h.long k (omega arith) in
       ap (λ (p : Place). length (bytes_in p)) out ∙ (ap length same ∙ (sym (ap (λ (p : Place). length (bytes_in p)) home) ∙ long))
 
   pub back : (b : List ℕ) → held (map seen (set seats k (record { owner = s.owner; place = Home b }))) ≡ put (held (map seen seats)) k b
-  back b = ap held (seen_set seats k (record { owner = s.owner; place = Home b }) s _ inside (ap (λ (v : View). record v { out = false; bytes = b }) (sym (seen_at seats k s inside read))))
+  back b = ap held (seen_set seats k (record { owner = s.owner; place = Home b }) s _ inside (ap (λ (v : SeatView). record v { out = false; bytes = b }) (sym (seen_at seats k s inside read))))
 
 pub leased_not_free : (a b c : ℕ) → Leased a b ≡ Free c → ⊥
 leased_not_free a b c e = let z : 1 ≡ zero = ap leased e in absurd (omega arith)
@@ -206,10 +206,10 @@ leased_place a b c d e = ap place e
     place (Leased first at) = at
 
 -- seats with these owners, the first n of a list
-abbrev pub Owned : ℕ → List View → List ℕ → Type 0
+abbrev pub Owned : ℕ → List SeatView → List ℕ → Type 0
 Owned first seats l = (i : ℕ) → i < length l → (get_or l i 0 < length seats) × ((seat_at seats (get_or l i 0)).owner ≡ Leased first i)
 
-pub owned_push : (first : ℕ) (seats : List View) (l : List ℕ) (k at : ℕ) → k < length seats → (seat_at seats k).owner ≡ Free at → Owned first seats l → Owned first (claim first (length l) k seats) (l ++ k ∷ [])
+pub owned_push : (first : ℕ) (seats : List SeatView) (l : List ℕ) (k at : ℕ) → k < length seats → (seat_at seats k).owner ≡ Free at → Owned first seats l → Owned first (claim first (length l) k seats) (l ++ k ∷ [])
 owned_push first seats l k at inside free o i h = elim (cases_eq i (length l)) [
   | inl e ↦ let is = get_or_push l k 0 i (sym e) in let long = length-set seats k (record (seat_at seats k) { owner = Leased first (length l) }) in
       (omega arith, ap owner_of (here seats k _ inside (get_or (l ++ k ∷ []) i 0) is) ∙ ap (Leased first) (sym e))
@@ -220,7 +220,7 @@ owned_push first seats l k at inside free o i h = elim (cases_eq i (length l)) [
 ]
 
 -- a seat that changes and stays its owner's leaves each lease one
-module _ (p : Held) (k : ℕ) (w : View) (same : w.owner ≡ (seat_at p.seats k).owner) where
+module _ (p : PoolView) (k : ℕ) (w : SeatView) (same : w.owner ≡ (seat_at p.seats k).owner) where
   owner_stays : (j : ℕ) → j < length p.seats → (seat_at (set p.seats k w) j).owner ≡ (seat_at p.seats j).owner
   owner_stays j h = elim (cases_eq j k) [
     | inl e ↦ let inside : k < length p.seats = omega arith in ap owner_of (here p.seats k w inside j e) ∙ (same ∙ ap (λ (i : ℕ). (seat_at p.seats i).owner) (sym e))
@@ -230,8 +230,8 @@ module _ (p : Held) (k : ℕ) (w : View) (same : w.owner ≡ (seat_at p.seats k)
   pub keeps_leases : KeepsLeases p (record p { seats = set p.seats k w })
   keeps_leases m lease i h = let long = length-set p.seats k w in let inside = (lease i h).0 in (omega arith, owner_stays (get_or m i 0) inside ∙ (lease i h).1)
 
-pub taken_keeps : (p : Held) (k : ℕ) → KeepsLeases p (taken p k)
+pub taken_keeps : (p : PoolView) (k : ℕ) → KeepsLeases p (taken p k)
 taken_keeps p k = keeps_leases p k (record (seat_at p.seats k) { out = true }) refl
 
-pub put_keeps : (p : Held) (k : ℕ) (bytes : List ℕ) → KeepsLeases p (put p k bytes)
+pub put_keeps : (p : PoolView) (k : ℕ) (bytes : List ℕ) → KeepsLeases p (put p k bytes)
 put_keeps p k bytes = keeps_leases p k (record (seat_at p.seats k) { out = false; bytes = bytes }) refl

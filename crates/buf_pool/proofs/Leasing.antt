@@ -3,18 +3,18 @@ use Rattle.std.proofs.Common.{◌≡◌, ◌≢◌, ℕ, ◌+◌, ◌<◌, ◌�
 use Rattle.std.proofs.lemmas.Bool.{cases_eq}
 use Rattle.std.proofs.lemmas.List.{length_push, length-set, get_or-set_same, get_or-set_other, get_or_append_left, get_or_push, get_or_default}
 use Rattle.std.proofs.lemmas.List.Elements.{Contains-push, Contains-append_left}
-use Rattle.buf_pool.specs.Pool.{View, Held, IsLease, AllHome, AreApart, IsFree, Leases, StandsApart, Returns, KeepsOthers, claim, release, seat_at, nowhere, leased, leased_in}
+use Rattle.buf_pool.specs.Pool.{SeatView, PoolView, IsLease, AllHome, AreApart, IsFree, Leases, StandsApart, Returns, KeepsOthers, claim, release, seat_at, nowhere, leased, leased_in}
 use Rattle.buf_pool.specs.declared.seat.Owner.{Owner}
 use Rattle.buf_pool.specs.declared.seat.Owner.TheVariants.{Free, Leased}
 use Rattle.buf_pool.proofs.Keeps.{Owned, owned_push, leased_place, leased_not_free}
 
-abbrev owner_of : View → Owner
+abbrev owner_of : SeatView → Owner
 owner_of v = v.owner
 
-abbrev out_of : View → Bool
+abbrev out_of : SeatView → Bool
 out_of v = v.out
 
-abbrev bytes_of : View → List ℕ
+abbrev bytes_of : SeatView → List ℕ
 bytes_of v = v.bytes
 
 -- an element by its place
@@ -24,7 +24,7 @@ is_among l j k h e = (j, h, get_or_default l j k 0 h ∙ e)
 -- ---- a lease fills
 
 -- the first i seats of the lease were given to it
-pub record Gives (old : Held) (first : ℕ) (l : List ℕ) (now : Held) (i : ℕ) : Type 0 where
+pub record Gives (old : PoolView) (first : ℕ) (l : List ℕ) (now : PoolView) (i : ℕ) : Type 0 where
   pub count : length l ≡ i
   pub unit : now.unit ≡ old.unit
   pub free : length old.free ≡ length now.free + i
@@ -37,7 +37,7 @@ pub record Gives (old : Held) (first : ℕ) (l : List ℕ) (now : Held) (i : ℕ
   pub begun : i ≡ 0 → now.free ≡ old.free
   pub is_first : 0 < i → first ≡ get_or l 0 0
 
-pub starts : (old : Held) (first : ℕ) (l : List ℕ) → l ≡ [] → Gives old first l old 0
+pub starts : (old : PoolView) (first : ℕ) (l : List ℕ) → l ≡ [] → Gives old first l old 0
 starts old first l e = subst (λ (k : List ℕ). Gives old first k old 0) (sym e) (record {
   count = refl;
   unit = refl;
@@ -53,13 +53,13 @@ starts old first l e = subst (λ (k : List ℕ). Gives old first k old 0) (sym e
 })
 
 -- one more seat is given
-module _ (old now new : Held) (first i k : ℕ) (l : List ℕ) (unit : new.unit ≡ now.unit) (free : now.free ≡ new.free ++ k ∷ []) (seats : new.seats ≡ claim first i k now.seats)
+module _ (old now new : PoolView) (first i k : ℕ) (l : List ℕ) (unit : new.unit ≡ now.unit) (free : now.free ≡ new.free ++ k ∷ []) (seats : new.seats ≡ claim first i k now.seats)
     (inside : k < length now.seats) (at : ℕ) (was : (seat_at now.seats k).owner ≡ Free at) (home : (seat_at now.seats k).out ≡ false) (g : Gives old first l now i) where
   new_here : seat_at new.seats k ≡ record (seat_at now.seats k) { owner = Leased first i }
-  new_here = ap (λ (s : List View). seat_at s k) seats ∙ get_or-set_same now.seats k (record (seat_at now.seats k) { owner = Leased first i }) nowhere inside
+  new_here = ap (λ (s : List SeatView). seat_at s k) seats ∙ get_or-set_same now.seats k (record (seat_at now.seats k) { owner = Leased first i }) nowhere inside
 
   new_else : (x : ℕ) → x ≢ k → seat_at new.seats x ≡ seat_at now.seats x
-  new_else x apart = ap (λ (s : List View). seat_at s x) seats ∙ get_or-set_other now.seats k x (record (seat_at now.seats k) { owner = Leased first i }) nowhere apart
+  new_else x apart = ap (λ (s : List SeatView). seat_at s x) seats ∙ get_or-set_other now.seats k x (record (seat_at now.seats k) { owner = Leased first i }) nowhere apart
 
   away : (j : ℕ) → j < length l → get_or l j 0 ≢ k
   away j h e = leased_not_free first j at (sym (g.owned j h).1 ∙ (ap (λ (x : ℕ). (seat_at now.seats x).owner) e ∙ was))
@@ -86,7 +86,7 @@ module _ (old now new : Held) (first i k : ℕ) (l : List ℕ) (unit : new.unit 
     unit = unit ∙ g.unit;
     free = let a = ap length free in let b = length_push new.free k in let c = g.free in omega arith;
     seats = ap length seats ∙ (length-set now.seats k (record (seat_at now.seats k) { owner = Leased first i }) ∙ g.seats);
-    owned = subst (λ (s : List View). Owned first s (l ++ k ∷ [])) (sym (seats ∙ ap (λ (n : ℕ). claim first n k now.seats) (sym g.count))) (owned_push first now.seats l k at inside was g.owned);
+    owned = subst (λ (s : List SeatView). Owned first s (l ++ k ∷ [])) (sym (seats ∙ ap (λ (n : ℕ). claim first n k now.seats) (sym g.count))) (owned_push first now.seats l k at inside was g.owned);
     all_home = each (λ x. (seat_at new.seats x).out ≡ false) (λ j h. ap out_of (front j h) ∙ g.all_home j h) (ap out_of new_here ∙ home);
     were_free = each (λ x. IsFree (seat_at old.seats x)) g.were_free (ap leased_in (sym (g.others k absent)) ∙ ap leased was);
     bytes = each (λ x. (seat_at new.seats x).bytes ≡ (seat_at old.seats x).bytes) (λ j h. ap bytes_of (front j h) ∙ g.bytes j h) (ap bytes_of new_here ∙ ap bytes_of (g.others k absent));
@@ -95,7 +95,7 @@ module _ (old now new : Held) (first i k : ℕ) (l : List ℕ) (unit : new.unit 
     is_first = λ h. first_is next l g.count g.is_first;
   }
 
-pub ends : (old now : Held) (first i n : ℕ) (l : List ℕ) → i ≡ n → Gives old first l now i → Leases old n l now
+pub ends : (old now : PoolView) (first i n : ℕ) (l : List ℕ) → i ≡ n → Gives old first l now i → Leases old n l now
 ends old now first i n l e g = record {
   count = g.count ∙ e;
   unit = g.unit;
@@ -113,7 +113,7 @@ ends old now first i n l e g = record {
     by_first (x ∷ y) c p o = subst (λ (f : ℕ). Owned f now.seats (x ∷ y)) (p (omega arith)) o
 
 -- the other leases stay, and have no seat of the new one
-pub stands_apart : (old new : Held) (n : ℕ) (l : List ℕ) → Leases old n l new → StandsApart old l new
+pub stands_apart : (old new : PoolView) (n : ℕ) (l : List ℕ) → Leases old n l new → StandsApart old l new
 stands_apart old new n l g m lease = (
   λ i h. (
     let inside = (lease i h).0 in let many = g.seats in omega arith,
@@ -131,7 +131,7 @@ stands_apart old new n l g m lease = (
 -- ---- a lease empties
 
 -- the first i seats of the lease are free again
-pub record Frees (old : Held) (l : List ℕ) (now : Held) (i : ℕ) : Type 0 where
+pub record Frees (old : PoolView) (l : List ℕ) (now : PoolView) (i : ℕ) : Type 0 where
   pub unit : now.unit ≡ old.unit
   pub free : length now.free ≡ length old.free + i
   pub seats : length now.seats ≡ length old.seats
@@ -141,7 +141,7 @@ pub record Frees (old : Held) (l : List ℕ) (now : Held) (i : ℕ) : Type 0 whe
   pub left : (j : ℕ) → i ≤ j → j < length l → seat_at now.seats (get_or l j 0) ≡ seat_at old.seats (get_or l j 0)
   pub others : (k : ℕ) → ¬ Contains l k → seat_at now.seats k ≡ seat_at old.seats k
 
-pub begins : (old : Held) (l : List ℕ) → Frees old l old 0
+pub begins : (old : PoolView) (l : List ℕ) → Frees old l old 0
 begins old l = record {
   unit = refl;
   free = omega arith;
@@ -154,22 +154,22 @@ begins old l = record {
 }
 
 -- one more seat is free
-module _ (old now new : Held) (l : List ℕ) (i k : ℕ) (in_l : i < length l) (is : k ≡ get_or l i 0) (lease : IsLease old l)
+module _ (old now new : PoolView) (l : List ℕ) (i k : ℕ) (in_l : i < length l) (is : k ≡ get_or l i 0) (lease : IsLease old l)
     (unit : new.unit ≡ now.unit) (free : new.free ≡ now.free ++ k ∷ []) (seats : new.seats ≡ release (length now.free) k now.seats) (f : Frees old l now i) where
   inside : k < length now.seats
   inside = let a = (lease i in_l).0 in let b = f.seats in omega arith
 
   freed_here : seat_at new.seats k ≡ record (seat_at now.seats k) { owner = Free (length now.free) }
-  freed_here = ap (λ (s : List View). seat_at s k) seats ∙ get_or-set_same now.seats k (record (seat_at now.seats k) { owner = Free (length now.free) }) nowhere inside
+  freed_here = ap (λ (s : List SeatView). seat_at s k) seats ∙ get_or-set_same now.seats k (record (seat_at now.seats k) { owner = Free (length now.free) }) nowhere inside
 
   freed_else : (x : ℕ) → x ≢ k → seat_at new.seats x ≡ seat_at now.seats x
-  freed_else x apart = ap (λ (s : List View). seat_at s x) seats ∙ get_or-set_other now.seats k x (record (seat_at now.seats k) { owner = Free (length now.free) }) nowhere apart
+  freed_else x apart = ap (λ (s : List SeatView). seat_at s x) seats ∙ get_or-set_other now.seats k x (record (seat_at now.seats k) { owner = Free (length now.free) }) nowhere apart
 
   other_place : (j : ℕ) → j < length l → j ≢ i → get_or l j 0 ≢ k
   other_place j h apart e = apart (leased_place (get_or l 0 0) j (get_or l 0 0) i (sym (lease j h).1 ∙ (ap (λ (x : ℕ). (seat_at old.seats x).owner) (e ∙ is) ∙ (lease i in_l).1)))
 
   -- what is kept of a seat, whoever's it is
-  kept : {A : Type 0} (of : View → A) → of (record (seat_at now.seats k) { owner = Free (length now.free) }) ≡ of (seat_at now.seats k) → (j : ℕ) → j < length l → of (seat_at new.seats (get_or l j 0)) ≡ of (seat_at now.seats (get_or l j 0))
+  kept : {A : Type 0} (of : SeatView → A) → of (record (seat_at now.seats k) { owner = Free (length now.free) }) ≡ of (seat_at now.seats k) → (j : ℕ) → j < length l → of (seat_at new.seats (get_or l j 0)) ≡ of (seat_at now.seats (get_or l j 0))
   kept of same j h = elim (cases_eq j i) [
     | inl e ↦ let place : get_or l j 0 ≡ k = ap (λ (x : ℕ). get_or l x 0) e ∙ sym is in ap (λ (x : ℕ). of (seat_at new.seats x)) place ∙ (ap of freed_here ∙ (same ∙ ap (λ (x : ℕ). of (seat_at now.seats x)) (sym place)))
     | inr apart ↦ ap of (freed_else (get_or l j 0) (other_place j h apart))
@@ -190,7 +190,7 @@ module _ (old now new : Held) (l : List ℕ) (i k : ℕ) (in_l : i < length l) (
     others = λ x absent. freed_else x (λ e. absent (is_among l i x in_l (sym is ∙ sym e))) ∙ f.others x absent;
   }
 
-pub returned : (old now : Held) (l : List ℕ) (i : ℕ) → i ≡ length l → AllHome old l → Frees old l now i → Returns old l now
+pub returned : (old now : PoolView) (l : List ℕ) (i : ℕ) → i ≡ length l → AllHome old l → Frees old l now i → Returns old l now
 returned old now l i e home f = record {
   unit = f.unit;
   free = let a = f.free in omega arith;
@@ -202,7 +202,7 @@ returned old now l i e home f = record {
 }
 
 -- the other leases stay
-pub keeps_others : (old new : Held) (l : List ℕ) → Returns old l new → KeepsOthers old l new
+pub keeps_others : (old new : PoolView) (l : List ℕ) → Returns old l new → KeepsOthers old l new
 keeps_others old new l r m lease apart i h = (
   let inside = (lease i h).0 in let many = r.seats in omega arith,
   ap owner_of (r.others (get_or m i 0) (λ has. apart i has.0 h has.1 (sym (get_or_default l has.0 0 (get_or m i 0) has.1 ∙ has.2)))) ∙ (lease i h).1,

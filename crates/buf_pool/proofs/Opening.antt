@@ -3,18 +3,18 @@ use Rattle.std.proofs.Common.{◌≡◌, ℕ, ◌+◌, ◌<◌, List, [], ◌∷
 use Rattle.std.proofs.lemmas.Bool.{cases_eq}
 use Rattle.std.proofs.lemmas.List.{length-replicate, length_push, get_or_append_left, get_or_push, map_push}
 use Rattle.std.proofs.lemmas.List.Sums.{sum_by_push}
-use Rattle.buf_pool.specs.Pool.{View, IsPool, IsFresh, seat_at, nowhere, leased_in, seen}
+use Rattle.buf_pool.specs.Pool.{SeatView, IsPool, IsFresh, seat_at, nowhere, leased_in, seen}
 use Rattle.buf_pool.specs.declared.seat.Owner.{Owner}
 use Rattle.buf_pool.specs.declared.seat.Owner.TheVariants.{Free}
 use Rattle.buf_pool.specs.declared.seat.Seat.{Seat}
 use Rattle.buf_pool.specs.declared.seat.Place.TheVariants.{Home}
 use Rattle.buf_pool.proofs.Keeps.{free_is}
 
-pub record Opened (unit : ℕ) (free : List ℕ) (seats : List View) (i : ℕ) : Type 0 where
+pub record Opened (unit : ℕ) (free : List ℕ) (seats : List SeatView) (i : ℕ) : Type 0 where
   pub pool : IsPool (record { unit = unit; free = free; seats = seats })
   pub fresh : IsFresh (record { unit = unit; free = free; seats = seats }) i
 
-abbrev pub fresh_seat : ℕ → ℕ → View
+abbrev pub fresh_seat : ℕ → ℕ → SeatView
 fresh_seat unit i = record { owner = Free i; out = false; bytes = replicate unit 0 }
 
 pub opened_none : (unit : ℕ) → Opened unit [] [] 0
@@ -23,11 +23,11 @@ opened_none unit = record {
   fresh = record { seats = refl; free = refl; each = λ k h. absurd (omega arith) };
 }
 
-module _ (unit : ℕ) (free : List ℕ) (seats : List View) (i : ℕ) (few : i < 2048) (o : Opened unit free seats i) where
-  abbrev w : View
+module _ (unit : ℕ) (free : List ℕ) (seats : List SeatView) (i : ℕ) (few : i < 2048) (o : Opened unit free seats i) where
+  abbrev w : SeatView
   w = fresh_seat unit i
 
-  owner_of : View → Owner
+  owner_of : SeatView → Owner
   owner_of v = v.owner
 
   in_old : (k : ℕ) → k < i → seat_at (seats ++ w ∷ []) k ≡ seat_at seats k
@@ -45,24 +45,24 @@ module _ (unit : ℕ) (free : List ℕ) (seats : List View) (i : ℕ) (few : i <
   listed' : (at : ℕ) → at < length (free ++ i ∷ []) → (get_or (free ++ i ∷ []) at 0 < length (seats ++ w ∷ [])) × ((seat_at (seats ++ w ∷ []) (get_or (free ++ i ∷ []) at 0)).owner ≡ Free at)
   listed' at h = let f = o.fresh.free in let s = o.fresh.seats in let ms = length_push seats w in let mf = length_push free i in elim (cases_eq at i) [
     | inl e ↦ let is : get_or (free ++ i ∷ []) at 0 ≡ i = get_or_push free i 0 at (f ∙ sym e) in
-        (omega arith, ap (λ (v : View). v.owner) (at_new (get_or (free ++ i ∷ []) at 0) is) ∙ ap Free (sym e))
+        (omega arith, ap (λ (v : SeatView). v.owner) (at_new (get_or (free ++ i ∷ []) at 0) is) ∙ ap Free (sym e))
     | inr e ↦ let less : at < i = omega (arith, e, h) in let is = get_or_append_left free (i ∷ []) 0 at (omega arith) in let old = o.pool.listed at (omega arith) in
         let below : get_or (free ++ i ∷ []) at 0 < i = omega (arith, old.0, is, s) in
-        (omega arith, ap (λ (v : View). v.owner) (in_old (get_or (free ++ i ∷ []) at 0) below) ∙ (ap (λ (k : ℕ). (seat_at seats k).owner) is ∙ old.1))
+        (omega arith, ap (λ (v : SeatView). v.owner) (in_old (get_or (free ++ i ∷ []) at 0) below) ∙ (ap (λ (k : ℕ). (seat_at seats k).owner) is ∙ old.1))
   ]
 
   home' : (k at : ℕ) → k < length (seats ++ w ∷ []) → (seat_at (seats ++ w ∷ []) k).owner ≡ Free at → (at < length (free ++ i ∷ [])) × (get_or (free ++ i ∷ []) at 0 ≡ k) × ((seat_at (seats ++ w ∷ []) k).out ≡ false)
   home' k at h e =
       let f = o.fresh.free in let s = o.fresh.seats in let ms = length_push seats w in let mf = length_push free i in
       let below : k < i + 1 = omega arith in let is = each' k below in
-      let same : k ≡ at = free_is k at (ap (λ (v : View). v.owner) (sym is) ∙ e) in
-      (omega arith, number k at same below, ap (λ (v : View). v.out) is)
+      let same : k ≡ at = free_is k at (ap (λ (v : SeatView). v.owner) (sym is) ∙ e) in
+      (omega arith, number k at same below, ap (λ (v : SeatView). v.out) is)
     where
       number : (k at : ℕ) → k ≡ at → k < i + 1 → get_or (free ++ i ∷ []) at 0 ≡ k
       number k at same below = elim (cases_eq at i) [
         | inl e ↦ get_or_push free i 0 at (o.fresh.free ∙ sym e) ∙ sym (same ∙ e)
         | inr e ↦ let less : at < i = omega (arith, e, same, below) in let f = o.fresh.free in let s = o.fresh.seats in let fs = o.fresh.each at less in
-            get_or_append_left free (i ∷ []) 0 at (omega arith) ∙ ((o.pool.home at at (omega arith) (ap (λ (v : View). v.owner) fs)).1 ∙ sym same)
+            get_or_append_left free (i ∷ []) 0 at (omega arith) ∙ ((o.pool.home at at (omega arith) (ap (λ (v : SeatView). v.owner) fs)).1 ∙ sym same)
       ]
 
   pub opened_push : Opened unit (free ++ i ∷ []) (seats ++ w ∷ []) (i + 1)
@@ -72,7 +72,7 @@ module _ (unit : ℕ) (free : List ℕ) (seats : List View) (i : ℕ) (few : i <
       whole = let u = o.pool.whole in let t : sum_by leased_in (seats ++ w ∷ []) ≡ sum_by leased_in seats + 0 = sum_by_push leased_in seats w in omega arith;
       room = omega arith;
       home = home';
-      long = λ k h. let ms = length_push seats w in let s = o.fresh.seats in let is = each' k (omega arith) in ap (λ (v : View). length v.bytes) is ∙ length-replicate unit 0;
+      long = λ k h. let ms = length_push seats w in let s = o.fresh.seats in let is = each' k (omega arith) in ap (λ (v : SeatView). length v.bytes) is ∙ length-replicate unit 0;
     };
     fresh = record { seats = omega arith; free = omega arith; each = each' };
   }

@@ -7,16 +7,16 @@ use Rattle.buf_pool.specs.declared.seat.Place.TheVariants.{Home, Out}
 use Rattle.buf_pool.specs.declared.seat.Seat.{Seat}
 
 -- whose the seat is, whether its buffer is out, and the bytes: those that it has, or those with which it left
-pub record View : Type 0 where
+pub record SeatView : Type 0 where
   pub owner : Owner
   pub out : Bool
   pub bytes : List ℕ
 
 -- how many bytes a buffer has, the free seats, with the one that is lent next at the end, and all seats
-pub record Held : Type 0 where
+pub record PoolView : Type 0 where
   pub unit : ℕ
   pub free : List ℕ
-  pub seats : List View
+  pub seats : List SeatView
 
 abbrev pub is_out : Place → Bool
 is_out (Home buffer) = false
@@ -26,18 +26,18 @@ abbrev pub bytes_in : Place → List ℕ
 bytes_in (Home buffer) = buffer
 bytes_in (Out copy) = copy.value
 
-abbrev pub seen : Seat → View
+abbrev pub seen : Seat → SeatView
 seen s = record { owner = s.owner; out = is_out s.place; bytes = bytes_in s.place }
 
 -- what is seen of a pool's fields
-abbrev pub shown : ℕ → List ℕ → List Seat → Held
+abbrev pub shown : ℕ → List ℕ → List Seat → PoolView
 shown unit free seats = record { unit = unit; free = free; seats = map seen seats }
 
 -- no seat
-abbrev pub nowhere : View
+abbrev pub nowhere : SeatView
 nowhere = record { owner = Leased 0 0; out = false; bytes = [] }
 
-abbrev pub seat_at : List View → ℕ → View
+abbrev pub seat_at : List SeatView → ℕ → SeatView
 seat_at seats k = get_or seats k nowhere
 
 -- ---- whose a seat is
@@ -47,23 +47,23 @@ abbrev pub leased : Owner → ℕ
 leased (Free at) = 0
 leased (Leased first place) = 1
 
-abbrev pub leased_in : View → ℕ
+abbrev pub leased_in : SeatView → ℕ
 leased_in v = leased v.owner
 
 -- how many seats are leases'
-abbrev pub leased_count : List View → ℕ
+abbrev pub leased_count : List SeatView → ℕ
 leased_count seats = sum_by leased_in seats
 
 -- the seat is no lease's
-abbrev pub IsFree : View → Type 0
+abbrev pub IsFree : SeatView → Type 0
 IsFree v = leased_in v ≡ 0
 
 -- the seats of a lease of this pool: each says that it is this lease's, at its place
-abbrev pub IsLease : Held → List ℕ → Type 0
+abbrev pub IsLease : PoolView → List ℕ → Type 0
 IsLease p l = (i : ℕ) → i < length l → (get_or l i 0 < length p.seats) × ((seat_at p.seats (get_or l i 0)).owner ≡ Leased (get_or l 0 0) i)
 
 -- all its buffers are at home
-abbrev pub AllHome : Held → List ℕ → Type 0
+abbrev pub AllHome : PoolView → List ℕ → Type 0
 AllHome p l = (i : ℕ) → i < length l → (seat_at p.seats (get_or l i 0)).out ≡ false
 
 -- two leases have no seat in common
@@ -73,7 +73,7 @@ AreApart l m = (i j : ℕ) → i < length l → j < length m → get_or l i 0 �
 -- ---- what holds of every pool
 
 -- the free seats are those on the list, each where it says, with their buffers at home; the others are leases'; each buffer has the unit's bytes
-pub record IsPool (p : Held) : Type 0 where
+pub record IsPool (p : PoolView) : Type 0 where
   pub listed : (at : ℕ) → at < length p.free → (get_or p.free at 0 < length p.seats) × ((seat_at p.seats (get_or p.free at 0)).owner ≡ Free at)
   pub whole : length p.free + leased_count p.seats ≡ length p.seats
   pub room : length p.seats ≤ 2048
@@ -83,13 +83,13 @@ pub record IsPool (p : Held) : Type 0 where
 -- ---- what each call does
 
 -- all seats are free, with zero bytes at home
-pub record IsFresh (p : Held) (count : ℕ) : Type 0 where
+pub record IsFresh (p : PoolView) (count : ℕ) : Type 0 where
   pub seats : length p.seats ≡ count
   pub free : length p.free ≡ count
   pub each : (k : ℕ) → k < count → seat_at p.seats k ≡ record { owner = Free k; out = false; bytes = replicate p.unit 0 }
 
 -- n free seats became this lease's, and nothing else changed
-pub record Leases (old : Held) (n : ℕ) (l : List ℕ) (new : Held) : Type 0 where
+pub record Leases (old : PoolView) (n : ℕ) (l : List ℕ) (new : PoolView) : Type 0 where
   pub count : length l ≡ n
   pub unit : new.unit ≡ old.unit
   pub free : length old.free ≡ length new.free + n
@@ -101,11 +101,11 @@ pub record Leases (old : Held) (n : ℕ) (l : List ℕ) (new : Held) : Type 0 wh
   pub others : (k : ℕ) → ¬ Contains l k → seat_at new.seats k ≡ seat_at old.seats k
 
 -- each lease that there was is one still, and has no seat of the new one
-abbrev pub StandsApart : Held → List ℕ → Held → Type 0
+abbrev pub StandsApart : PoolView → List ℕ → PoolView → Type 0
 StandsApart old l new = (m : List ℕ) → IsLease old m → IsLease new m × AreApart m l
 
 -- the lease's seats are free again, and nothing else changed
-pub record Returns (old : Held) (l : List ℕ) (new : Held) : Type 0 where
+pub record Returns (old : PoolView) (l : List ℕ) (new : PoolView) : Type 0 where
   pub unit : new.unit ≡ old.unit
   pub free : length new.free ≡ length old.free + length l
   pub seats : length new.seats ≡ length old.seats
@@ -115,25 +115,25 @@ pub record Returns (old : Held) (l : List ℕ) (new : Held) : Type 0 where
   pub others : (k : ℕ) → ¬ Contains l k → seat_at new.seats k ≡ seat_at old.seats k
 
 -- each other lease is one still
-abbrev pub KeepsOthers : Held → List ℕ → Held → Type 0
+abbrev pub KeepsOthers : PoolView → List ℕ → PoolView → Type 0
 KeepsOthers old l new = (m : List ℕ) → IsLease old m → AreApart m l → IsLease new m
 
 -- each lease is one still
-abbrev pub KeepsLeases : Held → Held → Type 0
+abbrev pub KeepsLeases : PoolView → PoolView → Type 0
 KeepsLeases old new = (m : List ℕ) → IsLease old m → IsLease new m
 
 -- the pool whose seat k alone differs: its buffer left, or came back with these bytes
-abbrev pub taken : Held → ℕ → Held
+abbrev pub taken : PoolView → ℕ → PoolView
 taken p k = record p { seats = slice_set p.seats k (record (seat_at p.seats k) { out = true }) }
 
-abbrev pub put : Held → ℕ → List ℕ → Held
+abbrev pub put : PoolView → ℕ → List ℕ → PoolView
 put p k bytes = record p { seats = slice_set p.seats k (record (seat_at p.seats k) { out = false; bytes = bytes }) }
 
 -- ---- one seat
 
 -- the seats with one more given to a lease, and with one given back
-abbrev pub claim : ℕ → ℕ → ℕ → List View → List View
+abbrev pub claim : ℕ → ℕ → ℕ → List SeatView → List SeatView
 claim first place k seats = slice_set seats k (record (seat_at seats k) { owner = Leased first place })
 
-abbrev pub release : ℕ → ℕ → List View → List View
+abbrev pub release : ℕ → ℕ → List SeatView → List SeatView
 release at k seats = slice_set seats k (record (seat_at seats k) { owner = Free at })

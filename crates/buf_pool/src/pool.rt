@@ -1,6 +1,6 @@
 //! The pool.
 ghost use Rattle.std.specs.Prelude.{◌≡◌, ◌<◌, ◌≤◌, ◌+◌, ◌++◌, ◌↔◌, [], ◌∷◌, ℕ, List, length, get_or, IfOk, OnErr, IsErr, IsTrue, replicate, true, false};
-ghost use Rattle.buf_pool.specs.Pool.{Held, IsLease, AllHome, Leases, StandsApart, Returns, KeepsOthers, KeepsLeases, IsPool, claim, release, seat_at, taken, put, leased_in, leased_count, IsFresh};
+ghost use Rattle.buf_pool.specs.Pool.{PoolView, IsLease, AllHome, Leases, StandsApart, Returns, KeepsOthers, KeepsLeases, IsPool, claim, release, seat_at, taken, put, leased_in, leased_count, IsFresh};
 
 use crate::buffer::{Buffer, Memory};
 use crate::lease::{Full, Lease};
@@ -23,9 +23,9 @@ pub struct Pool {
 
 impl Model for Pool {
     ghost use Rattle.std.specs.Prelude.{◌≤◌, vec_len, vec_capacity};
-    ghost use Rattle.buf_pool.specs.Pool.{Held, IsPool, shown};
+    ghost use Rattle.buf_pool.specs.Pool.{PoolView, IsPool, shown};
 
-    ghost Value = { Held };
+    ghost Value = { PoolView };
 
     ghost view = { λ p. shown p.unit p.free.items p.seats.items };
 

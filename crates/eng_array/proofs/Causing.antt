@@ -20,7 +20,7 @@ use Rattle.eng_world.specs.Nodes.{Works, Commits, Terminates}
 use Rattle.eng_world.specs.Causes.{ItemAt}
 use Rattle.eng_world.specs.Legal.{ReplyOf}
 use Rattle.eng_world.specs.Rows.{HasHad}
-use Rattle.eng_world.specs.Step.{StepIn, StepLost, StepBy, Step, Run}
+use Rattle.eng_world.specs.Step.{StepIn, StepLost, StepBy, Step, EventsLead}
 use Rattle.eng_world.proofs.Caused.{tail-has, head-has, front-get}
 use Rattle.eng_world.proofs.Moves.{Move, Moves, one, two, moves, replies, waits, takes, fires, skips, works, commits, ends, fails, anew, gives, dies, starts, home}
 use Rattle.eng_array.specs.Tickets.{IsBad}
@@ -65,7 +65,7 @@ pub had-on : (w : World) (events : List Traced) (e : Traced) (c d : ℕ) → Has
 had-on w events e c d (inl h) = inl h
 had-on w events e c d (inr h) = inr (tail-has e events _ h)
 
-pub run-had : (y : Shape) (graphs : Graphs) (w : World) (events : List Traced) (x : World) → Run y graphs w events x → (c d : ℕ) → HasDevice x.columns c d → HasHad w events c d
+pub run-had : (y : Shape) (graphs : Graphs) (w : World) (events : List Traced) (x : World) → EventsLead y graphs w events x → (c d : ℕ) → HasDevice x.columns c d → HasHad w events c d
 run-had y graphs w [] x r c d h = inl (subst (λ (v : World). HasDevice v.columns c d) r h)
 run-had y graphs w (e ∷ events) x r c d h = elim (step-had y graphs e r.0 x r.2 c d h) [
   | inl was ↦ had-on w events e c d (run-had y graphs w events r.0 r.1 c d was)

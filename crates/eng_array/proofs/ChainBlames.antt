@@ -13,7 +13,7 @@ use Rattle.eng_world.specs.declared.item.Traced.{Traced}
 use Rattle.eng_world.specs.World.{World}
 use Rattle.eng_world.specs.Planning.{Graphs}
 use Rattle.eng_world.specs.Continuing.{Continues}
-use Rattle.eng_world.specs.Step.{Step, Run}
+use Rattle.eng_world.specs.Step.{Step, EventsLead}
 use Rattle.eng_world.proofs.Caused.{tail-has, head-has, front-get, item-still}
 use Rattle.eng_world.proofs.Continuing.{step-continues}
 use Rattle.eng_state.specs.declared.array.Array.{Array}
@@ -50,7 +50,7 @@ module _ {L D : Type 0} (lay : LayoutGhosts L) (disk : DiskGhosts D) (old new : 
   blamed-on mid e events w m x d h go (outside column has had) = outside column (tail-has e events _ has) (had-on w events e column d had)
 
   -- what the last event of a chain marks as failed
-  pub blamed-last : (mid : Array L D) (e : Traced) (events : List Traced) (w m x : World) (d : ℕ) → Happens lay disk e mid new → Step (shape_of lay disk mid) (graphs_of mid) e m x → Run (shape_of lay disk old) (graphs_of old) w events m
+  pub blamed-last : (mid : Array L D) (e : Traced) (events : List Traced) (w m x : World) (d : ℕ) → Happens lay disk e mid new → Step (shape_of lay disk mid) (graphs_of mid) e m x → EventsLead (shape_of lay disk old) (graphs_of old) w events m
       → faults_at lay disk old d ≤ faults_at lay disk mid d → failed_at mid d ≡ false → failed_at new d ≡ true → FailsBy e m x d → IsBlamed lay disk old new (e ∷ events) w x d
   blamed-last mid e events w m x d h step run later before after (by_node bad) = rose (rose-before (faults_at lay disk old d) (faults_at lay disk mid d) (faults_at lay disk new d) later (h.blame bad d before after))
   blamed-last mid e events w m x d h step run later before after (by_item id column is it reply has) =
@@ -62,7 +62,7 @@ module _ {L D : Type 0} (lay : LayoutGhosts L) (disk : DiskGhosts D) (old new : 
 module _ {L D : Type 0} (lay : LayoutGhosts L) (disk : DiskGhosts D) where
   -- a chain is a run of worlds, by which each device that has failed has failed by something
   pub goes-blames : (old new : Array L D) (events : List Traced) → Goes lay disk old events new → (w : World) → Shows disk old w
-      → (x : World) × Shows disk new x × Run (shape_of lay disk old) (graphs_of old) w events x × ((d : ℕ) → failed_at old d ≡ false → failed_at new d ≡ true → IsBlamed lay disk old new events w x d)
+      → (x : World) × Shows disk new x × EventsLead (shape_of lay disk old) (graphs_of old) w events x × ((d : ℕ) → failed_at old d ≡ false → failed_at new d ≡ true → IsBlamed lay disk old new events w x d)
   goes-blames old new [] g w s = (
     w,
     subst (λ (c : Array L D). Shows disk c w) (sym g) s,

@@ -10,7 +10,7 @@ use Rattle.eng_world.specs.declared.item.Item.{Item}
 use Rattle.eng_world.specs.declared.item.Traced.{Traced}
 use Rattle.eng_world.specs.World.{Running, World}
 use Rattle.eng_world.specs.Planning.{Graphs}
-use Rattle.eng_world.specs.Step.{Step, Run}
+use Rattle.eng_world.specs.Step.{Step, EventsLead}
 use Rattle.eng_rest.specs.Left.{alive, Within, NoneOut}
 use Rattle.eng_rest.specs.Few.{count_of, AreLater, GraphsWithin}
 use Rattle.eng_rest.proofs.Fewness.{run-few}
@@ -42,7 +42,7 @@ module _ {L D : Type 0} (lay : LayoutGhosts L) (disk : DiskGhosts D) where
   chain-graphs old (event ∷ events) new chain = chain.2.graphs ∙ chain-graphs old events chain.0 chain.1
 
   -- from each world that the first core shows the events lead to one that the last shows
-  pub chain-runs : (old : Array L D) (events : List Traced) (new : Array L D) → Chain lay disk old events new → (w : World) → Shows disk old w → (x : World) × Shows disk new x × Run (lay.shape old.layout) (graphs_of old.graphs.items) w events x
+  pub chain-runs : (old : Array L D) (events : List Traced) (new : Array L D) → Chain lay disk old events new → (w : World) → Shows disk old w → (x : World) × Shows disk new x × EventsLead (lay.shape old.layout) (graphs_of old.graphs.items) w events x
   chain-runs old [] new chain w s = (w, subst (λ (core : Array L D). Shows disk core w) (sym chain) s, refl)
   chain-runs old (event ∷ events) new chain w s =
       let h = chain-runs old events chain.0 chain.1 w s in
@@ -85,7 +85,7 @@ module _ {L D : Type 0} (lay : LayoutGhosts L) (disk : DiskGhosts D) where
       abbrev was : World
       was = steady.reached.now
 
-      abbrev ran : (x : World) × Shows disk new x × Run (lay.shape old.layout) (graphs_of old.graphs.items) was events x
+      abbrev ran : (x : World) × Shows disk new x × EventsLead (lay.shape old.layout) (graphs_of old.graphs.items) was events x
       ran = chain-runs old events new chain was steady.reached.shows
 
       inside-shown : i < length (was.clients c).items

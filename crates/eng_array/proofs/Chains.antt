@@ -10,7 +10,7 @@ use Rattle.lay_core.specs.declared.layout.Layout.{Ghosts as LayoutGhosts}
 use Rattle.eng_world.specs.declared.item.Traced.{Traced}
 use Rattle.eng_world.specs.World.{World}
 use Rattle.eng_world.specs.Planning.{Graphs}
-use Rattle.eng_world.specs.Step.{Step, Run}
+use Rattle.eng_world.specs.Step.{Step, EventsLead}
 use Rattle.eng_state.specs.declared.array.Array.{Array}
 use Rattle.eng_state.specs.Shows.{Shows}
 use Rattle.eng_array.specs.Tickets.{Goes, Same, keeps_trace, traced, shape_of, graphs_of, size_at, faults_at, devices_of, DevicesGoOn}
@@ -40,7 +40,7 @@ module _ {L D : Type 0} (lay : LayoutGhosts L) (disk : DiskGhosts D) where
         regions = last.regions ∙ before.regions;
       }
 
-  pub goes-leads : (old new : Array L D) (events : List Traced) → Goes lay disk old events new → (w : World) → Shows disk old w → (x : World) × Shows disk new x × Run (shape_of lay disk old) (graphs_of old) w events x
+  pub goes-leads : (old new : Array L D) (events : List Traced) → Goes lay disk old events new → (w : World) → Shows disk old w → (x : World) × Shows disk new x × EventsLead (shape_of lay disk old) (graphs_of old) w events x
   goes-leads old new [] g w f = (w, subst (λ (c : Array L D). Shows disk c w) (sym g) f, refl)
   goes-leads old new (e ∷ events) g w f =
       let mid = goes-leads old g.0 events g.1 w f in

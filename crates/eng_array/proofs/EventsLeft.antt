@@ -15,7 +15,7 @@ use Rattle.eng_world.specs.World.{World}
 use Rattle.eng_world.specs.Planning.{Graphs}
 use Rattle.eng_world.specs.Pool.{HaveItems}
 use Rattle.eng_world.specs.Failing.{FailsColumn, FailsIfAlive}
-use Rattle.eng_world.specs.Step.{StepLost, StepBy, Step, IsOpening, Run}
+use Rattle.eng_world.specs.Step.{StepLost, StepBy, Step, IsOpening, EventsLead}
 use Rattle.eng_rest.specs.Left.{cost, cost_below, run_left, current_left, is_alive, alive, left, below, all_left, IsOwn, IsLater, EachWithin, IsIndexed}
 use Rattle.eng_rest.proofs.Dying.{alive-killed-le}
 use Rattle.eng_rest.proofs.Events.{Parts, served, kills, fails}
@@ -56,7 +56,7 @@ alive-some cols c l h = let a = alive-killed cols c l h in omega (arith, a)
 
 -- ## Runs
 
-pub reached-indexed : (y : Shape) (graphs : Graphs) (opening : World) (events : List Traced) (now : World) → IsOpening y opening → Run y graphs opening events now → IsIndexed now
+pub reached-indexed : (y : Shape) (graphs : Graphs) (opening : World) (events : List Traced) (now : World) → IsOpening y opening → EventsLead y graphs opening events now → IsIndexed now
 reached-indexed y graphs opening events now o run = run-indexed y graphs opening events now (opening-indexed y opening o) run
 
 module _ (y : Shape) (graphs : Graphs) (old new : World) (x : IsIndexed old) where

@@ -32,12 +32,12 @@ below-same f g zero e = refl
 below-same f g (suc n) e = let a = e n (omega arith) in let b = below-same f g n (λ c l. e c (omega (arith, l))) in omega (arith, a, b)
 
 -- what an operation does is shown but for its buffers, of which no number speaks
-outs-shown : (tells : Type 0) (p : pool.Held) (d : Desk) (now : Current) (i : ℕ) (t : Stage) → ShowsCurrent tells p t d now → outs_of i now ≡ outs_of i (current_at t d)
+outs-shown : (tells : Type 0) (p : pool.PoolView) (d : Desk) (now : Current) (i : ℕ) (t : Stage) → ShowsCurrent tells p t d now → outs_of i now ≡ outs_of i (current_at t d)
 outs-shown tells p d now i Nothing s = ap (outs_of i) s
 outs-shown tells p d now i Waits s = ap (outs_of i) s
 outs-shown tells p d now i Runs s = ap (outs_of i) s.1
 
-now-shown : (tells : Type 0) (p : pool.Held) (d : Desk) (now : Current) (m : ℕ) (t : Stage) → ShowsCurrent tells p t d now → current_left m now ≡ current_left m (current_at t d)
+now-shown : (tells : Type 0) (p : pool.PoolView) (d : Desk) (now : Current) (m : ℕ) (t : Stage) → ShowsCurrent tells p t d now → current_left m now ≡ current_left m (current_at t d)
 now-shown tells p d now m Nothing s = ap (current_left m) s
 now-shown tells p d now m Waits s = ap (current_left m) s
 now-shown tells p d now m Runs s = ap (current_left m) s.1

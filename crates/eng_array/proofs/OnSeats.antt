@@ -27,7 +27,7 @@ use Rattle.eng_world.specs.Planning.{Graphs, Promises}
 use Rattle.eng_world.specs.Failing.{FailsColumn, is_device_of}
 use Rattle.eng_world.specs.Nodes.{Fires, ColumnsAfter, place_of}
 use Rattle.eng_world.specs.Invariant.{Invariant}
-use Rattle.eng_world.specs.Step.{StepLost, StepBy, Step, IsOpening, Run}
+use Rattle.eng_world.specs.Step.{StepLost, StepBy, Step, IsOpening, EventsLead}
 use Rattle.eng_world.proofs.Clients.{nothing-runs}
 use Rattle.eng_world.proofs.Moves.{Move, Moves, one, two, moves, replies, waits, takes, fires, skips, works, commits, ends, fails, anew, gives, dies, starts, home}
 use Rattle.eng_world.proofs.Outs.{WasOut, still, fired, was-out}
@@ -253,7 +253,7 @@ module _ (y : Shape) (graphs : Graphs) (in_sync : Type 0) (start : Blocks) where
       go (Some loss) lost s = home-on e old new loss lost s q
 
 -- so it is in every world that a run reaches
-pub run-on-seats : (y : Shape) → IsLayout y → (graphs : Graphs) → Promises graphs → (opening : World) (events : List Traced) (now : World) → IsOpening y opening → Run y graphs opening events now → EachOnSeat y now
+pub run-on-seats : (y : Shape) → IsLayout y → (graphs : Graphs) → Promises graphs → (opening : World) (events : List Traced) (now : World) → IsOpening y opening → EventsLead y graphs opening events now → EachOnSeat y now
 run-on-seats y layout graphs promises opening [] now o h = λ c n r at runs out is. nothing-runs (sym (o.unbegun c).1 ∙ subst (λ (w : World). RunsAs w c r) h runs)
 run-on-seats y layout graphs promises opening (e ∷ events) now o h =
     step-on y graphs (InSync y opening.contents opening.columns) opening.blocks e h.0 now

@@ -6,7 +6,7 @@ use Rattle.lay_core.specs.declared.layout.Layout.{Ghosts as LayoutGhosts}
 use Rattle.graph_mean.specs.declared.step.Status.{Status}
 use Rattle.graph_mean.specs.declared.step.Status.TheVariants as status
 use Rattle.eng_one.specs.Control.{mark_of}
-use Rattle.eng_world.specs.Nodes.{Takes}
+use Rattle.eng_world.specs.Nodes.{MakesOrUses}
 use Rattle.eng_clients.specs.declared.stage.Stage.{Stage}
 use Rattle.eng_clients.specs.declared.stage.Stage.TheVariants.{Nothing, Waits, Runs}
 use Rattle.eng_state.specs.declared.array.Array.{Array}
@@ -66,7 +66,7 @@ module _ {L D : Type 0} (core : Array L D) where
         (h.0, h.1, out-of (desk_at core.clients h.0) h.1 h.2.out, h.2, λ k m other. steady.sound.devices.one k h.0 m h.1 d other h.2)
 
     pub buffer-with : (c b : ℕ) → (desk_at core.clients c).stage ≡ Runs → b < length (desk_at core.clients c).lease → (seat_of core.pool (desk_at core.clients c) b).out ≡ true
-        → (n : ℕ) × (out_at core c n ≡ 1) × Takes (desk_at core.clients c).run.graph n b × ((m : ℕ) → out_at core c m ≡ 1 → Takes (desk_at core.clients c).run.graph m b → m ≡ n)
+        → (n : ℕ) × (out_at core c n ≡ 1) × MakesOrUses (desk_at core.clients c).run.graph n b × ((m : ℕ) → out_at core c m ≡ 1 → MakesOrUses (desk_at core.clients c).run.graph m b → m ≡ n)
     buffer-with c b runs below out =
         let h = steady.sound.seats.held c b runs below out in
         (h.0, out-of (desk_at core.clients c) h.0 h.1, h.2, λ m one takes. steady.sound.seats.one c m h.0 b (is-out (desk_at core.clients c) m one) h.1 takes h.2)

@@ -7,7 +7,7 @@ use Rattle.lay_core.specs.Layout.{Shape}
 use Rattle.lay_core.specs.declared.layout.Layout.{Ghosts as LayoutGhosts}
 use Rattle.graph_mean.specs.Graph.{Held}
 use Rattle.eng_world.specs.declared.item.Traced.{Traced}
-use Rattle.eng_world.specs.Step.{IsOpening, Run}
+use Rattle.eng_world.specs.Step.{IsOpening, EventsLead}
 use Rattle.eng_state.specs.declared.array.Array.{Array}
 use Rattle.eng_state.specs.Steps.{graphs_of, Follows}
 use Rattle.eng_array.specs.Run.{HasRun, Notes}
@@ -22,8 +22,8 @@ module _ {L D : Type 0} (lay : LayoutGhosts L) (disk : DiskGhosts D) (old new : 
         now = f.0;
         is_opening = subst (λ (v : Shape). IsOpening v r.opening) (sym shape) r.is_opening;
         all_free = r.all_free;
-        run = subst (λ (v : Shape). Run v (graphs_of new.graphs.items) r.opening (e ∷ r.events) f.0) (sym shape)
-            (subst (λ (g : List Held). Run (lay.shape old.layout) (graphs_of g) r.opening (e ∷ r.events) f.0) (sym graphs) (r.now, r.run, f.2));
+        run = subst (λ (v : Shape). EventsLead v (graphs_of new.graphs.items) r.opening (e ∷ r.events) f.0) (sym shape)
+            (subst (λ (g : List Held). EventsLead (lay.shape old.layout) (graphs_of g) r.opening (e ∷ r.events) f.0) (sym graphs) (r.now, r.run, f.2));
         shows = f.1;
         traced = λ keeps. traced (sym notes.keeps ∙ keeps);
       }

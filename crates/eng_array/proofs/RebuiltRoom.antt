@@ -13,7 +13,7 @@ use Rattle.eng_world.specs.Planning.{Graphs}
 use Rattle.eng_world.specs.Failing.{FailsColumn, Loses, Survives, device_on}
 use Rattle.eng_world.specs.Nodes.{Terminates, RepliesTo, ColumnsAfter}
 use Rattle.eng_world.specs.Serving.{IsUnbegun}
-use Rattle.eng_world.specs.Step.{Run}
+use Rattle.eng_world.specs.Step.{EventsLead}
 use Rattle.eng_world.proofs.Moves.{Move, replies, waits, takes, fires, skips, works, commits, ends, fails, anew, gives, dies, starts, home, Moves, one, two, moves}
 use Rattle.eng_rest.specs.Left.{below}
 use Rattle.eng_rest.proofs.Summing.{below-le, below-less}
@@ -107,7 +107,7 @@ module _ (y : Shape) (graphs : Graphs) where
       }
 
   -- where only seventeen clients were replied
-  pub run-rebuilt : (start : World) (events : List Traced) (now : World) → start.rebuilt ≡ 0 → Run y graphs start events now → ((c : ℕ) → 17 ≤ c → replied_of now c ≡ 0) → now.rebuilt ≤ below (replied_of now) 17
+  pub run-rebuilt : (start : World) (events : List Traced) (now : World) → start.rebuilt ≡ 0 → EventsLead y graphs start events now → ((c : ℕ) → 17 ≤ c → replied_of now c ≡ 0) → now.rebuilt ≤ below (replied_of now) 17
   run-rebuilt start [] now zero run none = let e = ap (λ (w : World). w.rebuilt) run in omega (arith, e, zero)
   run-rebuilt start (e ∷ events) now zero run none =
       let mid = run.0 in

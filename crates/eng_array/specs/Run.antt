@@ -4,7 +4,7 @@ use Rattle.blk_disk.specs.declared.disk.Disk.{Ghosts as DiskGhosts}
 use Rattle.lay_core.specs.declared.layout.Layout.{Ghosts as LayoutGhosts}
 use Rattle.eng_world.specs.declared.item.Traced.{Traced}
 use Rattle.eng_world.specs.World.{World}
-use Rattle.eng_world.specs.Step.{IsOpening, Run}
+use Rattle.eng_world.specs.Step.{IsOpening, EventsLead}
 use Rattle.eng_state.specs.declared.array.Array.{Array}
 use Rattle.eng_log.specs.Log.{Logged, noted}
 use Rattle.eng_state.specs.Shows.{Shows}
@@ -26,6 +26,6 @@ module _ {L D : Type 0} (lay : LayoutGhosts L) (disk : DiskGhosts D) where
     pub now : World
     pub is_opening : IsOpening (lay.shape core.layout) opening
     pub all_free : opening.free ≡ 2048
-    pub run : Run (lay.shape core.layout) (graphs_of core.graphs.items) opening events now
+    pub run : EventsLead (lay.shape core.layout) (graphs_of core.graphs.items) opening events now
     pub shows : Shows disk core now
     pub traced : core.log.keeps ≡ true → core.log.trace ≡ reverse events

@@ -11,7 +11,6 @@ mod orders;
 mod rebuilding;
 mod rebuilt;
 mod rows;
-mod spared;
 mod together;
 mod traced;
 

@@ -5,8 +5,8 @@ ghost use Rattle.blk_disk.specs.Disk.{Rose};
 ghost use Rattle.eng_job.specs.declared.job.Job.{Job as AnyJob};
 ghost use Rattle.eng_world.specs.declared.item.Traced.{Traced};
 ghost use Rattle.eng_world.specs.World.{World};
-ghost use Rattle.eng_world.specs.Nodes.{Takes};
-ghost use Rattle.eng_world.specs.Step.{Run};
+ghost use Rattle.eng_world.specs.Nodes.{MakesOrUses};
+ghost use Rattle.eng_world.specs.Step.{EventsLead};
 ghost use Rattle.eng_state.specs.declared.array.Array.{Array as AnyCore};
 ghost use Rattle.eng_parts.specs.declared.setup.Closed.{Closed};
 ghost use Rattle.eng_parts.specs.declared.setup.Setup.{Setup};
@@ -40,7 +40,7 @@ pub fn chains_are_runs<L: Layout, D: Disk>()
     ensures append { (first mid last : AnyCore L D) (events more : List Traced) → Goes L.Layout D.Disk first events mid → Goes L.Layout D.Disk mid more last → Goes L.Layout D.Disk first (more ++ events) last }
     ensures same { (old new : AnyCore L D) (events : List Traced) → Goes L.Layout D.Disk old events new → Same L.Layout D.Disk old new }
     ensures leads { (old new : AnyCore L D) (events : List Traced) (w : World) → Goes L.Layout D.Disk old events new → Shows D.Disk old w
-        → (x : World) × Shows D.Disk new x × Run (shape_of L.Layout D.Disk old) (graphs_of old) w events x }
+        → (x : World) × Shows D.Disk new x × EventsLead (shape_of L.Layout D.Disk old) (graphs_of old) w events x }
     ensures told { (old new : AnyCore L D) (events : List Traced) → Goes L.Layout D.Disk old events new → keeps_trace old ≡ true → traced new ≡ traced old ++ reverse events }
     ensures untold { (old new : AnyCore L D) (events : List Traced) → Goes L.Layout D.Disk old events new → keeps_trace old ≡ false → traced new ≡ traced old }
     ensures later { (old new : AnyCore L D) (events : List Traced) (d : ℕ) → Goes L.Layout D.Disk old events new
@@ -74,5 +74,5 @@ pub fn what_is_out_has_one_place<L: Layout, D: Disk>()
     ensures devices { (core : AnyCore L D) (d : ℕ) (x : D) → IsSteady L.Layout D.Disk core → IsAway core.devices d x
         → (c : ℕ) × (n : ℕ) × (out_at core c n ≡ 1) × HasAway core.clients c n d × ((k m : ℕ) → HasAway core.clients k m d → (k ≡ c) × (m ≡ n)) }
     ensures buffers { (core : AnyCore L D) (c b : ℕ) → IsSteady L.Layout D.Disk core → (desk_at core.clients c).stage ≡ stage.Runs → b < length (desk_at core.clients c).lease → (seat_of core.pool (desk_at core.clients c) b).out ≡ true
-        → (n : ℕ) × (out_at core c n ≡ 1) × Takes (desk_at core.clients c).run.graph n b × ((m : ℕ) → out_at core c m ≡ 1 → Takes (desk_at core.clients c).run.graph m b → m ≡ n) }
+        → (n : ℕ) × (out_at core c n ≡ 1) × MakesOrUses (desk_at core.clients c).run.graph n b × ((m : ℕ) → out_at core c m ≡ 1 → MakesOrUses (desk_at core.clients c).run.graph m b → m ≡ n) }
 {}

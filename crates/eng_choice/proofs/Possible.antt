@@ -18,7 +18,7 @@ use Rattle.eng_cols.proofs.Spots.{seat-device}
 use Rattle.eng_world.specs.declared.item.Item.{Item}
 use Rattle.eng_world.specs.declared.item.Reply.{Reply}
 use Rattle.eng_world.specs.World.{Plan, Running, Current, World, RunsAs, item_now, Nothing as Idles, Waits as IsWaiting, Runs as IsRunning}
-use Rattle.eng_world.specs.Nodes.{CanFire as MayFire, CanSkip as MaySkip, Takes, place_of}
+use Rattle.eng_world.specs.Nodes.{CanFire as MayFire, CanSkip as MaySkip, MakesOrUses, place_of}
 use Rattle.eng_world.specs.Serving.{CanBegin as MayBegin, CanBack as MayBack}
 use Rattle.eng_clients.specs.declared.stage.Stage.{Stage}
 use Rattle.eng_clients.specs.declared.stage.Stage.TheVariants.{Nothing, Waits, Runs}
@@ -38,17 +38,17 @@ use Rattle.eng_state.proofs.Shown.{runs-shown, shown-running, unlost}
 
 -- ## What a client is shown to do
 
-current-nothing : (tells : Type 0) (p : pool.Held) (d : Desk) (now : Current) (t : Stage) → ShowsCurrent tells p t d now → now ≡ Idles → t ≡ Nothing
+current-nothing : (tells : Type 0) (p : pool.PoolView) (d : Desk) (now : Current) (t : Stage) → ShowsCurrent tells p t d now → now ≡ Idles → t ≡ Nothing
 current-nothing tells p d now Nothing s is = refl
 current-nothing tells p d now Waits s is = let z : Idles ≡ IsWaiting = sym is ∙ s in absurd (let u : ⊥ = cc in u)
 current-nothing tells p d now Runs s is = let z : Idles ≡ IsRunning (running_as d s.0) = sym is ∙ s.1 in absurd (let u : ⊥ = cc in u)
 
-pub current-waits : (tells : Type 0) (p : pool.Held) (d : Desk) (now : Current) (t : Stage) → ShowsCurrent tells p t d now → now ≡ IsWaiting → t ≡ Waits
+pub current-waits : (tells : Type 0) (p : pool.PoolView) (d : Desk) (now : Current) (t : Stage) → ShowsCurrent tells p t d now → now ≡ IsWaiting → t ≡ Waits
 current-waits tells p d now Nothing s is = let z : Idles ≡ IsWaiting = sym s ∙ is in absurd (let u : ⊥ = cc in u)
 current-waits tells p d now Waits s is = refl
 current-waits tells p d now Runs s is = let z : IsWaiting ≡ IsRunning (running_as d s.0) = sym is ∙ s.1 in absurd (let u : ⊥ = cc in u)
 
-shown-idle : (tells : Type 0) (p : pool.Held) (d : Desk) (now : Current) → d.stage ≡ Nothing → ShowsCurrent tells p d.stage d now → now ≡ Idles
+shown-idle : (tells : Type 0) (p : pool.PoolView) (d : Desk) (now : Current) → d.stage ≡ Nothing → ShowsCurrent tells p d.stage d now → now ≡ Idles
 shown-idle tells p d now is s = subst (λ (t : Stage). ShowsCurrent tells p t d now) is s
 
 -- what stands somewhere stands on a device of its column
@@ -165,12 +165,12 @@ module _ {L D : Type 0} (lay : LayoutGhosts L) (disk : DiskGhosts D) (core : Arr
       ready-of : IsReady d.run.graph (mark_of d.run) d.run.phase n
       ready-of = subst (λ (r : Running). IsReady r.plan.graph r.node r.phase n) stands.2 h.ready
 
-      seat-in : (b : ℕ) → Takes d.run.graph n b → (o : Bool) → (seat_of core.pool d b).out ≡ o → o ≡ false
+      seat-in : (b : ℕ) → MakesOrUses d.run.graph n b → (o : Bool) → (seat_of core.pool d b).out ≡ o → o ≡ false
       seat-in b takes false is = refl
       seat-in b takes true is =
           let well = well-of c stands.0 in
           let held = sound.seats.held c b stands.0 (takes-leased y core.graphs.items core.pool d well n ready-of.below b takes) is in
-          absurd (h.buffers_home held.0 b (subst (λ (r : Running). r.node held.0 ≡ status.Out) (sym stands.2) held.1.mark) (subst (λ (r : Running). Takes r.plan.graph n b) (sym stands.2) takes) (subst (λ (r : Running). Takes r.plan.graph held.0 b) (sym stands.2) held.2))
+          absurd (h.buffers_home held.0 b (subst (λ (r : Running). r.node held.0 ≡ status.Out) (sym stands.2) held.1.mark) (subst (λ (r : Running). MakesOrUses r.plan.graph n b) (sym stands.2) takes) (subst (λ (r : Running). MakesOrUses r.plan.graph held.0 b) (sym stands.2) held.2))
 
       pub fire-can : CanFire lay core c n
       fire-can = record {

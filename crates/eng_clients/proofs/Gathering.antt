@@ -12,7 +12,7 @@ use Rattle.std.proofs.lemmas.List.Folds.{list_any-append}
 use Rattle.std.proofs.lemmas.Map.Keys.{IsDistinct-push, IsDistinct-head, IsDistinct-tail}
 use Rattle.std.proofs.lemmas.Map.Made.{IsDistinct-from_count}
 use Rattle.std.proofs.lemmas.Map.Steps.{length-le_from_distinct_below}
-use Rattle.buf_pool.specs.Pool.{Held, taken, IsLease}
+use Rattle.buf_pool.specs.Pool.{PoolView, taken, IsLease}
 use Rattle.graph_mean.specs.Sums.{xor_by}
 use Rattle.eng_job.specs.declared.job.Source.{Source}
 use Rattle.eng_job.specs.Performed.{byte_at, sum_at}
@@ -143,7 +143,7 @@ turned-long unit b (s ∷ ss) h = (ap length (turned-buffer b s) ∙ h.0, turned
 -- ## One source more
 
 -- buffers that left one after another
-pub left-twice : (a b c : Held) (P Q R : ℕ → Type 0) → BuffersLeft a P b → BuffersLeft b Q c → ((k : ℕ) → R k ↔ (P k ⊎ Q k)) → BuffersLeft a R c
+pub left-twice : (a b c : PoolView) (P Q R : ℕ → Type 0) → BuffersLeft a P b → BuffersLeft b Q c → ((k : ℕ) → R k ↔ (P k ⊎ Q k)) → BuffersLeft a R c
 left-twice a b c P Q R f g split = record {
   unit = g.unit ∙ f.unit;
   free = g.free ∙ f.free;
@@ -162,7 +162,7 @@ left-twice a b c P Q R f g split = record {
   );
 }
 
-module _ (old : Held) (lease named : List ℕ) (p : Held) (from : List Source) (b : ℕ) (leased : IsLease old lease) (inside : b < length lease) (each : (a : ℕ) → has named a ≡ true → a < length lease)
+module _ (old : PoolView) (lease named : List ℕ) (p : PoolView) (from : List Source) (b : ℕ) (leased : IsLease old lease) (inside : b < length lease) (each : (a : ℕ) → has named a ≡ true → a < length lease)
     (home : (lease_seat old lease b).out ≡ false) (g : Gathered old lease named p from) where
   abbrev more : List ℕ
   more = named ++ b ∷ []
@@ -192,14 +192,14 @@ module _ (old : Held) (lease named : List ℕ) (p : Held) (from : List Source) (
     λ s. elim s [ inl n ↦ (n.0, has-more named b n.0 n.1, n.2) | inr e ↦ absurd e ],
   )
 
-  when-home : (new : Held) (now : List Source) → GathersOne p lease b from new now → (lease_seat p lease b).out ≡ false → Gathered old lease more new now
+  when-home : (new : PoolView) (now : List Source) → GathersOne p lease b from new now → (lease_seat p lease b).out ≡ false → Gathered old lease more new now
   when-home new now one in_pool =
       let h = one.home in_pool in
       let fresh : has named b ≡ false = elim (cases_Bool (has named b)) [ inl t ↦ (let z : false ≡ true = sym in_pool ∙ out-if-named t in absurd (let u : ⊥ = cc in u)) | inr f ↦ f ] in
       let s : Source = source_of p lease b in
       let same : s.buffer ≡ bytes_at old lease b = g.pool.bytes (get_or lease b 0) in
       record {
-        pool = subst (λ (q : Held). BuffersLeft old (IsNamed lease more) q) (sym h.0) (left-twice old p (taken p (get_or lease b 0)) (IsNamed lease named) (λ k. k ≡ get_or lease b 0) (IsNamed lease more) g.pool (one-left p (get_or lease b 0) seat-below (λ k. k ≡ get_or lease b 0) refl (λ j e. e)) split-home);
+        pool = subst (λ (q : PoolView). BuffersLeft old (IsNamed lease more) q) (sym h.0) (left-twice old p (taken p (get_or lease b 0)) (IsNamed lease named) (λ k. k ≡ get_or lease b 0) (IsNamed lease more) g.pool (one-left p (get_or lease b 0) seat-below (λ k. k ≡ get_or lease b 0) refl (λ j e. e)) split-home);
         bytes = subst (λ (l : List Source). AllByRecursion (λ (t : Source). t.buffer ≡ bytes_at old lease t.at) l) (sym h.1) (bytes-push (bytes_at old lease) from s g.bytes same);
         long = subst (λ (l : List Source). AllByRecursion (λ (t : Source). length t.buffer ≡ old.unit) l) (sym h.1) (long-push old.unit from s g.long (h.2 ∙ g.pool.unit));
         all = λ a. ap (λ (l : List Source). has (numbers l) a) h.1 ∙ (ap (λ (l : List ℕ). has l a) (map_push (λ (t : Source). t.at) from s) ∙ (has-push (numbers from) b a ∙ (ap (λ (t : Bool). t || nat_eq a b) (g.all a) ∙ sym (has-push named b a))));
@@ -207,12 +207,12 @@ module _ (old : Held) (lease named : List ℕ) (p : Held) (from : List Source) (
         sum = λ k. ap (λ (l : List Source). sum_at l k) h.1 ∙ (sum_push from s k ∙ (ap (λ (x : ℕ). bit_xor x (slice_index s.buffer k)) (g.sum k) ∙ (ap (λ (l : List ℕ). bit_xor (xor_by (λ a. slice_index (bytes_at old lease a) k) named) (slice_index l k)) same ∙ sym (xor_by-push (λ a. slice_index (bytes_at old lease a) k) named b))));
       }
 
-  when-out : (new : Held) (now : List Source) → GathersOne p lease b from new now → (lease_seat p lease b).out ≡ true → Gathered old lease more new now
+  when-out : (new : PoolView) (now : List Source) → GathersOne p lease b from new now → (lease_seat p lease b).out ≡ true → Gathered old lease more new now
   when-out new now one out =
       let h = one.out out in
       let known = named-if-out out in
       record {
-        pool = subst (λ (q : Held). BuffersLeft old (IsNamed lease more) q) (sym h.0) (left-twice old p p (IsNamed lease named) (λ k. ⊥) (IsNamed lease more) g.pool (none-left p (λ k. ⊥) (λ k e. e)) (split-out known));
+        pool = subst (λ (q : PoolView). BuffersLeft old (IsNamed lease more) q) (sym h.0) (left-twice old p p (IsNamed lease named) (λ k. ⊥) (IsNamed lease more) g.pool (none-left p (λ k. ⊥) (λ k e. e)) (split-out known));
         bytes = subst (λ (l : List Source). AllByRecursion (λ (t : Source). t.buffer ≡ bytes_at old lease t.at) l) (sym h.1) (turned-bytes (bytes_at old lease) b from g.bytes);
         long = subst (λ (l : List Source). AllByRecursion (λ (t : Source). length t.buffer ≡ old.unit) l) (sym h.1) (turned-long old.unit b from g.long);
         all = λ a. ap (λ (l : List Source). has (numbers l) a) h.1 ∙ (ap (λ (l : List ℕ). has l a) (turned-numbers b from) ∙ (g.all a ∙ known-more a));
@@ -226,7 +226,7 @@ module _ (old : Held) (lease named : List ℕ) (p : Held) (from : List Source) (
         | inr ne ↦ sym (or-false (has named a)) ∙ (ap (λ (t : Bool). has named a || t) (sym (ne_eqb a b ne)) ∙ sym (has-push named b a))
       ]
 
-  pub gathered-more : (new : Held) (now : List Source) → GathersOne p lease b from new now → Gathered old lease more new now
+  pub gathered-more : (new : PoolView) (now : List Source) → GathersOne p lease b from new now → Gathered old lease more new now
   gathered-more new now one = elim (cases_Bool (lease_seat p lease b).out) [ inl t ↦ when-out new now one t | inr f ↦ when-home new now one f ]
 
   -- and there is room for it
@@ -239,7 +239,7 @@ module _ (old : Held) (lease named : List ℕ) (p : Held) (from : List Source) (
       omega (arith, most, long, same, few)
 
 -- nothing is gathered yet
-pub nothing-gathered : (old : Held) (lease : List ℕ) → Gathered old lease [] old []
+pub nothing-gathered : (old : PoolView) (lease : List ℕ) → Gathered old lease [] old []
 nothing-gathered old lease = record {
   pool = none-left old (IsNamed lease []) (λ k n. let z : false ≡ true = n.1 in let u : ⊥ = cc in u);
   bytes = tt;
@@ -250,5 +250,5 @@ nothing-gathered old lease = record {
 }
 
 -- a lease of the pool is one still
-pub lease-left : (old new : Held) (is_out : ℕ → Type 0) (l : List ℕ) → BuffersLeft old is_out new → IsLease old l → IsLease new l
+pub lease-left : (old new : PoolView) (is_out : ℕ → Type 0) (l : List ℕ) → BuffersLeft old is_out new → IsLease old l → IsLease new l
 lease-left old new is_out l b h i lt = let e = b.seats in let m = (h i lt).0 in (omega (arith, e, m), b.owner (get_or l i 0) ∙ (h i lt).1)

@@ -5,7 +5,7 @@ use Rattle.std.specs.List.{IsDistinct, AllByRecursion}
 use Rattle.std.proofs.lemmas.Bool.{cases_eq, eq-eqb, eqb-true, or_cases}
 use Rattle.std.proofs.lemmas.List.{get_or-set_same, get_or-set_other, length-set}
 use Rattle.std.proofs.lemmas.Map.Keys.{IsDistinct-head, IsDistinct-tail}
-use Rattle.buf_pool.specs.Pool.{View, Held, IsLease, seat_at, put, nowhere}
+use Rattle.buf_pool.specs.Pool.{SeatView, PoolView, IsLease, seat_at, put, nowhere}
 use Rattle.eng_job.specs.declared.job.Source.{Source}
 use Rattle.eng_clients.specs.Seats.{lease_seat, bytes_at}
 use Rattle.eng_clients.specs.Gathered.{has, numbers, IsNamed}
@@ -13,7 +13,7 @@ use Rattle.eng_clients.specs.Scattered.{SourcesOut, SourcesHome}
 use Rattle.eng_clients.proofs.SeatsApart.{seats-differ}
 
 -- what is put at one seat leaves the others as they are
-put-else : (p : Held) (k : ℕ) (bytes : List ℕ) (inside : k < length p.seats) (j : ℕ) → j ≢ k → seat_at (put p k bytes).seats j ≡ seat_at p.seats j
+put-else : (p : PoolView) (k : ℕ) (bytes : List ℕ) (inside : k < length p.seats) (j : ℕ) → j ≢ k → seat_at (put p k bytes).seats j ≡ seat_at p.seats j
 put-else p k bytes inside j ne = get_or-set_other p.seats k j _ nowhere ne
 
 -- ## One source among others
@@ -50,7 +50,7 @@ middle-once (x ∷ xs) s done h = middle-once xs s done (IsDistinct-tail nat_eq 
 -- ## One more comes home
 
 -- none has come home yet
-pub none-home : (p : Held) (lease : List ℕ) → SourcesHome p lease [] p
+pub none-home : (p : PoolView) (lease : List ℕ) → SourcesHome p lease [] p
 none-home p lease = record {
   unit = refl;
   free = refl;
@@ -61,7 +61,7 @@ none-home p lease = record {
   others = λ k ne. refl;
 }
 
-module _ (old p : Held) (lease : List ℕ) (still : List Source) (s : Source) (done : List Source) (leased : IsLease old lease) (out : SourcesOut old lease (still ++ s ∷ done)) (home : SourcesHome old lease done p) where
+module _ (old p : PoolView) (lease : List ℕ) (still : List Source) (s : Source) (done : List Source) (leased : IsLease old lease) (out : SourcesOut old lease (still ++ s ∷ done)) (home : SourcesHome old lease done p) where
   abbrev seat : ℕ
   seat = get_or lease s.at 0
 
@@ -76,7 +76,7 @@ module _ (old p : Held) (lease : List ℕ) (still : List Source) (s : Source) (d
       let u : ⊥ = cc in u
 
   pub one-out : (lease_seat p lease s.at).out ≡ true
-  one-out = ap (λ (v : View). v.out) (home.others seat apart) ∙ out.seats s.at (middle-has still s done)
+  one-out = ap (λ (v : SeatView). v.out) (home.others seat apart) ∙ out.seats s.at (middle-has still s done)
 
   pub one-long : length s.buffer ≡ p.unit
   one-long = middle (λ (t : Source). length t.buffer ≡ old.unit) still s done out.longs ∙ sym home.unit
@@ -93,16 +93,16 @@ module _ (old p : Held) (lease : List ℕ) (still : List Source) (s : Source) (d
     free = home.free;
     seats = length-set p.seats seat _ ∙ home.seats;
     owner = λ k. elim (cases_eq k seat) [
-      | inl e ↦ ap (λ (j : ℕ). (seat_at (put p seat s.buffer).seats j).owner) e ∙ (ap (λ (v : View). v.owner) here ∙ (home.owner seat ∙ sym (ap (λ (j : ℕ). (seat_at old.seats j).owner) e)))
-      | inr ne ↦ ap (λ (v : View). v.owner) (put-else p seat s.buffer inside k ne) ∙ home.owner k
+      | inl e ↦ ap (λ (j : ℕ). (seat_at (put p seat s.buffer).seats j).owner) e ∙ (ap (λ (v : SeatView). v.owner) here ∙ (home.owner seat ∙ sym (ap (λ (j : ℕ). (seat_at old.seats j).owner) e)))
+      | inr ne ↦ ap (λ (v : SeatView). v.owner) (put-else p seat s.buffer inside k ne) ∙ home.owner k
     ];
     bytes = λ k. elim (cases_eq k seat) [
-      | inl e ↦ ap (λ (j : ℕ). (seat_at (put p seat s.buffer).seats j).bytes) e ∙ (ap (λ (v : View). v.bytes) here ∙ (middle (λ (t : Source). t.buffer ≡ bytes_at old lease t.at) still s done out.bytes ∙ sym (ap (λ (j : ℕ). (seat_at old.seats j).bytes) e)))
-      | inr ne ↦ ap (λ (v : View). v.bytes) (put-else p seat s.buffer inside k ne) ∙ home.bytes k
+      | inl e ↦ ap (λ (j : ℕ). (seat_at (put p seat s.buffer).seats j).bytes) e ∙ (ap (λ (v : SeatView). v.bytes) here ∙ (middle (λ (t : Source). t.buffer ≡ bytes_at old lease t.at) still s done out.bytes ∙ sym (ap (λ (j : ℕ). (seat_at old.seats j).bytes) e)))
+      | inr ne ↦ ap (λ (v : SeatView). v.bytes) (put-else p seat s.buffer inside k ne) ∙ home.bytes k
     ];
     came = λ k h. elim (cases_eq k seat) [
-      | inl e ↦ ap (λ (j : ℕ). (seat_at (put p seat s.buffer).seats j).out) e ∙ ap (λ (v : View). v.out) here
-      | inr ne ↦ ap (λ (v : View). v.out) (put-else p seat s.buffer inside k ne) ∙ home.came k (elim (or_cases (nat_eq h.0 s.at) (has (numbers done) h.0) h.1) [
+      | inl e ↦ ap (λ (j : ℕ). (seat_at (put p seat s.buffer).seats j).out) e ∙ ap (λ (v : SeatView). v.out) here
+      | inr ne ↦ ap (λ (v : SeatView). v.out) (put-else p seat s.buffer inside k ne) ∙ home.came k (elim (or_cases (nat_eq h.0 s.at) (has (numbers done) h.0) h.1) [
         | inl e ↦ absurd (ne (sym h.2 ∙ ap (λ (b : ℕ). get_or lease b 0) (eqb-true h.0 s.at e)))
         | inr r ↦ (h.0, r, h.2)
       ])

@@ -10,5 +10,5 @@ abbrev pub place_in : Owner → ℕ
 place_in (Free at) = at
 place_in (Leased first at) = at
 
-pub seats-differ : (p : pool.Held) (l : List ℕ) → pool.IsLease p l → (a b : ℕ) → a < length l → b < length l → get_or l a 0 ≡ get_or l b 0 → a ≡ b
+pub seats-differ : (p : pool.PoolView) (l : List ℕ) → pool.IsLease p l → (a b : ℕ) → a < length l → b < length l → get_or l a 0 ≡ get_or l b 0 → a ≡ b
 seats-differ p l lease a b ha hb e = ap place_in (sym (lease a ha).1 ∙ (ap (λ (k : ℕ). (pool.seat_at p.seats k).owner) e ∙ (lease b hb).1))

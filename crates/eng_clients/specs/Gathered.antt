@@ -1,7 +1,7 @@
 -- Sources of an exclusive-or, each gathered once.
 use Rattle.std.specs.Prelude.{◌≡◌, ◌<◌, ◌≤◌, ◌++◌, ◌∷◌, [], ℕ, List, length, map, get_or, slice_index, Bool, true, false, not, if◌then◌else◌, ◌==◌, nat_eq, All}
 use Rattle.std.specs.List.{IsDistinct, AllByRecursion, list_any}
-use Rattle.buf_pool.specs.Pool.{Held, taken}
+use Rattle.buf_pool.specs.Pool.{PoolView, taken}
 use Rattle.graph_mean.specs.Sums.{xor_by}
 use Rattle.eng_job.specs.declared.job.Source.{Source}
 use Rattle.eng_job.specs.Performed.{sum_at}
@@ -16,11 +16,11 @@ abbrev pub turned : ℕ → Source → Source
 turned at s = if s.at == at then record s { counts = not s.counts } else s
 
 -- a source that counts, with the bytes that its buffer has
-abbrev pub source_of : Held → List ℕ → ℕ → Source
+abbrev pub source_of : PoolView → List ℕ → ℕ → Source
 source_of p lease b = record { at = b; counts = true; buffer = bytes_at p lease b }
 
 -- one source more: it left the pool, or counts the other way
-pub record GathersOne (old : Held) (lease : List ℕ) (b : ℕ) (from : List Source) (new : Held) (now : List Source) : Type 0 where
+pub record GathersOne (old : PoolView) (lease : List ℕ) (b : ℕ) (from : List Source) (new : PoolView) (now : List Source) : Type 0 where
   pub home : (lease_seat old lease b).out ≡ false → (new ≡ taken old (get_or lease b 0)) × (now ≡ from ++ source_of old lease b ∷ []) × (length (bytes_at old lease b) ≡ old.unit)
   pub out : (lease_seat old lease b).out ≡ true → (new ≡ old) × (now ≡ map (turned b) from)
 
@@ -40,7 +40,7 @@ abbrev pub numbers : List Source → List ℕ
 numbers from = map (λ (s : Source). s.at) from
 
 -- The named buffers have left the pool, and stand in the list, each once, with its bytes; it counts if it is named an odd number of times.
-pub record Gathered (old : Held) (lease : List ℕ) (named : List ℕ) (new : Held) (from : List Source) : Type 0 where
+pub record Gathered (old : PoolView) (lease : List ℕ) (named : List ℕ) (new : PoolView) (from : List Source) : Type 0 where
   pub pool : BuffersLeft old (IsNamed lease named) new
   pub bytes : AllByRecursion (λ (s : Source). s.buffer ≡ bytes_at old lease s.at) from
   pub long : AllByRecursion (λ (s : Source). length s.buffer ≡ old.unit) from

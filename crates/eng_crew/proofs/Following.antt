@@ -5,7 +5,7 @@ use Rattle.lay_core.specs.Layout.{Shape, IsLayout}
 use Rattle.lay_core.specs.declared.layout.Layout.{Ghosts as LayoutGhosts}
 use Rattle.eng_cols.specs.Contents.{InSync}
 use Rattle.eng_world.specs.World.{World}
-use Rattle.eng_world.specs.Step.{IsOpening, Run}
+use Rattle.eng_world.specs.Step.{IsOpening, EventsLead}
 use Rattle.eng_world.specs.Invariant.{Reached}
 use Rattle.eng_world.specs.Continuing.{Continues}
 use Rattle.eng_world.proofs.Continuing.{run-continues}
@@ -21,12 +21,12 @@ module _ {L D : Type 0} (lay : LayoutGhosts L) (disk : DiskGhosts D) (old new : 
   abbrev y : Shape
   y = shape_of lay disk old
 
-  pub after-continues : (x : World) × Shows disk new x × Run y (graphs_of old) w after.events x × Continues w x
+  pub after-continues : (x : World) × Shows disk new x × EventsLead y (graphs_of old) w after.events x × Continues w x
   after-continues =
       let h = goes-leads lay disk old new after.events after.goes w shows in
       (h.0, h.1, h.2, run-continues y (graphs_of old) w after.events h.0 h.2)
 
-  pub after-reached : IsSteady lay disk new → IsOpening y w → (x : World) × Shows disk new x × Run y (graphs_of old) w after.events x × Reached y (InSync y w.contents w.columns) w.blocks x
+  pub after-reached : IsSteady lay disk new → IsOpening y w → (x : World) × Shows disk new x × EventsLead y (graphs_of old) w after.events x × Reached y (InSync y w.contents w.columns) w.blocks x
   after-reached steady opening =
       let h = goes-leads lay disk old new after.events after.goes w shows in
       let layout = subst (λ (s : Shape). IsLayout s) (goes-same lay disk old new after.events after.goes).shape steady.sound.layout in

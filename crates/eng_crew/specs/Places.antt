@@ -1,7 +1,7 @@
 -- That each device and each buffer of a lease is at home, or out with the job of one ticket.
 use Rattle.std.specs.Prelude.{◌≡◌, ◌<◌, ◌⊎◌, ℕ, List, length, false, Option, Some, sum_by}
 use Rattle.eng_job.specs.declared.job.Job.{Job}
-use Rattle.eng_world.specs.Nodes.{Takes}
+use Rattle.eng_world.specs.Nodes.{MakesOrUses}
 use Rattle.eng_clients.specs.declared.stage.Stage.TheVariants.{Runs}
 use Rattle.eng_state.specs.declared.array.Array.{Array}
 use Rattle.eng_clients.specs.Desk.{desk_at}
@@ -23,9 +23,9 @@ module _ {L D : Type 0} (core : Array L D) (tickets : List (Option (Job D))) whe
   pub record IsBufferOut (client buffer : ℕ) : Type 0 where
     pub node : ℕ
     pub out : IsOutOf (desk_at core.clients client) node
-    pub takes : Takes (desk_at core.clients client).run.graph node buffer
+    pub takes : MakesOrUses (desk_at core.clients client).run.graph node buffer
     pub ticket : sum_by (is_of client node) tickets ≡ 1
-    pub only : (n : ℕ) → IsOutOf (desk_at core.clients client) n → Takes (desk_at core.clients client).run.graph n buffer → n ≡ node
+    pub only : (n : ℕ) → IsOutOf (desk_at core.clients client) n → MakesOrUses (desk_at core.clients client).run.graph n buffer → n ≡ node
 
   -- each device that there is, and each buffer of an operation that runs, is at home or out so
   pub record HavePlaces : Type 0 where

@@ -4,7 +4,7 @@ ghost use Rattle.std.specs.Prelude.{◌≡◌, ◌≤◌, ◌++◌, ℕ, List, t
 ghost use Rattle.eng_cols.specs.Contents.{InSync};
 ghost use Rattle.eng_job.specs.declared.job.Job.{Job as AnyJob};
 ghost use Rattle.eng_world.specs.World.{World};
-ghost use Rattle.eng_world.specs.Step.{IsOpening, Run};
+ghost use Rattle.eng_world.specs.Step.{IsOpening, EventsLead};
 ghost use Rattle.eng_world.specs.Invariant.{Reached};
 ghost use Rattle.eng_world.specs.Continuing.{Continues};
 ghost use Rattle.eng_array.specs.declared.calls.Core.{Core as AnyCore};
@@ -25,7 +25,7 @@ use lay_core::Layout;
 pub fn what_fits_meets_the_invariant<L: Layout, D: Disk>()
     ensures { (opening now : AnyCore L D) (tickets : List (Option (AnyJob D))) (w : World) → (fits : FitsIn L.Layout D.Disk opening now tickets)
         → Shows D.Disk opening.array w → IsOpening (shape_of L.Layout D.Disk opening.array) w
-        → (x : World) × Shows D.Disk now.array x × Run (shape_of L.Layout D.Disk opening.array) (graphs_of opening.array) w fits.after.events x
+        → (x : World) × Shows D.Disk now.array x × EventsLead (shape_of L.Layout D.Disk opening.array) (graphs_of opening.array) w fits.after.events x
         × Reached (shape_of L.Layout D.Disk opening.array) (InSync (shape_of L.Layout D.Disk opening.array) w.contents w.columns) w.blocks x }
 {}
 
@@ -38,7 +38,7 @@ pub fn each_has_one_place<L: Layout, D: Disk>()
 /// kept, goes on with the events between; no device changes its size, and no count of faults falls.
 pub fn what_follows_continues<L: Layout, D: Disk>()
     ensures worlds { (old new : AnyCore L D) (w : World) → (after : ComesAfter L.Layout D.Disk old new) → Shows D.Disk old.array w
-        → (x : World) × Shows D.Disk new.array x × Run (shape_of L.Layout D.Disk old.array) (graphs_of old.array) w after.events x × Continues w x }
+        → (x : World) × Shows D.Disk new.array x × EventsLead (shape_of L.Layout D.Disk old.array) (graphs_of old.array) w after.events x × Continues w x }
     ensures trace { (old new : AnyCore L D) → (after : ComesAfter L.Layout D.Disk old new) → keeps_trace old.array ≡ true → traced new.array ≡ traced old.array ++ reverse after.events }
     ensures devices { (old new : AnyCore L D) (d : ℕ) → ComesAfter L.Layout D.Disk old new
         → (size_at L.Layout D.Disk new.array d ≡ size_at L.Layout D.Disk old.array d) × (faults_at L.Layout D.Disk old.array d ≤ faults_at L.Layout D.Disk new.array d) }

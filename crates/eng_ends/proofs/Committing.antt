@@ -18,7 +18,7 @@ use Rattle.eng_cols.specs.declared.spot.Spot.{Spot}
 use Rattle.eng_cols.specs.declared.spot.Loss.{Loss}
 use Rattle.eng_world.specs.declared.item.Traced.TheVariants as event
 use Rattle.eng_world.specs.World.{Running, Client, World, Runs as IsRunning}
-use Rattle.eng_world.specs.Nodes.{Commits, Told, Takes}
+use Rattle.eng_world.specs.Nodes.{Commits, Told, MakesOrUses}
 use Rattle.eng_world.specs.Plain.{apply}
 use Rattle.eng_world.specs.declared.item.Item.{Item}
 use Rattle.eng_world.specs.World.{op_now, op_of}
@@ -46,7 +46,7 @@ use Rattle.eng_state.proofs.Putting.{out-below, list-out}
 use Rattle.eng_state.proofs.Handing.{hands-on}
 
 -- a commit takes no buffer
-takes-none : (g : View) (n b : ℕ) → kind_at g n ≡ Cmt → Takes g n b → ⊥
+takes-none : (g : View) (n b : ℕ) → kind_at g n ≡ Cmt → MakesOrUses g n b → ⊥
 takes-none g n b is t = by_kind (subst (λ (k : Node). Makes k b ⊎ Uses k (vertex_at g n).sources b) is t)
   where
     by_kind : Makes Cmt b ⊎ Uses Cmt (vertex_at g n).sources b → ⊥
@@ -151,7 +151,7 @@ module _ {L D : Type 0} (lay : LayoutGhosts L) (disk : DiskGhosts D) (old mid : 
       items = (unlost disk old w s not_lost c).items;
       replies = (unlost disk old w s not_lost c).replies;
       current = subst (λ (t : Stage). ShowsCurrent disk.tells mid.pool t now (IsRunning next)) (sym o.runs)
-          (running.0, refl, subst (λ (p : pool.Held). HoldBytes disk.tells p now running.0) (sym h.pool) running.2);
+          (running.0, refl, subst (λ (p : pool.PoolView). HoldBytes disk.tells p now running.0) (sym h.pool) running.2);
     }
 
     shows-new : Shows disk new x
@@ -160,8 +160,8 @@ module _ {L D : Type 0} (lay : LayoutGhosts L) (disk : DiskGhosts D) (old mid : 
       failed = λ a. s.failed a ∙ sym (ap (λ (v : Shelved D). slice_index_or v.failed a false) h.devices);
       calls = λ a. subst (λ (v : Shelved D). AreTold disk (told_by disk (seen_at v a)) (w.calls a)) (sym h.devices) (s.calls a);
       columns = s.columns ∙ sym (ap (λ v. v.states) h.cols);
-      clients = subst (λ (l : Option Loss). (k : ℕ) → ShowsClient disk.tells l mid.pool (desk_at mid.clients k) (x.clients k)) (sym (h.lost ∙ not_lost)) (shown-put disk.tells None old.pool mid.pool old.clients mid.clients w.clients c now (record (w.clients c) { current = IsRunning next }) below h.clients (λ k. ap (λ (p : pool.Held). (pool.seat_at p.seats k).bytes) h.pool) (unlost disk old w s not_lost) shows-now);
-      free = s.free ∙ ap length (sym (ap (λ (p : pool.Held). p.free) h.pool));
+      clients = subst (λ (l : Option Loss). (k : ℕ) → ShowsClient disk.tells l mid.pool (desk_at mid.clients k) (x.clients k)) (sym (h.lost ∙ not_lost)) (shown-put disk.tells None old.pool mid.pool old.clients mid.clients w.clients c now (record (w.clients c) { current = IsRunning next }) below h.clients (λ k. ap (λ (p : pool.PoolView). (pool.seat_at p.seats k).bytes) h.pool) (unlost disk old w s not_lost) shows-now);
+      free = s.free ∙ ap length (sym (ap (λ (p : pool.PoolView). p.free) h.pool));
       out = let a = s.out in let b = list-out old.clients c n old.lists below o.mark sound.jobs in let e = h.lists in omega (arith, a, b, e);
       rebuilt = s.rebuilt ∙ sym (ap (λ v. v.rebuilt) h.log);
       history = ap (λ (l : List OpId). l ++ id_of old.clients c ∷ []) (s.history ∙ sym (ap (λ v. v.history) h.log));

@@ -133,7 +133,7 @@ module _ {L D : Type 0} (lay : LayoutGhosts L) (disk : DiskGhosts D) (old : Arra
       is_new
       ∙ (ap (λ (l : Logged). record mid { log = l; pool = pool.put mid.pool (get_or (desk_at mid.clients c).lease buf 0) buffer }) is_log
       ∙ (ap (λ (s : Array L D). record s { log = with_bytes s.log (put s.log.handed.bytes first (take n buffer)); pool = pool.put s.pool (get_or (desk_at s.clients c).lease buf 0) buffer }) is_mid
-      ∙ (ap (λ (p : pool.Held). record old { pool = p; log = with_bytes old.log (put old.log.handed.bytes first (take n buffer)) }) (put-same old.pool (get_or d.lease buf 0) inside buffer home same)
+      ∙ (ap (λ (p : pool.PoolView). record old { pool = p; log = with_bytes old.log (put old.log.handed.bytes first (take n buffer)) }) (put-same old.pool (get_or d.lease buf 0) inside buffer home same)
       ∙ ap (λ (b : List ℕ). record old { log = with_bytes old.log (put old.log.handed.bytes first (take n b)) }) same)))
 
   pub left-lease : (mid : Array L D) (buf : ℕ) → pool.IsLease old.pool d.lease → buf < length d.lease → mid ≡ record old { pool = pool.taken old.pool (get_or d.lease buf 0) } → pool.IsLease mid.pool (desk_at mid.clients c).lease

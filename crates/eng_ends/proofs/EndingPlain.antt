@@ -22,7 +22,7 @@ use Rattle.eng_world.specs.World.{Running, Client, World, Nothing as Idles, Runs
 use Rattle.eng_world.specs.declared.item.Reply.TheVariants as reply
 use Rattle.eng_ends.specs.Ends.{IsPlain, IsPlainOp}
 use Rattle.blk_plain.specs.declared.op.Op.TheVariants as op
-use Rattle.eng_world.specs.Nodes.{Terminates, RepliesTo, ColumnsAfter, Told, Takes}
+use Rattle.eng_world.specs.Nodes.{Terminates, RepliesTo, ColumnsAfter, Told, MakesOrUses}
 use Rattle.blk_plain.specs.declared.op.Op.{Op}
 use Rattle.eng_world.specs.declared.item.Item.{Item}
 use Rattle.eng_world.specs.World.{op_of}
@@ -53,7 +53,7 @@ use Rattle.eng_state.proofs.Putting.{out-below, list-out, current-kept}
 use Rattle.eng_state.proofs.Handing.{hands-more}
 
 -- a terminator takes no buffer
-pub end-takes-none : (g : View) (n b : ℕ) → kind_at g n ≡ Trm → Takes g n b → ⊥
+pub end-takes-none : (g : View) (n b : ℕ) → kind_at g n ≡ Trm → MakesOrUses g n b → ⊥
 end-takes-none g n b is t = by_kind (subst (λ (k : Node). Makes k b ⊎ Uses k (vertex_at g n).sources b) is t)
   where
     by_kind : Makes Trm b ⊎ Uses Trm (vertex_at g n).sources b → ⊥
@@ -119,7 +119,7 @@ module _ {L D : Type 0} (lay : LayoutGhosts L) (disk : DiskGhosts D) (old : Arra
   all-home i lt = home-if (pool.seat_at old.pool.seats (get_or d.lease i 0)).out (λ out.
       let h = sound.seats.held c i o.runs lt out in
       elim (cases_eq h.0 n) [
-        | inl same ↦ end-takes-none g n i kind (subst (λ (m : ℕ). Takes g m i) same h.2)
+        | inl same ↦ end-takes-none g n i kind (subst (λ (m : ℕ). MakesOrUses g m i) same h.2)
         | inr ne ↦ alone h.0 ne h.1.mark
       ])
     where
@@ -211,7 +211,7 @@ module _ {L D : Type 0} (lay : LayoutGhosts L) (disk : DiskGhosts D) (old end : 
       replies = (unlost disk old w s not_lost k).replies;
       current = current-kept disk.tells old.pool end.pool (lay.shape old.layout) old.graphs.items (desk_at old.clients k) (w.clients k).current (desk_at old.clients k).stage refl
           (λ r. (sound.well.each k (runs_below (lay.shape old.layout) old.graphs.items old.pool old.clients k sound.well r)).runs r)
-          (λ b lt. ap (λ (e : pool.View). e.bytes) (h.pool.others (get_or (desk_at old.clients k).lease b 0) (λ has. sound.well.apart k c ne b has.0 lt has.1 (sym (get_or_read_of (desk_at old.clients c).lease has)))))
+          (λ b lt. ap (λ (e : pool.SeatView). e.bytes) (h.pool.others (get_or (desk_at old.clients k).lease b 0) (λ has. sound.well.apart k c ne b has.0 lt has.1 (sym (get_or_read_of (desk_at old.clients c).lease has)))))
           (unlost disk old w s not_lost k).current;
     }
       where

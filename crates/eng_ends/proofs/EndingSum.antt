@@ -141,12 +141,12 @@ module _ {L D : Type 0} (lay : LayoutGhosts L) (disk : DiskGhosts D) (old : Arra
   spot = sound.devices.unplaced c n r.out (λ call. subst IsCall r.kind call)
 
   -- the target as the sources are home
-  module _ (p : pool.Held) (home : SourcesHome old.pool d.lease from p) where
+  module _ (p : pool.PoolView) (home : SourcesHome old.pool d.lease from p) where
     pub mid-lease : pool.IsLease p d.lease
     mid-lease i lt = let e = home.seats in let m = (well.lease i lt).0 in (omega (arith, e, m), home.owner (get_or d.lease i 0) ∙ (well.lease i lt).1)
 
     pub mid-out : (seat_of p d r.to).out ≡ true
-    mid-out = ap (λ (v : pool.View). v.out) (home.others seat no-source) ∙ r.are_sources.seat
+    mid-out = ap (λ (v : pool.SeatView). v.out) (home.others seat no-source) ∙ r.are_sources.seat
 
     pub mid-long : length bytes ≡ p.unit
     mid-long = r.sums.long ∙ (r.are_sources.long ∙ sym home.unit)
@@ -154,7 +154,7 @@ module _ {L D : Type 0} (lay : LayoutGhosts L) (disk : DiskGhosts D) (old : Arra
     pub inside : seat < length p.seats
     inside = (mid-lease r.to to-leased).0
 
-    abbrev pub after : pool.Held
+    abbrev pub after : pool.PoolView
     after = pool.put p seat bytes
 
     -- the seats of the node alone have changed
@@ -165,8 +165,8 @@ module _ {L D : Type 0} (lay : LayoutGhosts L) (disk : DiskGhosts D) (old : Arra
       seats = length-set p.seats seat _ ∙ home.seats;
       owner = λ k. owner-same k ∙ home.owner k;
       came = λ k t is. elim (cases_eq k seat) [
-        | inl e ↦ let z : false ≡ true = sym (ap (λ (v : pool.View). v.out) here) ∙ (ap (λ (j : ℕ). (pool.seat_at after.seats j).out) (sym e) ∙ is) in let u : ⊥ = cc in u
-        | inr ne ↦ let z : false ≡ true = sym (ap (λ (v : pool.View). v.out) (put-else p seat bytes inside k ne) ∙ home.came k (source-of k t ne)) ∙ is in let u : ⊥ = cc in u
+        | inl e ↦ let z : false ≡ true = sym (ap (λ (v : pool.SeatView). v.out) here) ∙ (ap (λ (j : ℕ). (pool.seat_at after.seats j).out) (sym e) ∙ is) in let u : ⊥ = cc in u
+        | inr ne ↦ let z : false ≡ true = sym (ap (λ (v : pool.SeatView). v.out) (put-else p seat bytes inside k ne) ∙ home.came k (source-of k t ne)) ∙ is in let u : ⊥ = cc in u
       ];
       others = λ k free.
           put-else p seat bytes inside k (λ e. free (r.to, inl makes, sym e))
@@ -178,8 +178,8 @@ module _ {L D : Type 0} (lay : LayoutGhosts L) (disk : DiskGhosts D) (old : Arra
 
         owner-same : (k : ℕ) → (pool.seat_at after.seats k).owner ≡ (pool.seat_at p.seats k).owner
         owner-same k = elim (cases_eq k seat) [
-          | inl e ↦ ap (λ (j : ℕ). (pool.seat_at after.seats j).owner) e ∙ (ap (λ (v : pool.View). v.owner) here ∙ sym (ap (λ (j : ℕ). (pool.seat_at p.seats j).owner) e))
-          | inr ne ↦ ap (λ (v : pool.View). v.owner) (put-else p seat bytes inside k ne)
+          | inl e ↦ ap (λ (j : ℕ). (pool.seat_at after.seats j).owner) e ∙ (ap (λ (v : pool.SeatView). v.owner) here ∙ sym (ap (λ (j : ℕ). (pool.seat_at p.seats j).owner) e))
+          | inr ne ↦ ap (λ (v : pool.SeatView). v.owner) (put-else p seat bytes inside k ne)
         ]
 
         source-of : (k : ℕ) → IsTaken d n k → k ≢ seat → IsNamed d.lease (numbers from) k
@@ -190,7 +190,7 @@ module _ {L D : Type 0} (lay : LayoutGhosts L) (disk : DiskGhosts D) (old : Arra
 
     -- another buffer has the bytes that it had
     pub bytes-else : (k : ℕ) → k ≢ seat → (pool.seat_at after.seats k).bytes ≡ (pool.seat_at old.pool.seats k).bytes
-    bytes-else k ne = ap (λ (v : pool.View). v.bytes) (put-else p seat bytes inside k ne) ∙ home.bytes k
+    bytes-else k ne = ap (λ (v : pool.SeatView). v.bytes) (put-else p seat bytes inside k ne) ∙ home.bytes k
 
   -- the same along the calls, as the sources are home
   module _ (two : Array L D) (home : SourcesHome old.pool d.lease from two.pool) (rest : two ≡ record old { pool = two.pool }) where
@@ -225,7 +225,7 @@ module _ {L D : Type 0} (lay : LayoutGhosts L) (disk : DiskGhosts D) (old mid : 
   abbrev new : Array L D
   new = record mid { log = log }
 
-  abbrev held : pool.Held
+  abbrev held : pool.PoolView
   held = pool.put h.mid (get_or (desk_at old.clients c).lease r.to 0) bytes
 
   abbrev q : View
@@ -349,9 +349,9 @@ module _ {L D : Type 0} (lay : LayoutGhosts L) (disk : DiskGhosts D) (old mid : 
       failed = λ a. s.failed a ∙ sym (ap (λ (v : Shelved D). slice_index_or v.failed a false) h.devices);
       calls = λ a. subst (λ (v : Shelved D). AreTold disk (told_by disk (seen_at v a)) (w.calls a)) (sym h.devices) (s.calls a);
       columns = s.columns ∙ sym (ap (λ v. v.states) h.cols);
-      clients = subst (λ (p : pool.Held). (k : ℕ) → ShowsClient disk.tells mid.lost p (desk_at mid.clients k) (x.clients k)) (sym h.pool)
+      clients = subst (λ (p : pool.PoolView). (k : ℕ) → ShowsClient disk.tells mid.lost p (desk_at mid.clients k) (x.clients k)) (sym h.pool)
           (subst (λ (l : Option Loss). (k : ℕ) → ShowsClient disk.tells l held (desk_at mid.clients k) (x.clients k)) (sym h.lost) clients-new);
-      free = s.free ∙ (ap length (sym h.sources.free) ∙ ap length (sym (ap (λ (p : pool.Held). p.free) h.pool)));
+      free = s.free ∙ (ap length (sym h.sources.free) ∙ ap length (sym (ap (λ (p : pool.PoolView). p.free) h.pool)));
       out = let a = s.out in let b = list-out old.clients c n old.lists (below lay disk old c n bytes from count sound r) r.out.mark sound.jobs in let e = h.lists in omega (arith, a, b, e);
       rebuilt = s.rebuilt ∙ sym (ap (λ v. v.rebuilt) h.log);
       history = s.history ∙ sym (ap (λ v. v.history) h.log);
@@ -370,7 +370,7 @@ module _ {L D : Type 0} (lay : LayoutGhosts L) (disk : DiskGhosts D) (old mid : 
   ended = record {
     clients = h.clients;
     devices = subst (λ (p : Option Spot). DeviceCame disk p old.devices mid.devices) (sym (spot lay disk old c n bytes from count sound r)) h.devices;
-    pool = subst (λ (p : pool.Held). BuffersCame old.pool (IsTaken (desk_at old.clients c) n) p) (sym h.pool) (all-came lay disk old c n bytes from count sound r h.mid h.sources);
+    pool = subst (λ (p : pool.PoolView). BuffersCame old.pool (IsTaken (desk_at old.clients c) n) p) (sym h.pool) (all-came lay disk old c n bytes from count sound r h.mid h.sources);
     lists = h.lists;
     layout = h.layout;
     cols = h.cols;

@@ -174,7 +174,7 @@ module _ {L D : Type 0} (lay : LayoutGhosts L) (disk : DiskGhosts D) (old mid : 
           | inl is ↦ running.2 told b o k covers lt ∙ (ap (λ (a : ℕ). buffer_byte g (bytes_at old.pool d.lease a) a o k) is
               ∙ (ap (λ (l : List ℕ). buffer_byte g l r.buf o k) (sym r.are_out.bytes ∙ sym (put-here old.pool seat bytes inside)) ∙ sym (ap (λ (a : ℕ). buffer_byte g (bytes_at (pool.put old.pool seat bytes) d.lease a) a o k) is)))
           | inr ne ↦ running.2 told b o k covers lt
-              ∙ ap (λ (v : pool.View). buffer_byte g v.bytes b o k) (sym (put-else old.pool seat bytes inside (get_or d.lease b 0) (λ e. ne (seats-differ old.pool d.lease well.lease b r.buf (in-lease b o covers) in-own e))))
+              ∙ ap (λ (v : pool.SeatView). buffer_byte g v.bytes b o k) (sym (put-else old.pool seat bytes inside (get_or d.lease b 0) (λ e. ne (seats-differ old.pool d.lease well.lease b r.buf (in-lease b o covers) in-own e))))
         ]))
       where
         in-lease : (b o : ℕ) → Covers g b o → b < length d.lease
@@ -185,14 +185,14 @@ module _ {L D : Type 0} (lay : LayoutGhosts L) (disk : DiskGhosts D) (old mid : 
       items = (s.clients c).items;
       replies = (s.clients c).replies;
       current = subst (λ (t : Stage). ShowsCurrent disk.tells mid.pool t now (IsRunning next)) (sym r.out.runs)
-          (filled, refl, subst (λ (p : pool.Held). HoldBytes disk.tells p now filled) (sym h.pool) holds);
+          (filled, refl, subst (λ (p : pool.PoolView). HoldBytes disk.tells p now filled) (sym h.pool) holds);
     }
 
     shows-other : (k : ℕ) → k ≢ c → ShowsClient disk.tells old.lost mid.pool (desk_at old.clients k) (w.clients k)
     shows-other k ne = record {
       items = (s.clients k).items;
       replies = (s.clients k).replies;
-      current = subst (λ (p : pool.Held). ShowsCurrent disk.tells p (desk_at old.clients k).stage (desk_at old.clients k) (w.clients k).current) (sym h.pool)
+      current = subst (λ (p : pool.PoolView). ShowsCurrent disk.tells p (desk_at old.clients k).stage (desk_at old.clients k) (w.clients k).current) (sym h.pool)
           (current-other old.pool seat bytes inside disk.tells y old.graphs.items (desk_at old.clients k) (w.clients k).current (desk_at old.clients k).stage refl
           (λ runs. (sound.well.each k (runs_below y old.graphs.items old.pool old.clients k sound.well runs)).runs runs) (λ b lt e. sound.well.apart k c ne b r.buf lt in-own e) (s.clients k).current);
     }
@@ -204,7 +204,7 @@ module _ {L D : Type 0} (lay : LayoutGhosts L) (disk : DiskGhosts D) (old mid : 
       calls = calls-told;
       columns = s.columns ∙ sym (ap (λ v. v.states) h.cols);
       clients = subst (λ (l : Option Loss). (k : ℕ) → ShowsClient disk.tells l mid.pool (desk_at mid.clients k) (x.clients k)) (sym h.lost) (shown-one disk.tells old.lost mid.pool old.clients mid.clients w.clients c now (record (w.clients c) { current = IsRunning next }) below h.clients shows-other shows-now);
-      free = s.free ∙ ap length (sym (ap (λ (p : pool.Held). p.free) h.pool));
+      free = s.free ∙ ap length (sym (ap (λ (p : pool.PoolView). p.free) h.pool));
       out = let a = s.out in let b = list-out old.clients c n old.lists below r.out.mark sound.jobs in let e = h.lists in omega (arith, a, b, e);
       rebuilt = s.rebuilt ∙ sym (ap (λ v. v.rebuilt) h.log);
       history = s.history ∙ sym (ap (λ v. v.history) h.log);

@@ -23,7 +23,7 @@ use Rattle.eng_clients.specs.Desk.{Desk, item_at}
 use Rattle.eng_state.specs.Sound.{RunsWell}
 use Rattle.eng_ends.specs.Copied.{block_at, sector_for, hits, picked}
 
-module _ (y : Shape) (graphs : List Held) (p : pool.Held) (d : Desk) (law : IsLayout y) (w : RunsWell y graphs p d) (span : Span) (file : Option ℕ) (is : item_at d ≡ Some (item.Run (op.Read span) file)) where
+module _ (y : Shape) (graphs : List Held) (p : pool.PoolView) (d : Desk) (law : IsLayout y) (w : RunsWell y graphs p d) (span : Span) (file : Option ℕ) (is : item_at d ≡ Some (item.Run (op.Read span) file)) where
   abbrev g : View
   g = d.run.graph
 

@@ -106,7 +106,7 @@ module _ {L D : Type 0} (lay : LayoutGhosts L) (disk : DiskGhosts D) (old end : 
       replies = (unlost disk old w s not_lost k).replies;
       current = current-kept disk.tells old.pool end.pool (lay.shape old.layout) old.graphs.items (desk_at old.clients k) (w.clients k).current (desk_at old.clients k).stage refl
           (λ r. (sound.well.each k (runs_below (lay.shape old.layout) old.graphs.items old.pool old.clients k sound.well r)).runs r)
-          (λ b lt. ap (λ (e : pool.View). e.bytes) (h.pool.others (get_or (desk_at old.clients k).lease b 0) (λ has. sound.well.apart k c ne b has.0 lt has.1 (sym (get_or_read_of (desk_at old.clients c).lease has)))))
+          (λ b lt. ap (λ (e : pool.SeatView). e.bytes) (h.pool.others (get_or (desk_at old.clients k).lease b 0) (λ has. sound.well.apart k c ne b has.0 lt has.1 (sym (get_or_read_of (desk_at old.clients c).lease has)))))
           (unlost disk old w s not_lost k).current;
     }
       where

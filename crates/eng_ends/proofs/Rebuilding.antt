@@ -79,7 +79,7 @@ rebuild-unit kind.Read width unit below is = absurd (let u : ⊥ = cc in u)
 rebuild-unit kind.Write width unit below is = absurd (let u : ⊥ = cc in u)
 rebuild-unit kind.Sync width unit below is = absurd (let u : ⊥ = cc in u)
 
-module _ (y : Shape) (graphs : List Held) (p : pool.Held) (d : Desk) (w : RunsWell y graphs p d) where
+module _ (y : Shape) (graphs : List Held) (p : pool.PoolView) (d : Desk) (w : RunsWell y graphs p d) where
   -- what is written is of one of the operation's stripes
   wrote-in : (n s i o : ℕ) → Writes d.run.graph n s i o → s < d.task.stripes
   wrote-in n s i o h = by_kind (kind_at d.run.graph n) refl h.1

@@ -17,7 +17,7 @@ use Rattle.graph_mean.specs.Steps.{IsCall}
 use Rattle.eng_one.specs.Control.{mark_of}
 use Rattle.eng_cols.specs.Cols.{Columns}
 use Rattle.eng_world.specs.declared.item.Reply.{Reply}
-use Rattle.eng_world.specs.Nodes.{Takes}
+use Rattle.eng_world.specs.Nodes.{MakesOrUses}
 use Rattle.eng_clients.specs.declared.stage.Stage.TheVariants.{Nothing, Runs}
 use Rattle.eng_state.specs.declared.array.Array.{Array}
 use Rattle.eng_parts.specs.Shelf.{Shelved}
@@ -99,7 +99,7 @@ module _ {L D : Type 0} (lay : LayoutGhosts L) (disk : DiskGhosts D) (old new : 
         subst (λ (e : Desk). (IsCall (kind_at e.run.graph m) → ⊥) → spot_at e m ≡ None) (sym (other k o.0)) (sound.devices.unplaced k m o.1) none;
   }
 
-  named-in : (k m b : ℕ) → IsOutOf (desk_at old.clients k) m → Takes (desk_at old.clients k).run.graph m b → b < length (desk_at old.clients k).lease
+  named-in : (k m b : ℕ) → IsOutOf (desk_at old.clients k) m → MakesOrUses (desk_at old.clients k).run.graph m b → b < length (desk_at old.clients k).lease
   named-in k m b p t =
       let w = (sound.well.each k (runs_below y old.graphs.items old.pool old.clients k sound.well p.runs)).runs p.runs in
       let e = w.marks in let lt = out-below (desk_at old.clients k).run.marks m p.mark in let bufs = w.bufs in
@@ -111,18 +111,18 @@ module _ {L D : Type 0} (lay : LayoutGhosts L) (disk : DiskGhosts D) (old new : 
 
   seats : SeatsOut after new.pool
   seats = record {
-    away = λ k m b p t. let o = was-out k m p in let takes = subst (λ (e : Desk). Takes e.run.graph m b) (other k o.0) t in
+    away = λ k m b p t. let o = was-out k m p in let takes = subst (λ (e : Desk). MakesOrUses e.run.graph m b) (other k o.0) t in
         subst (λ (e : Desk). (pool.seat_at new.pool.seats (get_or e.lease b 0)).out ≡ true) (sym (other k o.0))
-        (ap (λ (v : pool.View). v.out) (same-seat k b o.0 (named-in k m b o.1 takes)) ∙ sound.seats.away k m b o.1 takes);
+        (ap (λ (v : pool.SeatView). v.out) (same-seat k b o.0 (named-in k m b o.1 takes)) ∙ sound.seats.away k m b o.1 takes);
     held = λ k b stage lt out. elim (cases_eq k c) [
       | inl is ↦ absurd (idle-here k is stage)
       | inr ne ↦ let lt2 = subst (λ (e : Desk). b < length e.lease) (other k ne) lt in
           let out2 = subst (λ (e : Desk). (pool.seat_at new.pool.seats (get_or e.lease b 0)).out ≡ true) (other k ne) out in
-          let h = sound.seats.held k b (sym (ap (λ (e : Desk). e.stage) (other k ne)) ∙ stage) lt2 (sym (ap (λ (v : pool.View). v.out) (same-seat k b ne lt2)) ∙ out2) in
-          (h.0, (still-out k h.0 h.1).1, subst (λ (e : Desk). Takes e.run.graph h.0 b) (sym (other k ne)) h.2)
+          let h = sound.seats.held k b (sym (ap (λ (e : Desk). e.stage) (other k ne)) ∙ stage) lt2 (sym (ap (λ (v : pool.SeatView). v.out) (same-seat k b ne lt2)) ∙ out2) in
+          (h.0, (still-out k h.0 h.1).1, subst (λ (e : Desk). MakesOrUses e.run.graph h.0 b) (sym (other k ne)) h.2)
     ];
     one = λ k m i b p q t u. let o = was-out k m p in
-        sound.seats.one k m i b o.1 (was-out k i q).1 (subst (λ (e : Desk). Takes e.run.graph m b) (other k o.0) t) (subst (λ (e : Desk). Takes e.run.graph i b) (other k o.0) u);
+        sound.seats.one k m i b o.1 (was-out k i q).1 (subst (λ (e : Desk). MakesOrUses e.run.graph m b) (other k o.0) t) (subst (λ (e : Desk). MakesOrUses e.run.graph i b) (other k o.0) u);
   }
 
   -- ## Clients

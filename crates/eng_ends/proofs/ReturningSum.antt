@@ -21,7 +21,7 @@ use Rattle.eng_clients.specs.Desk.{desk_at, spot_at}
 use Rattle.eng_state.specs.Out.{AreSources, IsWork, CameBack}
 use Rattle.eng_ends.specs.Summed.{SumBack}
 
-module _ {D : Type 0} (disk : DiskGhosts D) (y : Shape) (s : Shelved D) (p : pool.Held) (g : View) (lease : List ℕ) (at : Option Spot) (named : List ℕ) (from : List Source) (now : List ℕ) (count : ℕ) (o : Outcome) where
+module _ {D : Type 0} (disk : DiskGhosts D) (y : Shape) (s : Shelved D) (p : pool.PoolView) (g : View) (lease : List ℕ) (at : Option Spot) (named : List ℕ) (from : List Source) (now : List ℕ) (count : ℕ) (o : Outcome) where
   -- an exclusive-or that came back, before anything is said of its client
   pub record BackSum (kind : Node) : Type 0 where
     pub to : ℕ

@@ -21,8 +21,8 @@ module _ {L D : Type 0} (old mid end : Array L D) (c n : ℕ) (reply : Reply) (b
   pub terminated : Terminated old c n reply end
   terminated = record {
     clients = r.clients ∙ (ap (λ (e : Desk). slice_set mid.clients c (with_reply e reply)) desk-mid ∙ (ap (λ (l : List Desk). slice_set l c (with_reply now reply)) h.clients ∙ set-set old.clients c now (with_reply now reply)));
-    leases = subst (λ (p : pool.Held). pool.KeepsOthers p (desk_at old.clients c).lease end.pool) h.pool (subst (λ (l : List ℕ). pool.KeepsOthers mid.pool l end.pool) (ap (λ (e : Desk). e.lease) desk-mid) r.leases);
-    pool = subst (λ (p : pool.Held). pool.Returns p (desk_at old.clients c).lease end.pool) h.pool (subst (λ (l : List ℕ). pool.Returns mid.pool l end.pool) (ap (λ (e : Desk). e.lease) desk-mid) r.pool);
+    leases = subst (λ (p : pool.PoolView). pool.KeepsOthers p (desk_at old.clients c).lease end.pool) h.pool (subst (λ (l : List ℕ). pool.KeepsOthers mid.pool l end.pool) (ap (λ (e : Desk). e.lease) desk-mid) r.leases);
+    pool = subst (λ (p : pool.PoolView). pool.Returns p (desk_at old.clients c).lease end.pool) h.pool (subst (λ (l : List ℕ). pool.Returns mid.pool l end.pool) (ap (λ (e : Desk). e.lease) desk-mid) r.pool);
     locks = subst (λ (t : Table). Releases t c end.locks) h.locks r.locks;
     lists = r.lists ∙ h.lists;
     devices = r.devices ∙ h.devices;

@@ -4,7 +4,7 @@ use Rattle.std.specs.List.{IsDistinct, AllByRecursion}
 use Rattle.blk_plain.specs.declared.op.Outcome.{Outcome}
 use Rattle.blk_plain.specs.declared.op.Outcome.TheVariants.{Good}
 use Rattle.blk_disk.specs.declared.disk.Disk.{Ghosts as DiskGhosts}
-use Rattle.buf_pool.specs.Pool.{Held, seat_at, put}
+use Rattle.buf_pool.specs.Pool.{PoolView, seat_at, put}
 use Rattle.graph_mean.specs.declared.graph.Node.TheVariants.{Xor}
 use Rattle.graph_mean.specs.Graph.{kind_at, vertex_at}
 use Rattle.eng_job.specs.declared.job.Source.{Source}
@@ -30,7 +30,7 @@ module _ {L D : Type 0} where
   -- the target came home with these bytes, and the sources as they left, and the list; and the node has ended good
   pub record SumHome (old : Array L D) (c n to : ℕ) (now : List ℕ) (from : List Source) (new : Array L D) : Type 0 where
     pub clients : new.clients ≡ slice_set old.clients c (with_ended (desk_at old.clients c) n Good)
-    pub mid : Held
+    pub mid : PoolView
     pub sources : SourcesHome old.pool (desk_at old.clients c).lease from mid
     pub pool : new.pool ≡ put mid (get_or (desk_at old.clients c).lease to 0) now
     pub lists : new.lists ≡ old.lists + 1

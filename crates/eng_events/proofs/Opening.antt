@@ -253,8 +253,8 @@ module _ {L D : Type 0} (lay : LayoutGhosts L) (disk : DiskGhosts D) (setup : Se
     devices = a.devices;
     count = ap length (a.clients ∙ ap (λ (r : CoreRoom D). r.clients) set) ∙ room-for.count;
     clients = λ c lt. ap (λ (l : List Desk). desk_at l c) (a.clients ∙ ap (λ (r : CoreRoom D). r.clients) set) ∙ room-for.clients c lt;
-    unit = ap (λ (p : pool.Held). p.unit) (a.pool ∙ ap (λ (r : CoreRoom D). r.pool) set) ∙ room-for.unit;
-    pool = subst (λ (p : pool.Held). pool.IsFresh p 2048) (sym (a.pool ∙ ap (λ (r : CoreRoom D). r.pool) set)) room-for.pool;
+    unit = ap (λ (p : pool.PoolView). p.unit) (a.pool ∙ ap (λ (r : CoreRoom D). r.pool) set) ∙ room-for.unit;
+    pool = subst (λ (p : pool.PoolView). pool.IsFresh p 2048) (sym (a.pool ∙ ap (λ (r : CoreRoom D). r.pool) set)) room-for.pool;
     locks = subst (λ (t : Table). IsIdle t 17) (sym (a.locks ∙ ap (λ (r : CoreRoom D). r.locks) set)) room-for.locks;
     lists = a.lists ∙ (ap (λ (r : CoreRoom D). r.lists) set ∙ room-for.lists);
     log = subst (λ (l : Logged). l ≡ fresh_log (lay.shape setup.layout) setup.trace l.handed) (sym (a.log ∙ ap (λ (r : CoreRoom D). r.log) set)) room-for.log;

@@ -60,7 +60,7 @@ module _ (desks : List Desk) (items : ℕ → List Item) (count : length desks �
         | inr ge ↦ let z : None ≡ Some i = sym (ap (λ (d : Desk). slice_get d.items n) (get_or_past desks c no_desk (omega (arith, count, ge)))) ∙ h in absurd (let u : ⊥ = cc in u)
       ]
 
-  pub are-well : (y : Shape) (graphs : List Held) (p : pool.Held) → AreWell y graphs p desks
+  pub are-well : (y : Shape) (graphs : List Held) (p : pool.PoolView) → AreWell y graphs p desks
   are-well y graphs p = record {
     all = count;
     each = λ c lt. record {
@@ -72,7 +72,7 @@ module _ (desks : List Desk) (items : ℕ → List Item) (count : length desks �
     apart = λ c k ne i j lt. let e = ap length (unleased c) in absurd (omega (arith, e, lt));
   }
 
-  pub seats-out : (p : pool.Held) → SeatsOut desks p
+  pub seats-out : (p : pool.PoolView) → SeatsOut desks p
   seats-out p = record {
     away = λ c n b out. absurd (none-out c n out);
     held = λ c b r. absurd (not-runs c r);

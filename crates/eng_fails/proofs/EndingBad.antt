@@ -211,7 +211,7 @@ module _ {L D : Type 0} (lay : LayoutGhosts L) (disk : DiskGhosts D) (old : Arra
         | inl e ↦ ap (λ (v : Bool). filled v b o k) e
         | inr e ↦ ap (λ (v : Bool). filled v b o k) e ∙ ap (λ (t : Bool). if t then buffer_byte g bytes b o k else running.0 b o k) (ne_eqb b r.buf ne)
       ]) ∙ (running.2 told b o k covers lt
-          ∙ ap (λ (v : pool.View). buffer_byte g v.bytes b o k) (sym (put-else old.pool seat bytes inside (get_or d.lease b 0) (λ e. ne (seats-differ old.pool d.lease well.lease b r.buf (in-lease b o covers) in-own e)))))
+          ∙ ap (λ (v : pool.SeatView). buffer_byte g v.bytes b o k) (sym (put-else old.pool seat bytes inside (get_or d.lease b 0) (λ e. ne (seats-differ old.pool d.lease well.lease b r.buf (in-lease b o covers) in-own e)))))
     ]
       where
         in-lease : (b o : ℕ) → Covers g b o → b < length d.lease

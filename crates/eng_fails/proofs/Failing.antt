@@ -148,7 +148,7 @@ outlives-if y cols k (IsRunning r) = (_, refl, record { plan = refl; node = λ n
 abbrev suffer_client : Shape → List ColumnState → ℕ → Option Loss → Client → Client
 suffer_client y cols k lost c = record c { replies = told_of lost c.items c.replies; current = suffer_current y cols k c.current }
 
-shows-suffered : (tells : Type 0) (y : Shape) (cols : List ColumnState) (k : ℕ) (lost : Option Loss) (p : pool.Held) (d : Desk) (c : Client) (t : Stage) → d.stage ≡ t → c.items ≡ d.items → c.replies ≡ d.replies → ShowsCurrent tells p t d c.current
+shows-suffered : (tells : Type 0) (y : Shape) (cols : List ColumnState) (k : ℕ) (lost : Option Loss) (p : pool.PoolView) (d : Desk) (c : Client) (t : Stage) → d.stage ≡ t → c.items ≡ d.items → c.replies ≡ d.replies → ShowsCurrent tells p t d c.current
     → ShowsClient tells lost p (suffered_in t y cols k d) (suffer_client y cols k lost c)
 shows-suffered tells y cols k lost p d c Nothing is items replies s = record {
   items = items;

@@ -27,7 +27,7 @@ use Rattle.eng_cols.specs.Cols.{ColumnState, Columns, Live, Dead, Filling, HasDe
 use Rattle.eng_cols.proofs.Spots.{seat-device}
 use Rattle.eng_world.specs.declared.item.Traced.TheVariants as event
 use Rattle.eng_world.specs.World.{World}
-use Rattle.eng_world.specs.Nodes.{Takes, Bads}
+use Rattle.eng_world.specs.Nodes.{MakesOrUses, Bads}
 use Rattle.eng_world.specs.Step.{StepBy, Step}
 use Rattle.eng_state.specs.declared.array.Array.{Array}
 use Rattle.eng_parts.specs.Shelf.{Shelved, come_home}
@@ -58,7 +58,7 @@ shows-same {L} {D} disk a b x devices cols clients pools lists log lost s =
     subst (λ (v : Shelved D). Shows disk (record b { devices = v }) x) (sym devices)
     (subst (λ (v : Columns). Shows disk (record b { devices = a.devices; cols = v }) x) (sym cols)
     (subst (λ (v : List Desk). Shows disk (record b { devices = a.devices; cols = a.cols; clients = v }) x) (sym clients)
-    (subst (λ (v : pool.Held). Shows disk (record b { devices = a.devices; cols = a.cols; clients = a.clients; pool = v }) x) (sym pools)
+    (subst (λ (v : pool.PoolView). Shows disk (record b { devices = a.devices; cols = a.cols; clients = a.clients; pool = v }) x) (sym pools)
     (subst (λ (v : ℕ). Shows disk (record b { devices = a.devices; cols = a.cols; clients = a.clients; pool = a.pool; lists = v }) x) (sym lists)
     (subst (λ (v : Logged). Shows disk (record b { devices = a.devices; cols = a.cols; clients = a.clients; pool = a.pool; lists = a.lists; log = v }) x) (sym log)
     (subst (λ (v : Option Loss). Shows disk (record b { devices = a.devices; cols = a.cols; clients = a.clients; pool = a.pool; lists = a.lists; log = a.log; lost = v }) x) (sym lost)
@@ -117,13 +117,13 @@ module _ {L D : Type 0} (lay : LayoutGhosts L) (disk : DiskGhosts D) (old : Arra
   may = let w = ending.well lay disk old c n after first count bytes outcome sound r in
       may-bad d.run.graph d.task (missing_of d.missing) w.accepted.0 w.accepted.1 w.accepted.2 d.run w.reached n (ending.call-made lay disk old c n after first count bytes outcome sound r) r.out.mark
 
-  takes : Takes d.run.graph n r.buf
+  takes : MakesOrUses d.run.graph n r.buf
   takes = elim (cases_Bool r.writes) [
     | inl e ↦ write-takes d.run.graph n r.unit r.buf (ending.is-write lay disk old c n after first count bytes outcome sound r e)
     | inr e ↦ read-takes d.run.graph n r.unit r.buf (ending.is-read lay disk old c n after first count bytes outcome sound r e)
   ]
 
-  takes-only : (a : ℕ) → Takes d.run.graph n a → a ≡ r.buf
+  takes-only : (a : ℕ) → MakesOrUses d.run.graph n a → a ≡ r.buf
   takes-only a t = elim (cases_Bool r.writes) [
     | inl e ↦ takes-write d.run.graph n r.unit r.buf a (ending.is-write lay disk old c n after first count bytes outcome sound r e) t
     | inr e ↦ takes-read d.run.graph n r.unit r.buf a (ending.is-read lay disk old c n after first count bytes outcome sound r e) t

@@ -15,7 +15,7 @@ use Rattle.eng_one.specs.Control.{mark_of}
 use Rattle.eng_cols.specs.declared.spot.Spot.{Spot}
 use Rattle.eng_cols.specs.declared.spot.Loss.{Loss}
 use Rattle.eng_cols.specs.Cols.{Columns}
-use Rattle.eng_world.specs.Nodes.{Takes}
+use Rattle.eng_world.specs.Nodes.{MakesOrUses}
 use Rattle.eng_clients.specs.declared.stage.Stage.TheVariants.{Runs}
 use Rattle.eng_state.specs.declared.array.Array.{Array}
 use Rattle.eng_clients.specs.Seats.{lease_seat}
@@ -36,7 +36,7 @@ pub record GoesOn (a b : Desk) : Type 0 where
   pub out : (n : ℕ) → mark_of b.run n ≡ status.Out → mark_of a.run n ≡ status.Out
   pub was : (n : ℕ) → mark_of a.run n ≡ status.Out → mark_of b.run n ≡ status.Out
   pub jobs : jobs_of b ≡ jobs_of a
-  pub well : (y : Shape) (graphs : List Held) (p : pool.Held) → IsWell y graphs p a → IsWell y graphs p b
+  pub well : (y : Shape) (graphs : List Held) (p : pool.PoolView) → IsWell y graphs p a → IsWell y graphs p b
 
 -- a desk that stays
 pub stays : (d : Desk) → GoesOn d d
@@ -101,15 +101,15 @@ module _ {L D : Type 0} (lay : LayoutGhosts L) (disk : DiskGhosts D) (old : Arra
     unplaced = λ c n o none. ap (λ (l : List (Option Spot)). get_or l n None) (goes c).spots ∙ sound.devices.unplaced c n (was-out c n o) (λ call. none (subst (λ (g : View). IsCall (kind_at g n)) (sym (goes c).graph) call));
   }
 
-  takes-old : (c n b : ℕ) → Takes (desk_at desks c).run.graph n b → Takes (desk_at old.clients c).run.graph n b
-  takes-old c n b t = subst (λ (g : View). Takes g n b) (goes c).graph t
+  takes-old : (c n b : ℕ) → MakesOrUses (desk_at desks c).run.graph n b → MakesOrUses (desk_at old.clients c).run.graph n b
+  takes-old c n b t = subst (λ (g : View). MakesOrUses g n b) (goes c).graph t
 
   seats : SeatsOut desks old.pool
   seats = record {
     away = λ c n b o t. subst (λ (l : List ℕ). (lease_seat old.pool l b).out ≡ true) (sym (goes c).lease) (sound.seats.away c n b (was-out c n o) (takes-old c n b t));
     held = λ c b runs below out.
         let h = sound.seats.held c b ((goes c).ran runs) (subst (λ (l : List ℕ). b < length l) (goes c).lease below) (subst (λ (l : List ℕ). (lease_seat old.pool l b).out ≡ true) (goes c).lease out) in
-        (h.0, still-out c h.0 h.1, subst (λ (g : View). Takes g h.0 b) (sym (goes c).graph) h.2);
+        (h.0, still-out c h.0 h.1, subst (λ (g : View). MakesOrUses g h.0 b) (sym (goes c).graph) h.2);
     one = λ c n m b o p t u. sound.seats.one c n m b (was-out c n o) (was-out c m p) (takes-old c n b t) (takes-old c m b u);
   }
 

@@ -18,7 +18,7 @@ use Rattle.eng_cols.specs.declared.spot.Spot.{Spot}
 use Rattle.eng_cols.specs.declared.spot.Loss.{Loss}
 use Rattle.eng_world.specs.declared.item.Traced.TheVariants as event
 use Rattle.eng_world.specs.World.{Running, Client, World, Runs as IsRunning}
-use Rattle.eng_world.specs.Nodes.{Takes, Told, CanBeGood}
+use Rattle.eng_world.specs.Nodes.{MakesOrUses, Told, CanBeGood}
 use Rattle.eng_world.specs.Step.{LostContents, LostGood, StepBy, Step}
 use Rattle.eng_clients.specs.declared.stage.Stage.{Stage}
 use Rattle.eng_state.specs.declared.array.Array.{Array}
@@ -77,7 +77,7 @@ module _ {L D : Type 0} (lay : LayoutGhosts L) (disk : DiskGhosts D) (old mid : 
   spot : spot_at d n ≡ None
   spot = sound.devices.unplaced c n o (either (λ (k : Node). IsCall k → ⊥) (λ e. e) (λ e. e))
 
-  takes-none : (b : ℕ) → Takes g n b → ⊥
+  takes-none : (b : ℕ) → MakesOrUses g n b → ⊥
   takes-none b = either (λ (k : Node). Makes k b ⊎ Uses k (vertex_at g n).sources b → ⊥) (λ t. elim t [ inl e ↦ e | inr e ↦ e ]) (λ t. elim t [ inl e ↦ e | inr e ↦ e ])
 
   module _ (w : World) (s : Shows disk old w) where
@@ -139,7 +139,7 @@ module _ {L D : Type 0} (lay : LayoutGhosts L) (disk : DiskGhosts D) (old mid : 
       items = (s.clients c).items;
       replies = (s.clients c).replies;
       current = subst (λ (t : Stage). ShowsCurrent disk.tells mid.pool t now (IsRunning next)) (sym o.runs)
-          (running.0, refl, subst (λ (p : pool.Held). HoldBytes disk.tells p now running.0) (sym h.pool) running.2);
+          (running.0, refl, subst (λ (p : pool.PoolView). HoldBytes disk.tells p now running.0) (sym h.pool) running.2);
     }
 
     shows-new : Shows disk new x
@@ -149,8 +149,8 @@ module _ {L D : Type 0} (lay : LayoutGhosts L) (disk : DiskGhosts D) (old mid : 
       calls = λ a. subst (λ (v : Shelved D). AreTold disk (told_by disk (seen_at v a)) (w.calls a)) (sym h.devices) (s.calls a);
       columns = s.columns ∙ sym (ap (λ v. v.states) h.cols);
       clients = subst (λ (l : Option Loss). (k : ℕ) → ShowsClient disk.tells l mid.pool (desk_at mid.clients k) (x.clients k)) (sym h.lost)
-          (shown-put disk.tells old.lost old.pool mid.pool old.clients mid.clients w.clients c now (record (w.clients c) { current = IsRunning next }) below h.clients (λ k. ap (λ (p : pool.Held). (pool.seat_at p.seats k).bytes) h.pool) s.clients shows-now);
-      free = s.free ∙ ap length (sym (ap (λ (p : pool.Held). p.free) h.pool));
+          (shown-put disk.tells old.lost old.pool mid.pool old.clients mid.clients w.clients c now (record (w.clients c) { current = IsRunning next }) below h.clients (λ k. ap (λ (p : pool.PoolView). (pool.seat_at p.seats k).bytes) h.pool) s.clients shows-now);
+      free = s.free ∙ ap length (sym (ap (λ (p : pool.PoolView). p.free) h.pool));
       out = let a = s.out in let b = list-out old.clients c n old.lists below o.mark sound.jobs in let e = h.lists in omega (arith, a, b, e);
       rebuilt = s.rebuilt ∙ sym (ap (λ v. v.rebuilt) h.log);
       history = s.history ∙ sym (ap (λ v. v.history) h.log);

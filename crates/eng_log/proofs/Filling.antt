@@ -4,7 +4,7 @@ use Rattle.std.proofs.lemmas.Bool.{cases_eq, cases_lt}
 use Rattle.std.proofs.lemmas.List.{get_or_past}
 use Rattle.graph_mean.specs.Steps.{Covers}
 use Rattle.blk_disk.specs.Disk.{sector_at}
-use Rattle.buf_pool.specs.Pool.{Held}
+use Rattle.buf_pool.specs.Pool.{PoolView}
 use Rattle.graph_mean.specs.Graph.{View, buf_at, no_buf}
 use Rattle.eng_log.specs.Filled.{HasBuffers, FillsAlone, bytes_of}
 use Rattle.eng_log.proofs.Seating.{fills-refl, fills-then, fills-lease, fills-home}
@@ -20,25 +20,25 @@ covers-below g b o co = elim (cases_lt b (length g.bufs)) [
     nothing h = let l : o < 0 + 0 = h.1 in omega arith
 
 -- the first m buffers are filled where they are of new data, and those that aren't have their bytes
-pub record FilledTo (g : View) (l sector : List ℕ) (p q : Held) (m : ℕ) : Type 0 where
+pub record FilledTo (g : View) (l sector : List ℕ) (p q : PoolView) (m : ℕ) : Type 0 where
   pub filled : (b u j : ℕ) → b < m → (buf_at g b).new_of ≡ Some u → j < (buf_at g b).count → sector_at (bytes_of q l b) j ≡ sector
   pub others : (b : ℕ) → b < length g.bufs → (buf_at g b).new_of ≡ None → bytes_of q l b ≡ bytes_of p l b
   pub fills : FillsAlone p l q
 
-pub buffers-filled : (g : View) (l : List ℕ) (p q : Held) → FillsAlone p l q → HasBuffers g p l → HasBuffers g q l
+pub buffers-filled : (g : View) (l : List ℕ) (p q : PoolView) → FillsAlone p l q → HasBuffers g p l → HasBuffers g q l
 buffers-filled g l p q fills b = record { lease = fills-lease p q l l fills b.lease; home = fills-home p q l l fills b.home; count = b.count; long = λ n h. let old = b.long n h in let same = fills.unit in omega (arith, old, same) }
 
-pub filled-none : (g : View) (l sector : List ℕ) (p : Held) → FilledTo g l sector p p 0
+pub filled-none : (g : View) (l sector : List ℕ) (p : PoolView) → FilledTo g l sector p p 0
 filled-none g l sector p = record { filled = λ b u j h. absurd (omega (arith, h)); others = λ b h new. refl; fills = fills-refl p l }
 
-pub filled-more : (g : View) (l sector : List ℕ) (p q r : Held) (m : ℕ) → m < length g.bufs → FilledTo g l sector p q m → ((u j : ℕ) → (buf_at g m).new_of ≡ Some u → j < (buf_at g m).count → sector_at (bytes_of r l m) j ≡ sector) → ((buf_at g m).new_of ≡ None → r ≡ q) → ((c : ℕ) → c < length g.bufs → c ≢ m → bytes_of r l c ≡ bytes_of q l c) → FillsAlone q l r → FilledTo g l sector p r (m + 1)
+pub filled-more : (g : View) (l sector : List ℕ) (p q r : PoolView) (m : ℕ) → m < length g.bufs → FilledTo g l sector p q m → ((u j : ℕ) → (buf_at g m).new_of ≡ Some u → j < (buf_at g m).count → sector_at (bytes_of r l m) j ≡ sector) → ((buf_at g m).new_of ≡ None → r ≡ q) → ((c : ℕ) → c < length g.bufs → c ≢ m → bytes_of r l c ≡ bytes_of q l c) → FillsAlone q l r → FilledTo g l sector p r (m + 1)
 filled-more g l sector p q r m below so_far filled old others fills = record {
   filled = λ b u j h new within. elim (cases_eq b m) [
     | inl e ↦ ap (λ (c : ℕ). sector_at (bytes_of r l c) j) e ∙ filled u j (ap (λ (c : ℕ). (buf_at g c).new_of) (sym e) ∙ new) (subst (λ (c : ℕ). j < (buf_at g c).count) e within)
     | inr apart ↦ ap (λ (bytes : List ℕ). sector_at bytes j) (others b (omega (arith, h, below)) apart) ∙ so_far.filled b u j (omega (arith, h, apart)) new within
   ];
   others = λ b h none. elim (cases_eq b m) [
-    | inl e ↦ ap (λ (s : Held). bytes_of s l b) (old (ap (λ (c : ℕ). (buf_at g c).new_of) (sym e) ∙ none)) ∙ so_far.others b h none
+    | inl e ↦ ap (λ (s : PoolView). bytes_of s l b) (old (ap (λ (c : ℕ). (buf_at g c).new_of) (sym e) ∙ none)) ∙ so_far.others b h none
     | inr apart ↦ others b h apart ∙ so_far.others b h none
   ];
   fills = fills-then p q r l so_far.fills fills;

@@ -1,7 +1,7 @@
 -- The buffers of new data, filled.
 use Rattle.blk_disk.specs.Disk.{sector_at}
 use Rattle.std.specs.Prelude.{◌≡◌, ◌<◌, ◌≤◌, ◌*◌, ℕ, List, length, get_or, slice_set, Some, Contains, ◌-◌}
-use Rattle.buf_pool.specs.Pool.{Held, seat_at, IsLease, AllHome}
+use Rattle.buf_pool.specs.Pool.{PoolView, seat_at, IsLease, AllHome}
 use Rattle.graph_mean.specs.Graph.{View, buf_at}
 use Rattle.graph_mean.specs.Steps.{Covers}
 use Rattle.blk_plain.specs.declared.op.Op.{Op}
@@ -12,22 +12,22 @@ abbrev pub buffer_byte : View → List ℕ → ℕ → ℕ → ℕ → ℕ
 buffer_byte g bytes b o k = get_or (sector_at bytes (o - (buf_at g b).from)) k 0
 
 -- the bytes of a lease's buffer of that number
-abbrev pub bytes_of : Held → List ℕ → ℕ → List ℕ
+abbrev pub bytes_of : PoolView → List ℕ → ℕ → List ℕ
 bytes_of p l b = (seat_at p.seats (get_or l b 0)).bytes
 
 -- the pool where the buffer at seat k has these bytes
-abbrev pub stored : Held → ℕ → List ℕ → Held
+abbrev pub stored : PoolView → ℕ → List ℕ → PoolView
 stored p k bytes = record p { seats = slice_set p.seats k (record (seat_at p.seats k) { bytes = bytes }) }
 
 -- the lease has a buffer at home for each of the graph's, long enough for its sectors
-pub record HasBuffers (g : View) (p : Held) (l : List ℕ) : Type 0 where
+pub record HasBuffers (g : View) (p : PoolView) (l : List ℕ) : Type 0 where
   pub lease : IsLease p l
   pub home : AllHome p l
   pub count : length g.bufs ≤ length l
   pub long : (b : ℕ) → b < length g.bufs → 512 * (buf_at g b).count ≤ p.unit
 
 -- Nothing of a pool changed but the bytes of this lease's buffers.
-pub record FillsAlone (old : Held) (l : List ℕ) (new : Held) : Type 0 where
+pub record FillsAlone (old : PoolView) (l : List ℕ) (new : PoolView) : Type 0 where
   pub unit : new.unit ≡ old.unit
   pub free : new.free ≡ old.free
   pub seats : length new.seats ≡ length old.seats
@@ -36,6 +36,6 @@ pub record FillsAlone (old : Held) (l : List ℕ) (new : Held) : Type 0 where
   pub others : (k : ℕ) → ¬ Contains l k → seat_at new.seats k ≡ seat_at old.seats k
 
 -- and its buffers of new data hold what the operation writes, or zeros
-pub record Filled (g : View) (op : Op) (l : List ℕ) (old new : Held) : Type 0 where
+pub record Filled (g : View) (op : Op) (l : List ℕ) (old new : PoolView) : Type 0 where
   pub alone : FillsAlone old l new
   pub fresh_is : (b u o k block : ℕ) → (buf_at g b).new_of ≡ Some u → Covers g b o → k < 512 → buffer_byte g (bytes_of new l b) b o k ≡ fresh op block k

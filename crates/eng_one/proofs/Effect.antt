@@ -13,7 +13,7 @@ use Rattle.graph_mean.specs.Ordered.{Accepted}
 use Rattle.graph_mean.proofs.Sound.{accepted-atomic}
 use Rattle.graph_mean.proofs.Do.{wrote?}
 use Rattle.graph_mean.proofs.Marks.{marked-here, marked-other}
-use Rattle.eng_one.specs.Alone.{all_there, IsWhole, IsGoodAct, HasEffect}
+use Rattle.eng_one.specs.Alone.{all_there, NoneMissing, IsGoodAct, HasEffect}
 
 -- no unit comes to be missing
 pub missing-kept : (g : View) (x : State) (acts : List Act) (y : State) → Run g x acts y → All IsGoodAct acts → (s i : ℕ) → y.missing s i ≡ x.missing s i
@@ -25,10 +25,10 @@ missing-kept g x (Skip n ∷ acts) y r good s i = absurd (All-head IsGoodAct (Sk
 missing-kept g x (Lose lost ∷ acts) y r good s i = absurd (All-head IsGoodAct (Lose lost) acts good)
 
 -- the stripes are in step where they are with every unit there
-pub in-step : (t : Aim) (missing : Missing) → IsWhole missing → (old : Values) → IsInStep t all_there old → IsInStep t missing old
+pub in-step : (t : Aim) (missing : Missing) → NoneMissing missing → (old : Values) → IsInStep t all_there old → IsInStep t missing old
 in-step t missing whole old step = λ s o hs ho used. step s o hs ho (ap (λ (u : Option ℕ). (t.checks == 1) && (if is_sync t.kind then is_some u else true)) (sym (whole s)) ∙ used)
 
-pub alone-effect : (g : View) (t : Aim) (missing : Missing) → IsWhole missing → (old new : Values) (acts : List Act) (x y : State) → Accepted g t missing → IsInStep t missing old → Starts g t missing old new x → Run g x acts y → All IsGoodAct acts → y.phase ≡ Ended → HasEffect g t old new y.buf y.cell
+pub alone-effect : (g : View) (t : Aim) (missing : Missing) → NoneMissing missing → (old new : Values) (acts : List Act) (x y : State) → Accepted g t missing → IsInStep t missing old → Starts g t missing old new x → Run g x acts y → All IsGoodAct acts → y.phase ≡ Ended → HasEffect g t old new y.buf y.cell
 alone-effect g t missing whole old new acts x y a step st r good over =
     let h = accepted-atomic g t missing a old new acts x y step st r in
     record {
@@ -80,7 +80,7 @@ kept-or-written g x (Skip n ∷ acts) y r good s i o = absurd (All-head IsGoodAc
 kept-or-written g x (Lose lost ∷ acts) y r good s i o = absurd (All-head IsGoodAct (Lose lost) acts good)
 
 -- from the commit on, while no node is out, each sector holds what it held or what the task has it hold
-pub late-effect : (g : View) (t : Aim) (missing : Missing) → IsWhole missing → (old new : Values) (acts : List Act) (x y : State) → Accepted g t missing → IsInStep t missing old → Starts g t missing old new x → Run g x acts y → All IsGoodAct acts → IsLate y.phase → ((m : ℕ) → y.node m ≢ Idle → y.node m ≡ Good) → (s i o : ℕ) → IsSector t s i o → (y.cell s i o ≡ old s i o) ⊎ (y.cell s i o ≡ code_after t old new s i o)
+pub late-effect : (g : View) (t : Aim) (missing : Missing) → NoneMissing missing → (old new : Values) (acts : List Act) (x y : State) → Accepted g t missing → IsInStep t missing old → Starts g t missing old new x → Run g x acts y → All IsGoodAct acts → IsLate y.phase → ((m : ℕ) → y.node m ≢ Idle → y.node m ≡ Good) → (s i o : ℕ) → IsSector t s i o → (y.cell s i o ≡ old s i o) ⊎ (y.cell s i o ≡ code_after t old new s i o)
 late-effect g t missing whole old new acts x y a step st r good late fired s i o at =
     let h = accepted-atomic g t missing a old new acts x y step st r in
     elim (kept-or-written g x acts y r good s i o) [

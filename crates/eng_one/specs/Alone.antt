@@ -13,8 +13,8 @@ abbrev pub all_there : Missing
 all_there s = None
 
 -- no unit is missing
-abbrev pub IsWhole : Missing → Type 0
-IsWhole missing = (s : ℕ) → missing s ≡ None
+abbrev pub NoneMissing : Missing → Type 0
+NoneMissing missing = (s : ℕ) → missing s ≡ None
 
 -- a node is fired, or finishes good
 abbrev pub IsGoodAct : Act → Type 0

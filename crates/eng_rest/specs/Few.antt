@@ -5,7 +5,7 @@ use Rattle.eng_world.specs.declared.item.Traced.{Traced}
 use Rattle.eng_world.specs.declared.item.Event.{Event}
 use Rattle.eng_world.specs.World.{Waits, World}
 use Rattle.eng_world.specs.Planning.{Graphs}
-use Rattle.eng_world.specs.Step.{Possible, Run}
+use Rattle.eng_world.specs.Step.{Possible, EventsLead}
 use Rattle.eng_world.specs.Invariant.{AllReplied}
 use Rattle.eng_world.specs.Going.{NoneRuns}
 use Rattle.eng_rest.specs.Left.{of_item, IsLater, Within}
@@ -22,7 +22,7 @@ AreLater (e ∷ events) = IsLater e × AreLater events
 
 module _ (y : Shape) (graphs : Graphs) (m c i : ℕ) where
   -- in each world of the run, first and last included, the item's graph has at most m nodes
-  abbrev pub GraphsWithin : (start : World) (events : List Traced) (now : World) → Run y graphs start events now → Type 0
+  abbrev pub GraphsWithin : (start : World) (events : List Traced) (now : World) → EventsLead y graphs start events now → Type 0
   GraphsWithin start [] now run = Within m (now.clients c) i
   GraphsWithin start (e ∷ events) now run = GraphsWithin start events run.0 run.1 × Within m (now.clients c) i
 

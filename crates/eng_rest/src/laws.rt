@@ -6,7 +6,7 @@ ghost use Rattle.eng_world.specs.declared.item.Traced.{Traced};
 ghost use Rattle.eng_world.specs.World.{World};
 ghost use Rattle.eng_world.specs.Planning.{Graphs, Promises};
 ghost use Rattle.eng_world.specs.Pool.{HaveItems};
-ghost use Rattle.eng_world.specs.Step.{IsOpening, Step, Run};
+ghost use Rattle.eng_world.specs.Step.{IsOpening, Step, EventsLead};
 ghost use Rattle.eng_rest.specs.Left.{left, all_left, alive, of_item, IsOwn, IsLater, Within, EachWithin, NoneOut, IsIndexed};
 ghost use Rattle.eng_rest.specs.Few.{count_of, AreLater, GraphsWithin, Stands};
 
@@ -43,12 +43,12 @@ pub fn all_falls()
 /// 2 m + 4, and as many again for each column that dies.
 pub fn events_of_an_item_are_few()
     ensures left { (y : Shape) (graphs : Graphs) (start now : World) (events : List Traced) (m c i : ℕ)
-        → (run : Run y graphs start events now) → AreLater events → IsIndexed start
+        → (run : EventsLead y graphs start events now) → AreLater events → IsIndexed start
         → i < length (start.clients c).items → GraphsWithin y graphs m c i start events now run
         → left m now c i + count_of events c i ≤ left m start c i }
     ensures few { (y : Shape) (graphs : Graphs) (start now : World) (events : List Traced)
         → (m c i deaths : ℕ)
-        → (run : Run y graphs start events now) → AreLater events → IsIndexed start
+        → (run : EventsLead y graphs start events now) → AreLater events → IsIndexed start
         → i < length (start.clients c).items → GraphsWithin y graphs m c i start events now run
         → NoneOut (start.clients c) → alive start.columns ≡ alive now.columns + deaths
         → count_of events c i ≤ (1 + deaths) * (2 * m + 4) }
@@ -60,7 +60,7 @@ pub fn events_of_an_item_are_few()
 pub fn somebody_goes_on()
     ensures { (y : Shape) (graphs : Graphs) (opening now : World) (events : List Traced) (n : ℕ)
         → IsLayout y → Promises graphs → IsOpening y opening → HaveItems opening n
-        → Run y graphs opening events now
+        → EventsLead y graphs opening events now
         → now.lost ≡ None → now.out ≡ 0
         → Stands y graphs now }
 {}

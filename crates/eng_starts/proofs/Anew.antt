@@ -87,12 +87,12 @@ module _ {L D : Type 0} (lay : LayoutGhosts L) (disk : DiskGhosts D) (old s1 : A
     anew-buffers =
         subst (λ (a : Desk). HasBuffers (graph_of s3.graphs.items a) s3.pool a.lease) (sym desk-3)
         (subst (λ (l : List Held). HasBuffers (graph_of l p) s3.pool p.lease) (sym graphs-3)
-        (subst (λ (q : held.Held). HasBuffers (graph_of gs p) q p.lease) (sym pool-3) buffers))
+        (subst (λ (q : held.PoolView). HasBuffers (graph_of gs p) q p.lease) (sym pool-3) buffers))
 
     module _ (s4 s5 : Array L D) (event : Traced) (filled : Filled (graph_of s3.graphs.items (desk_at s3.clients c)) op (desk_at s3.clients c).lease s3.pool s4.pool) (fill : s4 ≡ record s3 { pool = s4.pool }) (note : s5 ≡ record s4 { log = noted s4.log event }) where
       filled-3 : Filled (graph_of gs p) op p.lease old.pool s4.pool
       filled-3 =
-          subst (λ (q : held.Held). Filled (graph_of gs p) op p.lease q s4.pool) pool-3
+          subst (λ (q : held.PoolView). Filled (graph_of gs p) op p.lease q s4.pool) pool-3
           (subst (λ (l : List Held). Filled (graph_of l p) op p.lease s3.pool s4.pool) graphs-3
           (subst (λ (a : Desk). Filled (graph_of s3.graphs.items a) op a.lease s3.pool s4.pool) desk-3 filled))
 
@@ -103,7 +103,7 @@ module _ {L D : Type 0} (lay : LayoutGhosts L) (disk : DiskGhosts D) (old s1 : A
         runs = runs;
         clients = ap (λ (a : Array L D). a.clients) note ∙ (ap (λ (a : Array L D). a.clients) fill ∙ clients-3);
         locks = ap (λ (a : Array L D). a.locks) note ∙ (ap (λ (a : Array L D). a.locks) fill ∙ (ap (λ (a : Array L D). a.locks) start ∙ ap (λ (a : Array L D). a.locks) pf.now));
-        filled = subst (λ (q : held.Held). Filled (graph_of gs p) op p.lease old.pool q) (sym (ap (λ (a : Array L D). a.pool) note)) filled-3;
+        filled = subst (λ (q : held.PoolView). Filled (graph_of gs p) op p.lease old.pool q) (sym (ap (λ (a : Array L D). a.pool) note)) filled-3;
         log = ap (λ (a : Array L D). a.log) note ∙ (ap (λ (a : Array L D). noted a.log event) fill ∙ (ap (λ (a : Array L D). noted a.log event) start ∙ ap (λ (a : Array L D). noted a.log event) pf.now));
         rest = record {
           layout = ap (λ (a : Array L D). a.layout) note ∙ (ap (λ (a : Array L D). a.layout) fill ∙ (ap (λ (a : Array L D). a.layout) start ∙ ap (λ (a : Array L D). a.layout) pf.now));

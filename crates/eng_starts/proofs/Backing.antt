@@ -201,7 +201,7 @@ module _ {L D : Type 0} (lay : LayoutGhosts L) (disk : DiskGhosts D) (old new : 
     shows-clients : (k : ℕ) → ShowsClient disk.tells None new.pool (desk_at (slice_set old.clients c now) k) (x.clients k)
     shows-clients = keeping.shown-each lay disk old new f.rest new.pool (slice_set old.clients c now) w.clients c now v (changing.here old.clients c now here-below) (changing.else old.clients c now here-below) shows-now
         (λ k ne. keeping.shown-else disk.tells old.pool new.pool (desk_at old.clients k) (w.clients k)
-        (λ runs b o covers. ap (λ (t : pool.View). t.bytes) (other-seat k b ne (let lt = covers-below (desk_at old.clients k).run.graph b o covers in let bufs = (others-well lay disk old c op None sound stands can serves k runs).bufs in omega (arith, lt, bufs)))) (unlost disk old w s can.not_lost k))
+        (λ runs b o covers. ap (λ (t : pool.SeatView). t.bytes) (other-seat k b ne (let lt = covers-below (desk_at old.clients k).run.graph b o covers in let bufs = (others-well lay disk old c op None sound stands can serves k runs).bufs in omega (arith, lt, bufs)))) (unlost disk old w s can.not_lost k))
 
     shows-new : Shows disk new x
     shows-new = keeping.shows-of lay disk old new f.rest w c v w.free s can.not_lost (event.Back (id_of old.clients c)) f.log (s.free ∙ ap length (sym f.filled.alone.free))
@@ -236,7 +236,7 @@ module _ {L D : Type 0} (lay : LayoutGhosts L) (disk : DiskGhosts D) (old new : 
   anew-sound = keeping.sound-of lay disk old new f.rest (slice_set old.clients c now) f.clients sound f.filled.alone.unit
       (changing.well-after old.clients c now here-below y gs old.pool new.pool (λ k ne runs. leases (desk_at old.clients k).lease (others-well lay disk old c op None sound stands can serves k runs).lease) well-now apart-now sound.well)
       (changing.devices-after old.clients c now here-below (quiet lay disk old c op None sound stands can serves) calm old.devices sound.devices)
-      (changing.seats-after old.clients c now here-below (quiet lay disk old c op None sound stands can serves) calm old.pool new.pool (λ k b ne lt. ap (λ (t : pool.View). t.out) (other-seat k b ne lt)) (λ runs. home-new) (changing.named-in y gs old.pool old.clients sound.well) sound.seats)
+      (changing.seats-after old.clients c now here-below (quiet lay disk old c op None sound stands can serves) calm old.pool new.pool (λ k b ne lt. ap (λ (t : pool.SeatView). t.out) (other-seat k b ne lt)) (λ runs. home-new) (changing.named-in y gs old.pool old.clients sound.well) sound.seats)
       (subst (λ (t : Table). Locked (slice_set old.clients c now) t) (sym f.locks) (changing.locked-after old.clients c now here-below old.locks old.locks refl (λ k t ne. refl)
       (λ runs t has. sound.locked.each c t can.runs (same-stripes y (span_of y op) f.plan.map e.map f.replanned.planned.split ons.split t has) ∙ ap (λ (m : Mode). Some m) (sym mode-same))
       (λ runs t none. sound.locked.only c t can.runs (λ has. none (same-stripes y (span_of y op) e.map f.plan.map ons.split f.replanned.planned.split t has)))

@@ -9,7 +9,7 @@ use Rattle.stripe_lock.specs.Table.{Table, mode_of, owners_of, HoldsNothing}
 use Rattle.lay_core.specs.Layout.{Shape}
 use Rattle.graph_mean.specs.Graph.{Held, kind_at}
 use Rattle.graph_mean.specs.Steps.{IsCall}
-use Rattle.eng_world.specs.Nodes.{Takes}
+use Rattle.eng_world.specs.Nodes.{MakesOrUses}
 use Rattle.eng_clients.specs.declared.stage.Stage.TheVariants.{Runs}
 use Rattle.eng_parts.specs.Shelf.{Shelved}
 use Rattle.eng_clients.specs.Seats.{seat_of}
@@ -20,7 +20,7 @@ use Rattle.eng_state.proofs.Putting.{out-below}
 use Rattle.eng_state.proofs.Running.{runs_below}
 
 -- a running operation is well in another pool where it has its lease
-pub well-lease : (y : Shape) (graphs : List Held) (p q : pool.Held) (d : Desk) → pool.IsLease q d.lease → RunsWell y graphs p d → RunsWell y graphs q d
+pub well-lease : (y : Shape) (graphs : List Held) (p q : pool.PoolView) (d : Desk) → pool.IsLease q d.lease → RunsWell y graphs p d → RunsWell y graphs q d
 well-lease y graphs p q d lease w = record {
   op = w.op;
   item = w.item;
@@ -37,7 +37,7 @@ well-lease y graphs p q d lease w = record {
 }
 
 -- what a node that is out makes or uses is leased
-pub named-in : (y : Shape) (graphs : List Held) (p : pool.Held) (desks : List Desk) → AreWell y graphs p desks → (k n b : ℕ) → IsOutOf (desk_at desks k) n → Takes (desk_at desks k).run.graph n b → b < length (desk_at desks k).lease
+pub named-in : (y : Shape) (graphs : List Held) (p : pool.PoolView) (desks : List Desk) → AreWell y graphs p desks → (k n b : ℕ) → IsOutOf (desk_at desks k) n → MakesOrUses (desk_at desks k).run.graph n b → b < length (desk_at desks k).lease
 named-in y graphs p desks well k n b o t =
     let w = (well.each k (runs_below y graphs p desks k well o.runs)).runs o.runs in
     let marks = w.marks in
@@ -94,29 +94,29 @@ module _ (desks : List Desk) (c : ℕ) (e : Desk) (below : c < length desks) whe
           ap (λ (d : Desk). spot_at d n) (else k w.0) ∙ sound.unplaced k n w.1 (λ call. none (subst (λ (d : Desk). IsCall (kind_at d.run.graph n)) (sym (else k w.0)) call));
     }
 
-    pub seats-after : (p q : pool.Held) → ((k b : ℕ) → k ≢ c → b < length (desk_at desks k).lease → (seat_of q (desk_at desks k) b).out ≡ (seat_of p (desk_at desks k) b).out)
-        → (e.stage ≡ Runs → pool.AllHome q e.lease) → ((k n b : ℕ) → IsOutOf (desk_at desks k) n → Takes (desk_at desks k).run.graph n b → b < length (desk_at desks k).lease) → SeatsOut desks p → SeatsOut after q
+    pub seats-after : (p q : pool.PoolView) → ((k b : ℕ) → k ≢ c → b < length (desk_at desks k).lease → (seat_of q (desk_at desks k) b).out ≡ (seat_of p (desk_at desks k) b).out)
+        → (e.stage ≡ Runs → pool.AllHome q e.lease) → ((k n b : ℕ) → IsOutOf (desk_at desks k) n → MakesOrUses (desk_at desks k).run.graph n b → b < length (desk_at desks k).lease) → SeatsOut desks p → SeatsOut after q
     seats-after p q kept home named sound = record {
       away = λ k n b o t.
           let w = was-out k n o in
-          let t2 = subst (λ (d : Desk). Takes d.run.graph n b) (else k w.0) t in
+          let t2 = subst (λ (d : Desk). MakesOrUses d.run.graph n b) (else k w.0) t in
           ap (λ (d : Desk). (seat_of q d b).out) (else k w.0) ∙ (kept k b w.0 (named k n b w.1 t2) ∙ sound.away k n b w.1 t2);
       held = λ k b. held-after k b;
       one = λ k n m b g h s t.
           let v = was-out k n g in let w = was-out k m h in
-          sound.one k n m b v.1 w.1 (subst (λ (d : Desk). Takes d.run.graph n b) (else k v.0) s) (subst (λ (d : Desk). Takes d.run.graph m b) (else k v.0) t);
+          sound.one k n m b v.1 w.1 (subst (λ (d : Desk). MakesOrUses d.run.graph n b) (else k v.0) s) (subst (λ (d : Desk). MakesOrUses d.run.graph m b) (else k v.0) t);
     }
       where
         HeldAt : ℕ → Desk → Type 0
-        HeldAt b d = d.stage ≡ Runs → b < length d.lease → (seat_of q d b).out ≡ true → (n : ℕ) × IsOutOf d n × Takes d.run.graph n b
+        HeldAt b d = d.stage ≡ Runs → b < length d.lease → (seat_of q d b).out ≡ true → (n : ℕ) × IsOutOf d n × MakesOrUses d.run.graph n b
 
-        held-after : (k b : ℕ) → (desk_at after k).stage ≡ Runs → b < length (desk_at after k).lease → (seat_of q (desk_at after k) b).out ≡ true → (n : ℕ) × IsOutOf (desk_at after k) n × Takes (desk_at after k).run.graph n b
+        held-after : (k b : ℕ) → (desk_at after k).stage ≡ Runs → b < length (desk_at after k).lease → (seat_of q (desk_at after k) b).out ≡ true → (n : ℕ) × IsOutOf (desk_at after k) n × MakesOrUses (desk_at after k).run.graph n b
         held-after k b = elim (cases_eq k c) [
           | inl same ↦ subst (λ (d : Desk). HeldAt b d) (sym (ap (λ (j : ℕ). desk_at after j) same ∙ here)) (λ runs lt out. let z : false ≡ true = sym (home runs b lt) ∙ out in absurd (let u : ⊥ = cc in u))
           | inr ne ↦ subst (λ (d : Desk). HeldAt b d) (sym (else k ne)) (λ runs lt out. sound.held k b runs lt (sym (kept k b ne lt) ∙ out))
         ]
 
-  pub well-after : (y : Shape) (graphs : List Held) (p q : pool.Held) → ((k : ℕ) → k ≢ c → (desk_at desks k).stage ≡ Runs → pool.IsLease q (desk_at desks k).lease)
+  pub well-after : (y : Shape) (graphs : List Held) (p q : pool.PoolView) → ((k : ℕ) → k ≢ c → (desk_at desks k).stage ≡ Runs → pool.IsLease q (desk_at desks k).lease)
       → IsWell y graphs q e → ((k : ℕ) → k ≢ c → pool.AreApart e.lease (desk_at desks k).lease × pool.AreApart (desk_at desks k).lease e.lease) → AreWell y graphs p desks → AreWell y graphs q after
   well-after y graphs p q leases mine apart well = record {
     all = length-set desks c e ∙ well.all;

@@ -17,7 +17,7 @@ use Rattle.eng_one.proofs.Waiting.{step-reached}
 use Rattle.eng_one.proofs.Leading as leading
 use Rattle.eng_cols.specs.declared.spot.Spot.{Spot}
 use Rattle.eng_cols.specs.Cols.{Columns, ColumnState}
-use Rattle.eng_world.specs.Nodes.{Takes, place_of}
+use Rattle.eng_world.specs.Nodes.{MakesOrUses, place_of}
 use Rattle.eng_world.specs.World.{Plan}
 use Rattle.eng_state.specs.declared.array.Array.{Array}
 use Rattle.eng_parts.specs.Shelf.{Seen, Shelved, seen_at}
@@ -68,7 +68,7 @@ place-none y cols p Cmt none = refl
 place-none y cols p Trm none = refl
 
 -- a lease of the pool is one still
-lease-left : (old new : pool.Held) (is_out : ℕ → Type 0) (l : List ℕ) → BuffersLeft old is_out new → pool.IsLease old l → pool.IsLease new l
+lease-left : (old new : pool.PoolView) (is_out : ℕ → Type 0) (l : List ℕ) → BuffersLeft old is_out new → pool.IsLease old l → pool.IsLease new l
 lease-left old new is_out l b h i lt = let e = b.seats in let m = (h i lt).0 in (omega (arith, e, m), b.owner (get_or l i 0) ∙ (h i lt).1)
 
 module _ {L D : Type 0} (lay : LayoutGhosts L) (disk : DiskGhosts D) (old new : Array L D) (c n : ℕ) (sound : IsSound lay disk old) (can : CanFire lay old c n) (f : Fired lay old c n new) where
@@ -100,7 +100,7 @@ module _ {L D : Type 0} (lay : LayoutGhosts L) (disk : DiskGhosts D) (old new : 
   spots = let e = (sound.well.each c below17).spots in let h = can.ready.below in let few = well.few in omega (arith, e, h, few)
 
   -- a buffer that a node takes is one of its lease's
-  named : (b : ℕ) → Takes d.run.graph n b → b < length d.lease
+  named : (b : ℕ) → MakesOrUses d.run.graph n b → b < length d.lease
   named b t = let bufs = well.bufs in elim t [
     | inl m ↦ let h = well.accepted.2.makes_named n b can.ready.below m in omega (arith, bufs, h)
     | inr u ↦ let h = well.accepted.2.uses_named n b can.ready.below u in omega (arith, bufs, h)

@@ -16,7 +16,7 @@ use Rattle.eng_cols.specs.declared.spot.Loss.{Loss}
 use Rattle.eng_cols.specs.Cols.{ColumnState}
 use Rattle.eng_world.specs.declared.item.Traced.TheVariants as event
 use Rattle.eng_world.specs.World.{Running, Client, World, RunsAs, Runs as IsRunning}
-use Rattle.eng_world.specs.Nodes.{CanFire as MayFire, Fires, Takes, place_of}
+use Rattle.eng_world.specs.Nodes.{CanFire as MayFire, Fires, MakesOrUses, place_of}
 use Rattle.eng_world.specs.Step.{StepBy, Step}
 use Rattle.eng_clients.specs.declared.stage.Stage.{Stage}
 use Rattle.eng_state.specs.declared.array.Array.{Array}
@@ -94,7 +94,7 @@ module _ {L D : Type 0} (lay : LayoutGhosts L) (disk : DiskGhosts D) (old new : 
         out_in None = false
         out_in (Some a) = a.out
 
-    buffers-home : (m b : ℕ) → mark_of d.run m ≡ status.Out → Takes d.run.graph n b → Takes d.run.graph m b → ⊥
+    buffers-home : (m b : ℕ) → mark_of d.run m ≡ status.Out → MakesOrUses d.run.graph n b → MakesOrUses d.run.graph m b → ⊥
     buffers-home m b out mine theirs =
         let away = sound.seats.away c m b (record { runs = can.runs; mark = out }) theirs in
         let home = can.buffers_home b mine in

@@ -108,7 +108,7 @@ module _ {L D : Type 0} (lay : LayoutGhosts L) (disk : DiskGhosts D) (old new : 
     shows-clients : (k : ℕ) → ShowsClient disk.tells None new.pool (desk_at (slice_set old.clients c now) k) (x.clients k)
     shows-clients = keeping.shown-each lay disk old new f.rest new.pool (slice_set old.clients c now) w.clients c now v (changing.here old.clients c now here-below) (changing.else old.clients c now here-below) shows-now
         (λ k ne. keeping.shown-else disk.tells old.pool new.pool (desk_at old.clients k) (w.clients k)
-        (λ runs b o covers. ap (λ (t : pool.View). t.bytes) (other-seat k b ne (let lt = covers-below (desk_at old.clients k).run.graph b o covers in let bufs = (backing.others-well lay disk old c op (Some file) sound stands can serves k runs).bufs in omega (arith, lt, bufs)))) (unlost disk old w s can.not_lost k))
+        (λ runs b o covers. ap (λ (t : pool.SeatView). t.bytes) (other-seat k b ne (let lt = covers-below (desk_at old.clients k).run.graph b o covers in let bufs = (backing.others-well lay disk old c op (Some file) sound stands can serves k runs).bufs in omega (arith, lt, bufs)))) (unlost disk old w s can.not_lost k))
 
     shows-new : Shows disk new x
     shows-new = keeping.shows-of lay disk old new f.rest w c v (w.free + length e.lease) s can.not_lost (event.Back (id_of old.clients c)) f.log (let a = s.free in let b = f.pool.free in omega (arith, a, b))
@@ -143,7 +143,7 @@ module _ {L D : Type 0} (lay : LayoutGhosts L) (disk : DiskGhosts D) (old new : 
   up-sound = keeping.sound-of lay disk old new f.rest (slice_set old.clients c now) f.clients sound f.pool.unit
       (changing.well-after old.clients c now here-below y gs old.pool new.pool (λ k ne runs. f.others (desk_at old.clients k).lease (backing.others-well lay disk old c op (Some file) sound stands can serves k runs).lease (sound.well.apart k c ne)) well-now apart-now sound.well)
       (changing.devices-after old.clients c now here-below (backing.quiet lay disk old c op (Some file) sound stands can serves) (λ m o. idle-now o.runs) old.devices sound.devices)
-      (changing.seats-after old.clients c now here-below (backing.quiet lay disk old c op (Some file) sound stands can serves) (λ m o. idle-now o.runs) old.pool new.pool (λ k b ne lt. ap (λ (t : pool.View). t.out) (other-seat k b ne lt)) (λ runs. absurd (idle-now runs)) (changing.named-in y gs old.pool old.clients sound.well) sound.seats)
+      (changing.seats-after old.clients c now here-below (backing.quiet lay disk old c op (Some file) sound stands can serves) (λ m o. idle-now o.runs) old.pool new.pool (λ k b ne lt. ap (λ (t : pool.SeatView). t.out) (other-seat k b ne lt)) (λ runs. absurd (idle-now runs)) (changing.named-in y gs old.pool old.clients sound.well) sound.seats)
       (changing.locked-after old.clients c now here-below old.locks new.locks f.locks.owners (λ k t ne. f.locks.others k t ne) (λ runs. absurd (idle-now runs)) (λ runs. absurd (idle-now runs)) (λ ne. f.locks.nothing) sound.locked)
       (changing.jobs-after old.clients c now here-below (backing.no-jobs lay disk old c op (Some file) sound stands can serves) (backing.no-jobs lay disk old c op (Some file) sound stands can serves))
 

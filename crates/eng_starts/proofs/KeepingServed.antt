@@ -28,12 +28,12 @@ use Rattle.eng_log.specs.Handed.{Handout, Hands}
 use Rattle.eng_log.specs.Filled.{buffer_byte}
 
 -- an operation is shown in another pool whose buffers have the same bytes where they cover something
-pub shown-in : (tells : Type 0) (p q : pool.Held) (d : Desk) (now : Current) (t : Stage) → d.stage ≡ t → (d.stage ≡ Runs → (b o : ℕ) → Covers d.run.graph b o → (pool.seat_at q.seats (get_or d.lease b 0)).bytes ≡ (pool.seat_at p.seats (get_or d.lease b 0)).bytes) → ShowsCurrent tells p t d now → ShowsCurrent tells q t d now
+pub shown-in : (tells : Type 0) (p q : pool.PoolView) (d : Desk) (now : Current) (t : Stage) → d.stage ≡ t → (d.stage ≡ Runs → (b o : ℕ) → Covers d.run.graph b o → (pool.seat_at q.seats (get_or d.lease b 0)).bytes ≡ (pool.seat_at p.seats (get_or d.lease b 0)).bytes) → ShowsCurrent tells p t d now → ShowsCurrent tells q t d now
 shown-in tells p q d now Nothing is same s = s
 shown-in tells p q d now Waits is same s = s
 shown-in tells p q d now Runs is same s = (s.0, s.1, λ told b o k covers lt. s.2 told b o k covers lt ∙ ap (λ (l : List ℕ). buffer_byte d.run.graph l b o k) (sym (same is b o covers)))
 
-pub shown-else : (tells : Type 0) (p q : pool.Held) (d : Desk) (c : Client) → (d.stage ≡ Runs → (b o : ℕ) → Covers d.run.graph b o → (pool.seat_at q.seats (get_or d.lease b 0)).bytes ≡ (pool.seat_at p.seats (get_or d.lease b 0)).bytes) → ShowsClient tells None p d c → ShowsClient tells None q d c
+pub shown-else : (tells : Type 0) (p q : pool.PoolView) (d : Desk) (c : Client) → (d.stage ≡ Runs → (b o : ℕ) → Covers d.run.graph b o → (pool.seat_at q.seats (get_or d.lease b 0)).bytes ≡ (pool.seat_at p.seats (get_or d.lease b 0)).bytes) → ShowsClient tells None p d c → ShowsClient tells None q d c
 shown-else tells p q d c same s = record { items = s.items; replies = s.replies; current = shown-in tells p q d c.current d.stage refl same s.current }
 
 module _ {L D : Type 0} (lay : LayoutGhosts L) (disk : DiskGhosts D) (old new : Array L D) (rest : SameRest lay old new) where
@@ -97,7 +97,7 @@ module _ {L D : Type 0} (lay : LayoutGhosts L) (disk : DiskGhosts D) (old new : 
     }
 
   -- each client is shown: the changed one as it is now, the others as they were
-  pub shown-each : (q : pool.Held) (desks : List Desk) (f : ℕ → Client) (c : ℕ) (e : Desk) (v : Client) → desk_at desks c ≡ e → ((k : ℕ) → k ≢ c → desk_at desks k ≡ desk_at old.clients k) → ShowsClient disk.tells None q e v
+  pub shown-each : (q : pool.PoolView) (desks : List Desk) (f : ℕ → Client) (c : ℕ) (e : Desk) (v : Client) → desk_at desks c ≡ e → ((k : ℕ) → k ≢ c → desk_at desks k ≡ desk_at old.clients k) → ShowsClient disk.tells None q e v
       → ((k : ℕ) → k ≢ c → ShowsClient disk.tells None q (desk_at old.clients k) (f k)) → (k : ℕ) → ShowsClient disk.tells None q (desk_at desks k) (put f c v k)
   shown-each q desks f c e v here else mine others k = elim (cases_eq k c) [
     | inl same ↦ subst (λ (j : ℕ). ShowsClient disk.tells None q (desk_at desks j) (put f c v j)) (sym same)

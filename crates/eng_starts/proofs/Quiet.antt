@@ -14,7 +14,7 @@ use Rattle.graph_mean.specs.Graph.{Held, View, kind_at}
 use Rattle.graph_mean.specs.Steps.{IsCall}
 use Rattle.eng_one.specs.Control.{mark_of}
 use Rattle.eng_cols.specs.Cols.{Columns}
-use Rattle.eng_world.specs.Nodes.{Takes}
+use Rattle.eng_world.specs.Nodes.{MakesOrUses}
 use Rattle.eng_clients.specs.declared.stage.Stage.TheVariants.{Runs}
 use Rattle.eng_state.specs.declared.array.Array.{Array}
 use Rattle.eng_parts.specs.Shelf.{Shelved}
@@ -114,11 +114,11 @@ module _ {L D : Type 0} (lay : LayoutGhosts L) (disk : DiskGhosts D) (old new : 
 
   seats : SeatsOut after old.pool
   seats = record {
-    away = λ k m b p t. subst (λ (l : List ℕ). (pool.seat_at old.pool.seats (get_or l b 0)).out ≡ true) (sym (same-lease k)) (sound.seats.away k m b (was-out k m p) (subst (λ (g : View). Takes g m b) (same-graph k) t));
+    away = λ k m b p t. subst (λ (l : List ℕ). (pool.seat_at old.pool.seats (get_or l b 0)).out ≡ true) (sym (same-lease k)) (sound.seats.away k m b (was-out k m p) (subst (λ (g : View). MakesOrUses g m b) (same-graph k) t));
     held = λ k b stage lt out.
         let h = sound.seats.held k b (stage-was k stage) (subst (λ (l : List ℕ). b < length l) (same-lease k) lt) (subst (λ (l : List ℕ). (pool.seat_at old.pool.seats (get_or l b 0)).out ≡ true) (same-lease k) out) in
-        (h.0, still-out k h.0 h.1, subst (λ (g : View). Takes g h.0 b) (sym (same-graph k)) h.2);
-    one = λ k m i b p q t u. sound.seats.one k m i b (was-out k m p) (was-out k i q) (subst (λ (g : View). Takes g m b) (same-graph k) t) (subst (λ (g : View). Takes g i b) (same-graph k) u);
+        (h.0, still-out k h.0 h.1, subst (λ (g : View). MakesOrUses g h.0 b) (sym (same-graph k)) h.2);
+    one = λ k m i b p q t u. sound.seats.one k m i b (was-out k m p) (was-out k i q) (subst (λ (g : View). MakesOrUses g m b) (same-graph k) t) (subst (λ (g : View). MakesOrUses g i b) (same-graph k) u);
   }
 
   wells : AreWell y old.graphs.items old.pool after
@@ -143,10 +143,10 @@ module _ {L D : Type 0} (lay : LayoutGhosts L) (disk : DiskGhosts D) (old new : 
   quiet-sound = record {
     layout = subst IsLayout shape sound.layout;
     seated = subst (λ (v : Shape). Seated disk v new.cols new.devices) shape (subst (λ (v : Columns). Seated disk y v new.devices) (sym f.cols) (subst (λ (v : Shelved D). Seated disk y old.cols v) (sym f.devices) sound.seated));
-    unit = ap (λ (p : pool.Held). p.unit) f.pool ∙ (sound.unit ∙ ap (λ (v : Shape). 512 * v.unit_sectors) shape);
-    well = subst (λ (v : Shape). AreWell v new.graphs.items new.pool new.clients) shape (subst (λ (l : List Held). AreWell y l new.pool new.clients) (sym (ap (λ v. v.items) f.graphs)) (subst (λ (p : pool.Held). AreWell y old.graphs.items p new.clients) (sym f.pool) (subst (λ (l : List Desk). AreWell y old.graphs.items old.pool l) (sym f.clients) wells)));
+    unit = ap (λ (p : pool.PoolView). p.unit) f.pool ∙ (sound.unit ∙ ap (λ (v : Shape). 512 * v.unit_sectors) shape);
+    well = subst (λ (v : Shape). AreWell v new.graphs.items new.pool new.clients) shape (subst (λ (l : List Held). AreWell y l new.pool new.clients) (sym (ap (λ v. v.items) f.graphs)) (subst (λ (p : pool.PoolView). AreWell y old.graphs.items p new.clients) (sym f.pool) (subst (λ (l : List Desk). AreWell y old.graphs.items old.pool l) (sym f.clients) wells)));
     devices = subst (λ (l : List Desk). DevicesOut l new.devices) (sym f.clients) (subst (λ (v : Shelved D). DevicesOut after v) (sym f.devices) devices);
-    seats = subst (λ (l : List Desk). SeatsOut l new.pool) (sym f.clients) (subst (λ (p : pool.Held). SeatsOut after p) (sym f.pool) seats);
+    seats = subst (λ (l : List Desk). SeatsOut l new.pool) (sym f.clients) (subst (λ (p : pool.PoolView). SeatsOut after p) (sym f.pool) seats);
     locked = subst (λ (l : List Desk). Locked l new.locks) (sym f.clients) (subst (λ (t : Table). Locked after t) (sym f.locks) locked);
     jobs = jobs;
     place = tt;

@@ -103,8 +103,8 @@ module _ {L D : Type 0} (lay : LayoutGhosts L) (disk : DiskGhosts D) (old new : 
     shows-clients = keeping.shown-each lay disk old new f.rest old.pool (slice_set old.clients c now) w.clients c now v (changing.here old.clients c now below) (changing.else old.clients c now below) shows-now (λ k ne. unlost disk old w s can.not_lost k)
 
     shows-new : Shows disk new x
-    shows-new = keeping.shows-of lay disk old new f.rest w c v w.free s can.not_lost (event.Take (id_of old.clients c)) f.log (s.free ∙ ap (λ (p : pool.Held). length p.free) (sym f.pool))
-        (λ k. subst (λ (p : pool.Held). ShowsClient disk.tells None p (desk_at new.clients k) (x.clients k)) (sym f.pool) (subst (λ (l : List Desk). ShowsClient disk.tells None old.pool (desk_at l k) (x.clients k)) (sym f.clients) (shows-clients k))) (hands-replied disk.tells old.log.handed w.clients c v r refl refl refl s.handed)
+    shows-new = keeping.shows-of lay disk old new f.rest w c v w.free s can.not_lost (event.Take (id_of old.clients c)) f.log (s.free ∙ ap (λ (p : pool.PoolView). length p.free) (sym f.pool))
+        (λ k. subst (λ (p : pool.PoolView). ShowsClient disk.tells None p (desk_at new.clients k) (x.clients k)) (sym f.pool) (subst (λ (l : List Desk). ShowsClient disk.tells None old.pool (desk_at l k) (x.clients k)) (sym f.clients) (shows-clients k))) (hands-replied disk.tells old.log.handed w.clients c v r refl refl refl s.handed)
 
     steps : Step y (graphs_of gs) (event.Take (id_of old.clients c)) w x
     steps = subst (λ (l : Option Loss). StepBy y (graphs_of gs) l (event.Take (id_of old.clients c)) w x) (sym (s.lost ∙ can.not_lost)) (ap length (unlost disk old w s can.not_lost c).replies, inr refuses)
@@ -137,10 +137,10 @@ module _ {L D : Type 0} (lay : LayoutGhosts L) (disk : DiskGhosts D) (old new : 
   apart-now k ne = ((λ i j hi hj e. let u : ⊥ = omega (arith, hi) in u), (λ i j hi hj e. let u : ⊥ = omega (arith, hj) in u))
 
   pub refuse-sound : IsSound lay disk new
-  refuse-sound = keeping.sound-of lay disk old new f.rest (slice_set old.clients c now) f.clients sound (ap (λ (p : pool.Held). p.unit) f.pool)
-      (subst (λ (p : pool.Held). AreWell y gs p (slice_set old.clients c now)) (sym f.pool) (changing.well-after old.clients c now below y gs old.pool old.pool (λ k ne runs. (asking.lease-of lay disk old c op file sound stands can serves f.plan f.replanned n refl k runs).lease) well-now apart-now sound.well))
+  refuse-sound = keeping.sound-of lay disk old new f.rest (slice_set old.clients c now) f.clients sound (ap (λ (p : pool.PoolView). p.unit) f.pool)
+      (subst (λ (p : pool.PoolView). AreWell y gs p (slice_set old.clients c now)) (sym f.pool) (changing.well-after old.clients c now below y gs old.pool old.pool (λ k ne runs. (asking.lease-of lay disk old c op file sound stands can serves f.plan f.replanned n refl k runs).lease) well-now apart-now sound.well))
       (changing.devices-after old.clients c now below (λ m o. rests o.runs) (λ m o. idle-now o.runs) old.devices sound.devices)
-      (subst (λ (p : pool.Held). SeatsOut (slice_set old.clients c now) p) (sym f.pool) (changing.seats-after old.clients c now below (λ m o. rests o.runs) (λ m o. idle-now o.runs) old.pool old.pool (λ k b ne lt. refl) (λ runs. absurd (idle-now runs)) (changing.named-in y gs old.pool old.clients sound.well) sound.seats))
+      (subst (λ (p : pool.PoolView). SeatsOut (slice_set old.clients c now) p) (sym f.pool) (changing.seats-after old.clients c now below (λ m o. rests o.runs) (λ m o. idle-now o.runs) old.pool old.pool (λ k b ne lt. refl) (λ runs. absurd (idle-now runs)) (changing.named-in y gs old.pool old.clients sound.well) sound.seats))
       (subst (λ (t : Table). Locked (slice_set old.clients c now) t) (sym f.locks) (changing.locked-after old.clients c now below old.locks old.locks refl (λ k t ne. refl) (λ runs. absurd (idle-now runs)) (λ runs. absurd (idle-now runs)) (λ ne. sound.locked.idle c rests) sound.locked))
       (changing.jobs-after old.clients c now below ((sound.well.each c below17).idle rests).1 jobs-now)
 

@@ -15,7 +15,7 @@ use Rattle.graph_mean.specs.Graph.{View, kind_at, vertex_at, buf_at}
 use Rattle.graph_mean.specs.Refusals.{Makes, Uses}
 use Rattle.graph_mean.specs.Sums.{xor_by}
 use Rattle.graph_mean.proofs.Formal.{follows-lt}
-use Rattle.eng_world.specs.Nodes.{Takes}
+use Rattle.eng_world.specs.Nodes.{MakesOrUses}
 use Rattle.eng_job.specs.declared.job.Source.{Source}
 use Rattle.eng_state.specs.declared.array.Array.{Array}
 use Rattle.eng_clients.specs.Seats.{seat_of, bytes_at, BuffersLeft}
@@ -86,7 +86,7 @@ module _ {L D : Type 0} (lay : LayoutGhosts L) (disk : DiskGhosts D) (old : Arra
         let lt = follows-lt g d.task _ well.accepted.0 well.accepted.1 well.accepted.2 n m.0 m.3 in omega (arith, same, lt)
   ]
 
-  module _ (mid : pool.Held) (from : List Source) (h : Gathered old.pool d.lease sources mid from) where
+  module _ (mid : pool.PoolView) (from : List Source) (h : Gathered old.pool d.lease sources mid from) where
     pub mid-leased : pool.IsLease mid d.lease
     mid-leased i lt = let e = h.pool.seats in let m = (well.lease i lt).0 in (omega (arith, e, m), h.pool.owner (get_or d.lease i 0) ∙ (well.lease i lt).1)
 
@@ -114,7 +114,7 @@ module _ {L D : Type 0} (lay : LayoutGhosts L) (disk : DiskGhosts D) (old : Arra
           ],
         ))
       where
-        split : (k b : ℕ) → Takes g n b → get_or d.lease b 0 ≡ k → IsNamed d.lease sources k ⊎ (k ≡ get_or d.lease to 0)
+        split : (k b : ℕ) → MakesOrUses g n b → get_or d.lease b 0 ≡ k → IsNamed d.lease sources k ⊎ (k ≡ get_or d.lease to 0)
         split k b t e = elim t [
           | inl m ↦ let q : to ≡ b = subst (λ (a : Node). Makes a b) kind m in inr (sym e ∙ sym (ap (λ (a : ℕ). get_or d.lease a 0) q))
           | inr u ↦ inl (b, list_any-from_Contains nat_eq_equiv b sources (subst (λ (a : Node). Uses a sources b) kind u), e)
@@ -124,7 +124,7 @@ module _ {L D : Type 0} (lay : LayoutGhosts L) (disk : DiskGhosts D) (old : Arra
     are-sources target count is long count_is =
         let same : (b : ℕ) → bytes_at old.pool d.lease b ≡ bytes_at (pool.taken mid (get_or d.lease to 0)) d.lease b = λ b. sym (both-left.bytes (get_or d.lease b 0)) in
         record {
-          seat = ap (λ (v : pool.View). v.out) (here mid (get_or d.lease to 0) (mid-leased to to-leased).0);
+          seat = ap (λ (v : pool.SeatView). v.out) (here mid (get_or d.lease to 0) (mid-leased to to-leased).0);
           is = is ∙ (h.pool.bytes (get_or d.lease to 0) ∙ same to);
           long = long;
           count_is = count_is;
@@ -158,8 +158,8 @@ module _ {L D : Type 0} (lay : LayoutGhosts L) (disk : DiskGhosts D) (old : Arra
       same-pool = ap (λ (s : Array L D). s.pool) e3 ∙ ap (λ (a : Desk). pool.taken two.pool (get_or a.lease to 0)) same-desk
 
       pub out-pool : BuffersLeft old.pool (IsTaken d n) end.pool
-      out-pool = subst (λ (p : pool.Held). BuffersLeft old.pool (IsTaken d n) p) (sym same-pool) (both-left two.pool from got)
+      out-pool = subst (λ (p : pool.PoolView). BuffersLeft old.pool (IsTaken d n) p) (sym same-pool) (both-left two.pool from got)
 
       pub out-sources : (target : List ℕ) (count : ℕ) → target ≡ bytes_at two.pool (desk_at two.clients c).lease to → length target ≡ two.pool.unit → count ≡ (buf_at g to).count → AreSources disk end.pool g d.lease to sources target from count
-      out-sources target count is long count_is = subst (λ (p : pool.Held). AreSources disk p g d.lease to sources target from count) (sym same-pool)
+      out-sources target count is long count_is = subst (λ (p : pool.PoolView). AreSources disk p g d.lease to sources target from count) (sym same-pool)
           (are-sources two.pool from got target count (is ∙ ap (λ (a : Desk). bytes_at two.pool a.lease to) same-desk) long count_is)

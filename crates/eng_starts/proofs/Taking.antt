@@ -14,7 +14,7 @@ use Rattle.graph_mean.specs.Graph.{Held, View}
 use Rattle.eng_cols.specs.declared.spot.Loss.{Loss}
 use Rattle.eng_world.specs.declared.item.Traced.TheVariants as event
 use Rattle.eng_world.specs.World.{Plan, Running, Client, World, Runs as IsRunning}
-use Rattle.eng_world.specs.Planning.{Passes, IsFresh}
+use Rattle.eng_world.specs.Planning.{IsAccepted, IsFresh}
 use Rattle.eng_world.specs.Serving.{Takes}
 use Rattle.eng_world.specs.Step.{StepBy, Step}
 use Rattle.eng_clients.specs.declared.stage.Stage.TheVariants.{Nothing, Waits, Runs}
@@ -41,7 +41,7 @@ use Rattle.eng_state.proofs.Handing.{hands-kept}
 use Rattle.eng_log.specs.Filled.{buffer_byte}
 
 -- the graph of the file was refused for no cause
-passed : (graphs : List Held) (d : Desk) (p : Plan) (file : Option ℕ) → p.graph ≡ graph_of graphs d → CanRun graphs d → p.task ≡ d.task → p.missing ≡ missing_of d.missing → Passes file p
+passed : (graphs : List Held) (d : Desk) (p : Plan) (file : Option ℕ) → p.graph ≡ graph_of graphs d → CanRun graphs d → p.task ≡ d.task → p.missing ≡ missing_of d.missing → IsAccepted file p
 passed graphs d p None g r t m = tt
 passed graphs d p (Some n) g r t m =
     subst (λ (v : View). Unrefused v p.task p.missing) (sym g) (subst (λ (a : Aim). Unrefused (graph_of graphs d) a p.missing) (sym t) (subst (λ (ms : Missing). Unrefused (graph_of graphs d) d.task ms) (sym m) r.free))
@@ -158,7 +158,7 @@ module _ {L D : Type 0} (lay : LayoutGhosts L) (disk : DiskGhosts D) (old new : 
     shows-clients : (k : ℕ) → ShowsClient disk.tells None new.pool (desk_at (slice_set old.clients c now) k) (x.clients k)
     shows-clients = keeping.shown-each lay disk old new f.rest new.pool (slice_set old.clients c now) w.clients c now v (changing.here old.clients c now below) (changing.else old.clients c now below) shows-now
         (λ k ne. keeping.shown-else disk.tells old.pool new.pool (desk_at old.clients k) (w.clients k)
-        (λ runs b o covers. ap (λ (t : pool.View). t.bytes) (other-seat k b runs (let lt = covers-below (desk_at old.clients k).run.graph b o covers in let bufs = (lease-of k runs).bufs in omega (arith, lt, bufs)))) (unlost disk old w s can.not_lost k))
+        (λ runs b o covers. ap (λ (t : pool.SeatView). t.bytes) (other-seat k b runs (let lt = covers-below (desk_at old.clients k).run.graph b o covers in let bufs = (lease-of k runs).bufs in omega (arith, lt, bufs)))) (unlost disk old w s can.not_lost k))
 
     frees : w.free - length f.lease ≡ length new.pool.free
     frees = let a = s.free in let b = f.leases.free in let e = ap length f.filled.alone.free in let h = long in omega (arith, a, b, e, h)
@@ -196,7 +196,7 @@ module _ {L D : Type 0} (lay : LayoutGhosts L) (disk : DiskGhosts D) (old new : 
       away b lt = f.apart (desk_at old.clients k).lease (lease-of k (served.leases-runs y gs old.pool old.clients sound.well k b lt)).lease
 
   seat-out : (k b : ℕ) → k ≢ c → b < length (desk_at old.clients k).lease → (pool.seat_at new.pool.seats (get_or (desk_at old.clients k).lease b 0)).out ≡ (pool.seat_at old.pool.seats (get_or (desk_at old.clients k).lease b 0)).out
-  seat-out k b ne lt = ap (λ (t : pool.View). t.out) (other-seat k b (served.leases-runs y gs old.pool old.clients sound.well k b lt) lt)
+  seat-out k b ne lt = ap (λ (t : pool.SeatView). t.out) (other-seat k b (served.leases-runs y gs old.pool old.clients sound.well k b lt) lt)
 
   quiet : (n : ℕ) → IsOutOf d n → ⊥
   quiet n o = rests o.runs

@@ -72,12 +72,12 @@ module _ {L D : Type 0} (lay : LayoutGhosts L) (old mid : Array L D) (c : ℕ) (
           ∙ (ap (λ (a : Array L D). a.clients) s.now
           ∙ (set-set old.clients c p (with_started gs (with_lease (desk_at base.clients c) s.lease))
           ∙ ap (λ (e : Desk). slice_set old.clients c (with_started gs (with_lease e s.lease))) desk-base));
-      locks = subst (λ (t : table.Table). table.Takes old.locks c p.map.stripes (mode_by op) t) (sym (ap (λ (a : Array L D). a.locks) log))
-          (subst (λ (e : Desk). table.Takes old.locks c e.map.stripes (mode_by op) m2.locks) desk-base s.locks);
+      locks = subst (λ (t : table.Table). table.Acquires old.locks c p.map.stripes (mode_by op) t) (sym (ap (λ (a : Array L D). a.locks) log))
+          (subst (λ (e : Desk). table.Acquires old.locks c e.map.stripes (mode_by op) m2.locks) desk-base s.locks);
       mid = s.mid;
       leases = s.leases;
       apart = s.apart;
-      filled = subst (λ (q : held.Held). Filled (graph_of gs p) op s.lease s.mid q) (sym (ap (λ (a : Array L D). a.pool) log))
+      filled = subst (λ (q : held.PoolView). Filled (graph_of gs p) op s.lease s.mid q) (sym (ap (λ (a : Array L D). a.pool) log))
           (subst (λ (e : Desk). Filled (graph_of gs e) op s.lease s.mid m2.pool) desk-base s.filled);
       log = ap (λ (a : Array L D). a.log) log ∙ ap (λ (a : Array L D). noted a.log event) s.now;
       rest = record {

@@ -1,7 +1,7 @@
 //! An operation is taken, or its graph refused.
 ghost use Rattle.std.specs.Prelude.{◌≡◌, ◌<◌, ◌≤◌, ◌*◌, ℕ, Some, OnOk, IfErr, true, length, slice_set};
 ghost use Rattle.buf_pool.specs.Pool.{Leases, StandsApart};
-ghost use Rattle.stripe_lock.specs.Table.{Conflict, HoldsNothing, Takes, owners_of};
+ghost use Rattle.stripe_lock.specs.Table.{Conflict, HoldsNothing, Acquires, owners_of};
 ghost use Rattle.eng_one.specs.Counts.{CanStart};
 ghost use Rattle.eng_cols.specs.Cols.{IsFor};
 ghost use Rattle.eng_cols.specs.Lost.{NotLost};
@@ -64,7 +64,7 @@ fn lock<L: Layout, D: Disk>(array: &mut Array<L, D>, client: u32, mode: Mode)
     requires few { length (desk_at array.old.clients client).map.stripes ≤ 16 }
     requires none { HoldsNothing array.old.locks client }
     requires is_free { Conflict array.old.locks client (desk_at array.old.clients client).map.stripes mode → ⊥ }
-    ensures taken { Takes array.old.locks client (desk_at array.old.clients client).map.stripes mode array.new.locks }
+    ensures taken { Acquires array.old.locks client (desk_at array.old.clients client).map.stripes mode array.new.locks }
     ensures rest { array.new ≡ record array.old { locks = array.new.locks } }
 {
     let taken = array
@@ -211,7 +211,7 @@ fn take_item<L: Layout, D: Disk>(array: &mut Array<L, D>, client: u32)
     }
 }
 
-/// Takes the client's operation, which waits: it is planned, holds its stripes, leases its buffers and begins. Where
+/// Acquires the client's operation, which waits: it is planned, holds its stripes, leases its buffers and begins. Where
 /// the checker refuses its graph, it is replied so in the same event.
 pub fn take<L: Layout, D: Disk>(array: &mut Array<L, D>, client: u32)
     requires sound { IsSound L.Layout D.Disk array.old }

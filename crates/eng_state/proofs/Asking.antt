@@ -29,7 +29,7 @@ use Rattle.eng_state.proofs.Served as served
 use Rattle.eng_state.proofs.Shown.{unlost, runs-shown}
 
 -- a client that waits is shown as one that waits
-shown-waiting : (tells : Type 0) (p : pool.Held) (d : Desk) (c : Client) → ShowsClient tells None p d c → d.stage ≡ Waits → c.current ≡ IsWaiting
+shown-waiting : (tells : Type 0) (p : pool.PoolView) (d : Desk) (c : Client) → ShowsClient tells None p d c → d.stage ≡ Waits → c.current ≡ IsWaiting
 shown-waiting tells p d c s waits = subst (λ (t : Stage). ShowsCurrent tells p t d c.current) waits s.current
 
 -- a client that waits is one of them

@@ -40,8 +40,8 @@ module _ {L D : Type 0} (lay : LayoutGhosts L) (disk : DiskGhosts D) (old : Arra
 
     -- where the pool is as it was
     pub pool-stays : new.pool ≡ old.pool → KeepsOut lay disk old new
-    pool-stays same = out-stays lay disk old new (ap lay.shape rest.layout) (ap (λ (p : pool.Held). p.unit) same) away-stays desks-stay
-        (λ k n out b leaves. seat-kept old.pool new.pool (desk_at old.clients k).lease b (ap (λ (p : pool.Held). pool.seat_at p.seats (get_or (desk_at old.clients k).lease b 0)) same))
+    pool-stays same = out-stays lay disk old new (ap lay.shape rest.layout) (ap (λ (p : pool.PoolView). p.unit) same) away-stays desks-stay
+        (λ k n out b leaves. seat-kept old.pool new.pool (desk_at old.clients k).lease b (ap (λ (p : pool.PoolView). pool.seat_at p.seats (get_or (desk_at old.clients k).lease b 0)) same))
 
     -- where the seats of one lease alone have changed
     pub lease-stays : (lease : List ℕ) → new.pool.unit ≡ old.pool.unit → ((k : ℕ) → k ≢ c → (desk_at old.clients k).stage ≡ Runs → pool.AreApart (desk_at old.clients k).lease lease) → ((k : ℕ) → ¬ Contains lease k → pool.seat_at new.pool.seats k ≡ pool.seat_at old.pool.seats k) → KeepsOut lay disk old new

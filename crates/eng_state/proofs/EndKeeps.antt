@@ -14,7 +14,7 @@ use Rattle.graph_mean.specs.Steps.{IsCall}
 use Rattle.eng_one.specs.Control.{mark_for, ended, IsReached}
 use Rattle.eng_cols.specs.declared.spot.Spot.{Spot}
 use Rattle.eng_cols.specs.Cols.{Columns}
-use Rattle.eng_world.specs.Nodes.{Takes}
+use Rattle.eng_world.specs.Nodes.{MakesOrUses}
 use Rattle.eng_state.specs.declared.array.Array.{Array}
 use Rattle.eng_parts.specs.Shelf.{Seen, Shelved, seen_at, IsAway, come_home}
 use Rattle.eng_clients.specs.Desk.{Desk, desk_at, spot_at, with_ended}
@@ -104,8 +104,8 @@ module _ (desks : List Desk) (c n : ℕ) (o : Outcome) (below : c < length desks
 
   -- ## Buffers
 
-  module _ (old new : pool.Held) (b : BuffersCame old (IsTaken d n) new) (leased : pool.IsLease old d.lease) (named : (a : ℕ) → Takes d.run.graph n a → a < length d.lease)
-      (apart : (k : ℕ) → k ≢ c → pool.AreApart (desk_at desks k).lease d.lease) (inside : (k m a : ℕ) → IsOutOf (desk_at desks k) m → Takes (desk_at desks k).run.graph m a → a < length (desk_at desks k).lease) (sound : SeatsOut desks old) where
+  module _ (old new : pool.PoolView) (b : BuffersCame old (IsTaken d n) new) (leased : pool.IsLease old d.lease) (named : (a : ℕ) → MakesOrUses d.run.graph n a → a < length d.lease)
+      (apart : (k : ℕ) → k ≢ c → pool.AreApart (desk_at desks k).lease d.lease) (inside : (k m a : ℕ) → IsOutOf (desk_at desks k) m → MakesOrUses (desk_at desks k).run.graph m a → a < length (desk_at desks k).lease) (sound : SeatsOut desks old) where
     same-lease : (k : ℕ) → (desk_at after k).lease ≡ (desk_at desks k).lease
     same-lease = unmarking.same desks c n o below marks out (λ a. a.lease) refl
 
@@ -115,13 +115,13 @@ module _ (desks : List Desk) (c n : ℕ) (o : Outcome) (below : c < length desks
     same-stage : (k : ℕ) → (desk_at after k).stage ≡ (desk_at desks k).stage
     same-stage = unmarking.same desks c n o below marks out (λ a. a.stage) refl
 
-    takes-old : (k m a : ℕ) → Takes (desk_at after k).run.graph m a → Takes (desk_at desks k).run.graph m a
-    takes-old k m a t = subst (λ (g : View). Takes g m a) (same-graph k) t
+    takes-old : (k m a : ℕ) → MakesOrUses (desk_at after k).run.graph m a → MakesOrUses (desk_at desks k).run.graph m a
+    takes-old k m a t = subst (λ (g : View). MakesOrUses g m a) (same-graph k) t
 
     -- a seat that the node took is of its own lease, and of the buffer that it took
-    own-seat : (k a : ℕ) → a < length (desk_at desks k).lease → IsTaken d n (get_or (desk_at desks k).lease a 0) → (k ≡ c) × Takes d.run.graph n a
+    own-seat : (k a : ℕ) → a < length (desk_at desks k).lease → IsTaken d n (get_or (desk_at desks k).lease a 0) → (k ≡ c) × MakesOrUses d.run.graph n a
     own-seat k a lt t = elim (cases_eq k c) [
-      | inl is ↦ (is, subst (λ (i : ℕ). Takes d.run.graph n i) (seats-differ old d.lease leased t.0 a (named t.0 t.1) (subst (λ (j : ℕ). a < length (desk_at desks j).lease) is lt) (t.2 ∙ ap (λ (j : ℕ). get_or (desk_at desks j).lease a 0) is)) t.1)
+      | inl is ↦ (is, subst (λ (i : ℕ). MakesOrUses d.run.graph n i) (seats-differ old d.lease leased t.0 a (named t.0 t.1) (subst (λ (j : ℕ). a < length (desk_at desks j).lease) is lt) (t.2 ∙ ap (λ (j : ℕ). get_or (desk_at desks j).lease a 0) is)) t.1)
       | inr ne ↦ absurd (apart k ne a t.0 lt (named t.0 t.1) (sym t.2))
     ]
 
@@ -130,19 +130,19 @@ module _ (desks : List Desk) (c n : ℕ) (o : Outcome) (below : c < length desks
       away = λ k m a p t.
           let was = unmarking.was-out desks c n o below marks out k m p in let takes = takes-old k m a t in let lt = inside k m a was.0 takes in
           subst (λ (s : List ℕ). (pool.seat_at new.seats (get_or s a 0)).out ≡ true) (sym (same-lease k))
-          (ap (λ (v : pool.View). v.out) (b.others (get_or (desk_at desks k).lease a 0) (λ home. let e = own-seat k a lt home in
-          was.1 (e.0, sound.one c m n a (subst (λ (j : ℕ). IsOutOf (desk_at desks j) m) e.0 was.0) out (subst (λ (j : ℕ). Takes (desk_at desks j).run.graph m a) e.0 takes) e.1))) ∙ sound.away k m a was.0 takes);
+          (ap (λ (v : pool.SeatView). v.out) (b.others (get_or (desk_at desks k).lease a 0) (λ home. let e = own-seat k a lt home in
+          was.1 (e.0, sound.one c m n a (subst (λ (j : ℕ). IsOutOf (desk_at desks j) m) e.0 was.0) out (subst (λ (j : ℕ). MakesOrUses (desk_at desks j).run.graph m a) e.0 takes) e.1))) ∙ sound.away k m a was.0 takes);
       held = λ k a stage lt is.
           let lt2 = subst (λ (s : List ℕ). a < length s) (same-lease k) lt in
           let is2 = subst (λ (s : List ℕ). (pool.seat_at new.seats (get_or s a 0)).out ≡ true) (same-lease k) is in
           let free : IsTaken d n (get_or (desk_at desks k).lease a 0) → ⊥ = λ home. b.came (get_or (desk_at desks k).lease a 0) home is2 in
-          let h = sound.held k a (sym (same-stage k) ∙ stage) lt2 (sym (ap (λ (v : pool.View). v.out) (b.others (get_or (desk_at desks k).lease a 0) free)) ∙ is2) in
-          (h.0, unmarking.still-out desks c n o below marks out k h.0 (λ e. free (a, subst (λ (i : ℕ). Takes d.run.graph i a) e.1 (subst (λ (j : ℕ). Takes (desk_at desks j).run.graph h.0 a) e.0 h.2), sym (ap (λ (j : ℕ). get_or (desk_at desks j).lease a 0) e.0))) h.1, subst (λ (g : View). Takes g h.0 a) (sym (same-graph k)) h.2);
+          let h = sound.held k a (sym (same-stage k) ∙ stage) lt2 (sym (ap (λ (v : pool.SeatView). v.out) (b.others (get_or (desk_at desks k).lease a 0) free)) ∙ is2) in
+          (h.0, unmarking.still-out desks c n o below marks out k h.0 (λ e. free (a, subst (λ (i : ℕ). MakesOrUses d.run.graph i a) e.1 (subst (λ (j : ℕ). MakesOrUses (desk_at desks j).run.graph h.0 a) e.0 h.2), sym (ap (λ (j : ℕ). get_or (desk_at desks j).lease a 0) e.0))) h.1, subst (λ (g : View). MakesOrUses g h.0 a) (sym (same-graph k)) h.2);
       one = λ k m i a p q t u. sound.one k m i a (unmarking.was-out desks c n o below marks out k m p).0 (unmarking.was-out desks c n o below marks out k i q).0 (takes-old k m a t) (takes-old k i a u);
     }
 
 -- a lease of the pool is one still
-lease-came : (old new : pool.Held) (is_home : ℕ → Type 0) (l : List ℕ) → BuffersCame old is_home new → pool.IsLease old l → pool.IsLease new l
+lease-came : (old new : pool.PoolView) (is_home : ℕ → Type 0) (l : List ℕ) → BuffersCame old is_home new → pool.IsLease old l → pool.IsLease new l
 lease-came old new is_home l b h i lt = let e = b.seats in let m = (h i lt).0 in (omega (arith, e, m), b.owner (get_or l i 0) ∙ (h i lt).1)
 
 module _ {L D : Type 0} (lay : LayoutGhosts L) (disk : DiskGhosts D) (old new : Array L D) (c n : ℕ) (o : Outcome) (sound : IsSound lay disk old) (out : IsOutOf (desk_at old.clients c) n) (f : NodeEnded disk old c n o new)
@@ -169,7 +169,7 @@ module _ {L D : Type 0} (lay : LayoutGhosts L) (disk : DiskGhosts D) (old new : 
   marks2 = out-below d2.run.marks n out.mark
 
   -- a buffer that a node takes is one of its lease's
-  named-in : (k m b : ℕ) → IsOutOf (desk_at old.clients k) m → Takes (desk_at old.clients k).run.graph m b → b < length (desk_at old.clients k).lease
+  named-in : (k m b : ℕ) → IsOutOf (desk_at old.clients k) m → MakesOrUses (desk_at old.clients k).run.graph m b → b < length (desk_at old.clients k).lease
   named-in k m b p t =
       let w = (sound.well.each k (runs_below y old.graphs.items old.pool old.clients k sound.well p.runs)).runs p.runs in
       let e = w.marks in let lt = out-below (desk_at old.clients k).run.marks m p.mark in let bufs = w.bufs in
@@ -258,17 +258,17 @@ module _ {L D : Type 0} (lay : LayoutGhosts L) (disk : DiskGhosts D) (old mid : 
 
   -- the end of a call is a node's end
   pub call-ended : spot_at d3 n ≡ Some at → IsAway old.devices at.device before → disk.size x ≡ disk.size before
-      → Takes d3.run.graph n b → ((a : ℕ) → Takes d3.run.graph n a → a ≡ b) → get_or d3.lease b 0 < length old.pool.seats → (log : Logged) (next : ℕ)
+      → MakesOrUses d3.run.graph n b → ((a : ℕ) → MakesOrUses d3.run.graph n a → a ≡ b) → get_or d3.lease b 0 < length old.pool.seats → (log : Logged) (next : ℕ)
       → NodeEnded disk old c n o (record mid { log = log; next = next })
   call-ended spot away size takes only inside log next = record {
     clients = h.clients;
     devices = subst (λ (p : Option Spot). DeviceCame disk p old.devices mid.devices) (sym spot) (x, before, away, size, h.devices);
-    pool = subst (λ (p : pool.Held). BuffersCame old.pool (IsTaken d3 n) p) (sym h.pool) (record {
+    pool = subst (λ (p : pool.PoolView). BuffersCame old.pool (IsTaken d3 n) p) (sym h.pool) (record {
       unit = refl;
       free = refl;
       seats = length-set old.pool.seats (get_or d3.lease b 0) _;
       owner = owner-same;
-      came = λ k t is. let e = seat-is k t in let z : false ≡ true = sym (ap (λ (v : pool.View). v.out) (get_or-set_same old.pool.seats (get_or d3.lease b 0) _ pool.nowhere inside)) ∙ (ap (λ (j : ℕ). (pool.seat_at (pool.put old.pool (get_or d3.lease b 0) bytes).seats j).out) (sym e) ∙ is) in let u : ⊥ = cc in u;
+      came = λ k t is. let e = seat-is k t in let z : false ≡ true = sym (ap (λ (v : pool.SeatView). v.out) (get_or-set_same old.pool.seats (get_or d3.lease b 0) _ pool.nowhere inside)) ∙ (ap (λ (j : ℕ). (pool.seat_at (pool.put old.pool (get_or d3.lease b 0) bytes).seats j).out) (sym e) ∙ is) in let u : ⊥ = cc in u;
       others = λ k free. put-else old.pool (get_or d3.lease b 0) bytes inside k (λ e. free (b, takes, sym e));
     });
     lists = h.lists;
@@ -283,19 +283,19 @@ module _ {L D : Type 0} (lay : LayoutGhosts L) (disk : DiskGhosts D) (old mid : 
 
       owner-same : (k : ℕ) → (pool.seat_at (pool.put old.pool (get_or d3.lease b 0) bytes).seats k).owner ≡ (pool.seat_at old.pool.seats k).owner
       owner-same k = elim (cases_eq k (get_or d3.lease b 0)) [
-        | inl e ↦ ap (λ (j : ℕ). (pool.seat_at (pool.put old.pool (get_or d3.lease b 0) bytes).seats j).owner) e ∙ (ap (λ (v : pool.View). v.owner) (get_or-set_same old.pool.seats (get_or d3.lease b 0) _ pool.nowhere inside) ∙ sym (ap (λ (j : ℕ). (pool.seat_at old.pool.seats j).owner) e))
-        | inr ne ↦ ap (λ (v : pool.View). v.owner) (put-else old.pool (get_or d3.lease b 0) bytes inside k ne)
+        | inl e ↦ ap (λ (j : ℕ). (pool.seat_at (pool.put old.pool (get_or d3.lease b 0) bytes).seats j).owner) e ∙ (ap (λ (v : pool.SeatView). v.owner) (get_or-set_same old.pool.seats (get_or d3.lease b 0) _ pool.nowhere inside) ∙ sym (ap (λ (j : ℕ). (pool.seat_at old.pool.seats j).owner) e))
+        | inr ne ↦ ap (λ (v : pool.SeatView). v.owner) (put-else old.pool (get_or d3.lease b 0) bytes inside k ne)
       ]
 
 -- ## What takes nothing along
 
 module _ {L D : Type 0} (lay : LayoutGhosts L) (disk : DiskGhosts D) (old mid : Array L D) (c n : ℕ) (o : Outcome) (h : CamePlain old c n o mid) where
   -- the end of a commit or a terminator is a node's end
-  pub plain-ended : spot_at (desk_at old.clients c) n ≡ None → ((b : ℕ) → Takes (desk_at old.clients c).run.graph n b → ⊥) → (log : Logged) → NodeEnded disk old c n o (record mid { log = log })
+  pub plain-ended : spot_at (desk_at old.clients c) n ≡ None → ((b : ℕ) → MakesOrUses (desk_at old.clients c).run.graph n b → ⊥) → (log : Logged) → NodeEnded disk old c n o (record mid { log = log })
   plain-ended spot none log = record {
     clients = h.clients;
     devices = subst (λ (p : Option Spot). DeviceCame disk p old.devices mid.devices) (sym spot) h.devices;
-    pool = subst (λ (p : pool.Held). BuffersCame old.pool (IsTaken (desk_at old.clients c) n) p) (sym h.pool) (record {
+    pool = subst (λ (p : pool.PoolView). BuffersCame old.pool (IsTaken (desk_at old.clients c) n) p) (sym h.pool) (record {
       unit = refl;
       free = refl;
       seats = refl;

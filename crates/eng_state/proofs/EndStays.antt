@@ -10,7 +10,7 @@ use Rattle.graph_mean.specs.declared.step.Status.TheVariants as status
 use Rattle.graph_mean.specs.Graph.{kind_at, vertex_at}
 use Rattle.eng_one.specs.Control.{mark_for}
 use Rattle.eng_cols.specs.declared.spot.Spot.{Spot}
-use Rattle.eng_world.specs.Nodes.{Takes}
+use Rattle.eng_world.specs.Nodes.{MakesOrUses}
 use Rattle.eng_job.specs.declared.job.Job.{Job}
 use Rattle.eng_state.specs.declared.array.Array.{Array}
 use Rattle.eng_parts.specs.Shelf.{Shelved, IsAway, seen_at}
@@ -66,7 +66,7 @@ module _ {L D : Type 0} (lay : LayoutGhosts L) (disk : DiskGhosts D) (old new : 
     seat-stays : (b : ℕ) → Leaves (kind_at e.run.graph m) (vertex_at e.run.graph m).sources b → KeepsSeat old.pool new.pool e.lease b
     seat-stays b leaves = seat-kept old.pool new.pool e.lease b (f.pool.others (get_or e.lease b 0) apart)
       where
-        mine : (a : ℕ) → Takes d.run.graph n a → a < length d.lease
+        mine : (a : ℕ) → MakesOrUses d.run.graph n a → a < length d.lease
         mine a takes =
             let w = runs-well lay disk old c sound out.runs in
             let marks = out-below d.run.marks n out.mark in let many = w.marks in
@@ -80,7 +80,7 @@ module _ {L D : Type 0} (lay : LayoutGhosts L) (disk : DiskGhosts D) (old new : 
                   let w = runs-well lay disk old k sound theirs.runs in
                   let lease = subst (λ (j : ℕ). get_or (desk_at old.clients j).lease a 0 ≡ get_or e.lease b 0) (sym is) seat in
                   let same = seats-differ old.pool e.lease w.lease a b (subst (λ (j : ℕ). a < length (desk_at old.clients j).lease) (sym is) (mine a takes)) in_lease lease in
-                  let here : Takes (desk_at old.clients k).run.graph n b = subst (λ (i : ℕ). Takes (desk_at old.clients k).run.graph n i) same (subst (λ (j : ℕ). Takes (desk_at old.clients j).run.graph n a) (sym is) takes) in
+                  let here : MakesOrUses (desk_at old.clients k).run.graph n b = subst (λ (i : ℕ). MakesOrUses (desk_at old.clients k).run.graph n i) same (subst (λ (j : ℕ). MakesOrUses (desk_at old.clients j).run.graph n a) (sym is) takes) in
                   other (is, sound.seats.one k m n b theirs (subst (λ (j : ℕ). IsOutOf (desk_at old.clients j) n) (sym is) out) (leaves-takes e.run.graph m (kind_at e.run.graph m) refl b leaves) here)
               | inr ne ↦ sound.well.apart k c ne b a in_lease (mine a takes) (sym seat)
             ]

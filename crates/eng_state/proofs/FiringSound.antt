@@ -8,7 +8,7 @@ use Rattle.graph_mean.specs.Graph.{View, kind_at}
 use Rattle.graph_mean.specs.Steps.{IsCall}
 use Rattle.eng_one.specs.Control.{mark_of}
 use Rattle.eng_cols.specs.declared.spot.Spot.{Spot}
-use Rattle.eng_world.specs.Nodes.{Takes}
+use Rattle.eng_world.specs.Nodes.{MakesOrUses}
 use Rattle.eng_clients.specs.declared.stage.Stage.TheVariants.{Runs}
 use Rattle.eng_parts.specs.Shelf.{Seen, Shelved, seen_at, IsAway}
 use Rattle.eng_clients.specs.Seats.{seat_of, BuffersLeft}
@@ -98,9 +98,9 @@ module _ {D : Type 0} (desks : List Desk) (c n : ℕ) (place : Option Spot) (bel
 -- ## Buffers
 
 module _ (desks : List Desk) (c n : ℕ) (place : Option Spot) (below : c < length desks) (runs : (desk_at desks c).stage ≡ Runs) (marks : n < length (desk_at desks c).run.marks) (spots : n < length (desk_at desks c).spots) (idle : mark_of (desk_at desks c).run n ≡ status.Idle)
-    (old new : pool.Held) (l : BuffersLeft old (IsTaken (desk_at desks c) n) new)
-    (home : (b : ℕ) → Takes (desk_at desks c).run.graph n b → (seat_of old (desk_at desks c) b).out ≡ false)
-    (leased : pool.IsLease old (desk_at desks c).lease) (named : (b : ℕ) → Takes (desk_at desks c).run.graph n b → b < length (desk_at desks c).lease)
+    (old new : pool.PoolView) (l : BuffersLeft old (IsTaken (desk_at desks c) n) new)
+    (home : (b : ℕ) → MakesOrUses (desk_at desks c).run.graph n b → (seat_of old (desk_at desks c) b).out ≡ false)
+    (leased : pool.IsLease old (desk_at desks c).lease) (named : (b : ℕ) → MakesOrUses (desk_at desks c).run.graph n b → b < length (desk_at desks c).lease)
     (apart : (k : ℕ) → k ≢ c → pool.AreApart (desk_at desks k).lease (desk_at desks c).lease) (sound : SeatsOut desks old) where
   abbrev d2 : Desk
   d2 = desk_at desks c
@@ -117,19 +117,19 @@ module _ (desks : List Desk) (c n : ℕ) (place : Option Spot) (below : c < leng
   same-stage : (k : ℕ) → (desk_at after2 k).stage ≡ (desk_at desks k).stage
   same-stage = marking.same desks c n place below runs marks spots idle (λ a. a.stage) refl
 
-  takes-old : (k m b : ℕ) → Takes (desk_at after2 k).run.graph m b → Takes (desk_at desks k).run.graph m b
-  takes-old k m b t = subst (λ (g : View). Takes g m b) (same-graph k) t
+  takes-old : (k m b : ℕ) → MakesOrUses (desk_at after2 k).run.graph m b → MakesOrUses (desk_at desks k).run.graph m b
+  takes-old k m b t = subst (λ (g : View). MakesOrUses g m b) (same-graph k) t
 
-  takes-new : (k m b : ℕ) → Takes (desk_at desks k).run.graph m b → Takes (desk_at after2 k).run.graph m b
-  takes-new k m b t = subst (λ (g : View). Takes g m b) (sym (same-graph k)) t
+  takes-new : (k m b : ℕ) → MakesOrUses (desk_at desks k).run.graph m b → MakesOrUses (desk_at after2 k).run.graph m b
+  takes-new k m b t = subst (λ (g : View). MakesOrUses g m b) (sym (same-graph k)) t
 
   -- the node that is fired takes no buffer that is out
-  not-both : (m b : ℕ) → IsOutOf d2 m → Takes d2.run.graph m b → Takes d2.run.graph n b → ⊥
+  not-both : (m b : ℕ) → IsOutOf d2 m → MakesOrUses d2.run.graph m b → MakesOrUses d2.run.graph n b → ⊥
   not-both m b o theirs mine = let t : true ≡ false = sym (sound.away c m b o theirs) ∙ home b mine in let u : ⊥ = cc in u
 
-  held-here : (k b : ℕ) → (desk_at desks k).stage ≡ Runs → b < length (desk_at desks k).lease → IsTaken d2 n (get_or (desk_at desks k).lease b 0) → (k ≡ c) × Takes d2.run.graph n b
+  held-here : (k b : ℕ) → (desk_at desks k).stage ≡ Runs → b < length (desk_at desks k).lease → IsTaken d2 n (get_or (desk_at desks k).lease b 0) → (k ≡ c) × MakesOrUses d2.run.graph n b
   held-here k b stage in_lease t = elim (cases_eq k c) [
-    | inl is ↦ (is, subst (λ (i : ℕ). Takes d2.run.graph n i) (seats-differ old d2.lease leased t.0 b (named t.0 t.1) (subst (λ (j : ℕ). b < length (desk_at desks j).lease) is in_lease) (t.2 ∙ ap (λ (j : ℕ). get_or (desk_at desks j).lease b 0) is)) t.1)
+    | inl is ↦ (is, subst (λ (i : ℕ). MakesOrUses d2.run.graph n i) (seats-differ old d2.lease leased t.0 b (named t.0 t.1) (subst (λ (j : ℕ). b < length (desk_at desks j).lease) is in_lease) (t.2 ∙ ap (λ (j : ℕ). get_or (desk_at desks j).lease b 0) is)) t.1)
     | inr ne ↦ absurd (apart k ne b t.0 in_lease (named t.0 t.1) (sym t.2))
   ]
 
@@ -138,20 +138,20 @@ module _ (desks : List Desk) (c n : ℕ) (place : Option Spot) (below : c < leng
     away = λ k m b o t. elim (marking.was-out desks c n place below runs marks spots idle k m o) [
       | inl was ↦ subst (λ (s : List ℕ). (pool.seat_at new.seats (get_or s b 0)).out ≡ true) (sym (same-lease k)) ((l.out (get_or (desk_at desks k).lease b 0)).1 (inl (sound.away k m b was.0 (takes-old k m b t))))
       | inr e ↦ subst (λ (s : List ℕ). (pool.seat_at new.seats (get_or s b 0)).out ≡ true) (sym (same-lease k))
-          ((l.out (get_or (desk_at desks k).lease b 0)).1 (inr (b, subst (λ (j : ℕ). Takes (desk_at desks j).run.graph n b) e.0 (subst (λ (i : ℕ). Takes (desk_at desks k).run.graph i b) e.1 (takes-old k m b t)), sym (ap (λ (j : ℕ). get_or (desk_at desks j).lease b 0) e.0))))
+          ((l.out (get_or (desk_at desks k).lease b 0)).1 (inr (b, subst (λ (j : ℕ). MakesOrUses (desk_at desks j).run.graph n b) e.0 (subst (λ (i : ℕ). MakesOrUses (desk_at desks k).run.graph i b) e.1 (takes-old k m b t)), sym (ap (λ (j : ℕ). get_or (desk_at desks j).lease b 0) e.0))))
     ];
     held = λ k b stage in_lease out. elim ((l.out (get_or (desk_at desks k).lease b 0)).0 (subst (λ (s : List ℕ). (pool.seat_at new.seats (get_or s b 0)).out ≡ true) (same-lease k) out)) [
       | inl was ↦ let h = sound.held k b (sym (same-stage k) ∙ stage) (subst (λ (s : List ℕ). b < length s) (same-lease k) in_lease) was in (h.0, marking.still-out desks c n place below runs marks spots idle k h.0 h.1, takes-new k h.0 b h.2)
       | inr t ↦ let h = held-here k b (sym (same-stage k) ∙ stage) (subst (λ (s : List ℕ). b < length s) (same-lease k) in_lease) t in
-          (n, subst (λ (j : ℕ). IsOutOf (desk_at after2 j) n) (sym h.0) (marking.fired-out desks c n place below runs marks spots idle), subst (λ (j : ℕ). Takes (desk_at after2 j).run.graph n b) (sym h.0) (takes-new c n b h.1))
+          (n, subst (λ (j : ℕ). IsOutOf (desk_at after2 j) n) (sym h.0) (marking.fired-out desks c n place below runs marks spots idle), subst (λ (j : ℕ). MakesOrUses (desk_at after2 j).run.graph n b) (sym h.0) (takes-new c n b h.1))
     ];
     one = λ k m i b o p t u. elim (marking.was-out desks c n place below runs marks spots idle k m o) [
       | inl a ↦ elim (marking.was-out desks c n place below runs marks spots idle k i p) [
         | inl e ↦ sound.one k m i b a.0 e.0 (takes-old k m b t) (takes-old k i b u)
-        | inr e ↦ absurd (not-both m b (subst (λ (j : ℕ). IsOutOf (desk_at desks j) m) e.0 a.0) (subst (λ (j : ℕ). Takes (desk_at desks j).run.graph m b) e.0 (takes-old k m b t)) (subst (λ (j : ℕ). Takes (desk_at desks j).run.graph n b) e.0 (subst (λ (x : ℕ). Takes (desk_at desks k).run.graph x b) e.1 (takes-old k i b u))))
+        | inr e ↦ absurd (not-both m b (subst (λ (j : ℕ). IsOutOf (desk_at desks j) m) e.0 a.0) (subst (λ (j : ℕ). MakesOrUses (desk_at desks j).run.graph m b) e.0 (takes-old k m b t)) (subst (λ (j : ℕ). MakesOrUses (desk_at desks j).run.graph n b) e.0 (subst (λ (x : ℕ). MakesOrUses (desk_at desks k).run.graph x b) e.1 (takes-old k i b u))))
       ]
       | inr e ↦ elim (marking.was-out desks c n place below runs marks spots idle k i p) [
-        | inl a ↦ absurd (not-both i b (subst (λ (j : ℕ). IsOutOf (desk_at desks j) i) e.0 a.0) (subst (λ (j : ℕ). Takes (desk_at desks j).run.graph i b) e.0 (takes-old k i b u)) (subst (λ (j : ℕ). Takes (desk_at desks j).run.graph n b) e.0 (subst (λ (x : ℕ). Takes (desk_at desks k).run.graph x b) e.1 (takes-old k m b t))))
+        | inl a ↦ absurd (not-both i b (subst (λ (j : ℕ). IsOutOf (desk_at desks j) i) e.0 a.0) (subst (λ (j : ℕ). MakesOrUses (desk_at desks j).run.graph i b) e.0 (takes-old k i b u)) (subst (λ (j : ℕ). MakesOrUses (desk_at desks j).run.graph n b) e.0 (subst (λ (x : ℕ). MakesOrUses (desk_at desks k).run.graph x b) e.1 (takes-old k m b t))))
         | inr f ↦ e.1 ∙ sym f.1
       ]
     ];

@@ -14,7 +14,7 @@ use Rattle.graph_mean.specs.Ordered.{IsBuf}
 use Rattle.eng_cols.specs.declared.spot.Spot.{Spot}
 use Rattle.eng_cols.specs.Cols.{Columns}
 use Rattle.eng_cols.specs.Seats.{seat}
-use Rattle.eng_world.specs.Nodes.{Takes}
+use Rattle.eng_world.specs.Nodes.{MakesOrUses}
 use Rattle.eng_job.specs.Performed.{HasRoom}
 use Rattle.eng_parts.specs.Shelf.{Seen, Shelved, seen_at, IsAway, left}
 use Rattle.eng_clients.specs.Seats.{bytes_at}
@@ -60,27 +60,27 @@ failed-left {D} old new (Some at) l = ap (λ (s : Shelved D). s.failed) l.2
 -- ## The buffer
 
 -- a read makes its buffer alone, and a write uses its own
-pub takes-read : (g : View) (n i b c : ℕ) → kind_at g n ≡ Rd i b → Takes g n c → c ≡ b
+pub takes-read : (g : View) (n i b c : ℕ) → kind_at g n ≡ Rd i b → MakesOrUses g n c → c ≡ b
 takes-read g n i b c is t = by_kind (subst (λ k. Makes k c ⊎ Uses k (vertex_at g n).sources c) is t)
   where
     by_kind : Makes (Rd i b) c ⊎ Uses (Rd i b) (vertex_at g n).sources c → c ≡ b
     by_kind (inl e) = sym e
     by_kind (inr e) = absurd e
 
-pub takes-write : (g : View) (n i b c : ℕ) → kind_at g n ≡ Wr i b → Takes g n c → c ≡ b
+pub takes-write : (g : View) (n i b c : ℕ) → kind_at g n ≡ Wr i b → MakesOrUses g n c → c ≡ b
 takes-write g n i b c is t = by_kind (subst (λ k. Makes k c ⊎ Uses k (vertex_at g n).sources c) is t)
   where
     by_kind : Makes (Wr i b) c ⊎ Uses (Wr i b) (vertex_at g n).sources c → c ≡ b
     by_kind (inl e) = absurd e
     by_kind (inr e) = sym e
 
-pub read-takes : (g : View) (n i b : ℕ) → kind_at g n ≡ Rd i b → Takes g n b
+pub read-takes : (g : View) (n i b : ℕ) → kind_at g n ≡ Rd i b → MakesOrUses g n b
 read-takes g n i b is = subst (λ k. Makes k b ⊎ Uses k (vertex_at g n).sources b) (sym is) (inl refl)
 
-pub write-takes : (g : View) (n i b : ℕ) → kind_at g n ≡ Wr i b → Takes g n b
+pub write-takes : (g : View) (n i b : ℕ) → kind_at g n ≡ Wr i b → MakesOrUses g n b
 write-takes g n i b is = subst (λ k. Makes k b ⊎ Uses k (vertex_at g n).sources b) (sym is) (inr refl)
 
-module _ {D : Type 0} (disk : DiskGhosts D) (y : Shape) (lay : IsLayout y) (graphs : List Held) (p : pool.Held) (d : Desk) (w : RunsWell y graphs p d) (cols : Columns) (shelf : Shelved D) (seated : Seated disk y cols shelf) (unit : p.unit ≡ 512 * y.unit_sectors)
+module _ {D : Type 0} (disk : DiskGhosts D) (y : Shape) (lay : IsLayout y) (graphs : List Held) (p : pool.PoolView) (d : Desk) (w : RunsWell y graphs p d) (cols : Columns) (shelf : Shelved D) (seated : Seated disk y cols shelf) (unit : p.unit ≡ 512 * y.unit_sectors)
     (i b : ℕ) (at : Spot) (x : D) (bytes : List ℕ) (first count : ℕ) where
   -- the seat of the buffer is one of the pool's
   pub seat-inside : b < length d.run.graph.bufs → get_or d.lease b 0 < length p.seats
@@ -95,7 +95,7 @@ module _ {D : Type 0} (disk : DiskGhosts D) (y : Shape) (lay : IsLayout y) (grap
       let inside = seat-inside buf.below in
       record {
         device = left-here shelf at.device _ x seen;
-        seat = ap (λ (v : pool.View). v.out) (here p (get_or d.lease b 0) inside);
+        seat = ap (λ (v : pool.SeatView). v.out) (here p (get_or d.lease b 0) inside);
         bytes = is_bytes ∙ sym (same p (get_or d.lease b 0) inside (λ v. v.bytes) refl (get_or d.lease b 0));
         long = long;
         first_is = is_first;

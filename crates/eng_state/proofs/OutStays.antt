@@ -12,7 +12,7 @@ use Rattle.graph_mean.specs.declared.graph.Node.{Node}
 use Rattle.graph_mean.specs.declared.graph.Node.TheVariants.{Rd, Wr, Xor, Cmt, Trm}
 use Rattle.graph_mean.specs.Graph.{View, kind_at, vertex_at}
 use Rattle.graph_mean.specs.Refusals.{Makes, Uses}
-use Rattle.eng_world.specs.Nodes.{Takes}
+use Rattle.eng_world.specs.Nodes.{MakesOrUses}
 use Rattle.eng_cols.specs.declared.spot.Spot.{Spot}
 use Rattle.eng_job.specs.declared.job.Job.{Job}
 use Rattle.eng_clients.specs.declared.stage.Stage.TheVariants.{Runs}
@@ -45,7 +45,7 @@ one-desk desks c d stays below k n out = elim (cases_eq k c) [
 ]
 
 -- a buffer that leaves with a node is one that it takes
-pub leaves-takes : (g : View) (n : ℕ) (k : Node) → kind_at g n ≡ k → (b : ℕ) → Leaves k (vertex_at g n).sources b → Takes g n b
+pub leaves-takes : (g : View) (n : ℕ) (k : Node) → kind_at g n ≡ k → (b : ℕ) → Leaves k (vertex_at g n).sources b → MakesOrUses g n b
 leaves-takes g n (Rd i to) is b h = inl (subst (λ (k : Node). Makes k b) (sym is) h)
 leaves-takes g n (Wr i from) is b h = inr (subst (λ (k : Node). Uses k (vertex_at g n).sources b) (sym is) h)
 leaves-takes g n (Xor to) is b (inl h) = inl (subst (λ (k : Node). Makes k b) (sym is) h)
@@ -54,11 +54,11 @@ leaves-takes g n Cmt is b h = absurd h
 leaves-takes g n Trm is b h = absurd h
 
 -- a buffer that is out is so still, with its bytes
-abbrev pub KeepsSeat : pool.Held → pool.Held → List ℕ → ℕ → Type 0
+abbrev pub KeepsSeat : pool.PoolView → pool.PoolView → List ℕ → ℕ → Type 0
 KeepsSeat old new lease b = (lease_seat old lease b).out ≡ true → ((lease_seat new lease b).out ≡ true) × (bytes_at new lease b ≡ bytes_at old lease b)
 
-pub seat-kept : (old new : pool.Held) (lease : List ℕ) (b : ℕ) → pool.seat_at new.seats (get_or lease b 0) ≡ pool.seat_at old.seats (get_or lease b 0) → KeepsSeat old new lease b
-seat-kept old new lease b e out = (ap (λ (v : pool.View). v.out) e ∙ out, ap (λ (v : pool.View). v.bytes) e)
+pub seat-kept : (old new : pool.PoolView) (lease : List ℕ) (b : ℕ) → pool.seat_at new.seats (get_or lease b 0) ≡ pool.seat_at old.seats (get_or lease b 0) → KeepsSeat old new lease b
+seat-kept old new lease b e out = (ap (λ (v : pool.SeatView). v.out) e ∙ out, ap (λ (v : pool.SeatView). v.bytes) e)
 
 -- one job, whose device, desk and buffers stay
 pub job-stays : {L D : Type 0} (lay : LayoutGhosts L) (disk : DiskGhosts D) (old new : Array L D) → lay.shape new.layout ≡ lay.shape old.layout → new.pool.unit ≡ old.pool.unit → (job : Job D) → IsOut disk lay old job
@@ -101,7 +101,7 @@ module _ {L D : Type 0} (lay : LayoutGhosts L) (disk : DiskGhosts D) (old : Arra
       takes-leased (lay.shape old.layout) old.graphs.items old.pool d w n (omega (arith, marks, many)) b (leaves-takes d.run.graph n (kind_at d.run.graph n) refl b leaves)
 
   -- so all of its seats stay, if those do that are of no seat of one lease
-  module _ (new : pool.Held) (c : ℕ) (lease : List ℕ) (calm : (n : ℕ) → IsOutOf (desk_at old.clients c) n → ⊥) (apart : (k : ℕ) → k ≢ c → (desk_at old.clients k).stage ≡ Runs → pool.AreApart (desk_at old.clients k).lease lease)
+  module _ (new : pool.PoolView) (c : ℕ) (lease : List ℕ) (calm : (n : ℕ) → IsOutOf (desk_at old.clients c) n → ⊥) (apart : (k : ℕ) → k ≢ c → (desk_at old.clients k).stage ≡ Runs → pool.AreApart (desk_at old.clients k).lease lease)
       (others : (k : ℕ) → ¬ Contains lease k → pool.seat_at new.seats k ≡ pool.seat_at old.pool.seats k) where
     pub seats-stay : (k n : ℕ) → IsOutOf (desk_at old.clients k) n → (b : ℕ) → Leaves (kind_at (desk_at old.clients k).run.graph n) (vertex_at (desk_at old.clients k).run.graph n).sources b → KeepsSeat old.pool new (desk_at old.clients k).lease b
     seats-stay k n out b leaves =

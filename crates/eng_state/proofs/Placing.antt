@@ -43,7 +43,7 @@ write-seat y cols p i b at h = by_case (is_rebuild_of p.task.kind i) h
     by_case true e = target-seat y cols s i at e
     by_case false e = spot-seat y cols s i at e
 
-module _ {D : Type 0} (disk : DiskGhosts D) (y : Shape) (lay : IsLayout y) (graphs : List Held) (p : pool.Held) (d : Desk) (w : RunsWell y graphs p d) (cols : Columns) (shelf : Shelved D) (seated : Seated disk y cols shelf) where
+module _ {D : Type 0} (disk : DiskGhosts D) (y : Shape) (lay : IsLayout y) (graphs : List Held) (p : pool.PoolView) (d : Desk) (w : RunsWell y graphs p d) (cols : Columns) (shelf : Shelved D) (seated : Seated disk y cols shelf) where
   -- the sectors of a buffer, where its unit has its seat, lie on that device
   pub seat-room : (i b : ℕ) (at : Spot) (o : Bool) (x : D) (bytes : List ℕ) → IsBuf d.run.graph d.task b → i < y.width → seat y cols.states (slice_index d.map.stripes (stripe_of d.run.graph b)) i ≡ Some at → seen_at shelf at.device ≡ Some (record { out = o; device = x }) → length bytes ≡ 512 * y.unit_sectors → HasRoom disk x (first_of y d.run.graph b at) bytes (buf_at d.run.graph b).count
   seat-room i b at o x bytes buf unit is seen long =

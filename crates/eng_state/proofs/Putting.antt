@@ -4,14 +4,14 @@ use Rattle.std.specs.Prelude.{sum_by, if◌then◌else◌}
 use Rattle.std.proofs.lemmas.Bool.{cases_order}
 use Rattle.std.proofs.lemmas.List.{get_or-set_same, get_or-set_other, get_or_past}
 use Rattle.std.proofs.lemmas.List.Sums.{get_or-le-sum_by, sum_by-cons}
-use Rattle.buf_pool.specs.Pool.{View, Held, seat_at, put, nowhere}
+use Rattle.buf_pool.specs.Pool.{SeatView, PoolView, seat_at, put, nowhere}
 use Rattle.lay_core.specs.Layout.{Shape}
 use Rattle.graph_mean.specs.declared.graph.Buf.{Buf}
 use Rattle.graph_mean.specs.declared.step.Status.{Status}
 use Rattle.graph_mean.specs.declared.step.Status.TheVariants as status
 use Rattle.graph_mean.specs.declared.step.Phase.{Phase}
 use Rattle.graph_mean.specs.declared.step.Phase.TheVariants.{Before, After, RollingBack, Ended, Undone}
-use Rattle.graph_mean.specs.Graph.{Held as Lent, View as Drawn, no_buf}
+use Rattle.graph_mean.specs.Graph.{PoolView as Lent, SeatView as Drawn, no_buf}
 use Rattle.graph_mean.specs.Steps.{Covers, settled, none_out}
 use Rattle.eng_one.specs.Control.{mark_of, mark_in, settled_in}
 use Rattle.eng_world.specs.World.{Current}
@@ -36,9 +36,9 @@ covers-below g b o covers = elim (cases_order b (length g.bufs)) [
         let from = ap (λ (v : Buf). v.from) e in let count = ap (λ (v : Buf). v.count) e in
         let lo = covers.0 in let hi = covers.1 in absurd (omega (arith, from, count, lo, hi))
 
-module _ (p : Held) (k : ℕ) (bytes : List ℕ) (inside : k < length p.seats) where
+module _ (p : PoolView) (k : ℕ) (bytes : List ℕ) (inside : k < length p.seats) where
   pub put-here : (seat_at (put p k bytes).seats k).bytes ≡ bytes
-  put-here = ap (λ (v : View). v.bytes) (get_or-set_same p.seats k _ nowhere inside)
+  put-here = ap (λ (v : SeatView). v.bytes) (get_or-set_same p.seats k _ nowhere inside)
 
   pub put-else : (j : ℕ) → j ≢ k → seat_at (put p k bytes).seats j ≡ seat_at p.seats j
   put-else j ne = get_or-set_other p.seats k j _ nowhere ne
@@ -47,7 +47,7 @@ module _ (p : Held) (k : ℕ) (bytes : List ℕ) (inside : k < length p.seats) w
   pub hold-other : (tells : Type 0) (y : Shape) (graphs : List Lent) (e : Desk) (buf : ℕ → ℕ → ℕ → ℕ) → RunsWell y graphs p e → ((b : ℕ) → b < length e.lease → get_or e.lease b 0 ≢ k) → HoldBytes tells p e buf → HoldBytes tells (put p k bytes) e buf
   hold-other tells y graphs e buf w apart old = λ told b o i covers lt.
       let below = covers-below e.run.graph b o covers in let bufs = w.bufs in
-      old told b o i covers lt ∙ ap (λ (v : View). buffer_byte e.run.graph v.bytes b o i) (sym (put-else (get_or e.lease b 0) (apart b (omega (arith, below, bufs)))))
+      old told b o i covers lt ∙ ap (λ (v : SeatView). buffer_byte e.run.graph v.bytes b o i) (sym (put-else (get_or e.lease b 0) (apart b (omega (arith, below, bufs)))))
 
   pub current-other : (tells : Type 0) (y : Shape) (graphs : List Lent) (e : Desk) (now : Current) (t : Stage) → e.stage ≡ t → (e.stage ≡ Runs → RunsWell y graphs p e) → ((b : ℕ) → b < length e.lease → get_or e.lease b 0 ≢ k) → ShowsCurrent tells p t e now → ShowsCurrent tells (put p k bytes) t e now
   current-other tells y graphs e now Nothing is w apart s = s
@@ -85,7 +85,7 @@ settled-same g marks Ended e = refl
 settled-same g marks Undone e = refl
 
 -- an operation is shown in another pool whose seats of its lease have the same bytes
-pub current-kept : (tells : Type 0) (p q : Held) (y : Shape) (graphs : List Lent) (e : Desk) (now : Current) (t : Stage) → e.stage ≡ t → (e.stage ≡ Runs → RunsWell y graphs p e) → ((b : ℕ) → b < length e.lease → (seat_at q.seats (get_or e.lease b 0)).bytes ≡ (seat_at p.seats (get_or e.lease b 0)).bytes) → ShowsCurrent tells p t e now → ShowsCurrent tells q t e now
+pub current-kept : (tells : Type 0) (p q : PoolView) (y : Shape) (graphs : List Lent) (e : Desk) (now : Current) (t : Stage) → e.stage ≡ t → (e.stage ≡ Runs → RunsWell y graphs p e) → ((b : ℕ) → b < length e.lease → (seat_at q.seats (get_or e.lease b 0)).bytes ≡ (seat_at p.seats (get_or e.lease b 0)).bytes) → ShowsCurrent tells p t e now → ShowsCurrent tells q t e now
 current-kept tells p q y graphs e now Nothing is w same s = s
 current-kept tells p q y graphs e now Waits is w same s = s
 current-kept tells p q y graphs e now Runs is w same s = (

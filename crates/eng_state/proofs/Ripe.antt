@@ -8,7 +8,7 @@ use Rattle.graph_mean.specs.declared.graph.Node.{Node}
 use Rattle.graph_mean.specs.declared.graph.Node.TheVariants.{Xor, Cmt, Trm}
 use Rattle.graph_mean.specs.Graph.{Held, kind_at, vertex_at}
 use Rattle.graph_mean.specs.Refusals.{Makes, Uses}
-use Rattle.eng_world.specs.Nodes.{Takes}
+use Rattle.eng_world.specs.Nodes.{MakesOrUses}
 use Rattle.eng_clients.specs.Desk.{Desk, desk_at}
 use Rattle.eng_clients.specs.Gathered.{AreInLease}
 use Rattle.eng_clients.specs.Seats.{seat_of}
@@ -23,9 +23,9 @@ use Rattle.eng_state.proofs.Running.{runs_below}
 pub all-of : (P : ℕ → Type 0) (xs : List ℕ) (b : ℕ) → All P xs → Contains xs b → P b
 all-of P xs b all h = subst P h.2 (all h.0 b h.1)
 
-module _ (y : Shape) (graphs : List Held) (p : pool.Held) (d : Desk) (w : RunsWell y graphs p d) (n : ℕ) (below : n < length d.run.graph.nodes) where
+module _ (y : Shape) (graphs : List Held) (p : pool.PoolView) (d : Desk) (w : RunsWell y graphs p d) (n : ℕ) (below : n < length d.run.graph.nodes) where
   -- a buffer that a node takes is of the lease
-  pub takes-leased : (b : ℕ) → Takes d.run.graph n b → b < length d.lease
+  pub takes-leased : (b : ℕ) → MakesOrUses d.run.graph n b → b < length d.lease
   takes-leased b (inl makes) = let lt = w.accepted.2.makes_named n b below makes in let e = w.bufs in omega (arith, lt, e)
   takes-leased b (inr uses) = let lt = w.accepted.2.uses_named n b below uses in let e = w.bufs in omega (arith, lt, e)
 
@@ -46,9 +46,9 @@ module _ (y : Shape) (graphs : List Held) (p : pool.Held) (d : Desk) (w : RunsWe
   IsIn b = (seat_of p d b).out ≡ false
 
   abbrev AllIn : Type 0
-  AllIn = (b : ℕ) → Takes d.run.graph n b → IsIn b
+  AllIn = (b : ℕ) → MakesOrUses d.run.graph n b → IsIn b
 
-  pub one-in : (b : ℕ) → ((c : ℕ) → Takes d.run.graph n c → c ≡ b) → IsIn b → AllIn
+  pub one-in : (b : ℕ) → ((c : ℕ) → MakesOrUses d.run.graph n c → c ≡ b) → IsIn b → AllIn
   one-in b only h = λ c t. subst IsIn (sym (only c t)) h
 
   pub sum-in : (to : ℕ) → kind_at d.run.graph n ≡ Xor to → IsIn to → All IsIn (vertex_at d.run.graph n).sources → AllIn
@@ -58,7 +58,7 @@ module _ (y : Shape) (graphs : List Held) (p : pool.Held) (d : Desk) (w : RunsWe
       by c (inl is) = subst IsIn is h
       by c (inr uses) = all-of IsIn (vertex_at d.run.graph n).sources c all uses
 
-  pub sum-takes : (to : ℕ) → kind_at d.run.graph n ≡ Xor to → Takes d.run.graph n to
+  pub sum-takes : (to : ℕ) → kind_at d.run.graph n ≡ Xor to → MakesOrUses d.run.graph n to
   sum-takes to kind = inl (subst (λ (k : Node). Makes k to) (sym kind) refl)
 
   pub in-sources : (to : ℕ) → kind_at d.run.graph n ≡ Xor to → AllIn → All IsIn (vertex_at d.run.graph n).sources
@@ -83,5 +83,5 @@ module _ {L D : Type 0} (lay : LayoutGhosts L) (disk : DiskGhosts D) (core : Arr
   pub runs-well : RunsWell (lay.shape core.layout) core.graphs.items core.pool (desk_at core.clients c)
   runs-well = (sound.well.each c runs-below17).runs runs
 
-  pub in-lease : (n b : ℕ) → n < length (desk_at core.clients c).run.graph.nodes → Takes (desk_at core.clients c).run.graph n b → b < length (desk_at core.clients c).lease
+  pub in-lease : (n b : ℕ) → n < length (desk_at core.clients c).run.graph.nodes → MakesOrUses (desk_at core.clients c).run.graph n b → b < length (desk_at core.clients c).lease
   in-lease n b below takes = takes-leased (lay.shape core.layout) core.graphs.items core.pool (desk_at core.clients c) runs-well n below b takes

@@ -13,7 +13,7 @@ use Rattle.eng_clients.specs.Desk.{Desk, desk_at, no_desk}
 use Rattle.eng_state.specs.Sound.{RunsWell, AreWell}
 
 -- a client whose operation runs is one of them
-pub runs_below : (y : Shape) (graphs : List Held) (p : pool.Held) (desks : List Desk) (c : ℕ) → AreWell y graphs p desks → (desk_at desks c).stage ≡ Runs → c < 17
+pub runs_below : (y : Shape) (graphs : List Held) (p : pool.PoolView) (desks : List Desk) (c : ℕ) → AreWell y graphs p desks → (desk_at desks c).stage ≡ Runs → c < 17
 runs_below y graphs p desks c well runs = elim (cases_order c 17) [
   | inl e ↦ past (omega (arith, e))
   | inr (inl below) ↦ below
@@ -23,7 +23,7 @@ runs_below y graphs p desks c well runs = elim (cases_order c 17) [
     past : 17 ≤ c → c < 17
     past over = let all = well.all in let z : Nothing ≡ Runs = sym (ap (λ (d : Desk). d.stage) (get_or_past desks c no_desk (omega (arith, all, over)))) ∙ runs in cc
 
-module _ (y : Shape) (graphs : List Held) (p : pool.Held) (d : Desk) (w : RunsWell y graphs p d) where
+module _ (y : Shape) (graphs : List Held) (p : pool.PoolView) (d : Desk) (w : RunsWell y graphs p d) where
   ordered : IsOrdered d.run.graph d.task (missing_of d.missing) w.accepted.0 w.accepted.1
   ordered = w.accepted.2
 

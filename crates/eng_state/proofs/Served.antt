@@ -35,7 +35,7 @@ use Rattle.eng_state.proofs.Settling as settling
 use Rattle.graph_lib.proofs.SpanRanges.{span-few}
 
 -- a client that does something is one of them
-pub busy-below : (y : Shape) (graphs : List Held) (p : pool.Held) (desks : List Desk) (c : ℕ) → AreWell y graphs p desks → (desk_at desks c).stage ≢ Nothing → c < 17
+pub busy-below : (y : Shape) (graphs : List Held) (p : pool.PoolView) (desks : List Desk) (c : ℕ) → AreWell y graphs p desks → (desk_at desks c).stage ≢ Nothing → c < 17
 busy-below y graphs p desks c well busy = elim (cases_lt c 17) [
   | inl below ↦ below
   | inr over ↦ let all = well.all in absurd (busy (ap (λ (d : Desk). d.stage) (get_or_past desks c no_desk (omega (arith, all, over)))))
@@ -116,7 +116,7 @@ module _ (y : Shape) (law : IsLayout y) (graphs : List Held) (cols : List Column
   pub plan-is : IsPlan y (graphs_of graphs) cols op file (plan_of now)
   plan-is = planned-is y law graphs cols op file plan serves.inside r.planned (length l) long
 
-  pub runs-well : (p : pool.Held) → pool.IsLease p l → RunsWell y graphs p now
+  pub runs-well : (p : pool.PoolView) → pool.IsLease p l → RunsWell y graphs p now
   runs-well p lease = record {
     op = op;
     item = item-same ∙ ap (λ (f : Option ℕ). Some (item.Run op f)) (sym r.planned.file_is);
@@ -166,7 +166,7 @@ stage-runs d Waits b is idle lt = let e = ap length (idle (λ r. let z : Waits �
 stage-runs d Runs b is idle lt = is
 
 -- a client that leases something runs
-pub leases-runs : (y : Shape) (graphs : List Held) (p : pool.Held) (desks : List Desk) → AreWell y graphs p desks → (k b : ℕ) → b < length (desk_at desks k).lease → (desk_at desks k).stage ≡ Runs
+pub leases-runs : (y : Shape) (graphs : List Held) (p : pool.PoolView) (desks : List Desk) → AreWell y graphs p desks → (k b : ℕ) → b < length (desk_at desks k).lease → (desk_at desks k).stage ≡ Runs
 leases-runs y graphs p desks well k b lt = stage-runs (desk_at desks k) (desk_at desks k).stage b refl (λ rests. elim (cases_lt k 17) [
   | inl below ↦ ((well.each k below).idle rests).0
   | inr over ↦ let all = well.all in ap (λ (d : Desk). d.lease) (get_or_past desks k no_desk (omega (arith, all, over)))

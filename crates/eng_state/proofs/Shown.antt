@@ -18,11 +18,11 @@ use Rattle.eng_log.specs.Filled.{buffer_byte}
 use Rattle.eng_clients.specs.Replied.{replies_of}
 
 -- a client whose operation runs is shown as one that runs
-pub shown-running : (tells : Type 0) (lost : Option Loss) (p : pool.Held) (d : Desk) (c : Client) → ShowsClient tells lost p d c → d.stage ≡ Runs → (buf : ℕ → ℕ → ℕ → ℕ) × (c.current ≡ IsRunning (running_as d buf)) × HoldBytes tells p d buf
+pub shown-running : (tells : Type 0) (lost : Option Loss) (p : pool.PoolView) (d : Desk) (c : Client) → ShowsClient tells lost p d c → d.stage ≡ Runs → (buf : ℕ → ℕ → ℕ → ℕ) × (c.current ≡ IsRunning (running_as d buf)) × HoldBytes tells p d buf
 shown-running tells lost p d c s runs = subst (λ (t : Stage). ShowsCurrent tells p t d c.current) runs s.current
 
 -- and what is seen to run runs
-pub current-runs : (tells : Type 0) (p : pool.Held) (d : Desk) (now : Current) (r : Running) (t : Stage) → ShowsCurrent tells p t d now → now ≡ IsRunning r → (t ≡ Runs) × ((buf : ℕ → ℕ → ℕ → ℕ) × HoldBytes tells p d buf × (r ≡ running_as d buf))
+pub current-runs : (tells : Type 0) (p : pool.PoolView) (d : Desk) (now : Current) (r : Running) (t : Stage) → ShowsCurrent tells p t d now → now ≡ IsRunning r → (t ≡ Runs) × ((buf : ℕ → ℕ → ℕ → ℕ) × HoldBytes tells p d buf × (r ≡ running_as d buf))
 current-runs tells p d now r Nothing s is = let z : Idles ≡ IsRunning r = sym s ∙ is in absurd (let u : ⊥ = cc in u)
 current-runs tells p d now r Waits s is = let z : IsWaiting ≡ IsRunning r = sym s ∙ is in absurd (let u : ⊥ = cc in u)
 current-runs tells p d now r Runs s is = let z : IsRunning r ≡ IsRunning (running_as d s.0) = sym is ∙ s.1 in (refl, (s.0, s.2, let e : r ≡ running_as d s.0 = cc in e))
@@ -41,13 +41,13 @@ pub desk-else : (desks : List Desk) (c k : ℕ) (d : Desk) → k ≢ c → desk_
 desk-else desks c k d ne = get_or-set_other desks c k d no_desk ne
 
 -- a client is shown with the same bytes in another pool
-pub same-bytes : (tells : Type 0) (p q : pool.Held) (d : Desk) (c : Client) (t : Stage) → ((k : ℕ) → (pool.seat_at q.seats k).bytes ≡ (pool.seat_at p.seats k).bytes) → ShowsCurrent tells p t d c.current → ShowsCurrent tells q t d c.current
+pub same-bytes : (tells : Type 0) (p q : pool.PoolView) (d : Desk) (c : Client) (t : Stage) → ((k : ℕ) → (pool.seat_at q.seats k).bytes ≡ (pool.seat_at p.seats k).bytes) → ShowsCurrent tells p t d c.current → ShowsCurrent tells q t d c.current
 same-bytes tells p q d c Nothing same s = s
 same-bytes tells p q d c Waits same s = s
 same-bytes tells p q d c Runs same s = (s.0, s.1, λ told b o k covers h. s.2 told b o k covers h ∙ ap (λ (bytes : List ℕ). buffer_byte d.run.graph bytes b o k) (sym (same (get_or d.lease b 0))))
 
 -- one client is another, and of the pool only who is at home may differ
-pub shown-put : (tells : Type 0) (lost : Option Loss) (p q : pool.Held) (desks desks2 : List Desk) (clients : ℕ → Client) (c : ℕ) (d : Desk) (v : Client) → c < length desks → desks2 ≡ slice_set desks c d
+pub shown-put : (tells : Type 0) (lost : Option Loss) (p q : pool.PoolView) (desks desks2 : List Desk) (clients : ℕ → Client) (c : ℕ) (d : Desk) (v : Client) → c < length desks → desks2 ≡ slice_set desks c d
     → ((k : ℕ) → (pool.seat_at q.seats k).bytes ≡ (pool.seat_at p.seats k).bytes)
     → ((k : ℕ) → ShowsClient tells lost p (desk_at desks k) (clients k)) → ShowsClient tells lost q d v
     → (k : ℕ) → ShowsClient tells lost q (desk_at desks2 k) (put clients c v k)
@@ -65,7 +65,7 @@ pub replies-shown : {L D : Type 0} (disk : DiskGhosts D) (core : Array L D) (w :
 replies-shown disk core w s not_lost k = (s.clients k).replies ∙ ap (λ (l : Option Loss). replies_of l (desk_at core.clients k)) not_lost
 
 -- the same where it is known of each other client what it is shown as
-pub shown-one : (tells : Type 0) (lost : Option Loss) (q : pool.Held) (desks desks2 : List Desk) (clients : ℕ → Client) (c : ℕ) (d : Desk) (v : Client) → c < length desks → desks2 ≡ slice_set desks c d
+pub shown-one : (tells : Type 0) (lost : Option Loss) (q : pool.PoolView) (desks desks2 : List Desk) (clients : ℕ → Client) (c : ℕ) (d : Desk) (v : Client) → c < length desks → desks2 ≡ slice_set desks c d
     → ((k : ℕ) → k ≢ c → ShowsClient tells lost q (desk_at desks k) (clients k)) → ShowsClient tells lost q d v
     → (k : ℕ) → ShowsClient tells lost q (desk_at desks2 k) (put clients c v k)
 shown-one tells lost q desks desks2 clients c d v below is others here k = subst (λ (l : List Desk). ShowsClient tells lost q (desk_at l k) (put clients c v k)) (sym is) (elim (cases_eq k c) [

@@ -43,7 +43,7 @@ bytes-in : (f g : ℕ → List ℕ) (from : List Source) → ((b : ℕ) → has 
 bytes-in f g [] e h = h
 bytes-in f g (s ∷ ss) e h = (h.0 ∙ e s.at (has-here s.at (numbers ss)), bytes-in f g ss (λ b m. e b (has-later s.at b (numbers ss) m)) h.1)
 
-module _ {D : Type 0} (disk : DiskGhosts D) (y : Shape) (olds news : Shelved D) (old new : pool.Held) (g : View) (lease : List ℕ) (unit : new.unit ≡ old.unit) where
+module _ {D : Type 0} (disk : DiskGhosts D) (y : Shape) (olds news : Shelved D) (old new : pool.PoolView) (g : View) (lease : List ℕ) (unit : new.unit ≡ old.unit) where
   -- a buffer that is out is so still, with its bytes
   abbrev pub Stays : ℕ → Type 0
   Stays b = (lease_seat old lease b).out ≡ true → ((lease_seat new lease b).out ≡ true) × (bytes_at new lease b ≡ bytes_at old lease b)

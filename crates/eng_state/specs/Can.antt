@@ -7,7 +7,7 @@ use Rattle.graph_mean.specs.Graph.{kind_at}
 use Rattle.graph_mean.specs.Steps.{IsCall}
 use Rattle.eng_one.specs.Control.{IsReadyIn}
 use Rattle.eng_cols.specs.declared.spot.Spot.{Spot}
-use Rattle.eng_world.specs.Nodes.{Takes, place_of}
+use Rattle.eng_world.specs.Nodes.{MakesOrUses, place_of}
 use Rattle.eng_clients.specs.declared.stage.Stage.TheVariants.{Runs}
 use Rattle.eng_state.specs.declared.array.Array.{Array}
 use Rattle.eng_parts.specs.Shelf.{IsHome}
@@ -26,7 +26,7 @@ module _ {L D : Type 0} (lay : LayoutGhosts L) where
     pub ready : IsReadyIn (desk_at core.clients c).run n
     pub placed : IsCall (kind_at (desk_at core.clients c).run.graph n) → IsSome (place_now core c n)
     pub device_home : (at : Spot) → place_now core c n ≡ Some at → IsHome core.devices at.device
-    pub buffers_home : (b : ℕ) → Takes (desk_at core.clients c).run.graph n b → (seat_of core.pool (desk_at core.clients c) b).out ≡ false
+    pub buffers_home : (b : ℕ) → MakesOrUses (desk_at core.clients c).run.graph n b → (seat_of core.pool (desk_at core.clients c) b).out ≡ false
     pub few : 0 < core.lists
 
   -- the node is a ready write after the commit, whose unit stands nowhere, or of a rebuild, whose target isn't alive

@@ -12,7 +12,7 @@ use Rattle.eng_one.specs.Control.{IsReadyIn}
 use Rattle.eng_cols.specs.declared.spot.Spot.{Spot}
 use Rattle.eng_world.specs.declared.item.Event.{Event}
 use Rattle.eng_world.specs.declared.item.Event.TheVariants as may
-use Rattle.eng_world.specs.Nodes.{Takes}
+use Rattle.eng_world.specs.Nodes.{MakesOrUses}
 use Rattle.eng_world.specs.Planning.{Concerns}
 use Rattle.eng_clients.specs.declared.stage.Stage.TheVariants.{Runs}
 use Rattle.eng_state.specs.declared.array.Array.{Array}
@@ -52,4 +52,4 @@ module _ {L D : Type 0} (lay : LayoutGhosts L) where
 
 -- the buffers that the node takes are at home
 abbrev pub AreHome : {L D : Type 0} → Array L D → ℕ → ℕ → Type 0
-AreHome core c n = (b : ℕ) → Takes (desk_at core.clients c).run.graph n b → (seat_of core.pool (desk_at core.clients c) b).out ≡ false
+AreHome core c n = (b : ℕ) → MakesOrUses (desk_at core.clients c).run.graph n b → (seat_of core.pool (desk_at core.clients c) b).out ≡ false

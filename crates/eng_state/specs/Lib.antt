@@ -14,4 +14,5 @@ pub mod Taken
 pub mod Doing
 pub mod GoesOn
 pub mod Homes
+pub mod ComesHome
 pub mod Restored

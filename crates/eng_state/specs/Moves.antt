@@ -6,7 +6,7 @@ use Rattle.buf_pool.specs.Pool as pool
 use Rattle.lay_core.specs.declared.layout.Layout.{Ghosts as LayoutGhosts}
 use Rattle.eng_cols.specs.declared.spot.Spot.{Spot}
 use Rattle.eng_world.specs.declared.item.Traced.TheVariants as event
-use Rattle.eng_world.specs.Nodes.{Takes}
+use Rattle.eng_world.specs.Nodes.{MakesOrUses}
 use Rattle.eng_state.specs.declared.array.Array.{Array}
 use Rattle.eng_parts.specs.Shelf.{Shelved, seen_at, IsAway, left, come_home}
 use Rattle.eng_clients.specs.Desk.{Desk, desk_at, spot_at, with_fired, with_ended, with_reply}
@@ -34,7 +34,7 @@ DeviceCame {D} disk (Some at) old new = (x : D) × (before : D) × (IsAway old a
 
 -- the seat is one of a buffer that the node makes or uses
 abbrev pub IsTaken : Desk → ℕ → ℕ → Type 0
-IsTaken d n k = (b : ℕ) × Takes d.run.graph n b × (get_or d.lease b 0 ≡ k)
+IsTaken d n k = (b : ℕ) × MakesOrUses d.run.graph n b × (get_or d.lease b 0 ≡ k)
 
 module _ {L D : Type 0} (lay : LayoutGhosts L) where
   -- node n of client c was fired: it is marked, and its device, its buffers and a list are out

@@ -30,7 +30,7 @@ first_of y g b at = sector_at y at (buf_at g b).from
 
 module _ {D : Type 0} (disk : DiskGhosts D) where
   -- the device and the buffer of a call are out, as they are here, and the sectors lie on both
-  pub record AreOut (y : Shape) (s : Shelved D) (p : pool.Held) (g : View) (lease : List ℕ) (at : Spot) (b : ℕ) (x : D) (first : ℕ) (buffer : List ℕ) (count : ℕ) : Type 0 where
+  pub record AreOut (y : Shape) (s : Shelved D) (p : pool.PoolView) (g : View) (lease : List ℕ) (at : Spot) (b : ℕ) (x : D) (first : ℕ) (buffer : List ℕ) (count : ℕ) : Type 0 where
     pub device : IsAway s at.device x
     pub seat : (lease_seat p lease b).out ≡ true
     pub bytes : buffer ≡ bytes_at p lease b
@@ -40,7 +40,7 @@ module _ {D : Type 0} (disk : DiskGhosts D) where
     pub room : HasRoom disk x first buffer count
 
   -- what leaves with an exclusive-or: its target, and each source once, which counts if it is named an odd number of times
-  pub record AreSources (p : pool.Held) (g : View) (lease : List ℕ) (to : ℕ) (named : List ℕ) (target : List ℕ) (from : List Source) (count : ℕ) : Type 0 where
+  pub record AreSources (p : pool.PoolView) (g : View) (lease : List ℕ) (to : ℕ) (named : List ℕ) (target : List ℕ) (from : List Source) (count : ℕ) : Type 0 where
     pub seat : (lease_seat p lease to).out ≡ true
     pub is : target ≡ bytes_at p lease to
     pub long : length target ≡ p.unit
@@ -53,7 +53,7 @@ module _ {D : Type 0} (disk : DiskGhosts D) where
     pub sum : (k : ℕ) → sum_at from k ≡ xor_by (λ b. slice_index (bytes_at p lease b) k) named
 
   -- the work is that of a node of this kind, whose unit stood there as it was fired
-  abbrev pub IsWork : Shape → Shelved D → pool.Held → View → List ℕ → Option Spot → Node → List ℕ → Work D → List Source → Type 0
+  abbrev pub IsWork : Shape → Shelved D → pool.PoolView → View → List ℕ → Option Spot → Node → List ℕ → Work D → List Source → Type 0
   IsWork y s p g lease at (Rd unit b) named w from = (here : Spot) × (at ≡ Some here) × (x : D) × (first : ℕ) × (buffer : List ℕ) × (count : ℕ) × (w ≡ Read x first buffer count) × AreOut y s p g lease here b x first buffer count × (from ≡ [])
   IsWork y s p g lease at (Wr unit b) named w from = (here : Spot) × (at ≡ Some here) × (x : D) × (first : ℕ) × (buffer : List ℕ) × (count : ℕ) × (w ≡ Write x first buffer count) × AreOut y s p g lease here b x first buffer count × (from ≡ [])
   IsWork y s p g lease at (Xor to) named w from = (target : List ℕ) × (count : ℕ) × (w ≡ Sum target count) × AreSources p g lease to named target from count
@@ -61,12 +61,12 @@ module _ {D : Type 0} (disk : DiskGhosts D) where
   IsWork y s p g lease at Trm named w from = (w ≡ Nothing) × (from ≡ [])
 
   -- node n of the desk is out, and this is its work as it left
-  pub record IsJobOf (y : Shape) (s : Shelved D) (p : pool.Held) (d : Desk) (n : ℕ) (w : Work D) (from : List Source) : Type 0 where
+  pub record IsJobOf (y : Shape) (s : Shelved D) (p : pool.PoolView) (d : Desk) (n : ℕ) (w : Work D) (from : List Source) : Type 0 where
     pub out : IsOutOf d n
     pub work : IsWork y s p d.run.graph d.lease (spot_at d n) (kind_at d.run.graph n) (vertex_at d.run.graph n).sources w from
 
   -- The job is out, and this is as it left.
-  pub record IsOutIn (y : Shape) (desks : List Desk) (s : Shelved D) (p : pool.Held) (job : Job D) : Type 0 where
+  pub record IsOutIn (y : Shape) (desks : List Desk) (s : Shelved D) (p : pool.PoolView) (job : Job D) : Type 0 where
     pub is : IsJobOf y s p (desk_at desks job.client) job.node job.work job.sources.items
     pub room : 2048 ≤ vec_capacity job.sources
 

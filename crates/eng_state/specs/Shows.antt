@@ -29,16 +29,16 @@ running_as d buf = record {
 }
 
 -- what its buffers hold where they cover it, said where devices tell what they hold
-abbrev pub HoldBytes : Type 0 → pool.Held → Desk → (ℕ → ℕ → ℕ → ℕ) → Type 0
+abbrev pub HoldBytes : Type 0 → pool.PoolView → Desk → (ℕ → ℕ → ℕ → ℕ) → Type 0
 HoldBytes tells p d buf = tells → (b o k : ℕ) → Covers d.run.graph b o → k < 512 → buf b o k ≡ buffer_byte d.run.graph (bytes_at p d.lease b) b o k
 
-abbrev pub ShowsCurrent : Type 0 → pool.Held → Stage → Desk → Current → Type 0
+abbrev pub ShowsCurrent : Type 0 → pool.PoolView → Stage → Desk → Current → Type 0
 ShowsCurrent tells p Nothing d now = now ≡ Idles
 ShowsCurrent tells p Waits d now = now ≡ IsWaiting
 ShowsCurrent tells p Runs d now = (buf : ℕ → ℕ → ℕ → ℕ) × (now ≡ IsRunning (running_as d buf)) × HoldBytes tells p d buf
 
 -- the client is the one of the desk
-pub record ShowsClient (tells : Type 0) (lost : Option Loss) (p : pool.Held) (d : Desk) (c : Client) : Type 0 where
+pub record ShowsClient (tells : Type 0) (lost : Option Loss) (p : pool.PoolView) (d : Desk) (c : Client) : Type 0 where
   pub items : c.items ≡ d.items
   pub replies : c.replies ≡ replies_of lost d
   pub current : ShowsCurrent tells p d.stage d c.current

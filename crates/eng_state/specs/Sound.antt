@@ -20,7 +20,7 @@ use Rattle.eng_one.specs.Control.{mark_of, IsReached}
 use Rattle.eng_cols.specs.declared.spot.Spot.{Spot}
 use Rattle.eng_cols.specs.Cols.{Columns, IsFor, IsKept, HasDevice, InOrder}
 use Rattle.eng_world.specs.declared.item.Item.TheVariants as item
-use Rattle.eng_world.specs.Nodes.{Takes}
+use Rattle.eng_world.specs.Nodes.{MakesOrUses}
 use Rattle.eng_world.specs.Planning.{IsTaskOf}
 use Rattle.eng_clients.specs.declared.stage.Stage.TheVariants.{Runs}
 use Rattle.eng_state.specs.declared.array.Array.{Array}
@@ -52,10 +52,10 @@ pub record DevicesOut {D : Type 0} (desks : List Desk) (s : Shelved D) : Type 0 
   pub unplaced : (c n : ℕ) → IsOutOf (desk_at desks c) n → (IsCall (kind_at (desk_at desks c).run.graph n) → ⊥) → spot_at (desk_at desks c) n ≡ None
 
 -- a buffer of a lease is out exactly with one node that makes or uses it
-pub record SeatsOut (desks : List Desk) (p : pool.Held) : Type 0 where
-  pub away : (c n b : ℕ) → IsOutOf (desk_at desks c) n → Takes (desk_at desks c).run.graph n b → (seat_of p (desk_at desks c) b).out ≡ true
-  pub held : (c b : ℕ) → (desk_at desks c).stage ≡ Runs → b < length (desk_at desks c).lease → (seat_of p (desk_at desks c) b).out ≡ true → (n : ℕ) × IsOutOf (desk_at desks c) n × Takes (desk_at desks c).run.graph n b
-  pub one : (c n m b : ℕ) → IsOutOf (desk_at desks c) n → IsOutOf (desk_at desks c) m → Takes (desk_at desks c).run.graph n b → Takes (desk_at desks c).run.graph m b → n ≡ m
+pub record SeatsOut (desks : List Desk) (p : pool.PoolView) : Type 0 where
+  pub away : (c n b : ℕ) → IsOutOf (desk_at desks c) n → MakesOrUses (desk_at desks c).run.graph n b → (seat_of p (desk_at desks c) b).out ≡ true
+  pub held : (c b : ℕ) → (desk_at desks c).stage ≡ Runs → b < length (desk_at desks c).lease → (seat_of p (desk_at desks c) b).out ≡ true → (n : ℕ) × IsOutOf (desk_at desks c) n × MakesOrUses (desk_at desks c).run.graph n b
+  pub one : (c n m b : ℕ) → IsOutOf (desk_at desks c) n → IsOutOf (desk_at desks c) m → MakesOrUses (desk_at desks c).run.graph n b → MakesOrUses (desk_at desks c).run.graph m b → n ≡ m
 
 -- 1 for a node that is out
 abbrev pub jobs_at : Status → ℕ
@@ -79,7 +79,7 @@ mode_for (kind.Rebuild unit) = Exclude
 mode_for kind.Sync = Exclude
 
 -- What is so of an operation that runs: the graph that it lends is the one that its run was started with, which the checker or the planner accepted for its task; and steps have led its run to where it stands.
-pub record RunsWell (y : Shape) (graphs : List Held) (p : pool.Held) (d : Desk) : Type 0 where
+pub record RunsWell (y : Shape) (graphs : List Held) (p : pool.PoolView) (d : Desk) : Type 0 where
   pub op : Op
   pub item : item_at d ≡ Some (item.Run op d.file)
   pub task : IsTaskOf y op (plan_of d)
@@ -94,14 +94,14 @@ pub record RunsWell (y : Shape) (graphs : List Held) (p : pool.Held) (d : Desk) 
   pub bufs : length d.run.graph.bufs ≤ length d.lease
 
 -- What is so of any client: one that doesn't run has no lease, and none of its nodes is out.
-pub record IsWell (y : Shape) (graphs : List Held) (p : pool.Held) (d : Desk) : Type 0 where
+pub record IsWell (y : Shape) (graphs : List Held) (p : pool.PoolView) (d : Desk) : Type 0 where
   pub runs : d.stage ≡ Runs → RunsWell y graphs p d
   pub idle : d.stage ≢ Runs → (d.lease ≡ []) × (jobs_of d ≡ 0)
   pub spots : length d.spots ≡ 2048
   pub replies : length d.replies ≤ length d.items
 
 -- each client is, and no two have a buffer in common
-pub record AreWell (y : Shape) (graphs : List Held) (p : pool.Held) (desks : List Desk) : Type 0 where
+pub record AreWell (y : Shape) (graphs : List Held) (p : pool.PoolView) (desks : List Desk) : Type 0 where
   pub all : length desks ≡ 17
   pub each : (c : ℕ) → c < 17 → IsWell y graphs p (desk_at desks c)
   pub apart : (c k : ℕ) → c ≢ k → pool.AreApart (desk_at desks c).lease (desk_at desks k).lease

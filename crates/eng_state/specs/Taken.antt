@@ -39,8 +39,8 @@ module _ {L D : Type 0} (lay : LayoutGhosts L) where
   -- the planned operation runs, with stripes and buffers of its own
   pub record Settled (old : Array L D) (c : ℕ) (op : Op) (file : Option ℕ) (new : Array L D) : Type 0 where
     pub lease : List ℕ
-    pub mid : held.Held
-    pub locks : table.Takes old.locks c (desk_at old.clients c).map.stripes (mode_by op) new.locks
+    pub mid : held.PoolView
+    pub locks : table.Acquires old.locks c (desk_at old.clients c).map.stripes (mode_by op) new.locks
     pub leases : held.Leases old.pool (lease_for (lay.shape old.layout) old.graphs.items op file) lease mid
     pub apart : held.StandsApart old.pool lease mid
     pub filled : Filled (graph_of old.graphs.items (desk_at old.clients c)) op lease mid new.pool
@@ -53,8 +53,8 @@ module _ {L D : Type 0} (lay : LayoutGhosts L) where
     pub runs : CanRun old.graphs.items plan
     pub lease : List ℕ
     pub clients : new.clients ≡ slice_set old.clients c (with_started old.graphs.items (with_lease plan lease))
-    pub locks : table.Takes old.locks c plan.map.stripes (mode_by op) new.locks
-    pub mid : held.Held
+    pub locks : table.Acquires old.locks c plan.map.stripes (mode_by op) new.locks
+    pub mid : held.PoolView
     pub leases : held.Leases old.pool (lease_for (lay.shape old.layout) old.graphs.items op file) lease mid
     pub apart : held.StandsApart old.pool lease mid
     pub filled : Filled (graph_of old.graphs.items plan) op lease mid new.pool

@@ -9,7 +9,7 @@ use Rattle.atomic_table.specs.Table.{State}
 use Rattle.eng_turn.specs.declared.view.Resting.{Resting}
 use Rattle.eng_turn.specs.declared.view.Stage.{Stage}
 use Rattle.eng_turn.specs.declared.view.Stage.TheVariants.{Outside, Inside}
-use Rattle.eng_turn.specs.declared.view.View.{View}
+use Rattle.eng_turn.specs.declared.view.PassView.{PassView}
 use Rattle.eng_turn.specs.View.{Content, within, view_ticket, inside}
 use Rattle.eng_turn.specs.Rule.{Kept, IsFree, IsHeld}
 use Rattle.eng_turn.proofs.Sums.{sum_by_has_two}
@@ -30,7 +30,7 @@ is_outside Outside none_in = refl
 is_outside (Inside e) none_in = absurd (omega arith)
 
 module _ {V T : Type 0} (empty : T) (fits : V → V → List T → Type 0) (after : V → V → Type 0) (opening : V) where
-  pub even-free : (s : State (Content V T) (View V T)) → Kept empty fits after opening s → slice_index s.words 0 % 2 ≡ 0 → IsFree empty fits after opening s
+  pub even-free : (s : State (Content V T) (PassView V T)) → Kept empty fits after opening s → slice_index s.words 0 % 2 ≡ 0 → IsFree empty fits after opening s
   even-free s kept even = let word = kept.word in ⊎_elim
       (λ (t : (sum_by inside s.views ≡ 0) × ((h : Resting V T) × (s.homes ≡ some (Some h) ∷ []) × (h.value ≡ kept.value))). record {
         resting = t.1.0;
@@ -41,7 +41,7 @@ module _ {V T : Type 0} (empty : T) (fits : V → V → List T → Type 0) (afte
       (λ (t : (sum_by inside s.views ≡ 1) × (s.homes ≡ none ∷ [])). let one = t.0 in absurd (omega arith))
       kept.place
 
-  pub odd-held : (s : State (Content V T) (View V T)) → Kept empty fits after opening s → slice_index s.words 0 % 2 ≡ 1 → IsHeld empty fits after opening s
+  pub odd-held : (s : State (Content V T) (PassView V T)) → Kept empty fits after opening s → slice_index s.words 0 % 2 ≡ 1 → IsHeld empty fits after opening s
   odd-held s kept odd = let word = kept.word in ⊎_elim
       (λ (t : (sum_by inside s.views ≡ 0) × ((h : Resting V T) × (s.homes ≡ some (Some h) ∷ []) × (h.value ≡ kept.value))). let none_in = t.0 in absurd (omega arith))
       (λ (t : (sum_by inside s.views ≡ 1) × (s.homes ≡ none ∷ [])).

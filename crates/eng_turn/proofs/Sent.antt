@@ -25,7 +25,7 @@ use Rattle.eng_turn.specs.contracts.table_rule.TurnTable as table_rule
 use Rattle.eng_turn.specs.contracts.turn.Pass as pass
 use Rattle.eng_turn.specs.contracts.turn.Turn as turn
 use Rattle.eng_turn.specs.contracts.view.Resting as resting
-use Rattle.eng_turn.specs.contracts.view.View as view
+use Rattle.eng_turn.specs.contracts.view.PassView as view
 use Rattle.eng_turn.specs.View.{opener}
 use Rattle.eng_turn.specs.Rule.{Kept}
 

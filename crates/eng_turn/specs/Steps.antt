@@ -4,7 +4,7 @@ use Rattle.atomic_table.specs.Table.{Step, rest}
 use Rattle.eng_turn.specs.declared.view.Resting.{Resting}
 use Rattle.eng_turn.specs.declared.view.Change.TheVariants.{Settled, Splitting}
 use Rattle.eng_turn.specs.declared.view.Stage.TheVariants.{Inside}
-use Rattle.eng_turn.specs.declared.view.View.{View}
+use Rattle.eng_turn.specs.declared.view.PassView.{PassView}
 use Rattle.eng_turn.specs.View.{Content, Mine, with_share, with_stage, left_with, ticket_or}
 
 module _ {V T : Type 0} where
@@ -21,11 +21,11 @@ module _ {V T : Type 0} where
       × ((o : V) → m.0.opening ≡ Some o → FitsAmong fits o h.value m.0.ticket)
       × ((k : V) → m.0.mark ≡ Some k → after k h.value))
 
-  abbrev pub given_by : View V T → Content V T → View V T
+  abbrev pub given_by : PassView V T → Content V T → PassView V T
   given_by v (Some h) = left_with v h.value (ticket_or h.ticket v.ticket)
   given_by v None = v
 
-  abbrev pub given_view : View V T → List (ℕ × Content V T) → View V T
+  abbrev pub given_view : PassView V T → List (ℕ × Content V T) → PassView V T
   given_view v [] = v
   given_view v (x ∷ xs) = given_by v x.1
 

@@ -1,6 +1,6 @@
 //! The rule of the table behind a turn, and what each step on its word tells.
 use crate::rule::TurnRule;
-use crate::view::{Resting, View};
+use crate::view::{PassView, Resting};
 use atomic_table::{Join, Play, Split, TableRule};
 use std::marker::PhantomData;
 use std::snapshot::Snapshot;
@@ -12,7 +12,7 @@ pub struct TurnTable<R> {
 
 impl<R: TurnRule> TableRule<
     Option<Resting<R::Value, R::Ticket>>,
-    View<R::Value, R::Ticket>,
+    PassView<R::Value, R::Ticket>,
     Snapshot<R::Value>,
 > for TurnTable<R> {
     ghost use Rattle.eng_turn.specs.Rule.{Kept};
@@ -28,7 +28,7 @@ pub(crate) struct Take<R> {
     rule: PhantomData<R>,
 }
 
-impl<R: TurnRule> Play<Option<Resting<R::Value, R::Ticket>>, View<R::Value, R::Ticket>>
+impl<R: TurnRule> Play<Option<Resting<R::Value, R::Ticket>>, PassView<R::Value, R::Ticket>>
     for Take<R> {
     ghost use Rattle.eng_turn.specs.Steps.{Took};
 
@@ -38,7 +38,7 @@ impl<R: TurnRule> Play<Option<Resting<R::Value, R::Ticket>>, View<R::Value, R::T
 // Takes the lowest bit away, and gives the slot back.
 pub(crate) struct Give;
 
-impl<V, T> Play<Option<Resting<V, T>>, View<V, T>> for Give {
+impl<V, T> Play<Option<Resting<V, T>>, PassView<V, T>> for Give {
     ghost use Rattle.eng_turn.specs.Steps.{Gave};
 
     ghost then = { Gave };
@@ -47,7 +47,7 @@ impl<V, T> Play<Option<Resting<V, T>>, View<V, T>> for Give {
 // Counts the pass that a split is about to make.
 pub(crate) struct CountUp;
 
-impl<V, T> Play<Option<Resting<V, T>>, View<V, T>> for CountUp {
+impl<V, T> Play<Option<Resting<V, T>>, PassView<V, T>> for CountUp {
     ghost use Rattle.eng_turn.specs.Steps.{CountedUp};
 
     ghost then = { CountedUp };
@@ -56,7 +56,7 @@ impl<V, T> Play<Option<Resting<V, T>>, View<V, T>> for CountUp {
 // Counts the pass no more that a join has taken in.
 pub(crate) struct CountDown;
 
-impl<V, T> Play<Option<Resting<V, T>>, View<V, T>> for CountDown {
+impl<V, T> Play<Option<Resting<V, T>>, PassView<V, T>> for CountDown {
     ghost use Rattle.eng_turn.specs.Steps.{CountedDown};
 
     ghost then = { CountedDown };
@@ -67,7 +67,7 @@ pub(crate) struct Shares<R> {
     rule: PhantomData<R>,
 }
 
-impl<R: TurnRule> Split<View<R::Value, R::Ticket>> for Shares<R> {
+impl<R: TurnRule> Split<PassView<R::Value, R::Ticket>> for Shares<R> {
     ghost use Rattle.eng_turn.specs.declared.view.Change.TheVariants.{Settled};
     ghost use Rattle.eng_turn.specs.View.{with_share, split_off};
 
@@ -76,7 +76,7 @@ impl<R: TurnRule> Split<View<R::Value, R::Ticket>> for Shares<R> {
     ghost right = { split_off R.empty };
 }
 
-impl<R: TurnRule> Join<View<R::Value, R::Ticket>> for Shares<R> {
+impl<R: TurnRule> Join<PassView<R::Value, R::Ticket>> for Shares<R> {
     ghost use Rattle.std.specs.Prelude.{◌+◌};
     ghost use Rattle.eng_turn.specs.declared.view.Change.TheVariants.{Joining};
     ghost use Rattle.eng_turn.specs.View.{with_share, spent_view};

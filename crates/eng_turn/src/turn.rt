@@ -3,7 +3,7 @@ ghost use Rattle.std.specs.Prelude.{◌≡◌, ◌<◌};
 
 use crate::rule::TurnRule;
 use crate::table_rule::TurnTable;
-use crate::view::{Resting, View};
+use crate::view::{PassView, Resting};
 use atomic_table::{Seat, Table};
 use std::alloc::Global;
 use std::snapshot::Snapshot;
@@ -25,7 +25,7 @@ pub struct Memory;
 pub struct Turn<R: TurnRule> {
     table: Table<
         Option<Resting<R::Value, R::Ticket>>,
-        View<R::Value, R::Ticket>,
+        PassView<R::Value, R::Ticket>,
         Snapshot<R::Value>,
         TurnTable<R>,
         Global,
@@ -39,5 +39,5 @@ pub struct Turn<R: TurnRule> {
 /// if the pass had the value.
 #[derive(Drop)]
 pub struct Pass<R: TurnRule> {
-    seat: Seat<Option<Resting<R::Value, R::Ticket>>, View<R::Value, R::Ticket>>,
+    seat: Seat<Option<Resting<R::Value, R::Ticket>>, PassView<R::Value, R::Ticket>>,
 }

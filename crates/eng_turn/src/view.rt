@@ -22,7 +22,7 @@ pub enum Stage<V> {
 }
 
 /// What a pass knows. It exists in proofs alone: no value of it is made.
-pub struct View<V, T> {
+pub struct PassView<V, T> {
     pub ticket: T,
     pub opening: Option<V>,
     pub mark: Option<V>,

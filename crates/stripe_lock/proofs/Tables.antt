@@ -5,7 +5,7 @@ use Rattle.stripe_lock.specs.declared.mode.Mode.{Mode}
 use Rattle.stripe_lock.specs.declared.mode.Mode.TheVariants.{Share}
 use Rattle.stripe_lock.specs.declared.row.Row.{Row}
 use Rattle.stripe_lock.specs.Rows.{mode_at, HoldsNone, IsBarred, Grows, IsSound}
-use Rattle.stripe_lock.specs.Table.{Table, owners_of, mode_of, HoldsNothing, IsIdle, IsApart, Conflict, Takes, Releases, IsTable}
+use Rattle.stripe_lock.specs.Table.{Table, owners_of, mode_of, HoldsNothing, IsIdle, IsApart, Conflict, Acquires, Releases, IsTable}
 use Rattle.stripe_lock.proofs.Holders.{both_share}
 use Rattle.stripe_lock.proofs.Rows.{at_head, past_head}
 use Rattle.stripe_lock.proofs.Leaving.{gone, gone_own, gone_other, gone_sound}
@@ -71,7 +71,7 @@ module _ (table : Table) (owners : ℕ) (rows : List Row) (is : table_of owners 
     λ conflict. ap not (says.1 (barred_if_conflict owner stripes mode conflict)),
   )
 
-  pub takes : (new : List Row) (owner : ℕ) (stripes : List ℕ) (mode : Mode) → HoldsNothing table owner → Grows rows owner stripes mode new → Takes table owner stripes mode (table_of owners new)
+  pub takes : (new : List Row) (owner : ℕ) (stripes : List ℕ) (mode : Mode) → HoldsNothing table owner → Grows rows owner stripes mode new → Acquires table owner stripes mode (table_of owners new)
   unfolding mode_of owners_of
   takes new owner stripes mode none grows = record {
     owners = ap (λ (t : Table). t.owners) is;

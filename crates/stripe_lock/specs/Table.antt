@@ -43,7 +43,7 @@ pub record Conflict (table : Table) (owner : ℕ) (stripes : List ℕ) (mode : M
   pub alone : (mode ≡ Exclude) ⊎ (theirs ≡ Exclude)
 
 -- the owner holds just these stripes in this way, and the others what they held
-pub record Takes (old : Table) (owner : ℕ) (stripes : List ℕ) (mode : Mode) (new : Table) : Type 0 where
+pub record Acquires (old : Table) (owner : ℕ) (stripes : List ℕ) (mode : Mode) (new : Table) : Type 0 where
   pub owners : owners_of new ≡ owners_of old
   pub each : (stripe : ℕ) → Contains stripes stripe → mode_of new owner stripe ≡ Some mode
   pub only : (stripe : ℕ) → ¬ Contains stripes stripe → mode_of new owner stripe ≡ None

@@ -1,7 +1,7 @@
 //! The table of locks.
 ghost use Rattle.std.specs.Prelude.{◌≡◌, ◌<◌, ◌≤◌, ◌↔◌, length, IsTrue, IsFalse, IfOk};
 ghost use Rattle.std.specs.Bool.{OnTrue, OnFalse};
-ghost use Rattle.stripe_lock.specs.Table.{Table, IsIdle, HoldsNothing, Conflict, Takes, Releases, IsApart, owners_of};
+ghost use Rattle.stripe_lock.specs.Table.{Table, IsIdle, HoldsNothing, Conflict, Acquires, Releases, IsApart, owners_of};
 
 use crate::mode::Mode;
 use crate::row::{ROWS, Row, hold, is_barred, leave};
@@ -64,7 +64,7 @@ impl Locks {
         !is_barred(self.rows.as_slice(), owner, stripes, mode)
     }
 
-    /// Takes all these stripes for an owner that holds none, and answers whether it did.
+    /// Acquires all these stripes for an owner that holds none, and answers whether it did.
     ///
     /// False exactly where another owner holds one of the stripes and one of the two holds it
     /// alone, or would; nothing changes then.
@@ -74,7 +74,7 @@ impl Locks {
         requires none { HoldsNothing self.old owner }
 
         ensures conflict { IsFalse result ↔ Conflict self.old owner stripes.now mode }
-        ensures taken { OnTrue result (Takes self.old owner stripes.now mode self.new) }
+        ensures taken { OnTrue result (Acquires self.old owner stripes.now mode self.new) }
         ensures refused { OnFalse result (self.new ≡ self.old) }
         ensures apart { IsApart self.new }
     {

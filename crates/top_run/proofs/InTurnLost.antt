@@ -12,7 +12,7 @@ use Rattle.eng_world.specs.declared.item.Traced.{Traced}
 use Rattle.eng_world.specs.World.{World}
 use Rattle.eng_world.specs.Planning.{Graphs}
 use Rattle.eng_world.specs.Failing.{Loses, Survives, device_on}
-use Rattle.eng_world.specs.Step.{IsOpening, Run}
+use Rattle.eng_world.specs.Step.{IsOpening, EventsLead}
 use Rattle.eng_world.proofs.Moves.{Move, replies, waits, takes, fires, skips, works, commits, ends, fails, anew, gives, dies, starts, home, kept-on}
 use Rattle.eng_world.proofs.Abandoned.{Unlost}
 
@@ -65,7 +65,7 @@ module _ (y : Shape) (graphs : Graphs) where
     | inr z ↦ killed-still y old.columns z.0 (subst (NotLost y) z.1 not)
   ])
 
-  pub never-lost : (opening : World) (events : List Traced) (now : World) → IsOpening y opening → Run y graphs opening events now → NotLost y now.columns → now.lost ≡ None
+  pub never-lost : (opening : World) (events : List Traced) (now : World) → IsOpening y opening → EventsLead y graphs opening events now → NotLost y now.columns → now.lost ≡ None
   never-lost opening events now o run not = go now.lost refl
     where
       broken : IsBroken now

@@ -15,7 +15,7 @@ use Rattle.eng_cols.proofs.Lists.{get_set_other, get_set_same}
 use Rattle.eng_cols.proofs.Wholes.{any-death, whole-available}
 use Rattle.eng_world.specs.declared.item.Traced.{Traced}
 use Rattle.eng_world.specs.World.{World}
-use Rattle.eng_world.specs.Step.{Run, StepBy}
+use Rattle.eng_world.specs.Step.{EventsLead, StepBy}
 use Rattle.eng_array.specs.Starts as starts
 use Rattle.eng_array.specs.declared.start.Start.{Start}
 use Rattle.eng_array.specs.declared.start.Start.TheVariants as start
@@ -90,7 +90,7 @@ module _ {D : Type 0} (g : Ghosts D) (a : Work) (taken back : List (Option D)) (
 
   record Started : Type 0 where
     pub world : World
-    pub rest : Run y ran.graphs world own now
+    pub rest : EventsLead y ran.graphs world own now
     pub others : (k : ℕ) → k ≢ c → slice_get world.columns k ≡ slice_get ran.start.columns k
     pub order : InOrder (map (state_set y.stripes) (with_rebuilt (Some how) a.columns))
     pub spares : (m : ℕ) → how ≡ start.Spread m → (st : ℕ) → st < y.stripes → IsSome (y.spare st)
@@ -98,8 +98,8 @@ module _ {D : Type 0} (g : Ghosts D) (a : Work) (taken back : List (Option D)) (
   started : Started
   started = by how refl
     where
-      first : (w : World) × StepBy y ran.graphs ran.start.lost (starts.event_of how) ran.start w × Run y ran.graphs w own now
-      first = first-step y ran.graphs ran.start now own (starts.event_of how) (subst (λ es. Run y ran.graphs ran.start es now) begins.1 ran.rests.run)
+      first : (w : World) × StepBy y ran.graphs ran.start.lost (starts.event_of how) ran.start w × EventsLead y ran.graphs w own now
+      first = first-step y ran.graphs ran.start now own (starts.event_of how) (subst (λ es. EventsLead y ran.graphs ran.start es now) begins.1 ran.rests.run)
 
       step : StepBy y ran.graphs None (starts.event_of how) ran.start first.0
       step = subst (λ l. StepBy y ran.graphs l (starts.event_of how) ran.start first.0) ran.opens.opening.lost first.1

@@ -14,7 +14,7 @@ use Rattle.eng_world.specs.declared.item.Traced.{Traced}
 use Rattle.eng_world.specs.declared.item.Traced.TheVariants as event
 use Rattle.eng_world.specs.World.{World}
 use Rattle.eng_world.specs.Planning.{Graphs}
-use Rattle.eng_world.specs.Step.{IsOpening, Run, Step, StepBy}
+use Rattle.eng_world.specs.Step.{IsOpening, EventsLead, Step, StepBy}
 use Rattle.eng_events.specs.Opened.{states_of}
 use Rattle.eng_clients.specs.Listing.{rebuild}
 use Rattle.eng_rest.specs.Left.{IsOwn}
@@ -98,7 +98,7 @@ rebuilt-had n (Some (start.Spread k)) columns c d dead live = inl (slice_get-map
 -- ## The first event
 
 -- a run's first event leads from its opening, and the others behind it
-pub first-step : (y : Shape) (graphs : Graphs) (opening now : World) (own : List Traced) (e : Traced) → Run y graphs opening (own ++ e ∷ []) now → (w : World) × Step y graphs e opening w × Run y graphs w own now
+pub first-step : (y : Shape) (graphs : Graphs) (opening now : World) (own : List Traced) (e : Traced) → EventsLead y graphs opening (own ++ e ∷ []) now → (w : World) × Step y graphs e opening w × EventsLead y graphs w own now
 first-step y graphs opening now [] e run = (now, subst (λ w. Step y graphs e w now) run.1 run.2, refl)
 first-step y graphs opening now (x ∷ own) e run =
     let before = first-step y graphs opening run.0 own e run.1 in
@@ -109,12 +109,12 @@ started-dead : (y : Shape) (graphs : Graphs) (old new : World) (how : Start) →
 started-dead y graphs old new (start.Fill c d) none step = let s = subst (λ l. StepBy y graphs l (event.Fill c d) old new) none step in s.starts.dead
 started-dead y graphs old new (start.Spread c) none step = let s = subst (λ l. StepBy y graphs l (event.Spread c) old new) none step in s.starts.dead
 
-module _ (y : Shape) (graphs : Graphs) (opening now : World) (events : List Traced) (o : IsOpening y opening) (run : Run y graphs opening events now) (columns : List Column) (opened : opening.columns ≡ states_of y columns) where
+module _ (y : Shape) (graphs : Graphs) (opening now : World) (events : List Traced) (o : IsOpening y opening) (run : EventsLead y graphs opening events now) (columns : List Column) (opened : opening.columns ≡ states_of y columns) where
   pub dead-then : (how : Option Start) → BeginsBy how events → IsDeadBefore how columns
   dead-then None begins rebuilt is = let z : None ≡ Some rebuilt = is in absurd (let u : ⊥ = cc in u)
   dead-then (Some how) begins rebuilt is =
       let same : how ≡ rebuilt = cc in
-      let step = first-step y graphs opening now begins.0 (event_of how) (subst (λ es. Run y graphs opening es now) begins.1 run) in
+      let step = first-step y graphs opening now begins.0 (event_of how) (subst (λ es. EventsLead y graphs opening es now) begins.1 run) in
       let dead = started-dead y graphs opening step.0 how o.lost step.1 in
       let was : slice_get columns (column_of how) ≡ Some set.Dead = dead-before y.stripes columns (column_of how) (ap (λ l. slice_get l (column_of how)) (sym opened) ∙ dead) in
       ap (λ h. slice_get columns (column_of h)) (sym same) ∙ was

@@ -23,7 +23,7 @@ use Rattle.eng_world.specs.declared.item.Traced.TheVariants as event
 use Rattle.eng_world.specs.Planning.{Graphs}
 use Rattle.eng_world.specs.Plain.{replay}
 use Rattle.eng_world.specs.World.{World}
-use Rattle.eng_world.specs.Step.{IsOpening, Run}
+use Rattle.eng_world.specs.Step.{IsOpening, EventsLead}
 use Rattle.eng_world.specs.Legal.{AreOps, ReplyOf, RepliesFit}
 use Rattle.eng_world.specs.Invariant.{IsTold, AllReplied}
 use Rattle.eng_world.specs.Causes.{ItemAt, HaveCauses}
@@ -97,7 +97,7 @@ module _ {D : Type 0} (g : Ghosts D) (a : Work) (taken : List (Option D)) where
     pub record Rests (graphs : Graphs) (start : World) (events : List Traced) (now : World) : Type 0 where
       pub graphs_are : AreGraphsOf a.graphs graphs
       pub begins : BeginsBy a.start events
-      pub run : Run a.layout graphs start events now
+      pub run : EventsLead a.layout graphs start events now
       pub rebuilds : IsRebuiltBy a.layout (begun_in a) a.start (now.clients 16).items
       pub replied : AllReplied now
       pub out : now.out ≡ 0

@@ -11,7 +11,7 @@ use Rattle.eng_world.specs.World.{World}
 use Rattle.eng_world.specs.Planning.{Graphs, Promises}
 use Rattle.eng_world.specs.Failing.{FailsIfAlive}
 use Rattle.eng_world.specs.Nodes.{Bads}
-use Rattle.eng_world.specs.Step.{IsNow, IsOpening, LostBad, StepBy, Step, Run}
+use Rattle.eng_world.specs.Step.{IsNow, IsOpening, LostBad, StepBy, Step, EventsLead}
 use Rattle.eng_world.proofs.Continuing.{step-continues}
 use Rattle.eng_world.proofs.Placed.{only-rows}
 use Rattle.top_serve.specs.Caused.{WentBadOn}
@@ -24,7 +24,7 @@ abbrev pub WentBad : Shape → Graphs → World → List Traced → OpId → ℕ
 WentBad y graphs start before id node later now = (d : ℕ) × WentBadOn y graphs start.columns start before id node later now d × (now.failed d ≡ true)
 
 module _ (y : Shape) (graphs : Graphs) (layout : IsLayout y) (promises : Promises graphs) (start : World) (opening : IsOpening y start) (before : List Traced) (own : AreOwn before) (id : OpId) (node : ℕ) where
-  module _ (old : World) (run : Run y graphs start before old) (now : World) (step : Step y graphs (event.Bad id node) old now) where
+  module _ (old : World) (run : EventsLead y graphs start before old) (now : World) (step : Step y graphs (event.Bad id node) old now) where
     in-run : old.lost ≡ None → IsNow old id → Bads y id.client node old now → WentBad y graphs start before id node [] now
     in-run none named f = (
       f.at.device,
@@ -87,7 +87,7 @@ module _ (y : Shape) (graphs : Graphs) (layout : IsLayout y) (promises : Promise
         go (Some loss) lost h = once-lost h.0 h.1
 
   -- so it has been since
-  pub went-bad : (later : List Traced) (now : World) → Run y graphs start (later ++ event.Bad id node ∷ before) now → WentBad y graphs start before id node later now
+  pub went-bad : (later : List Traced) (now : World) → EventsLead y graphs start (later ++ event.Bad id node ∷ before) now → WentBad y graphs start before id node later now
   went-bad [] now run = here run.0 run.1 now run.2
   went-bad (e ∷ later) now run =
       let bad = went-bad later run.0 run.1 in

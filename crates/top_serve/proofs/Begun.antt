@@ -15,7 +15,7 @@ use Rattle.eng_world.specs.Planning.{Graphs}
 use Rattle.eng_world.specs.Failing.{device_on, FailsColumn, FailsIfAlive, Loses, Survives}
 use Rattle.eng_world.specs.Serving.{Begins, Begun}
 use Rattle.eng_world.specs.Legal.{ReplyOf}
-use Rattle.eng_world.specs.Step.{StepBy, Step, Run}
+use Rattle.eng_world.specs.Step.{StepBy, Step, EventsLead}
 use Rattle.eng_world.specs.Causes.{ItemAt}
 use Rattle.eng_world.specs.Continuing.{Continues}
 use Rattle.eng_world.proofs.Caused.{front-get, item-still}
@@ -67,7 +67,7 @@ module _ (y : Shape) (graphs : Graphs) where
       go (Some loss) h = absurd h
 
   -- so it has been since
-  run-begun : (start : World) (events : List Traced) (now : World) → Run y graphs start events now → (id : OpId) → Contains events (event.Begin id) → IsBegun now now id
+  run-begun : (start : World) (events : List Traced) (now : World) → EventsLead y graphs start events now → (id : OpId) → Contains events (event.Begin id) → IsBegun now now id
   run-begun start [] now run id (n, within, is) = absurd (omega (arith, within))
   run-begun start (e ∷ events) now run id (zero, within, is) =
       let s = subst (λ (a : Traced). Step y graphs a run.0 now) is run.2 in
@@ -79,7 +79,7 @@ module _ (y : Shape) (graphs : Graphs) where
       (b.0, item-still run.0 now go id b.0 b.1, λ c f. reply-still run.0 now go id reply.Okay (b.2 c f))
 
   -- an item that asks that column c fail, and was begun
-  pub begun-failed : (start : World) (events : List Traced) (now : World) → Run y graphs start events now → (id : OpId) (c : ℕ) → Contains events (event.Begin id) → ItemAt now id (item.Fail c) → WasFailed now c
+  pub begun-failed : (start : World) (events : List Traced) (now : World) → EventsLead y graphs start events now → (id : OpId) (c : ℕ) → Contains events (event.Begin id) → ItemAt now id (item.Fail c) → WasFailed now c
   begun-failed start events now run id c has asked =
       let b = run-begun start events now run id has in
       let same : Some b.0 ≡ Some (item.Fail c) = sym b.1 ∙ asked in

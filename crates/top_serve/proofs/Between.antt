@@ -13,7 +13,7 @@ use Rattle.eng_world.specs.declared.item.Item.{Item}
 use Rattle.eng_world.specs.declared.item.Traced.{Traced}
 use Rattle.eng_world.specs.World.{World}
 use Rattle.eng_world.specs.Planning.{Graphs, Promises}
-use Rattle.eng_world.specs.Step.{IsOpening, Run}
+use Rattle.eng_world.specs.Step.{IsOpening, EventsLead}
 use Rattle.eng_rest.specs.Left.{IsOwn}
 use Rattle.eng_parts.specs.declared.setup.Setup.{Setup}
 use Rattle.eng_parts.specs.declared.setup.Closed.{Closed}
@@ -123,25 +123,25 @@ module _ {L D : Type 0} (lay : LayoutGhosts L) (disk : DiskGhosts D) (setup : Se
   graphs-first : steps.graphs_of first.graphs.items ≡ graphs
   graphs-first = ap (λ gs. steps.graphs_of gs.items) p.opened.graphs
 
-  lead-begun : (x : World) × Shows disk p.begun x × Run (lay.shape first.layout) (steps.graphs_of first.graphs.items) start (first_of how) x
+  lead-begun : (x : World) × Shows disk p.begun x × EventsLead (lay.shape first.layout) (steps.graphs_of first.graphs.items) start (first_of how) x
   lead-begun = goes-leads lay disk first p.begun (first_of how) goes-begun start p.worlds.one.1
 
   abbrev mid : World
   mid = lead-begun.0
 
-  lead : (x : World) × Shows disk last x × Run (lay.shape p.begun.layout) (steps.graphs_of p.begun.graphs.items) mid own x
+  lead : (x : World) × Shows disk last x × EventsLead (lay.shape p.begun.layout) (steps.graphs_of p.begun.graphs.items) mid own x
   lead = goes-leads lay disk p.begun last own p.after.goes mid lead-begun.1
 
   abbrev now : World
   now = lead.0
 
-  run-begun : Run y graphs start (first_of how) mid
-  run-begun = subst (λ (s : Shape). Run s graphs start (first_of how) mid) shape-first (subst (λ (gs : Graphs). Run (lay.shape first.layout) gs start (first_of how) mid) graphs-first lead-begun.2)
+  run-begun : EventsLead y graphs start (first_of how) mid
+  run-begun = subst (λ (s : Shape). EventsLead s graphs start (first_of how) mid) shape-first (subst (λ (gs : Graphs). EventsLead (lay.shape first.layout) gs start (first_of how) mid) graphs-first lead-begun.2)
 
-  run-own : Run y graphs mid own now
-  run-own = subst (λ (s : Shape). Run s graphs mid own now) (same-begun.shape ∙ shape-first) (subst (λ (gs : Graphs). Run (lay.shape p.begun.layout) gs mid own now) (same-begun.graphs ∙ graphs-first) lead.2)
+  run-own : EventsLead y graphs mid own now
+  run-own = subst (λ (s : Shape). EventsLead s graphs mid own now) (same-begun.shape ∙ shape-first) (subst (λ (gs : Graphs). EventsLead (lay.shape p.begun.layout) gs mid own now) (same-begun.graphs ∙ graphs-first) lead.2)
 
-  run : Run y graphs start events now
+  run : EventsLead y graphs start events now
   run = run-append y graphs start mid now (first_of how) own run-begun run-own
 
   opening : IsOpening y start
@@ -162,7 +162,7 @@ module _ {L D : Type 0} (lay : LayoutGhosts L) (disk : DiskGhosts D) (setup : Se
   begun-columns : AreBegun y.stripes how start.columns mid.columns
   begun-columns = by how mid run-begun
     where
-      by : (how : Option Start) (w : World) → Run y graphs start (first_of how) w → AreBegun y.stripes how start.columns w.columns
+      by : (how : Option Start) (w : World) → EventsLead y graphs start (first_of how) w → AreBegun y.stripes how start.columns w.columns
       by None w r = ap (λ (v : World). v.columns) r
       by (Some (at.Fill c device)) w r = started-columns y graphs layout promises start opening (at.Fill c device) w r
       by (Some (at.Spread c)) w r = started-columns y graphs layout promises start opening (at.Spread c) w r
@@ -206,9 +206,9 @@ pub record Course {L D : Type 0} (lay : LayoutGhosts L) (disk : DiskGhosts D) (s
   pub goes : Goes lay disk first (own ++ first_of how) last
   pub begins : BeginsBy how (own ++ first_of how)
   pub are_own : AreOwn own
-  pub run_begun : Run (shape_in lay setup) (graphs_in setup) start (first_of how) mid
-  pub run_own : Run (shape_in lay setup) (graphs_in setup) mid own now
-  pub run : Run (shape_in lay setup) (graphs_in setup) start (own ++ first_of how) now
+  pub run_begun : EventsLead (shape_in lay setup) (graphs_in setup) start (first_of how) mid
+  pub run_own : EventsLead (shape_in lay setup) (graphs_in setup) mid own now
+  pub run : EventsLead (shape_in lay setup) (graphs_in setup) start (own ++ first_of how) now
   pub opening : IsOpening (shape_in lay setup) start
   pub opening_begun : IsOpening (shape_in lay setup) mid
   pub layout : IsLayout (shape_in lay setup)

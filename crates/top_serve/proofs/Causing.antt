@@ -14,7 +14,7 @@ use Rattle.eng_cols.specs.Deaths.{Dies}
 use Rattle.eng_cols.specs.Seats.{HasStripeLeft}
 use Rattle.eng_world.specs.declared.item.Traced.{Traced}
 use Rattle.eng_world.specs.declared.item.Traced.TheVariants as event
-use Rattle.eng_world.specs.Step.{Run}
+use Rattle.eng_world.specs.Step.{EventsLead}
 use Rattle.eng_world.proofs.Caused.{head-has, tail-has}
 use Rattle.eng_world.proofs.Answered.{run-causes}
 use Rattle.eng_parts.specs.declared.setup.Setup.{Setup}
@@ -79,7 +79,7 @@ module _ {L D : Type 0} (lay : LayoutGhosts L) (disk : DiskGhosts D) (setup : Se
   bad later before id node split =
       let s = split-own p.own (first_of how) later (event.Bad id node) before (none-first how id node) split in
       let own = subst AreOwn s.1 p.are_own in
-      let run = subst (λ (events : List Traced). Run (shape_in lay setup) (graphs_in setup) p.mid events p.now) s.1 p.run_own in
+      let run = subst (λ (events : List Traced). EventsLead (shape_in lay setup) (graphs_in setup) p.mid events p.now) s.1 p.run_own in
       let went = went-bad (shape_in lay setup) (graphs_in setup) p.layout p.promises p.mid p.opening_begun s.0 (own-behind later (event.Bad id node) s.0 own) id node later p.now run in
       (went.0, subst (λ (b : List Traced). WentBadOn (shape_in lay setup) (graphs_in setup) (begun_in lay setup how) p.start b id node later p.now went.0) (sym s.2) (whole s.0 went.0 went.1), failed lay disk setup how first last closed p went.0 went.2)
     where

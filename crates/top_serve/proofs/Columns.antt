@@ -17,7 +17,7 @@ use Rattle.eng_world.specs.declared.item.Traced.TheVariants as event
 use Rattle.eng_world.specs.World.{Running, World}
 use Rattle.eng_world.specs.Planning.{Graphs}
 use Rattle.eng_world.specs.Nodes.{ColumnsAfter}
-use Rattle.eng_world.specs.Step.{Step, Run}
+use Rattle.eng_world.specs.Step.{Step, EventsLead}
 use Rattle.eng_world.proofs.Caused.{tail-has, head-has}
 use Rattle.eng_world.proofs.Moves.{Move, Moves, one, two, moves, replies, waits, takes, fires, skips, works, commits, ends, fails, anew, gives, dies, starts, home}
 use Rattle.eng_rest.specs.Left.{IsOwn}
@@ -140,14 +140,14 @@ module _ (y : Shape) (graphs : Graphs) (c : ℕ) (Holds : Option ColumnState →
       by (one m) = move-holds e own old new m keep
       by (two mid m k none alive f) = holds-killed mid.columns new.columns k f.columns (move-holds e own old mid m keep)
 
-  pub run-holds : (start : World) (events : List Traced) (now : World) → AreOwn events → Run y graphs start events now → HoldsIn start.columns → HoldsIn now.columns
+  pub run-holds : (start : World) (events : List Traced) (now : World) → AreOwn events → EventsLead y graphs start events now → HoldsIn start.columns → HoldsIn now.columns
   run-holds start [] now own run keep = holds-same start.columns now.columns (ap (λ (w : World). w.columns) run) keep
   run-holds start (e ∷ events) now own run keep = step-holds e (own-first e events own) run.0 now run.2 (run-holds start events run.0 (own-rest e events own) run.1 keep)
 
 -- ## What becomes of a column
 
 -- a column that is set is what it was, or dead
-pub run-keeps : (y : Shape) (graphs : Graphs) (n : ℕ) (start : World) (events : List Traced) (now : World) → AreOwn events → Run y graphs start events now → (c : ℕ) → SetIn n (slice_get start.columns c) → (slice_get now.columns c ≡ slice_get start.columns c) ⊎ (slice_get now.columns c ≡ Some Dead)
+pub run-keeps : (y : Shape) (graphs : Graphs) (n : ℕ) (start : World) (events : List Traced) (now : World) → AreOwn events → EventsLead y graphs start events now → (c : ℕ) → SetIn n (slice_get start.columns c) → (slice_get now.columns c ≡ slice_get start.columns c) ⊎ (slice_get now.columns c ≡ Some Dead)
 run-keeps y graphs n start events now own run c set =
     run-holds y graphs c (λ o. (o ≡ slice_get start.columns c) ⊎ (o ≡ Some Dead)) (inr refl) done start events now own run (inl refl)
   where
@@ -163,7 +163,7 @@ done-kind s (Some (Spread done)) = refl
 done-kind s None = refl
 
 -- any column is live, filling or spread as it was, or dead
-pub run-kinds : (y : Shape) (graphs : Graphs) (start : World) (events : List Traced) (now : World) → AreOwn events → Run y graphs start events now → (c : ℕ) → (option_map column_of (slice_get now.columns c) ≡ option_map column_of (slice_get start.columns c)) ⊎ (slice_get now.columns c ≡ Some Dead)
+pub run-kinds : (y : Shape) (graphs : Graphs) (start : World) (events : List Traced) (now : World) → AreOwn events → EventsLead y graphs start events now → (c : ℕ) → (option_map column_of (slice_get now.columns c) ≡ option_map column_of (slice_get start.columns c)) ⊎ (slice_get now.columns c ≡ Some Dead)
 run-kinds y graphs start events now own run c =
     run-holds y graphs c (λ o. (option_map column_of o ≡ option_map column_of (slice_get start.columns c)) ⊎ (o ≡ Some Dead)) (inr refl) done start events now own run (inl refl)
   where

@@ -17,7 +17,7 @@ use Rattle.eng_world.specs.World.{Running, World}
 use Rattle.eng_world.specs.Planning.{Graphs, Promises}
 use Rattle.eng_world.specs.Failing.{is_device_of, FailsColumn}
 use Rattle.eng_world.specs.Nodes.{ColumnsAfter}
-use Rattle.eng_world.specs.Step.{IsOpening, LostBad, StepLost, StepBy, Step, Run}
+use Rattle.eng_world.specs.Step.{IsOpening, LostBad, StepLost, StepBy, Step, EventsLead}
 use Rattle.eng_world.specs.Rows.{HasHad}
 use Rattle.eng_world.specs.Causes.{HasDied, at_opening, by_item, by_event, by_node}
 use Rattle.eng_world.proofs.Caused.{run-died}
@@ -122,7 +122,7 @@ own-had start events own c d (inl h) = h
 own-had start events own c d (inr h) = absurd (own (event.Fill c d) h)
 
 module _ (y : Shape) (graphs : Graphs) (layout : IsLayout y) (promises : Promises graphs) (start : World) (opening : IsOpening y start) where
-  module _ (events : List Traced) (own : AreOwn events) (old : World) (run : Run y graphs start events old) where
+  module _ (events : List Traced) (own : AreOwn events) (old : World) (run : EventsLead y graphs start events old) where
     -- a column has only what it had
     pub was-had : (c d : ℕ) → HasDevice old.columns c d → HasDevice start.columns c d
     was-had c d has = own-had start events own c d ((only-rows y layout graphs promises start events old opening run).devices c d has)
@@ -167,7 +167,7 @@ module _ (y : Shape) (graphs : Graphs) (layout : IsLayout y) (promises : Promise
         go None none h = by none (moves y graphs (λ w. Unit {0}) e old new (λ known. tt) (subst (λ o. StepBy y graphs o e old new) (sym none) h))
         go (Some loss) lost h = lost-has e new h c d has
 
-  pub run-has : (events : List Traced) (now : World) → AreOwn events → Run y graphs start events now → (c d : ℕ) → HasDevice start.columns c d → HasStill now c d
+  pub run-has : (events : List Traced) (now : World) → AreOwn events → EventsLead y graphs start events now → (c d : ℕ) → HasDevice start.columns c d → HasStill now c d
   run-has [] now own run c d has = inl (subst (λ (w : World). HasDevice w.columns c d) (sym run) has)
   run-has (e ∷ events) now own run c d has = elim (run-has events run.0 (own-rest e events own) run.1 c d has) [
     | inl still ↦ step-has events (own-rest e events own) run.0 run.1 e (own-first e events own) now run.2 c d still
@@ -180,7 +180,7 @@ module _ (y : Shape) (graphs : Graphs) (layout : IsLayout y) (promises : Promise
     was_asked : WasFailed now c → DiedBy now c
     device_failed : (d : ℕ) → HasDevice start.columns c d → now.failed d ≡ true → DiedBy now c
 
-  pub died-by : (events : List Traced) (now : World) → AreOwn events → Run y graphs start events now → (c : ℕ) → slice_get now.columns c ≡ Some Dead → DiedBy now c
+  pub died-by : (events : List Traced) (now : World) → AreOwn events → EventsLead y graphs start events now → (c : ℕ) → slice_get now.columns c ≡ Some Dead → DiedBy now c
   died-by events now own run c dead = by (run-died y graphs start layout promises opening events now run c dead)
     where
       by : HasDied y graphs start events now c → DiedBy now c

@@ -10,7 +10,7 @@ use Rattle.eng_world.specs.declared.item.Traced.{Traced}
 use Rattle.eng_world.specs.World.{World}
 use Rattle.eng_world.specs.Planning.{Graphs}
 use Rattle.eng_world.specs.Failing.{device_on, Loses, Survives}
-use Rattle.eng_world.specs.Step.{IsOpening, Run}
+use Rattle.eng_world.specs.Step.{IsOpening, EventsLead}
 use Rattle.eng_world.proofs.Moves.{Move, replies, waits, takes, fires, skips, works, commits, ends, fails, anew, gives, dies, starts, home, kept-on}
 use Rattle.top_serve.specs.Caused.{WasLostBy}
 
@@ -62,6 +62,6 @@ module _ (y : Shape) (graphs : Graphs) where
   loss-on e old new (starts c begun why known f had spread) p loss h = unlost-still old new loss known f.lost h
   loss-on e old new (home c m good was other is f failed columns) p loss h = died-on old new loss columns (p loss (sym f.lost ∙ h))
 
-  pub lost-by : (opening : World) (events : List Traced) (now : World) → IsOpening y opening → Run y graphs opening events now → (loss : Loss) → now.lost ≡ Some loss → WasLostBy y now loss
+  pub lost-by : (opening : World) (events : List Traced) (now : World) → IsOpening y opening → EventsLead y graphs opening events now → (loss : Loss) → now.lost ≡ Some loss → WasLostBy y now loss
   lost-by opening events now o run = kept-on y graphs Unlost HasLoss opening events (λ e has old new m p. loss-on e old new m p) (λ before mid h none. none) events now (λ e has. has) run
       (λ loss h. let z : None ≡ Some loss = sym o.lost ∙ h in absurd (let u : ⊥ = cc in u))

@@ -14,7 +14,7 @@ use Rattle.eng_world.specs.declared.item.Traced.{Traced}
 use Rattle.eng_world.specs.World.{Running, World, RunsAs}
 use Rattle.eng_world.specs.Plain.{replay}
 use Rattle.eng_world.specs.Planning.{Graphs, Promises}
-use Rattle.eng_world.specs.Step.{IsOpening, Run}
+use Rattle.eng_world.specs.Step.{IsOpening, EventsLead}
 use Rattle.eng_world.specs.Legal.{AreOps, RepliesFit}
 use Rattle.eng_world.specs.Invariant.{IsTold, AllReplied, Invariant, Reached}
 use Rattle.eng_world.proofs.Promised.{not-lost, encodes, reached-told, reached-fit, reached-replied}
@@ -36,7 +36,7 @@ module _ (y : Shape) (a b : Contents) (same : SameBytes a b) (cols : List Column
   pub agrees-same : (blocks : Blocks) (stripes : ℕ → Type 0) → Agrees y a cols blocks stripes → Agrees y b cols blocks stripes
   agrees-same blocks stripes h s i sb in_it ib at p k av is pb kb = sym (same at.device _ k kb) ∙ h s i sb in_it ib at p k av is pb kb
 
-module _ (y : Shape) (graphs : Graphs) (layout : IsLayout y) (promises : Promises graphs) (start : World) (opening : IsOpening y start) (events : List Traced) (now : World) (run : Run y graphs start events now) where
+module _ (y : Shape) (graphs : Graphs) (layout : IsLayout y) (promises : Promises graphs) (start : World) (opening : IsOpening y start) (events : List Traced) (now : World) (run : EventsLead y graphs start events now) where
   reached : Reached y (InSync y start.contents start.columns) start.blocks now
   reached = reaches y layout graphs promises start events now opening run
 

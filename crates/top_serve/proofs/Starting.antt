@@ -14,7 +14,7 @@ use Rattle.eng_world.specs.declared.item.Traced.{Traced}
 use Rattle.eng_world.specs.World.{World, Client}
 use Rattle.eng_world.specs.Planning.{Graphs, Promises}
 use Rattle.eng_world.specs.Serving.{columns_of, StartsRebuild}
-use Rattle.eng_world.specs.Step.{IsOpening, StepBy, Step, Run}
+use Rattle.eng_world.specs.Step.{IsOpening, StepBy, Step, EventsLead}
 use Rattle.eng_array.specs.declared.start.Start.{Start}
 use Rattle.eng_array.specs.declared.start.Start.TheVariants as start
 use Rattle.eng_array.specs.Starts.{event_of, begun_by}
@@ -57,7 +57,7 @@ module _ (y : Shape) (old new : List ColumnState) (same : (s i : ℕ) → is_ava
 -- ## The start
 
 module _ (y : Shape) (graphs : Graphs) (layout : IsLayout y) (promises : Promises graphs) (opening : World) (fresh : IsOpening y opening) where
-  module _ (how : Start) (mid : World) (run : Run y graphs opening (event_of how ∷ []) mid) (c : ℕ) (begun : List ColumnState) (f : StartsRebuild y c begun opening mid)
+  module _ (how : Start) (mid : World) (run : EventsLead y graphs opening (event_of how ∷ []) mid) (c : ℕ) (begun : List ColumnState) (f : StartsRebuild y c begun opening mid)
       (same : (s i : ℕ) → is_available y begun s i ≡ is_available y opening.columns s i) (kept : (s i : ℕ) (at : Spot) → seat y opening.columns s i ≡ Some at → seat y begun s i ≡ Some at) where
     not-lost : mid.lost ≡ None
     not-lost = f.lost ∙ fresh.lost
@@ -95,15 +95,15 @@ module _ (y : Shape) (graphs : Graphs) (layout : IsLayout y) (promises : Promise
         }
 
   -- the step, from the opening itself
-  step-of : (e : Traced) (mid : World) → Run y graphs opening (e ∷ []) mid → StepBy y graphs None e opening mid
+  step-of : (e : Traced) (mid : World) → EventsLead y graphs opening (e ∷ []) mid → StepBy y graphs None e opening mid
   step-of e mid run = subst (λ o. StepBy y graphs o e opening mid) fresh.lost (subst (λ (w : World). Step y graphs e w mid) run.1 run.2)
 
   -- the columns behind the start are these
-  pub started-columns : (how : Start) (mid : World) → Run y graphs opening (event_of how ∷ []) mid → mid.columns ≡ begun_by (columns_of y opening) how
+  pub started-columns : (how : Start) (mid : World) → EventsLead y graphs opening (event_of how ∷ []) mid → mid.columns ≡ begun_by (columns_of y opening) how
   started-columns (start.Fill c device) mid run = (step-of (event_of (start.Fill c device)) mid run).starts.columns
   started-columns (start.Spread c) mid run = (step-of (event_of (start.Spread c)) mid run).starts.columns
 
-  opens-begun : (how : Start) (mid : World) → Run y graphs opening (event_of how ∷ []) mid → IsOpening y mid
+  opens-begun : (how : Start) (mid : World) → EventsLead y graphs opening (event_of how ∷ []) mid → IsOpening y mid
   opens-begun (start.Fill c device) mid run =
       let f = step-of (event_of (start.Fill c device)) mid run in
       opens-started (start.Fill c device) mid run c _ f.starts (filling-same y (columns_of y opening) c f.starts.dead device) (filling-kept y (columns_of y opening) c f.starts.dead device)
@@ -111,12 +111,12 @@ module _ (y : Shape) (graphs : Graphs) (layout : IsLayout y) (promises : Promise
       let f = step-of (event_of (start.Spread c)) mid run in
       opens-started (start.Spread c) mid run c _ f.starts (spreading-same y (columns_of y opening) c f.starts.dead) (spreading-kept y (columns_of y opening) c f.starts.dead)
 
-  pub opens-behind : (how : Option Start) (mid : World) → Run y graphs opening (first_of how) mid → IsOpening y mid
+  pub opens-behind : (how : Option Start) (mid : World) → EventsLead y graphs opening (first_of how) mid → IsOpening y mid
   opens-behind None mid run = subst (IsOpening y) (sym run) fresh
   opens-behind (Some how) mid run = opens-begun how mid run
 
 -- ## Runs behind one another
 
-pub run-append : (y : Shape) (graphs : Graphs) (start mid now : World) (before more : List Traced) → Run y graphs start before mid → Run y graphs mid more now → Run y graphs start (more ++ before) now
-run-append y graphs start mid now before [] run on = subst (λ (w : World). Run y graphs start before w) (sym on) run
+pub run-append : (y : Shape) (graphs : Graphs) (start mid now : World) (before more : List Traced) → EventsLead y graphs start before mid → EventsLead y graphs mid more now → EventsLead y graphs start (more ++ before) now
+run-append y graphs start mid now before [] run on = subst (λ (w : World). EventsLead y graphs start before w) (sym on) run
 run-append y graphs start mid now before (e ∷ more) run on = (on.0, run-append y graphs start mid on.0 before more run on.1, on.2)

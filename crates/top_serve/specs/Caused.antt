@@ -13,15 +13,15 @@ use Rattle.eng_world.specs.declared.item.Traced.{Traced}
 use Rattle.eng_world.specs.declared.item.Traced.TheVariants as event
 use Rattle.eng_world.specs.World.{Running, World, RunsAs}
 use Rattle.eng_world.specs.Planning.{Graphs}
-use Rattle.eng_world.specs.Step.{Run}
+use Rattle.eng_world.specs.Step.{EventsLead}
 use Rattle.eng_array.specs.declared.start.Start.{Start}
 use Rattle.eng_array.specs.declared.start.Start.TheVariants as start
 
 -- Between these events of a run and those behind them a node went bad. It was a read or a write of the item's operation, which ran, and it was out on this device, which its column had among these, as the clients' own events found them.
 pub record WentBadOn (y : Shape) (graphs : Graphs) (begun : List ColumnState) (opening : World) (before : List Traced) (id : OpId) (node : ℕ) (later : List Traced) (now : World) (d : ℕ) : Type 0 where
   pub world : World
-  pub reached : Run y graphs opening before world
-  pub leads : Run y graphs world (later ++ event.Bad id node ∷ []) now
+  pub reached : EventsLead y graphs opening before world
+  pub leads : EventsLead y graphs world (later ++ event.Bad id node ∷ []) now
   pub was : Running
   pub runs : RunsAs world id.client was
   pub index : was.plan.index ≡ id.index

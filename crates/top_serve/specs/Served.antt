@@ -20,7 +20,7 @@ use Rattle.eng_world.specs.declared.item.Traced.{Traced}
 use Rattle.eng_world.specs.declared.item.Traced.TheVariants as event
 use Rattle.eng_world.specs.World.{World}
 use Rattle.eng_world.specs.Plain.{replay}
-use Rattle.eng_world.specs.Step.{IsOpening, Run}
+use Rattle.eng_world.specs.Step.{IsOpening, EventsLead}
 use Rattle.eng_world.specs.Legal.{AreOps, ReplyOf, RepliesFit}
 use Rattle.eng_world.specs.Invariant.{IsTold, AllReplied}
 use Rattle.eng_world.specs.Causes.{ItemAt, HaveCauses}
@@ -93,7 +93,7 @@ module _ {L D : Type 0} (lay : LayoutGhosts L) (disk : DiskGhosts D) (setup : Se
   -- The events, the newest first, are the clients' own, behind the start of the rebuild where there is one, and lead to rest: each item has its reply, and no job is out. No items have come or gone but those of client 16, which are the rebuilds.
   pub record CoreRests (how : Option Start) (start : World) (events : List Traced) (now : World) : Type 0 where
     pub begins : BeginsBy how events
-    pub run : Run (shape_in lay setup) (graphs_in setup) start events now
+    pub run : EventsLead (shape_in lay setup) (graphs_in setup) start events now
     pub items : (c : ℕ) → c ≢ 16 → (now.clients c).items ≡ items_at setup.clients.items c
     pub rebuilds : IsRebuiltBy (shape_in lay setup) (begun_in lay setup how) how (now.clients 16).items
     pub replied : AllReplied now

@@ -1,6 +1,6 @@
 use Rattle.std.proofs.Common.{ℕ, List, length, subst, sym, ap, ◌∙◌, arith}
 use Rattle.std.proofs.lemmas.Option.{slice_get_within}
-use Rattle.buf_pool.specs.Pool.{Held, IsLease, AllHome}
+use Rattle.buf_pool.specs.Pool.{PoolView, IsLease, AllHome}
 use Rattle.eng_clients.specs.Desk.{Desk, desk_at}
 use Rattle.eng_ends.proofs.EndingPlain.{below, well, all-home}
 use Rattle.eng_ends.proofs.Terminating.{terminated}
@@ -23,14 +23,14 @@ release-requires-clause-lease g c =
     let w = well g.L.Layout g.D.Disk c.args.array.now c.args.client c.args.node c.requires.sound c.requires.out c.requires.end in
     let lt = below g.L.Layout g.D.Disk c.args.array.now c.args.client c.args.node c.requires.sound c.requires.out c.requires.end in
     let h = c.plain_home.ensures in
-    subst (λ (p : Held). IsLease p (desk_at c.plain_home.new.self.clients c.args.client).lease) (sym h.pool)
+    subst (λ (p : PoolView). IsLease p (desk_at c.plain_home.new.self.clients c.args.client).lease) (sym h.pool)
     (subst (λ (l : List ℕ). IsLease c.args.array.now.pool l) (sym (ap (λ (e : Desk). e.lease) (ap (λ (l : List Desk). desk_at l c.args.client) h.clients ∙ desk-set c.args.array.now.clients c.args.client _ lt))) w.lease)
 
 pub release-requires-clause-home : goal.release-requires-clause-home
 release-requires-clause-home g c =
     let lt = below g.L.Layout g.D.Disk c.args.array.now c.args.client c.args.node c.requires.sound c.requires.out c.requires.end in
     let h = c.plain_home.ensures in
-    subst (λ (p : Held). AllHome p (desk_at c.plain_home.new.self.clients c.args.client).lease) (sym h.pool)
+    subst (λ (p : PoolView). AllHome p (desk_at c.plain_home.new.self.clients c.args.client).lease) (sym h.pool)
     (subst (λ (l : List ℕ). AllHome c.args.array.now.pool l) (sym (ap (λ (e : Desk). e.lease) (ap (λ (l : List Desk). desk_at l c.args.client) h.clients ∙ desk-set c.args.array.now.clients c.args.client _ lt)))
     (all-home g.L.Layout g.D.Disk c.args.array.now c.args.client c.args.node c.requires.sound c.requires.out c.requires.end))
 

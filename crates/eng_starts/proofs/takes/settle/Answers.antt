@@ -54,7 +54,7 @@ fill_buffers-requires-clause-buffers g c =
     c.size-count.ensures
     ∙ (ap (λ (s : Array g.row.L.Denot g.row.D.Denot). lease_by (g.L.Layout.shape s.layout) s.graphs.items (length (desk_at s.clients c.args.client).map.stripes) c.args.file) c.lock.ensures.rest
     ∙ ap (λ (n : ℕ). lease_by y old.graphs.items n c.args.file) c.requires.planned.split.stripes_many) in
-    let unit : s2.pool.unit ≡ 512 * y.unit_sectors = c.lend.ensures.leased.unit ∙ (ap (λ (p : held.Held). p.unit) pool-1 ∙ c.requires.unit) in
+    let unit : s2.pool.unit ≡ 512 * y.unit_sectors = c.lend.ensures.leased.unit ∙ (ap (λ (p : held.PoolView). p.unit) pool-1 ∙ c.requires.unit) in
     let here : HasBuffers (graph_of old.graphs.items d) s2.pool l = record {
       lease = c.lend.ensures.leased.is_lease;
       home = c.lend.ensures.leased.all_home;
@@ -63,7 +63,7 @@ fill_buffers-requires-clause-buffers g c =
     } in
     subst (λ (e : Desk). HasBuffers (graph_of s3.graphs.items e) s3.pool e.lease) (sym desk)
     (subst (λ (gs : List Held). HasBuffers (graph_of gs d) s3.pool l) (sym graphs)
-    (subst (λ (p : held.Held). HasBuffers (graph_of old.graphs.items d) p l) (sym pool) here))
+    (subst (λ (p : held.PoolView). HasBuffers (graph_of old.graphs.items d) p l) (sym pool) here))
 
 pub returns : goal.returns
 returns g c =
@@ -87,11 +87,11 @@ returns g c =
     record {
       lease = l;
       mid = s2.pool;
-      locks = subst (λ (t : table.Table). table.Takes old.locks c.args.client d.map.stripes (mode_by c.args.op) t) (sym locks) (subst (λ (m : Mode). table.Takes old.locks c.args.client d.map.stripes m s1.locks) c.mode_by.ensures c.lock.ensures.taken);
-      leases = subst (λ (n : ℕ). held.Leases old.pool n l s2.pool) count (subst (λ (p : held.Held). held.Leases p c.size-count.result l s2.pool) pool-1 c.lend.ensures.leased);
-      apart = subst (λ (p : held.Held). held.StandsApart p l s2.pool) pool-1 c.lend.ensures.apart;
+      locks = subst (λ (t : table.Table). table.Acquires old.locks c.args.client d.map.stripes (mode_by c.args.op) t) (sym locks) (subst (λ (m : Mode). table.Acquires old.locks c.args.client d.map.stripes m s1.locks) c.mode_by.ensures c.lock.ensures.taken);
+      leases = subst (λ (n : ℕ). held.Leases old.pool n l s2.pool) count (subst (λ (p : held.PoolView). held.Leases p c.size-count.result l s2.pool) pool-1 c.lend.ensures.leased);
+      apart = subst (λ (p : held.PoolView). held.StandsApart p l s2.pool) pool-1 c.lend.ensures.apart;
       filled =
-          subst (λ (p : held.Held). Filled (graph_of old.graphs.items d) c.args.op l p s4.pool) pool
+          subst (λ (p : held.PoolView). Filled (graph_of old.graphs.items d) c.args.op l p s4.pool) pool
           (subst (λ (gs : List Held). Filled (graph_of gs d) c.args.op l s3.pool s4.pool) graphs
           (subst (λ (e : Desk). Filled (graph_of s3.graphs.items e) c.args.op e.lease s3.pool s4.pool) desk c.fill_buffers.ensures.filled));
       now = settling.now-4 old s1 s2 c.args.client c.requires.client c.lock.ensures.rest c.lend.ensures.now s3 c.start.ensures s4 c.fill_buffers.ensures.rest;

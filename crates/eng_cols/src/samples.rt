@@ -1,9 +1,10 @@
-//! Three units and a spare place on four columns: in stripes 0 to 3 the units lie on the columns 0 1 2, 1 2 3, 2 3 0 and
-//! 3 0 1, the check unit last, and the spare places on 3, 0, 1 and 2; each in the row of its stripe.
+//! A layout with spare places, for examples and tests.
 use lay_core::{Layout, Place};
 
+/// Three units and a spare place on four columns, four stripes, each in the row of its number. In stripes 0 to 3 the
+/// units lie on the columns 0 1 2, 1 2 3, 2 3 0 and 3 0 1, the check unit last, and the spare places on 3, 0, 1 and 2.
 #[derive(Drop)]
-pub(super) struct Spared;
+pub struct Spared;
 
 impl Layout for Spared {
     ghost use Rattle.eng_cols.specs.Samples.{spared, spared_lawful};
