@@ -19,5 +19,6 @@ mod turns;
 pub use client::Client;
 pub use clients::Clients;
 pub use memory::Memory;
+pub use planned::Asked;
 pub use rebuilds::Rebuilds;
 pub use stage::Stage;

@@ -21,6 +21,13 @@ use graph_lib::{plan, span_is_plannable};
 use graph_mean::{Graph, Kind, Refusal};
 use lay_core::{Layout, SplitFault, split};
 
+/// What a client asks for: an operation, and the number of the graph of the file that it names, if it names one.
+#[derive(Clone, Copy)]
+pub struct Asked {
+    pub op: Op,
+    pub file: Option<u32>,
+}
+
 impl Client {
     // Its operation's stripes and their touched parts.
     fn cut<L: Layout>(&mut self, layout: &L, op: Op)
@@ -111,20 +118,20 @@ impl Client {
         &mut self,
         layout: &L,
         cols: &Cols,
-        op: Op,
-        file: Option<u32>,
+        asked: Asked,
         graphs: &[Graph],
         scratch: &mut Scratch,
     ) -> Result<(), Refusal>
         requires fit { IsFor (L.shape layout.now) cols.now }
-        requires op { IsInside (L.shape layout.now) op }
+        requires op { IsInside (L.shape layout.now) asked.op }
         requires kept { NotLost (L.shape layout.now) cols.now.states }
-        requires file { (n : ℕ) → file ≡ Some n → n < length graphs.now }
-        ensures planned { IsPlanned (L.shape layout.now) graphs.now cols.now.states op file self.new }
-        ensures rest { self.new ≡ record self.old { map = self.new.map; missing = self.new.missing; task = self.new.task; graph = self.new.graph; file = file } }
+        requires file { (n : ℕ) → asked.file ≡ Some n → n < length graphs.now }
+        ensures planned { IsPlanned (L.shape layout.now) graphs.now cols.now.states asked.op asked.file self.new }
+        ensures rest { self.new ≡ record self.old { map = self.new.map; missing = self.new.missing; task = self.new.task; graph = self.new.graph; file = asked.file } }
         ensures passes { OnOk result (CanRun graphs.now self.new) }
-        ensures refused { IfErr result (λ cause. IsRefusedFor graphs.now file self.new cause) }
+        ensures refused { IfErr result (λ cause. IsRefusedFor graphs.now asked.file self.new cause) }
     {
+        let Asked { op, file } = asked;
         self.cut(layout, op);
         self.miss(layout, cols, op);
         self.aim(layout, kind_of(layout, cols, op));

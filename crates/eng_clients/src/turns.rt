@@ -9,6 +9,7 @@ ghost use Rattle.eng_plan.specs.Asked.{IsInside};
 ghost use Rattle.eng_clients.specs.Planned.{CanRun, IsRefusedFor, Replanned};
 
 use crate::clients::Clients;
+use crate::planned::Asked;
 use blk_plain::Op;
 use buf_pool::{Lease, Pool};
 use eng_cols::Cols;
@@ -49,22 +50,21 @@ impl Clients {
         client: u32,
         layout: &L,
         cols: &Cols,
-        op: Op,
-        file: Option<u32>,
+        asked: Asked,
         graphs: &[Graph],
         scratch: &mut Scratch,
     ) -> Result<(), Refusal>
         requires client { client < length self.old }
         requires fit { IsFor (L.shape layout.now) cols.now }
-        requires op { IsInside (L.shape layout.now) op }
+        requires op { IsInside (L.shape layout.now) asked.op }
         requires kept { NotLost (L.shape layout.now) cols.now.states }
-        requires file { (n : ℕ) → file ≡ Some n → n < length graphs.now }
-        ensures planned { Replanned (L.shape layout.now) graphs.now cols.now.states op file (desk_at self.old client) (desk_at self.new client) }
+        requires file { (n : ℕ) → asked.file ≡ Some n → n < length graphs.now }
+        ensures planned { Replanned (L.shape layout.now) graphs.now cols.now.states asked.op asked.file (desk_at self.old client) (desk_at self.new client) }
         ensures now { self.new ≡ slice_set self.old client (desk_at self.new client) }
         ensures passes { OnOk result (CanRun graphs.now (desk_at self.new client)) }
-        ensures refused { IfErr result (λ cause. IsRefusedFor graphs.now file (desk_at self.new client) cause) }
+        ensures refused { IfErr result (λ cause. IsRefusedFor graphs.now asked.file (desk_at self.new client) cause) }
     {
-        self.list[client as usize].plan(layout, cols, op, file, graphs, scratch)
+        self.list[client as usize].plan(layout, cols, asked, graphs, scratch)
     }
 
     /// Its graph is run from the beginning.

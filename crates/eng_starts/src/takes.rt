@@ -22,6 +22,7 @@ ghost use Rattle.eng_state.specs.Taken.{PlannedFor, Settled, IsTaken};
 
 use blk_disk::Disk;
 use blk_plain::{Op, OpId};
+use eng_clients::Asked;
 use eng_job::Job;
 use eng_plan::{lease_size, mode_by};
 use eng_state::Array;
@@ -50,8 +51,7 @@ pub(crate) fn plan<L: Layout, D: Disk>(
         client,
         &array.layout,
         &array.cols,
-        op,
-        file,
+        Asked { op, file },
         &array.graphs,
         &mut array.scratch,
     )
