@@ -11,14 +11,15 @@ ghost use Rattle.eng_choice.specs.Picked.{client_of, next_after, NoneReadyOf, Is
 use crate::doable::{can_back, can_begin, can_fire, can_skip};
 use crate::takable::can_take;
 use blk_disk::Disk;
+use blk_plain::limits;
 use eng_clients::Stage;
 use eng_job::Job;
 use eng_state::Array;
 use eng_world::Event;
 use lay_core::Layout;
 
-// How many clients there are.
-const CLIENTS: u32 = 17;
+/// How many clients there are, the engine's own included.
+pub(crate) const CLIENTS: u32 = limits::CLIENTS + 1;
 
 // Whose event it is.
 fn client_of(event: Event) -> u32

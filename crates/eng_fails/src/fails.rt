@@ -21,12 +21,16 @@ ghost use Rattle.eng_state.specs.declared.array.Array.{Array};
 ghost use Rattle.eng_state.specs.Failing.{dying, reads_dying, suffered, HaveSuffered, failed_after, FailedBy};
 
 use blk_disk::Disk;
+use blk_plain::limits;
 use eng_cols::Column;
 use eng_job::Job;
 use eng_state::Array;
 use eng_world::Traced;
 use graph_mean::{Node, Phase, Status};
 use lay_core::Layout;
+
+// How many clients there are, the engine's own included.
+const CLIENTS: u32 = limits::CLIENTS + 1;
 
 /// Whether the column is dead.
 pub fn is_dead<L: Layout, D: Disk>(array: &Array<L, D>, column: u32) -> bool
@@ -116,7 +120,7 @@ fn suffer_all<L: Layout, D: Disk>(array: &mut Array<L, D>, column: u32, device: 
     ensures rest { array.new ≡ record array.old { clients = array.new.clients } }
     ensures sound { IsSound L.Layout D.Disk array.new }
 {
-    for client in 0..17 {
+    for client in 0..CLIENTS {
         suffer(array, client, column, device);
     }
 }

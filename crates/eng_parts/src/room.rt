@@ -25,8 +25,8 @@ use lay_core::Layout;
 use std::alloc::Global;
 use stripe_lock::Locks;
 
-// The owners of locks: all clients.
-const OWNERS: u32 = 17;
+// The owners of locks: all clients, the engine's own included.
+const OWNERS: u32 = limits::CLIENTS + 1;
 
 // The columns, all dead.
 fn cols_for<L: Layout>(alloc: Global, layout: &L) -> Result<Cols, Memory>

@@ -16,7 +16,7 @@ ghost use Rattle.eng_state.specs.Steps.{Follows};
 ghost use Rattle.eng_state.specs.Beginning.{HasBlocks, AllAsked, CanBegin, IsRefusal, IsFine, waiting, replied, BegunAs};
 
 use blk_disk::Disk;
-use blk_plain::{Op, Span};
+use blk_plain::{Op, Span, limits};
 use eng_fails::{fail_column, is_dead};
 use eng_job::Job;
 use eng_state::Array;
@@ -35,7 +35,7 @@ fn judge_span<L: Layout, D: Disk>(array: &Array<L, D>, span: Span) -> Result<(),
     }
     let first = home(&array.layout, span.first).stripe;
     let last = home(&array.layout, span.first + (count - 1)).stripe;
-    if last >= first && last - first >= 16 {
+    if last >= first && last - first >= limits::TASK_STRIPES {
         return Err(Reply::Long);
     }
     Ok(())

@@ -7,12 +7,13 @@ ghost use Rattle.eng_clients.specs.Fresh.{new_desk};
 use crate::client::Client;
 use crate::clients::Clients;
 use crate::memory::Memory;
+use blk_plain::limits;
 use eng_log::items_of;
 use eng_world::Item;
 use std::alloc::Global;
 
 // The most clients, the engine's own included.
-const CLIENTS: u32 = 17;
+const CLIENTS: u32 = limits::CLIENTS + 1;
 
 impl Clients {
     /// All clients, with copies of these items and the room that any of them takes. The only error is want of memory.

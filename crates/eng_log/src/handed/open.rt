@@ -12,7 +12,8 @@ use blk_plain::{Op, limits};
 use eng_world::Item;
 use std::alloc::Global;
 
-const CLIENTS: usize = 17;
+// The most clients, the engine's own included.
+const CLIENTS: usize = limits::CLIENTS as usize + 1;
 
 // The bytes of a sector.
 const SECTOR: u32 = 512;
