@@ -1,6 +1,6 @@
 -- A read ends: one event of the world.
-use Rattle.std.proofs.Common.{◌≡◌, ◌≢◌, ℕ, zero, suc, ◌<◌, ◌≤◌, ◌+◌, ◌-◌, List, [], ◌∷◌, ◌++◌, length, get_or, subst, sym, ap, ◌∙◌, arith, inl, inr, refl, true, Option, Some, None}
-use Rattle.std.specs.Prelude.{◌==◌, if◌then◌else◌, slice_get, Contains}
+use Rattle.std.proofs.Common.{◌≡◌, ◌≢◌, ℕ, zero, suc, ◌<◌, ◌+◌, ◌-◌, List, [], ◌∷◌, ◌++◌, length, get_or, subst, sym, ap, ◌∙◌, arith, inl, inr, refl, Option, Some, None}
+use Rattle.std.specs.Prelude.{◌==◌, if◌then◌else◌, slice_get}
 use Rattle.std.proofs.lemmas.Bool.{cases_eq, cond-true, cond-false, eq-eqb, ne_eqb}
 use Rattle.std.proofs.lemmas.List.{get_or_default}
 use Rattle.std.proofs.lemmas.Option.{slice_get_within}
@@ -14,8 +14,8 @@ use Rattle.lay_core.specs.Layout as layout
 use Rattle.lay_core.specs.declared.layout.Layout.{Ghosts as LayoutGhosts}
 use Rattle.graph_mean.specs.declared.graph.Node.TheVariants.{Trm}
 use Rattle.graph_mean.specs.declared.graph.Ret.{Ret}
-use Rattle.graph_mean.specs.Graph.{View, kind_at, ret_at, buf_at}
-use Rattle.graph_mean.specs.Steps.{Covers, stripe_of}
+use Rattle.graph_mean.specs.Graph.{View, kind_at, ret_at}
+use Rattle.graph_mean.specs.Steps.{Covers}
 use Rattle.eng_cols.specs.declared.spot.Loss.{Loss}
 use Rattle.eng_world.specs.declared.item.Item.TheVariants as item
 use Rattle.eng_world.specs.declared.item.Reply.{Reply}
@@ -24,7 +24,6 @@ use Rattle.eng_world.specs.declared.item.Traced.TheVariants as event
 use Rattle.eng_world.specs.World.{Running, Client, World, Replied, Runs as IsRunning}
 use Rattle.eng_world.specs.Nodes.{Terminates, RepliesTo, ColumnsAfter, HandsOut}
 use Rattle.eng_world.specs.Step.{StepBy, Step}
-use Rattle.eng_log.specs.declared.region.Region.{Region}
 use Rattle.eng_state.specs.declared.array.Array.{Array}
 use Rattle.eng_clients.specs.Desk.{Desk, desk_at, item_at}
 use Rattle.eng_log.specs.Handed.{Handout, Hands, AreRegions, region_at, handed_byte}
@@ -34,8 +33,7 @@ use Rattle.eng_state.specs.Shows.{Shows, HoldBytes, running_as}
 use Rattle.eng_state.specs.Sound.{IsSound, IsOutOf, RunsWell}
 use Rattle.eng_state.specs.Moves.{Terminated, id_of}
 use Rattle.eng_state.specs.Steps.{graphs_of, Follows}
-use Rattle.eng_ends.specs.Copied.{AreLaid, Copies, block_at, sector_for, hits, picked}
-use Rattle.eng_ends.proofs.EndingPlain.{well}
+use Rattle.eng_ends.specs.Copied.{AreLaid, Copies, block_at, sector_for, picked}
 use Rattle.eng_ends.proofs.Handouts.{op-is, in-span, hit-covers, covers-hit, hit-one, picked-one, picked-some, no_ret}
 use Rattle.eng_ends.proofs.Over as over
 use Rattle.eng_state.proofs.Put.{put-same, put-other}

@@ -1,5 +1,5 @@
 -- A rebuild ends: one event of the world.
-use Rattle.std.proofs.Common.{◌≡◌, ◌⊎◌, ℕ, suc, ◌<◌, List, [], ◌∷◌, ◌++◌, length, subst, sym, ap, ◌∙◌, inl, inr, refl, true, Option, None}
+use Rattle.std.proofs.Common.{◌≡◌, ◌⊎◌, ℕ, suc, List, length, subst, sym, ap, ◌∙◌, inl, inr, refl, true, Option, None}
 use Rattle.std.specs.Prelude.{slice_index}
 use Rattle.blk_plain.specs.declared.op.Op.{Op}
 use Rattle.blk_plain.specs.declared.op.Op.TheVariants as op
@@ -20,7 +20,7 @@ use Rattle.eng_world.specs.Step.{StepBy, Step}
 use Rattle.eng_state.specs.declared.array.Array.{Array}
 use Rattle.eng_clients.specs.Desk.{Desk, desk_at, item_at}
 use Rattle.eng_log.specs.Log.{Logged, noted, counted}
-use Rattle.eng_state.specs.Shows.{Shows, running_as}
+use Rattle.eng_state.specs.Shows.{Shows}
 use Rattle.eng_state.specs.Sound.{IsSound, IsOutOf, RunsWell}
 use Rattle.eng_state.specs.Moves.{Terminated, id_of}
 use Rattle.eng_state.specs.Steps.{graphs_of, Follows}

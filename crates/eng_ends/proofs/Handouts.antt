@@ -1,7 +1,7 @@
 -- What a read's returns are the reply for, and what the world is handed.
-use Rattle.std.proofs.Common.{◌≡◌, ◌≢◌, ℕ, zero, suc, ◌<◌, ◌≤◌, ◌+◌, ◌-◌, ◌⊎◌, List, [], ◌∷◌, length, get_or, subst, sym, ap, ◌∙◌, arith, inl, inr, refl, Bool, true, false, Option, Some}
-use Rattle.std.specs.Prelude.{◌&&◌, ◌==◌, if◌then◌else◌, nat_le, nat_lt, slice_index}
-use Rattle.std.proofs.lemmas.Bool.{cases_Bool, cases_lt, cases_eq, ltb-true, leb-true, eqb-true, lt-ltb, le-leb, eq-eqb, and_parts, and_from, cond-true, cond-false}
+use Rattle.std.proofs.Common.{◌≡◌, ℕ, zero, suc, ◌<◌, ◌≤◌, ◌+◌, ◌⊎◌, List, [], ◌∷◌, length, get_or, subst, sym, ap, ◌∙◌, arith, inl, inr, refl, true, Option, Some}
+use Rattle.std.specs.Prelude.{nat_le, nat_lt, slice_index}
+use Rattle.std.proofs.lemmas.Bool.{cases_Bool, cases_lt, ltb-true, leb-true, eqb-true, lt-ltb, le-leb, eq-eqb, and_parts, and_from, cond-true, cond-false}
 use Rattle.std.proofs.lemmas.List.Elements.{All-get_or}
 use Rattle.blk_plain.specs.declared.op.Op.{Op}
 use Rattle.blk_plain.specs.declared.op.Op.TheVariants as op
@@ -9,7 +9,7 @@ use Rattle.blk_plain.specs.declared.op.Span.{Span}
 use Rattle.buf_pool.specs.Pool as pool
 use Rattle.lay_core.specs.Layout.{Shape, IsLayout, data_units, block_of}
 use Rattle.lay_core.specs.Layout as layout
-use Rattle.lay_core.proofs.Numbering.{block_of-one_to_one, stripe_of-block_of, unit_of-block_of, offset_of-block_of, block_of-home, offset_of-below, unit_of-below}
+use Rattle.lay_core.proofs.Numbering.{block_of-one_to_one, stripe_of-block_of, unit_of-block_of, offset_of-block_of, block_of-home}
 use Rattle.graph_mean.specs.declared.graph.Ret.{Ret}
 use Rattle.graph_mean.specs.Graph.{Held, View, buf_at, ret_at}
 use Rattle.graph_mean.specs.Task as task

@@ -7,6 +7,7 @@ pub mod Terminating
 pub mod ReturningSum
 pub mod EndingSum
 pub mod GoodSteps
+mod GoodHome
 mod Over
 mod Rebuilding
 mod EndingRebuild

@@ -1,5 +1,5 @@
 -- An operation is over: its terminator has ended, its item was replied, and all was given back.
-use Rattle.std.proofs.Common.{◌≡◌, ◌≢◌, ℕ, suc, ◌<◌, ◌+◌, ◌-◌, List, [], ◌∷◌, ◌++◌, length, get_or, subst, sym, ap, ◌∙◌, arith, inl, inr, refl, true, false, Option, Some, None}
+use Rattle.std.proofs.Common.{◌≡◌, ◌≢◌, ℕ, suc, ◌+◌, ◌-◌, List, [], ◌∷◌, ◌++◌, length, get_or, subst, sym, ap, ◌∙◌, arith, inl, inr, refl, true, false, Option, Some, None}
 use Rattle.std.specs.Prelude.{Contains, slice_get, slice_set, slice_index_or}
 use Rattle.std.proofs.lemmas.Bool.{cases_eq}
 use Rattle.std.proofs.lemmas.Grind.{get_or_default_zero}
@@ -34,7 +34,7 @@ use Rattle.eng_state.proofs.CalmStays.{released-stays}
 use Rattle.eng_state.specs.Out.{OthersStay}
 use Rattle.eng_ends.proofs.EndingPlain.{end-takes-none, below, well, node, alone}
 use Rattle.eng_ends.proofs.Releasing.{release-sound}
-use Rattle.eng_state.proofs.Put.{put, put-same, put-other, set-marked}
+use Rattle.eng_state.proofs.Put.{put, set-marked}
 use Rattle.eng_state.proofs.Running.{runs_below}
 use Rattle.eng_state.proofs.Shown.{unlost, shown-running, shown-one, desk-set}
 use Rattle.eng_state.proofs.Putting.{out-below, list-out, current-kept}

@@ -1,5 +1,5 @@
 -- What the returns of a read hand out.
-use Rattle.std.specs.Prelude.{◌≡◌, ◌<◌, ◌≤◌, ◌+◌, ◌-◌, ◌*◌, ◌&&◌, ◌==◌, ℕ, List, [], ◌∷◌, length, Bool, Option, Some, None, if◌then◌else◌, nat_le, nat_lt, slice_get, slice_index, slice_index_or}
+use Rattle.std.specs.Prelude.{◌≡◌, ◌<◌, ◌≤◌, ◌+◌, ◌-◌, ◌&&◌, ◌==◌, ℕ, List, [], ◌∷◌, length, Bool, Option, Some, if◌then◌else◌, nat_le, nat_lt, slice_get, slice_index, slice_index_or}
 use Rattle.blk_plain.specs.declared.op.Span.{Span}
 use Rattle.blk_plain.specs.declared.op.Op.TheVariants as op
 use Rattle.blk_disk.specs.Disk.{sector_at}

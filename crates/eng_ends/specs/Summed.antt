@@ -1,20 +1,17 @@
 -- An exclusive-or that came back, and how its target and its sources come home.
-use Rattle.std.specs.Prelude.{◌≡◌, ◌<◌, ◌+◌, ℕ, List, length, true, false, get_or, slice_set, nat_eq}
-use Rattle.std.specs.List.{IsDistinct, AllByRecursion}
+use Rattle.std.specs.Prelude.{◌≡◌, ◌+◌, ℕ, List, get_or, slice_set}
 use Rattle.blk_plain.specs.declared.op.Outcome.{Outcome}
 use Rattle.blk_plain.specs.declared.op.Outcome.TheVariants.{Good}
 use Rattle.blk_disk.specs.declared.disk.Disk.{Ghosts as DiskGhosts}
-use Rattle.buf_pool.specs.Pool.{PoolView, seat_at, put}
+use Rattle.buf_pool.specs.Pool.{PoolView, put}
 use Rattle.graph_mean.specs.declared.graph.Node.TheVariants.{Xor}
 use Rattle.graph_mean.specs.Graph.{kind_at, vertex_at}
 use Rattle.eng_job.specs.declared.job.Source.{Source}
 use Rattle.eng_job.specs.Performed.{Sums}
 use Rattle.eng_state.specs.declared.array.Array.{Array}
-use Rattle.eng_clients.specs.Seats.{lease_seat, bytes_at}
 use Rattle.eng_clients.specs.Desk.{desk_at, with_ended}
 use Rattle.eng_state.specs.Sound.{IsOutOf}
-use Rattle.eng_clients.specs.Gathered.{has, numbers, IsNamed}
-use Rattle.eng_clients.specs.Scattered.{SourcesOut, SourcesHome}
+use Rattle.eng_clients.specs.Scattered.{SourcesHome}
 use Rattle.eng_state.specs.Out.{AreSources}
 
 module _ {L D : Type 0} where

@@ -7,9 +7,7 @@ ghost use Rattle.eng_clients.specs.Desk.{desk_at};
 ghost use Rattle.eng_log.specs.Log.{noted, entered};
 ghost use Rattle.eng_state.specs.Sound.{IsSound, IsOutOf};
 ghost use Rattle.eng_state.specs.Moves.{id_of};
-ghost use Rattle.eng_state.specs.Steps.{Follows};
-ghost use Rattle.eng_state.specs.GoesOn.{GoesOn};
-ghost use Rattle.eng_state.specs.Out.{OthersStay};
+ghost use Rattle.eng_state.specs.EndsNode.{EndsNode};
 
 use blk_disk::Disk;
 use blk_plain::{OpId, Outcome};
@@ -42,11 +40,7 @@ pub(crate) fn commit_ends<L: Layout, D: Disk>(
     requires commit { kind_at (desk_at array.old.clients client).run.graph node ≡ Node.Cmt }
     requires empty { sources.items ≡ [] }
     requires room { 2048 ≤ vec_capacity sources }
-    ensures step { Follows L.Layout D.Disk array.old (event.Good (id_of array.old.clients client) node) array.new }
-    ensures sound { IsSound L.Layout D.Disk array.new }
-    ensures goes { GoesOn array.old array.new }
-    ensures devices { array.new.devices.slots ≡ array.old.devices.slots }
-    ensures stays { OthersStay D.Disk L.Layout client node array.old array.new }
+    ensures home { EndsNode L.Layout D.Disk array.old client node (event.Good (id_of array.old.clients client) node) None array.new }
     ensures trace { array.new.log ≡ noted (entered array.old.log (id_of array.old.clients client)) (event.Good (id_of array.old.clients client) node) }
 {
     let id = array.id(client);

@@ -9,9 +9,7 @@ ghost use Rattle.eng_clients.specs.Desk.{desk_at, item_at, seats_of};
 ghost use Rattle.eng_log.specs.Log.{noted};
 ghost use Rattle.eng_state.specs.Sound.{IsSound, IsOutOf};
 ghost use Rattle.eng_state.specs.Moves.{id_of, Released, Terminated};
-ghost use Rattle.eng_state.specs.Steps.{Follows};
-ghost use Rattle.eng_state.specs.GoesOn.{GoesOn};
-ghost use Rattle.eng_state.specs.Out.{OthersStay};
+ghost use Rattle.eng_state.specs.EndsNode.{EndsNode};
 ghost use Rattle.eng_ends.specs.Ends.{IsPlain};
 
 use blk_disk::Disk;
@@ -95,11 +93,7 @@ pub(crate) fn end_plain<L: Layout, D: Disk>(
     requires plain { IsPlain (item_at (desk_at array.old.clients client)) }
     requires empty { sources.items ≡ [] }
     requires room { 2048 ≤ vec_capacity sources }
-    ensures step { Follows L.Layout D.Disk array.old (event.Good (id_of array.old.clients client) node) array.new }
-    ensures sound { IsSound L.Layout D.Disk array.new }
-    ensures goes { GoesOn array.old array.new }
-    ensures devices { array.new.devices.slots ≡ array.old.devices.slots }
-    ensures stays { OthersStay D.Disk L.Layout client node array.old array.new }
+    ensures home { EndsNode L.Layout D.Disk array.old client node (event.Good (id_of array.old.clients client) node) None array.new }
     ensures trace { array.new.log ≡ noted array.old.log (event.Good (id_of array.old.clients client) node) }
 {
     let id = array.id(client);

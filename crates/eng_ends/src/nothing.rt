@@ -4,13 +4,12 @@ ghost use Rattle.eng_world.specs.declared.item.Item.TheVariants as item;
 ghost use Rattle.graph_mean.specs.Graph.{kind_at};
 ghost use Rattle.eng_world.specs.declared.item.Traced.TheVariants as event;
 ghost use Rattle.eng_state.specs.Room.{HasRoom, MayEnter};
-ghost use Rattle.eng_clients.specs.Desk.{desk_at, spot_at, item_at};
+ghost use Rattle.eng_clients.specs.Desk.{desk_at, item_at};
 ghost use Rattle.eng_state.specs.Sound.{IsSound, IsOutOf};
 ghost use Rattle.eng_state.specs.Moves.{id_of};
-ghost use Rattle.eng_state.specs.Steps.{Follows};
-ghost use Rattle.eng_state.specs.GoesOn.{GoesOn};
-ghost use Rattle.eng_state.specs.Homes.{device_in, slots_home};
-ghost use Rattle.eng_state.specs.Out.{CameBack, OthersStay};
+ghost use Rattle.eng_state.specs.EndsNode.{EndsNode};
+ghost use Rattle.eng_state.specs.Homes.{device_in};
+ghost use Rattle.eng_state.specs.Out.{CameBack};
 ghost use Rattle.eng_ends.specs.Copied.{AreLaid};
 ghost use Rattle.eng_ends.specs.EndLog.{LogEnds, LogEndsItem, LogEndsOp};
 ghost use Rattle.eng_log.specs.Log.{MayCount};
@@ -55,11 +54,7 @@ fn operation_ends<L: Layout, D: Disk>(
     requires count { MayCount array.old.log }
     requires empty { sources.items ≡ [] }
     requires room { 2048 ≤ vec_capacity sources }
-    ensures step { Follows L.Layout D.Disk array.old (event.Good (id_of array.old.clients client) node) array.new }
-    ensures sound { IsSound L.Layout D.Disk array.new }
-    ensures goes { GoesOn array.old array.new }
-    ensures devices { array.new.devices.slots ≡ array.old.devices.slots }
-    ensures stays { OthersStay D.Disk L.Layout client node array.old array.new }
+    ensures home { EndsNode L.Layout D.Disk array.old client node (event.Good (id_of array.old.clients client) node) None array.new }
     ensures trace { LogEndsOp (L.shape array.old.layout) array.old.cols.states (desk_at array.old.clients client) array.old.log (event.Good (id_of array.old.clients client) node) array.new.log op }
 {
     match op {
@@ -86,11 +81,7 @@ fn terminator_ends<L: Layout, D: Disk>(
     requires count { MayCount array.old.log }
     requires empty { sources.items ≡ [] }
     requires room { 2048 ≤ vec_capacity sources }
-    ensures step { Follows L.Layout D.Disk array.old (event.Good (id_of array.old.clients client) node) array.new }
-    ensures sound { IsSound L.Layout D.Disk array.new }
-    ensures goes { GoesOn array.old array.new }
-    ensures devices { array.new.devices.slots ≡ array.old.devices.slots }
-    ensures stays { OthersStay D.Disk L.Layout client node array.old array.new }
+    ensures home { EndsNode L.Layout D.Disk array.old client node (event.Good (id_of array.old.clients client) node) None array.new }
     ensures trace { LogEndsItem (L.shape array.old.layout) array.old.cols.states (desk_at array.old.clients client) array.old.log (event.Good (id_of array.old.clients client) node) array.new.log (item_at (desk_at array.old.clients client)) }
 {
     let Some(item) = array.clients.item(client) else {
@@ -113,11 +104,7 @@ pub fn nothing_returns<L: Layout, D: Disk>(array: &mut Array<L, D>, job: Job<D>)
     requires nothing { job.work ≡ Work.Nothing }
     requires laid { AreLaid array.old.log.handed array.old.clients }
     requires count { kind_at (desk_at array.old.clients job.client).run.graph job.node ≡ Node.Trm → MayCount array.old.log }
-    ensures step { Follows L.Layout D.Disk array.old (event.Good (id_of array.old.clients job.client) job.node) array.new }
-    ensures sound { IsSound L.Layout D.Disk array.new }
-    ensures goes { GoesOn array.old array.new }
-    ensures devices { array.new.devices.slots ≡ slots_home (device_in job.work) (spot_at (desk_at array.old.clients job.client) job.node) array.old.devices }
-    ensures stays { OthersStay D.Disk L.Layout job.client job.node array.old array.new }
+    ensures home { EndsNode L.Layout D.Disk array.old job.client job.node (event.Good (id_of array.old.clients job.client) job.node) (device_in job.work) array.new }
     ensures trace { LogEnds (L.shape array.old.layout) array.old.cols.states (desk_at array.old.clients job.client) array.old.log (event.Good (id_of array.old.clients job.client) job.node) array.new.log (id_of array.old.clients job.client) (kind_at (desk_at array.old.clients job.client).run.graph job.node) array.old.lost }
 {
     let Job {

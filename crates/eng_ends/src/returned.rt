@@ -13,9 +13,7 @@ ghost use Rattle.eng_clients.specs.Desk.{desk_at};
 ghost use Rattle.eng_log.specs.Log.{noted, with_bytes};
 ghost use Rattle.eng_state.specs.Sound.{IsSound, IsOutOf};
 ghost use Rattle.eng_state.specs.Moves.{id_of};
-ghost use Rattle.eng_state.specs.Steps.{Follows};
-ghost use Rattle.eng_state.specs.GoesOn.{GoesOn};
-ghost use Rattle.eng_state.specs.Out.{OthersStay};
+ghost use Rattle.eng_state.specs.EndsNode.{EndsNode};
 ghost use Rattle.eng_log.specs.Handed.{region_at};
 ghost use Rattle.eng_ends.specs.Copied.{AreLaid, Reads, CopiesOne, Copies, sector_for};
 
@@ -132,11 +130,7 @@ pub(crate) fn end_read<L: Layout, D: Disk>(
     requires laid { AreLaid array.old.log.handed array.old.clients }
     requires empty { sources.items ≡ [] }
     requires room { 2048 ≤ vec_capacity sources }
-    ensures step { Follows L.Layout D.Disk array.old (event.Good (id_of array.old.clients client) node) array.new }
-    ensures sound { IsSound L.Layout D.Disk array.new }
-    ensures goes { GoesOn array.old array.new }
-    ensures devices { array.new.devices.slots ≡ array.old.devices.slots }
-    ensures stays { OthersStay D.Disk L.Layout client node array.old array.new }
+    ensures home { EndsNode L.Layout D.Disk array.old client node (event.Good (id_of array.old.clients client) node) None array.new }
     ensures trace { array.new.log ≡ noted (with_bytes array.old.log array.new.log.handed.bytes) (event.Good (id_of array.old.clients client) node) }
 {
     let id = array.id(client);

@@ -1,17 +1,16 @@
 //! An exclusive-or comes home.
-ghost use Rattle.std.specs.Prelude.{◌≡◌, ◌<◌, ◌≤◌, ℕ, List, [], length, vec_capacity};
+ghost use Rattle.std.specs.Prelude.{◌≡◌, ◌<◌, ◌≤◌, ℕ, List, None, [], length, vec_capacity};
 ghost use Rattle.buf_pool.specs.Pool.{IsLease};
 ghost use Rattle.graph_mean.specs.Graph.{kind_at};
 ghost use Rattle.eng_world.specs.declared.item.Traced.TheVariants as event;
 ghost use Rattle.eng_state.specs.Room.{HasRoom};
-ghost use Rattle.eng_clients.specs.Desk.{desk_at, spot_at};
+ghost use Rattle.eng_clients.specs.Desk.{desk_at};
 ghost use Rattle.eng_log.specs.Log.{noted};
 ghost use Rattle.eng_state.specs.Sound.{IsSound, IsOutOf};
 ghost use Rattle.eng_state.specs.Moves.{id_of};
-ghost use Rattle.eng_state.specs.Steps.{Follows};
-ghost use Rattle.eng_state.specs.GoesOn.{GoesOn};
-ghost use Rattle.eng_state.specs.Homes.{device_in, slots_home};
-ghost use Rattle.eng_state.specs.Out.{CameBack, OthersStay};
+ghost use Rattle.eng_state.specs.EndsNode.{EndsNode};
+ghost use Rattle.eng_state.specs.Homes.{device_in};
+ghost use Rattle.eng_state.specs.Out.{CameBack};
 ghost use Rattle.eng_ends.specs.Summed.{SumBack, SumHome};
 ghost use Rattle.eng_clients.specs.Scattered.{SourcesOut, SourcesHome};
 
@@ -86,11 +85,7 @@ fn sum_ends<L: Layout, D: Disk>(
     requires place { HasRoom array.old.log }
     requires back { SumBack D.Disk array.old client node target sources.items count Outcome.Good }
     requires room { 2048 ≤ vec_capacity sources }
-    ensures step { Follows L.Layout D.Disk array.old (event.Good (id_of array.old.clients client) node) array.new }
-    ensures sound { IsSound L.Layout D.Disk array.new }
-    ensures goes { GoesOn array.old array.new }
-    ensures devices { array.new.devices.slots ≡ array.old.devices.slots }
-    ensures stays { OthersStay D.Disk L.Layout client node array.old array.new }
+    ensures home { EndsNode L.Layout D.Disk array.old client node (event.Good (id_of array.old.clients client) node) None array.new }
     ensures trace { array.new.log ≡ noted array.old.log (event.Good (id_of array.old.clients client) node) }
 {
     let id = array.id(client);
@@ -104,11 +99,7 @@ pub fn sum_returns<L: Layout, D: Disk>(array: &mut Array<L, D>, job: Job<D>)
     requires place { HasRoom array.old.log }
     requires back { CameBack D.Disk L.Layout array.old job Outcome.Good }
     requires sum { (target : List ℕ) × (count : ℕ) × (job.work ≡ Work.Sum target count) }
-    ensures step { Follows L.Layout D.Disk array.old (event.Good (id_of array.old.clients job.client) job.node) array.new }
-    ensures sound { IsSound L.Layout D.Disk array.new }
-    ensures goes { GoesOn array.old array.new }
-    ensures devices { array.new.devices.slots ≡ slots_home (device_in job.work) (spot_at (desk_at array.old.clients job.client) job.node) array.old.devices }
-    ensures stays { OthersStay D.Disk L.Layout job.client job.node array.old array.new }
+    ensures home { EndsNode L.Layout D.Disk array.old job.client job.node (event.Good (id_of array.old.clients job.client) job.node) (device_in job.work) array.new }
     ensures trace { array.new.log ≡ noted array.old.log (event.Good (id_of array.old.clients job.client) job.node) }
 {
     let Job {

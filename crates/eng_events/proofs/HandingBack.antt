@@ -1,25 +1,16 @@
 -- What a core hands back as it is closed.
-use Rattle.std.proofs.Common.{◌≡◌, ℕ, zero, suc, ◌<◌, ◌≤◌, ◌+◌, List, [], ◌∷◌, ◌++◌, length, length-append, map, take, get_or, sym, ap, ◌∙◌, arith, inl, inr, refl, Bool, true, false, Option, Some, None}
-use Rattle.std.specs.Prelude.{Vec, slice_get, option_map}
-use Rattle.std.specs.declared.alloc.Global.{Global}
-use Rattle.std.proofs.lemmas.Bool.{cases_eq, cases_lt}
-use Rattle.std.proofs.lemmas.List.{get_or_past, get_or_push, get_or_append_left, get_or-take, length-take-le, length-map}
+use Rattle.std.proofs.Common.{◌≡◌, ℕ, ◌<◌, List, length, map, get_or, sym, ap, ◌∙◌, arith, inl, inr, refl, Bool, true, false, Option, Some, None}
+use Rattle.std.specs.Prelude.{slice_get, option_map}
+use Rattle.std.proofs.lemmas.Bool.{cases_lt}
+use Rattle.std.proofs.lemmas.List.{get_or_past, length-map}
 use Rattle.std.proofs.lemmas.Option.{slice_get-map, slice_get-get_or}
 use Rattle.blk_disk.specs.declared.disk.Disk.{Ghosts as DiskGhosts}
 use Rattle.lay_core.specs.declared.layout.Layout.{Ghosts as LayoutGhosts}
-use Rattle.eng_cols.specs.declared.column.Column.{Column}
-use Rattle.eng_cols.specs.declared.spot.Loss.{Loss}
-use Rattle.eng_cols.specs.Cols.{ColumnState, column_of}
-use Rattle.eng_world.specs.declared.item.Item.{Item}
-use Rattle.eng_world.specs.declared.item.Reply.{Reply}
 use Rattle.eng_state.specs.declared.array.Array.{Array}
 use Rattle.eng_parts.specs.Shelf.{Seen, seen_at}
-use Rattle.eng_clients.specs.Desk.{Desk, desk_at, no_desk}
 use Rattle.eng_parts.specs.Brought.{at_home}
-use Rattle.eng_log.specs.Given.{items_in}
 use Rattle.eng_events.specs.Opened.{NoneOut}
 use Rattle.eng_state.specs.Sound.{IsSound}
-use Rattle.eng_clients.specs.Replied.{replies_of, replies_in, AreClosed}
 
 -- ## Devices
 

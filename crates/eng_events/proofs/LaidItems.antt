@@ -3,7 +3,7 @@ use Rattle.std.proofs.Common.{◌≡◌, ℕ, ◌<◌, ◌≤◌, List, [], leng
 use Rattle.std.specs.Prelude.{slice_get, slice_index_or, Vec}
 use Rattle.std.specs.declared.alloc.Global.{Global}
 use Rattle.std.proofs.lemmas.Bool.{cases_lt}
-use Rattle.std.proofs.lemmas.Option.{slice_get_past, slice_get_within}
+use Rattle.std.proofs.lemmas.Option.{slice_get_within}
 use Rattle.blk_plain.specs.declared.op.Span.{Span}
 use Rattle.blk_plain.specs.declared.op.Op.TheVariants as op
 use Rattle.blk_disk.specs.declared.disk.Disk.{Ghosts as DiskGhosts}
@@ -15,11 +15,10 @@ use Rattle.eng_parts.specs.declared.setup.Setup.{Setup}
 use Rattle.eng_state.specs.declared.array.Array.{Array}
 use Rattle.eng_ends.specs.Copied.{AreLaid}
 use Rattle.eng_clients.specs.Desk.{Desk, desk_at}
-use Rattle.eng_log.specs.Given.{items_in, items_at}
+use Rattle.eng_log.specs.Given.{items_at}
 use Rattle.eng_log.specs.Handed.{Handout, region_at}
-use Rattle.eng_log.specs.Laid.{sectors_in, items_before, IsLaidOut}
+use Rattle.eng_log.specs.Laid.{sectors_in, IsLaidOut}
 use Rattle.eng_events.specs.Opened.{IsOpened}
-use Rattle.eng_log.proofs.Laying.{below-within}
 use Rattle.eng_events.proofs.OpeningDesks.{item-of}
 use Rattle.eng_clients.specs.Fresh.{new_desk}
 use Rattle.eng_log.proofs.FewItems.{none-past}

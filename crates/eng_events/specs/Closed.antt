@@ -1,16 +1,10 @@
 -- What a closed core hands back.
-use Rattle.std.specs.Prelude.{◌≡◌, ◌<◌, ℕ, List, [], length, Option, Some, None, Vec, slice_get, map}
-use Rattle.std.specs.declared.alloc.Global.{Global}
-use Rattle.eng_cols.specs.declared.spot.Loss.{Loss}
+use Rattle.std.specs.Prelude.{◌≡◌, ◌<◌, ℕ, length, Some, None, slice_get, map}
 use Rattle.eng_cols.specs.Cols.{column_of}
-use Rattle.eng_world.specs.declared.item.Item.{Item}
-use Rattle.eng_world.specs.declared.item.Reply.{Reply}
 use Rattle.eng_parts.specs.declared.setup.Closed.{Closed}
 use Rattle.eng_state.specs.declared.array.Array.{Array}
 use Rattle.eng_parts.specs.Shelf.{Seen, seen_at}
-use Rattle.eng_clients.specs.Desk.{Desk, desk_at}
-use Rattle.eng_log.specs.Given.{items_at}
-use Rattle.eng_clients.specs.Replied.{replies_of, AreClosed}
+use Rattle.eng_clients.specs.Replied.{AreClosed}
 
 -- All that the core has: layout, columns, history, trace, loss and count; each device in its place; of each client that was handed in its items and its replies; and the sectors that reads handed out, with the region of each item, the row of the array's own client last.
 pub record IsClosed {L D : Type 0} (core : Array L D) (closed : Closed L D) : Type 0 where

@@ -1,38 +1,27 @@
 -- What a core is opened over, and what it is then.
-use Rattle.std.specs.Prelude.{◌≡◌, ◌<◌, ◌≤◌, ◌+◌, ◌*◌, ℕ, List, [], length, Bool, false, Some, None, Vec, slice_get, map, replicate, count_by, if◌then◌else◌}
-use Rattle.std.specs.declared.alloc.Global.{Global}
+use Rattle.std.specs.Prelude.{◌≡◌, ◌<◌, ◌≤◌, ◌+◌, ◌*◌, ℕ, List, [], length, false, Some, None, slice_get, map, replicate, count_by}
 use Rattle.blk_disk.specs.declared.disk.Disk.{Ghosts as DiskGhosts}
 use Rattle.buf_pool.specs.Pool.{IsFresh}
 use Rattle.stripe_lock.specs.Table.{IsIdle}
 use Rattle.lay_core.specs.Layout.{Shape}
 use Rattle.lay_core.specs.declared.layout.Layout.{Ghosts as LayoutGhosts}
-use Rattle.lay_core.specs.Touched.{nothing}
-use Rattle.graph_mean.specs.declared.step.Phase.TheVariants as phase
-use Rattle.graph_mean.specs.Graph.{blank}
-use Rattle.graph_mean.specs.Task.{no_task}
 use Rattle.eng_cols.specs.declared.column.Column.{Column}
-use Rattle.eng_cols.specs.Cols.{ColumnState, Dead, HasDevice, state_set, is_set_filling, is_set_spread}
+use Rattle.eng_cols.specs.Cols.{ColumnState, HasDevice, state_set, is_set_filling, is_set_spread}
 use Rattle.eng_cols.specs.Contents.{decode}
 use Rattle.eng_cols.specs.Contents as contents
 use Rattle.eng_cols.specs.Laws.{HaveSpares}
-use Rattle.eng_cols.specs.Lost.{IsLost}
 use Rattle.eng_world.specs.declared.item.Item.{Item}
 use Rattle.eng_world.specs.declared.item.Item.TheVariants as item
 use Rattle.eng_world.specs.World.{World}
 use Rattle.eng_world.specs.Planning.{Graphs}
 use Rattle.eng_world.specs.Step.{MayBeAsked, IsOpening}
-use Rattle.eng_clients.specs.declared.stage.Stage.TheVariants.{Nothing}
 use Rattle.eng_parts.specs.declared.core_room.CoreRoom.{CoreRoom}
 use Rattle.eng_parts.specs.declared.setup.Setup.{Setup}
-use Rattle.eng_parts.specs.declared.setup.OpenFault.{OpenFault}
-use Rattle.eng_parts.specs.declared.setup.OpenFault.TheVariants as fault
 use Rattle.eng_state.specs.declared.array.Array.{Array}
 use Rattle.eng_parts.specs.Brought.{brought}
 use Rattle.eng_clients.specs.Desk.{Desk, desk_at}
 use Rattle.eng_log.specs.Given.{items_at}
-use Rattle.eng_log.specs.Handed.{Handout}
-use Rattle.eng_log.specs.Laid.{items_before, IsLaidOut}
-use Rattle.eng_log.specs.Log.{Logged}
+use Rattle.eng_log.specs.Laid.{IsLaidOut}
 use Rattle.eng_state.specs.Beginning.{IsAsked}
 use Rattle.eng_state.specs.Shows.{Shows}
 use Rattle.eng_state.specs.Sound.{IsOutOf}

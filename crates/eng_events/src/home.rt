@@ -7,10 +7,9 @@ ghost use Rattle.eng_state.specs.Room.{HasRoom, MayEnter};
 ghost use Rattle.eng_clients.specs.Desk.{desk_at, spot_at};
 ghost use Rattle.eng_state.specs.Sound.{IsSound};
 ghost use Rattle.eng_state.specs.Moves.{id_of};
-ghost use Rattle.eng_state.specs.Steps.{Follows};
-ghost use Rattle.eng_state.specs.GoesOn.{GoesOn};
-ghost use Rattle.eng_state.specs.Homes.{device_in, slots_home};
-ghost use Rattle.eng_state.specs.Out.{CameBack, OthersStay};
+ghost use Rattle.eng_state.specs.EndsNode.{EndsNode};
+ghost use Rattle.eng_state.specs.Homes.{device_in};
+ghost use Rattle.eng_state.specs.Out.{CameBack};
 ghost use Rattle.eng_state.specs.Bad.{Standing, IsOnColumn};
 ghost use Rattle.eng_ends.specs.Copied.{AreLaid};
 ghost use Rattle.eng_ends.specs.EndLog.{LogEnds};
@@ -64,11 +63,7 @@ fn nothing_goes_home<L: Layout, D: Disk>(array: &mut Array<L, D>, job: Job<D>)
     requires nothing { job.work ≡ Work.Nothing }
     requires laid { array.old.lost ≡ None → AreLaid array.old.log.handed array.old.clients }
     requires count { array.old.lost ≡ None → kind_at (desk_at array.old.clients job.client).run.graph job.node ≡ Node.Trm → MayCount array.old.log }
-    ensures step { Follows L.Layout D.Disk array.old (event.Good (id_of array.old.clients job.client) job.node) array.new }
-    ensures sound { IsSound L.Layout D.Disk array.new }
-    ensures goes { GoesOn array.old array.new }
-    ensures devices { array.new.devices.slots ≡ slots_home (device_in job.work) (spot_at (desk_at array.old.clients job.client) job.node) array.old.devices }
-    ensures stays { OthersStay D.Disk L.Layout job.client job.node array.old array.new }
+    ensures home { EndsNode L.Layout D.Disk array.old job.client job.node (event.Good (id_of array.old.clients job.client) job.node) (device_in job.work) array.new }
     ensures trace { LogEnds (L.shape array.old.layout) array.old.cols.states (desk_at array.old.clients job.client) array.old.log (event.Good (id_of array.old.clients job.client) job.node) array.new.log (id_of array.old.clients job.client) (kind_at (desk_at array.old.clients job.client).run.graph job.node) array.old.lost }
 {
     match array.lost {
@@ -86,11 +81,7 @@ fn good_returns<L: Layout, D: Disk>(array: &mut Array<L, D>, job: Job<D>)
     requires sane { IsWriteJob job → DeviceFailed array.old job false }
     requires laid { array.old.lost ≡ None → AreLaid array.old.log.handed array.old.clients }
     requires count { array.old.lost ≡ None → kind_at (desk_at array.old.clients job.client).run.graph job.node ≡ Node.Trm → MayCount array.old.log }
-    ensures step { Follows L.Layout D.Disk array.old (event.Good (id_of array.old.clients job.client) job.node) array.new }
-    ensures sound { IsSound L.Layout D.Disk array.new }
-    ensures goes { GoesOn array.old array.new }
-    ensures devices { array.new.devices.slots ≡ slots_home (device_in job.work) (spot_at (desk_at array.old.clients job.client) job.node) array.old.devices }
-    ensures stays { OthersStay D.Disk L.Layout job.client job.node array.old array.new }
+    ensures home { EndsNode L.Layout D.Disk array.old job.client job.node (event.Good (id_of array.old.clients job.client) job.node) (device_in job.work) array.new }
     ensures trace { LogEnds (L.shape array.old.layout) array.old.cols.states (desk_at array.old.clients job.client) array.old.log (event.Good (id_of array.old.clients job.client) job.node) array.new.log (id_of array.old.clients job.client) (kind_at (desk_at array.old.clients job.client).run.graph job.node) array.old.lost }
 {
     match &job.work {
@@ -112,15 +103,11 @@ pub fn goes_home<L: Layout, D: Disk>(array: &mut Array<L, D>, job: Job<D>, outco
     requires back { CameBack D.Disk L.Layout array.old job outcome }
     requires laid { array.old.lost ≡ None → AreLaid array.old.log.handed array.old.clients }
     requires count { array.old.lost ≡ None → kind_at (desk_at array.old.clients job.client).run.graph job.node ≡ Node.Trm → MayCount array.old.log }
-    ensures step { Follows L.Layout D.Disk array.old (ended_by array.old job outcome) array.new }
-    ensures sound { IsSound L.Layout D.Disk array.new }
-    ensures goes { GoesOn array.old array.new }
-    ensures devices { array.new.devices.slots ≡ slots_home (device_in job.work) (spot_at (desk_at array.old.clients job.client) job.node) array.old.devices }
-    ensures stays { OthersStay D.Disk L.Layout job.client job.node array.old array.new }
+    ensures home { EndsNode L.Layout D.Disk array.old job.client job.node (ended_by array.old job outcome) (device_in job.work) array.new }
     ensures trace { LogEnds (L.shape array.old.layout) array.old.cols.states (desk_at array.old.clients job.client) array.old.log (ended_by array.old job outcome) array.new.log (id_of array.old.clients job.client) (kind_at (desk_at array.old.clients job.client).run.graph job.node) array.old.lost }
 {
     if comes_back_bad(array, &job, outcome) {
-        bad_returns(array, job, outcome);
+        bad_returns(array, job);
     } else {
         good_returns(array, job);
     }

@@ -1,5 +1,5 @@
 -- A job that came back and ends bad is a call that came back.
-use Rattle.std.proofs.Common.{◌≡◌, ◌∙◌, ℕ, ◌⊎◌, List, sym, inl, inr, refl, true, false}
+use Rattle.std.proofs.Common.{◌≡◌, ◌∙◌, ℕ, ◌⊎◌, List, sym, ap, inl, inr, refl, true, false}
 use Rattle.blk_plain.specs.declared.op.Outcome.{Outcome}
 use Rattle.blk_disk.specs.declared.disk.Disk.{Ghosts as DiskGhosts}
 use Rattle.lay_core.specs.declared.layout.Layout.{Ghosts as LayoutGhosts}
@@ -11,9 +11,11 @@ use Rattle.eng_job.specs.declared.job.Source.{Source}
 use Rattle.eng_job.specs.Performed.{PerformedWork, ReadsThere, WritesThere}
 use Rattle.eng_state.specs.declared.array.Array.{Array}
 use Rattle.eng_state.specs.Back.{ReadBack, WriteBack}
-use Rattle.eng_state.specs.Bad.{CallBack, EndsBad}
+use Rattle.eng_clients.specs.Desk.{desk_at, spot_at}
+use Rattle.eng_state.specs.Bad.{CallBack}
 use Rattle.eng_state.specs.Out.{CameBack}
-use Rattle.eng_fails.specs.Returned.{CameBackBad}
+use Rattle.eng_fails.specs.Called.{CallCameBad}
+use Rattle.eng_fails.specs.Returned.{CameBackBad, JobCameBad, failed_at, is_bad_end, ends_bad}
 use Rattle.eng_state.proofs.Returning.{read-back, write-back}
 
 module _ {L D : Type 0} (lay : LayoutGhosts L) (disk : DiskGhosts D) (core : Array L D) (c n : ℕ) (after : D) (first : ℕ) (now : List ℕ) (count : ℕ) (o : Outcome) where
@@ -70,23 +72,32 @@ sum-good disk from (Read d f b n) v o now count done same = let z : Read done.0 
 sum-good disk from (Write d f b n) v o now count done same = let z : Write done.0 f b n ≡ Sum now count = sym done.1 ∙ same in absurd (let u : ⊥ = cc in u)
 sum-good disk from (Sum to n) v o now count done same = done.2.good
 
-module _ {L D : Type 0} (lay : LayoutGhosts L) (disk : DiskGhosts D) (core : Array L D) (job : Job D) (o : Outcome) (back : CameBack disk lay core job o) (bad : CameBackBad core job o) where
-  pub read-bad : (e : D) (first : ℕ) (now : List ℕ) (count : ℕ) → job.work ≡ Read e first now count → (r : CallBack lay disk core job.client job.node e first now count o) × EndsBad lay disk core job.client job.node e first now count o r
-  read-bad e first now count is = (
-    read-call lay disk core job.client job.node e first now count o (read-back lay disk core job o e first now count back is).0,
-    elim bad [
+module _ {L D : Type 0} (lay : LayoutGhosts L) (disk : DiskGhosts D) (core : Array L D) (job : Job D) (r : JobCameBad lay disk core job) where
+  pub read-bad : (e : D) (first : ℕ) (now : List ℕ) (count : ℕ) → job.work ≡ Read e first now count → CallCameBad lay disk core job.client job.node e now
+  read-bad e first now count is = record {
+    came = record {
+      first = first;
+      count = count;
+      outcome = r.outcome;
+      back = read-call lay disk core job.client job.node e first now count r.outcome (read-back lay disk core job r.outcome e first now count r.back is).0;
+    };
+    ends = elim r.bad [
       | inl b ↦ inl b
       | inr w ↦ let z : Read e first now count ≡ Write w.0.0 w.0.1 w.0.2 w.0.3 = sym is ∙ w.0.4 in absurd (let u : ⊥ = cc in u)
-    ],
-  )
+    ];
+  }
 
-  pub write-bad : (e : D) (first : ℕ) (now : List ℕ) (count : ℕ) → job.work ≡ Write e first now count → (r : CallBack lay disk core job.client job.node e first now count o) × EndsBad lay disk core job.client job.node e first now count o r
+  pub write-bad : (e : D) (first : ℕ) (now : List ℕ) (count : ℕ) → job.work ≡ Write e first now count → CallCameBad lay disk core job.client job.node e now
   unfolding write-call
   write-bad e first now count is =
-      let b = (write-back lay disk core job o e first now count back is).0 in
-      (write-call lay disk core job.client job.node e first now count o b, elim bad [ inl b ↦ inl b | inr w ↦ inr (refl, w.1 b.at b.spot) ])
+      let b = (write-back lay disk core job r.outcome e first now count r.back is).0 in
+      record {
+        came = record { first = first; count = count; outcome = r.outcome; back = write-call lay disk core job.client job.node e first now count r.outcome b };
+        ends = elim r.bad [ inl w ↦ inl w | inr w ↦ inr (refl, w.1 b.at b.spot) ];
+      }
 
-  -- it is one of the two
+-- it is one of the two
+module _ {L D : Type 0} (lay : LayoutGhosts L) (disk : DiskGhosts D) (core : Array L D) (job : Job D) (o : Outcome) (back : CameBack disk lay core job o) (bad : CameBackBad core job o) where
   pub is-call : (job.work ≡ Nothing) ⊎ ((now : List ℕ) × (count : ℕ) × (job.work ≡ Sum now count)) → ⊥
   is-call (inl none) = elim bad [
     | inl b ↦ let z : Good ≡ Bad = sym (nothing-good disk back.0.sources.items back.0.work job.work o back.2.work none) ∙ b in let u : ⊥ = cc in u
@@ -96,3 +107,15 @@ module _ {L D : Type 0} (lay : LayoutGhosts L) (disk : DiskGhosts D) (core : Arr
     | inl b ↦ let z : Good ≡ Bad = sym (sum-good disk back.0.sources.items back.0.work job.work o sum.0 sum.1 back.2.work sum.2) ∙ b in let u : ⊥ = cc in u
     | inr w ↦ let z : Sum sum.0 sum.1 ≡ Write w.0.0 w.0.1 w.0.2 w.0.3 = sym sum.2 ∙ w.0.4 in let u : ⊥ = cc in u
   ]
+
+-- a job that came back with an outcome by which it ends bad
+module _ {L D : Type 0} (core : Array L D) (job : Job D) where
+  by-work : (o : Outcome) (w : Work D) → job.work ≡ w → is_bad_end o w (failed_at core.devices (spot_at (desk_at core.clients job.client) job.node)) ≡ true → CameBackBad core job o
+  by-work Bad w is e = inl refl
+  by-work Good (Write d first now count) is e = inr ((d, first, now, count, is), λ at spot. sym (ap (failed_at core.devices) spot) ∙ e)
+  by-work Good (Read d first now count) is e = let z : false ≡ true = e in absurd (let u : ⊥ = cc in u)
+  by-work Good (Sum now count) is e = let z : false ≡ true = e in absurd (let u : ⊥ = cc in u)
+  by-work Good Nothing is e = let z : false ≡ true = e in absurd (let u : ⊥ = cc in u)
+
+  pub job-bad : (lay : LayoutGhosts L) (disk : DiskGhosts D) (o : Outcome) → CameBack disk lay core job o → ends_bad core job o ≡ true → JobCameBad lay disk core job
+  job-bad lay disk o back e = record { outcome = o; back = back; bad = by-work o job.work refl e }

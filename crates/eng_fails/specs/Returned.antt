@@ -3,6 +3,8 @@ use Rattle.std.specs.Prelude.{◌≡◌, ◌⊎◌, ℕ, List, Bool, true, false
 use Rattle.blk_plain.specs.declared.op.OpId.{OpId}
 use Rattle.blk_plain.specs.declared.op.Outcome.{Outcome}
 use Rattle.blk_plain.specs.declared.op.Outcome.TheVariants.{Good, Bad}
+use Rattle.blk_disk.specs.declared.disk.Disk.{Ghosts as DiskGhosts}
+use Rattle.lay_core.specs.declared.layout.Layout.{Ghosts as LayoutGhosts}
 use Rattle.graph_mean.specs.declared.graph.Node.{Node}
 use Rattle.graph_mean.specs.declared.graph.Node.TheVariants.{Rd, Wr, Xor, Cmt, Trm}
 use Rattle.eng_cols.specs.declared.spot.Spot.{Spot}
@@ -17,6 +19,7 @@ use Rattle.eng_parts.specs.Shelf.{Shelved, has_failed}
 use Rattle.eng_clients.specs.Desk.{desk_at, spot_at}
 use Rattle.eng_log.specs.Log.{Logged, entered}
 use Rattle.eng_state.specs.Moves.{id_of}
+use Rattle.eng_state.specs.Out.{CameBack}
 
 -- the job is a write
 abbrev pub IsWriteJob : {D : Type 0} → Job D → Type 0
@@ -30,6 +33,12 @@ module _ {L D : Type 0} where
   -- the device answered so, or it is a write whose device failed since it was fired
   abbrev pub CameBackBad : Array L D → Job D → Outcome → Type 0
   CameBackBad core job outcome = (outcome ≡ Bad) ⊎ (IsWriteJob job × DeviceFailed core job true)
+
+  -- the job is out, came back with some outcome, and ends bad
+  pub record JobCameBad (lay : LayoutGhosts L) (disk : DiskGhosts D) (core : Array L D) (job : Job D) : Type 0 where
+    pub outcome : Outcome
+    pub back : CameBack disk lay core job outcome
+    pub bad : CameBackBad core job outcome
 
 -- the device of this place has failed, if there is one
 abbrev pub failed_at : {D : Type 0} → Shelved D → Option Spot → Bool

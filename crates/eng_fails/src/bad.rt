@@ -10,12 +10,10 @@ ghost use Rattle.eng_log.specs.Log.{noted};
 ghost use Rattle.eng_state.specs.Room.{HasRoom};
 ghost use Rattle.eng_state.specs.Sound.{IsSound, IsOutOf};
 ghost use Rattle.eng_state.specs.Moves.{id_of, CameHome};
-ghost use Rattle.eng_state.specs.Steps.{Follows};
-ghost use Rattle.eng_state.specs.GoesOn.{GoesOn};
-ghost use Rattle.eng_state.specs.Homes.{slots_home};
-ghost use Rattle.eng_state.specs.Out.{OthersStay};
 ghost use Rattle.eng_cols.specs.declared.spot.Loss.{Loss};
-ghost use Rattle.eng_state.specs.Bad.{Standing, CallBack, EndsBad, FailedIfAlive, IsOnColumn, struck_lost};
+ghost use Rattle.eng_state.specs.Bad.{Standing, FailedIfAlive, IsOnColumn, struck_lost};
+ghost use Rattle.eng_state.specs.EndsNode.{EndsNode};
+ghost use Rattle.eng_fails.specs.Called.{CallCameBack, CallCameBad};
 
 use crate::fails::{device_fails, fail_column, is_dead, kill};
 use blk_disk::Disk;
@@ -55,24 +53,13 @@ fn fail_if_alive<L: Layout, D: Disk>(array: &mut Array<L, D>, column: u32)
 }
 
 // The device, the buffer and the list of a call come home, and its node has ended bad.
-fn bad_home<L: Layout, D: Disk>(
-    array: &mut Array<L, D>,
-    client: u32,
-    node: u32,
-    first: u64,
-    count: u32,
-    coming: Coming<D>,
-    outcome: Outcome,
-)
+fn bad_home<L: Layout, D: Disk>(array: &mut Array<L, D>, client: u32, node: u32, coming: Coming<D>)
     requires sound { IsSound L.Layout D.Disk array.old }
-    requires back { CallBack L.Layout D.Disk array.old client node coming.disk first coming.buffer count outcome }
+    requires back { CallCameBack L.Layout D.Disk array.old client node coming.disk coming.buffer }
     requires empty { coming.sources.items ≡ [] }
     requires room { 2048 ≤ vec_capacity coming.sources }
-    ensures { (r : CallBack L.Layout D.Disk array.old client node coming.disk first coming.buffer count outcome) → CameHome array.old client node r.buf r.at coming.disk coming.buffer Bad array.new }
+    ensures { (r : CallCameBack L.Layout D.Disk array.old client node coming.disk coming.buffer) → CameHome array.old client node r.back.buf r.back.at coming.disk coming.buffer Bad array.new }
 {
-    let _ = first;
-    let _ = count;
-    let _ = outcome;
     let buf = buf_of(array, client, node);
     let Some(at) = array.clients.spot(client, node) else {
         unreachable!()
@@ -86,23 +73,16 @@ pub(crate) fn ends_bad<L: Layout, D: Disk>(
     array: &mut Array<L, D>,
     client: u32,
     node: u32,
-    first: u64,
-    count: u32,
     coming: Coming<D>,
-    outcome: Outcome,
 )
     requires sound { IsSound L.Layout D.Disk array.old }
     requires not_lost { array.old.lost ≡ None }
     requires standing { Standing L.Layout array.old }
-    requires back { (r : CallBack L.Layout D.Disk array.old client node coming.disk first coming.buffer count outcome) × EndsBad L.Layout D.Disk array.old client node coming.disk first coming.buffer count outcome r }
+    requires back { CallCameBad L.Layout D.Disk array.old client node coming.disk coming.buffer }
     requires empty { coming.sources.items ≡ [] }
     requires list { 2048 ≤ vec_capacity coming.sources }
     requires room { HasRoom array.old.log }
-    ensures step { Follows L.Layout D.Disk array.old (event.Bad (id_of array.old.clients client) node) array.new }
-    ensures sound { IsSound L.Layout D.Disk array.new }
-    ensures goes { GoesOn array.old array.new }
-    ensures devices { array.new.devices.slots ≡ slots_home (Some coming.disk) (spot_at (desk_at array.old.clients client) node) array.old.devices }
-    ensures stays { OthersStay D.Disk L.Layout client node array.old array.new }
+    ensures home { EndsNode L.Layout D.Disk array.old client node (event.Bad (id_of array.old.clients client) node) (Some coming.disk) array.new }
     ensures trace { array.new.log ≡ noted array.old.log (event.Bad (id_of array.old.clients client) node) }
 {
     let id = array.id(client);
@@ -111,7 +91,7 @@ pub(crate) fn ends_bad<L: Layout, D: Disk>(
         unreachable!()
     };
     fail_if_alive(array, at.column);
-    bad_home(array, client, node, first, count, coming, outcome);
+    bad_home(array, client, node, coming);
     array.note(Traced::Bad { id, node });
 }
 
@@ -130,24 +110,17 @@ pub(crate) fn comes_bad<L: Layout, D: Disk>(
     array: &mut Array<L, D>,
     client: u32,
     node: u32,
-    first: u64,
-    count: u32,
     coming: Coming<D>,
-    outcome: Outcome,
 )
     requires sound { IsSound L.Layout D.Disk array.old }
     requires lost { (loss : Loss) × (array.old.lost ≡ Some loss) }
     requires within { (at : Spot) → spot_at (desk_at array.old.clients client) node ≡ Some at → at.column < (L.shape array.old.layout).columns }
     requires on { IsOnColumn array.old client node }
-    requires back { (r : CallBack L.Layout D.Disk array.old client node coming.disk first coming.buffer count outcome) × EndsBad L.Layout D.Disk array.old client node coming.disk first coming.buffer count outcome r }
+    requires back { CallCameBad L.Layout D.Disk array.old client node coming.disk coming.buffer }
     requires empty { coming.sources.items ≡ [] }
     requires list { 2048 ≤ vec_capacity coming.sources }
     requires room { HasRoom array.old.log }
-    ensures step { Follows L.Layout D.Disk array.old (event.Bad (id_of array.old.clients client) node) array.new }
-    ensures sound { IsSound L.Layout D.Disk array.new }
-    ensures goes { GoesOn array.old array.new }
-    ensures devices { array.new.devices.slots ≡ slots_home (Some coming.disk) (spot_at (desk_at array.old.clients client) node) array.old.devices }
-    ensures stays { OthersStay D.Disk L.Layout client node array.old array.new }
+    ensures home { EndsNode L.Layout D.Disk array.old client node (event.Bad (id_of array.old.clients client) node) (Some coming.disk) array.new }
     ensures trace { array.new.log ≡ noted array.old.log (event.Bad (id_of array.old.clients client) node) }
 {
     let id = array.id(client);
@@ -155,6 +128,6 @@ pub(crate) fn comes_bad<L: Layout, D: Disk>(
         unreachable!()
     };
     strike(array, at);
-    bad_home(array, client, node, first, count, coming, outcome);
+    bad_home(array, client, node, coming);
     array.note(Traced::Bad { id, node });
 }

@@ -1,17 +1,16 @@
 //! A commit or a terminator that comes home once the array is lost.
-ghost use Rattle.std.specs.Prelude.{◌≡◌, ◌≤◌, ◌⊎◌, Some, [], vec_capacity};
+ghost use Rattle.std.specs.Prelude.{◌≡◌, ◌≤◌, ◌⊎◌, Some, None, [], vec_capacity};
 ghost use Rattle.graph_mean.specs.Graph.{kind_at};
 ghost use Rattle.eng_cols.specs.declared.spot.Loss.{Loss};
 ghost use Rattle.eng_world.specs.declared.item.Traced.TheVariants as event;
 ghost use Rattle.eng_state.specs.Room.{HasRoom};
-ghost use Rattle.eng_clients.specs.Desk.{desk_at, spot_at};
+ghost use Rattle.eng_clients.specs.Desk.{desk_at};
 ghost use Rattle.eng_log.specs.Log.{noted};
 ghost use Rattle.eng_state.specs.Sound.{IsSound, IsOutOf};
 ghost use Rattle.eng_state.specs.Moves.{id_of};
-ghost use Rattle.eng_state.specs.Steps.{Follows};
-ghost use Rattle.eng_state.specs.GoesOn.{GoesOn};
-ghost use Rattle.eng_state.specs.Homes.{device_in, slots_home};
-ghost use Rattle.eng_state.specs.Out.{CameBack, OthersStay};
+ghost use Rattle.eng_state.specs.Homes.{device_in};
+ghost use Rattle.eng_state.specs.Out.{CameBack};
+ghost use Rattle.eng_state.specs.EndsNode.{EndsNode};
 
 use blk_disk::Disk;
 use blk_plain::Outcome;
@@ -35,11 +34,7 @@ fn nothing_comes<L: Layout, D: Disk>(
     requires kind { (kind_at (desk_at array.old.clients client).run.graph node ≡ Node.Cmt) ⊎ (kind_at (desk_at array.old.clients client).run.graph node ≡ Node.Trm) }
     requires empty { sources.items ≡ [] }
     requires room { 2048 ≤ vec_capacity sources }
-    ensures step { Follows L.Layout D.Disk array.old (event.Good (id_of array.old.clients client) node) array.new }
-    ensures sound { IsSound L.Layout D.Disk array.new }
-    ensures goes { GoesOn array.old array.new }
-    ensures devices { array.new.devices.slots ≡ array.old.devices.slots }
-    ensures stays { OthersStay D.Disk L.Layout client node array.old array.new }
+    ensures home { EndsNode L.Layout D.Disk array.old client node (event.Good (id_of array.old.clients client) node) None array.new }
     ensures trace { array.new.log ≡ noted array.old.log (event.Good (id_of array.old.clients client) node) }
 {
     let id = array.id(client);
@@ -55,11 +50,7 @@ pub fn nothing_comes_home<L: Layout, D: Disk>(array: &mut Array<L, D>, job: Job<
     requires lost { (loss : Loss) × (array.old.lost ≡ Some loss) }
     requires back { CameBack D.Disk L.Layout array.old job Outcome.Good }
     requires nothing { job.work ≡ Work.Nothing }
-    ensures step { Follows L.Layout D.Disk array.old (event.Good (id_of array.old.clients job.client) job.node) array.new }
-    ensures sound { IsSound L.Layout D.Disk array.new }
-    ensures goes { GoesOn array.old array.new }
-    ensures devices { array.new.devices.slots ≡ slots_home (device_in job.work) (spot_at (desk_at array.old.clients job.client) job.node) array.old.devices }
-    ensures stays { OthersStay D.Disk L.Layout job.client job.node array.old array.new }
+    ensures home { EndsNode L.Layout D.Disk array.old job.client job.node (event.Good (id_of array.old.clients job.client) job.node) (device_in job.work) array.new }
     ensures trace { array.new.log ≡ noted array.old.log (event.Good (id_of array.old.clients job.client) job.node) }
 {
     let Job {

@@ -9,6 +9,7 @@ pub mod Putting
 pub mod Homing
 pub mod Unmarking
 pub mod EndKeeps
+pub mod Ending
 pub mod Written
 pub mod StaysOut
 pub mod GoingOn

@@ -11,7 +11,7 @@ use Rattle.graph_mean.specs.declared.step.Status.{Status}
 use Rattle.graph_mean.specs.declared.step.Status.TheVariants as status
 use Rattle.graph_mean.specs.declared.step.Phase.{Phase}
 use Rattle.graph_mean.specs.declared.step.Phase.TheVariants.{Before, After, RollingBack, Ended, Undone}
-use Rattle.graph_mean.specs.Graph.{PoolView as Lent, SeatView as Drawn, no_buf}
+use Rattle.graph_mean.specs.Graph.{Held as Lent, View as Drawn, no_buf}
 use Rattle.graph_mean.specs.Steps.{Covers, settled, none_out}
 use Rattle.eng_one.specs.Control.{mark_of, mark_in, settled_in}
 use Rattle.eng_world.specs.World.{Current}

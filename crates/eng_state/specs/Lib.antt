@@ -14,5 +14,5 @@ pub mod Taken
 pub mod Doing
 pub mod GoesOn
 pub mod Homes
-pub mod ComesHome
+pub mod EndsNode
 pub mod Restored

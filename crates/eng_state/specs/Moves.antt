@@ -1,15 +1,18 @@
 -- What a call changes of the core's parts.
-use Rattle.std.specs.Prelude.{◌≡◌, ◌+◌, ℕ, List, length, false, Option, Some, None, slice_set, get_or}
+use Rattle.std.specs.Prelude.{◌≡◌, ◌<◌, ◌+◌, ℕ, List, length, false, Option, Some, None, slice_set, get_or}
 use Rattle.blk_plain.specs.declared.op.OpId.{OpId}
 use Rattle.blk_disk.specs.declared.disk.Disk.{Ghosts as DiskGhosts}
 use Rattle.buf_pool.specs.Pool as pool
 use Rattle.lay_core.specs.declared.layout.Layout.{Ghosts as LayoutGhosts}
+use Rattle.graph_mean.specs.declared.step.Status.TheVariants as status
+use Rattle.graph_mean.specs.Graph.{kind_at}
+use Rattle.eng_one.specs.Control.{mark_of, MayEnd}
 use Rattle.eng_cols.specs.declared.spot.Spot.{Spot}
 use Rattle.eng_world.specs.declared.item.Traced.TheVariants as event
 use Rattle.eng_world.specs.Nodes.{MakesOrUses}
 use Rattle.eng_state.specs.declared.array.Array.{Array}
 use Rattle.eng_parts.specs.Shelf.{Shelved, seen_at, IsAway, left, come_home}
-use Rattle.eng_clients.specs.Desk.{Desk, desk_at, spot_at, with_fired, with_ended, with_reply}
+use Rattle.eng_clients.specs.Desk.{Desk, Lends, desk_at, spot_at, with_fired, with_ended, with_reply}
 use Rattle.eng_world.specs.declared.item.Reply.{Reply}
 use Rattle.stripe_lock.specs.Table.{Releases}
 use Rattle.blk_plain.specs.declared.op.Outcome.{Outcome}
@@ -52,6 +55,13 @@ module _ {L D : Type 0} (lay : LayoutGhosts L) where
     pub spare : new.spare ≡ old.spare
 
 module _ {L D : Type 0} where
+  -- Node n of client c is out, one of the graph that the client runs, and may end so.
+  pub record CanEnd (core : Array L D) (c n : ℕ) (outcome : Outcome) : Type 0 where
+    pub lends : Lends core.graphs.items (desk_at core.clients c)
+    pub node : n < length (desk_at core.clients c).run.graph.nodes
+    pub out : mark_of (desk_at core.clients c).run n ≡ status.Out
+    pub may : MayEnd outcome (kind_at (desk_at core.clients c).run.graph n) (desk_at core.clients c).run.phase
+
   -- A call's device and buffer came home, with what they hold now, and its list; and the node has ended so.
   pub record CameHome (old : Array L D) (c n b : ℕ) (at : Spot) (disk : D) (bytes : List ℕ) (outcome : Outcome) (new : Array L D) : Type 0 where
     pub clients : new.clients ≡ slice_set old.clients c (with_ended (desk_at old.clients c) n outcome)

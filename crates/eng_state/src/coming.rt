@@ -1,12 +1,10 @@
 //! What comes home with a job.
 ghost use Rattle.std.specs.Prelude.{◌≡◌, ◌<◌, ◌≤◌, ◌+◌, [], true, length, get_or, slice_set, vec_capacity};
 ghost use Rattle.buf_pool.specs.Pool.{IsLease, put};
-ghost use Rattle.graph_mean.specs.Graph.{kind_at};
-ghost use Rattle.eng_one.specs.Control.{mark_of, MayEnd};
 ghost use Rattle.eng_parts.specs.Shelf.{IsAway, come_home};
 ghost use Rattle.eng_clients.specs.Seats.{seat_of};
-ghost use Rattle.eng_clients.specs.Desk.{Lends, desk_at, with_ended};
-ghost use Rattle.eng_state.specs.Moves.{CameHome, CamePlain};
+ghost use Rattle.eng_clients.specs.Desk.{desk_at, with_ended};
+ghost use Rattle.eng_state.specs.Moves.{CanEnd, CameHome, CamePlain};
 
 use crate::array::Array;
 use blk_disk::Disk;
@@ -14,7 +12,6 @@ use blk_plain::Outcome;
 use buf_pool::Buffer;
 use eng_cols::Spot;
 use eng_job::Source;
-use graph_mean::Status;
 use lay_core::Layout;
 
 /// What comes home with a read or a write: its device, its buffer and its list of sources, which is empty.
@@ -58,10 +55,7 @@ impl<L: Layout, D: Disk> Array<L, D> {
     // A node that was out has ended.
     fn mark_ended(&mut self, client: u32, node: u32, outcome: Outcome)
         requires client { client < length self.old.clients }
-        requires lends { Lends self.old.graphs.items (desk_at self.old.clients client) }
-        requires node { node < length (desk_at self.old.clients client).run.graph.nodes }
-        requires out { mark_of (desk_at self.old.clients client).run node ≡ Status.Out }
-        requires may { MayEnd outcome (kind_at (desk_at self.old.clients client).run.graph node) (desk_at self.old.clients client).run.phase }
+        requires can { CanEnd self.old client node outcome }
         ensures { self.new ≡ record self.old { clients = slice_set self.old.clients client (with_ended (desk_at self.old.clients client) node outcome) } }
     {
         self.clients.finish(client, node, outcome, &self.graphs);
@@ -86,10 +80,7 @@ impl<L: Layout, D: Disk> Array<L, D> {
         requires few { self.old.lists < 32 }
         requires empty { coming.sources.items ≡ [] }
         requires room { 2048 ≤ vec_capacity coming.sources }
-        requires lends { Lends self.old.graphs.items (desk_at self.old.clients client) }
-        requires node { node < length (desk_at self.old.clients client).run.graph.nodes }
-        requires out { mark_of (desk_at self.old.clients client).run node ≡ Status.Out }
-        requires may { MayEnd outcome (kind_at (desk_at self.old.clients client).run.graph node) (desk_at self.old.clients client).run.phase }
+        requires can { CanEnd self.old client node outcome }
         ensures { CameHome self.old client node buf at coming.disk coming.buffer outcome self.new }
     {
         let Coming {
@@ -109,10 +100,7 @@ impl<L: Layout, D: Disk> Array<L, D> {
         requires few { self.old.lists < 32 }
         requires empty { sources.items ≡ [] }
         requires room { 2048 ≤ vec_capacity sources }
-        requires lends { Lends self.old.graphs.items (desk_at self.old.clients client) }
-        requires node { node < length (desk_at self.old.clients client).run.graph.nodes }
-        requires out { mark_of (desk_at self.old.clients client).run node ≡ Status.Out }
-        requires may { MayEnd outcome (kind_at (desk_at self.old.clients client).run.graph node) (desk_at self.old.clients client).run.phase }
+        requires can { CanEnd self.old client node outcome }
         ensures { CamePlain self.old client node outcome self.new }
     {
         self.list_home(sources);

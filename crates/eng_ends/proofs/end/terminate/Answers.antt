@@ -5,6 +5,7 @@ use Rattle.eng_clients.specs.Desk.{Desk, desk_at}
 use Rattle.eng_ends.proofs.EndingPlain.{below, well, all-home}
 use Rattle.eng_ends.proofs.Terminating.{terminated}
 use Rattle.eng_state.proofs.Shown.{desk-set}
+use Rattle.eng_state.proofs.Ending.{ends-good}
 use Rattle.eng_ends.proofs.end.terminate.Goals as goal
 
 pub release-requires-clause-left : goal.release-requires-clause-left
@@ -38,3 +39,6 @@ pub returns : goal.returns
 returns g c =
     let lt = below g.L.Layout g.D.Disk c.args.array.now c.args.client c.args.node c.requires.sound c.requires.out c.requires.end in
     terminated c.args.array.now c.plain_home.new.self c.release.new.array c.args.client c.args.node c.args.reply lt c.plain_home.ensures c.release.ensures.released c.release.ensures.log
+
+pub plain_home-requires-clause-can : goal.plain_home-requires-clause-can
+plain_home-requires-clause-can g c = ends-good g.L.Layout g.D.Disk c.args.array.now c.args.client c.args.node c.requires.sound c.requires.out

@@ -6,78 +6,63 @@ use Rattle.eng_world.specs.declared.item.Traced.TheVariants as event
 use Rattle.eng_state.specs.declared.array.Array.{Array}
 use Rattle.eng_log.specs.Log.{Logged, noted}
 use Rattle.eng_state.specs.Moves.{CameHome, id_of}
-use Rattle.eng_state.specs.Steps.{Follows}
 use Rattle.eng_state.proofs.Running.{runs_below}
-use Rattle.eng_state.specs.Sound.{IsSound}
 use Rattle.eng_ends.proofs.EndingWrite.{write-follows, write-sound, write-stays, write-below}
-use Rattle.eng_state.proofs.GoingOn.{goes-logged, goes-ended}
-use Rattle.eng_state.specs.Out.{OthersStay}
+use Rattle.eng_state.proofs.GoingOn.{goes-ended}
 use Rattle.eng_parts.specs.Shelf.{Shelved}
 use Rattle.eng_state.proofs.SlotsHome.{came-slots}
+use Rattle.eng_state.proofs.Ending.{ends-good}
+use Rattle.eng_ends.proofs.GoodHome.{home-noted}
+use Rattle.graph_mean.specs.Steps.{IsCall}
 use Rattle.eng_ends.proofs.finish.write_ends.Goals as goal
 
-came : (g : _) (c : goal.After-note g) → CameHome c.args.array.now c.args.client c.args.node c.requires.back.0.buf c.requires.back.0.at c.args.disk c.args.buffer Good c.call_home.new.self
+came : (g : _) (c : goal.After-note g) → CameHome c.args.array.now c.args.client c.args.node c.requires.back.back.buf c.requires.back.back.at c.args.coming.disk c.args.coming.buffer Good c.call_home.new.self
 came g c =
-    let r = c.requires.back.0 in
+    let r = c.requires.back.back in
     let old : Array g.row.L.Denot g.row.D.Denot = c.args.array.now in
     let mid : Array g.row.L.Denot g.row.D.Denot = c.call_home.new.self in
     let at_eq : Some c.in-Some.at ≡ Some r.at = sym c.in-Some.is ∙ (c.spot.ensures ∙ r.spot) in
     let at_is : c.in-Some.at ≡ r.at = cc in
-    subst (λ (b : ℕ). CameHome old c.args.client c.args.node b r.at c.args.disk c.args.buffer Good mid) (c.write_buf-buf.ensures r.unit r.buf r.kind)
-    (subst (λ (at : Spot). CameHome old c.args.client c.args.node c.write_buf-buf.result at c.args.disk c.args.buffer Good mid) at_is c.call_home.ensures)
+    subst (λ (b : ℕ). CameHome old c.args.client c.args.node b r.at c.args.coming.disk c.args.coming.buffer Good mid) (c.call_buf-buf.ensures.write r.unit r.buf r.kind)
+    (subst (λ (at : Spot). CameHome old c.args.client c.args.node c.call_buf-buf.result at c.args.coming.disk c.args.coming.buffer Good mid) at_is c.call_home.ensures)
 
 pub call_home-requires-clause-lease : goal.call_home-requires-clause-lease
 call_home-requires-clause-lease g c =
-    let well = c.requires.sound.well in let runs = c.requires.back.0.out.runs in
+    let well = c.requires.sound.well in let runs = c.requires.back.back.out.runs in
     ((well.each c.args.client (runs_below _ _ _ _ c.args.client well runs)).runs runs).lease
 
 pub call_home-requires-clause-buf : goal.call_home-requires-clause-buf
 call_home-requires-clause-buf g c =
-    let well = c.requires.sound.well in let r = c.requires.back.0 in let runs = r.out.runs in
+    let well = c.requires.sound.well in let r = c.requires.back.back in let runs = r.out.runs in
     let w = (well.each c.args.client (runs_below _ _ _ _ c.args.client well runs)).runs runs in
-    let is = c.write_buf-buf.ensures r.unit r.buf r.kind in
-    let lt = write-below g.L.Layout g.D.Disk c.args.array.now c.args.client c.args.node c.args.disk c.args.first c.args.count c.args.buffer c.requires.sound r in
+    let is = c.call_buf-buf.ensures.write r.unit r.buf r.kind in
+    let lt = write-below g.L.Layout g.D.Disk c.args.array.now c.args.client c.args.node c.args.coming.disk c.requires.back.first c.requires.back.count c.args.coming.buffer c.requires.sound r in
     omega (arith, is, lt)
 
 pub call_home-requires-clause-long : goal.call_home-requires-clause-long
-call_home-requires-clause-long g c = let r = c.requires.back.0 in r.are_out.long
+call_home-requires-clause-long g c = let r = c.requires.back.back in r.are_out.long
 
-pub call_home-requires-clause-lends : goal.call_home-requires-clause-lends
-call_home-requires-clause-lends g c =
-    let well = c.requires.sound.well in let runs = c.requires.back.0.out.runs in
-    ((well.each c.args.client (runs_below _ _ _ _ c.args.client well runs)).runs runs).lends
-
-pub returns-clause-step : goal.returns-clause-step
-returns-clause-step g c =
-    let old : Array g.row.L.Denot g.row.D.Denot = c.args.array.now in
-    let mid : Array g.row.L.Denot g.row.D.Denot = c.call_home.new.self in
-    let e = event.Good (id_of old.clients c.args.client) c.args.node in
-    let home = came g c in
-    subst (λ (s : Array g.row.L.Denot g.row.D.Denot). Follows g.L.Layout g.D.Disk old e s) (sym c.note.ensures)
-    (subst (λ (id : OpId). Follows g.L.Layout g.D.Disk old e (record mid { log = noted mid.log (event.Good id c.args.node) })) (sym c.id-id.ensures)
-    (write-follows g.L.Layout g.D.Disk old mid c.args.client c.args.node c.args.disk c.args.first c.args.count c.args.buffer c.requires.sound c.requires.back.0 c.requires.back.1 home))
-
-pub returns-clause-sound : goal.returns-clause-sound
-returns-clause-sound g c =
-    let old : Array g.row.L.Denot g.row.D.Denot = c.args.array.now in
-    let mid : Array g.row.L.Denot g.row.D.Denot = c.call_home.new.self in
-    subst (λ (s : Array g.row.L.Denot g.row.D.Denot). IsSound g.L.Layout g.D.Disk s) (sym c.note.ensures)
-    (subst (λ (id : OpId). IsSound g.L.Layout g.D.Disk (record mid { log = noted mid.log (event.Good id c.args.node) })) (sym c.id-id.ensures)
-    (write-sound g.L.Layout g.D.Disk old mid c.args.client c.args.node c.args.disk c.args.first c.args.count c.args.buffer c.requires.sound c.requires.back.0 c.requires.back.1 (came g c)))
+pub call_home-requires-clause-can : goal.call_home-requires-clause-can
+call_home-requires-clause-can g c = ends-good g.L.Layout g.D.Disk c.args.array.now c.args.client c.args.node c.requires.sound c.requires.back.back.out
 
 pub returns-clause-trace : goal.returns-clause-trace
 returns-clause-trace g c =
     ap (λ (s : Array g.row.L.Denot g.row.D.Denot). s.log) c.note.ensures
     ∙ (ap (λ (id : OpId). noted c.call_home.new.self.log (event.Good id c.args.node)) c.id-id.ensures ∙ ap (λ (l : Logged). noted l (event.Good (id_of c.args.array.now.clients c.args.client) c.args.node)) (came g c).log)
 
-pub returns-clause-goes : goal.returns-clause-goes
-returns-clause-goes g c = goes-logged c.args.array.now c.call_home.new.self c.note.new.self _ c.note.ensures
-    (goes-ended g.L.Layout g.D.Disk c.args.array.now c.call_home.new.self c.args.client c.args.node c.requires.sound c.requires.back.0.out Good (came g c).clients (came g c).layout (came g c).graphs (came g c).spare)
+pub call_buf-buf-requires-clause-call : goal.call_buf-buf-requires-clause-call
+call_buf-buf-requires-clause-call g c = subst IsCall (sym c.requires.back.back.kind) tt
 
-pub returns-clause-stays : goal.returns-clause-stays
-returns-clause-stays g c =
-    subst (λ (s : Array g.row.L.Denot g.row.D.Denot). OthersStay g.D.Disk g.L.Layout c.args.client c.args.node c.args.array.now s) (sym c.note.ensures)
-    (write-stays g.L.Layout g.D.Disk c.args.array.now c.call_home.new.self c.args.client c.args.node c.args.disk c.args.first c.args.count c.args.buffer c.requires.sound c.requires.back.0 c.requires.back.1 (came g c))
-
-pub returns-clause-devices : goal.returns-clause-devices
-returns-clause-devices g c = ap (λ (s : Array g.row.L.Denot g.row.D.Denot). s.devices.slots) c.note.ensures ∙ came-slots c.args.array.now.devices c.call_home.new.self.devices c.args.disk c.requires.back.0.at _ (ap (λ (s : Shelved g.row.D.Denot). s.slots) (came g c).devices) c.requires.back.0.spot
+pub returns-clause-home : goal.returns-clause-home
+returns-clause-home g c =
+    let old : Array g.row.L.Denot g.row.D.Denot = c.args.array.now in
+    let mid : Array g.row.L.Denot g.row.D.Denot = c.call_home.new.self in
+    let coming = c.args.coming in
+    let r = c.requires.back in
+    let h = came g c in
+    home-noted g.L.Layout g.D.Disk old mid c.note.new.self c.args.client c.args.node c.id-id.result (Some coming.disk) c.note.ensures c.id-id.ensures
+    (write-follows g.L.Layout g.D.Disk old mid c.args.client c.args.node coming.disk r.first r.count coming.buffer c.requires.sound r.back r.sane h)
+    (write-sound g.L.Layout g.D.Disk old mid c.args.client c.args.node coming.disk r.first r.count coming.buffer c.requires.sound r.back r.sane h)
+    (goes-ended g.L.Layout g.D.Disk old mid c.args.client c.args.node c.requires.sound r.back.out Good h.clients h.layout h.graphs h.spare)
+    (came-slots old.devices mid.devices coming.disk r.back.at _ (ap (λ (s : Shelved g.row.D.Denot). s.slots) h.devices) r.back.spot)
+    (write-stays g.L.Layout g.D.Disk old mid c.args.client c.args.node coming.disk r.first r.count coming.buffer c.requires.sound r.back r.sane h)

@@ -1,5 +1,4 @@
-use Rattle.std.proofs.Common.{◌≡◌, sym, subst, arith, ℕ}
-use Rattle.eng_cols.specs.Changes.{IsEnded}
+use Rattle.std.proofs.Common.{sym, subst, arith}
 use Rattle.eng_state.specs.declared.array.Array.{Array}
 use Rattle.eng_state.specs.Sound.{IsSound}
 use Rattle.eng_ends.proofs.Rebuilding.{first-position, first-within, seated-ended, stripe-sound}

@@ -1,7 +1,6 @@
-use Rattle.std.proofs.Common.{◌≡◌, ◌*◌, ℕ, List, length, take, get_or, sym, ap, ◌∙◌}
+use Rattle.std.proofs.Common.{◌*◌, ℕ, List, length, take, sym, ap, ◌∙◌}
 use Rattle.blk_disk.specs.Sectors.{put}
 use Rattle.eng_state.specs.declared.array.Array.{Array}
-use Rattle.eng_clients.specs.Desk.{desk_at}
 use Rattle.eng_log.specs.Log.{with_bytes}
 use Rattle.eng_ends.proofs.Copying.{front-returned, left-lease}
 use Rattle.eng_ends.proofs.Rebuilding.{well-run}

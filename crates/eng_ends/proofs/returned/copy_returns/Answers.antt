@@ -1,5 +1,4 @@
-use Rattle.std.proofs.Common.{◌≡◌, ◌<◌, length, subst, arith, ℕ}
-use Rattle.eng_state.specs.declared.array.Array.{Array}
+use Rattle.std.proofs.Common.{arith}
 use Rattle.eng_ends.proofs.Copying.{to-none, to-sound, to-runs, to-rets, to-reads, to-laid, to-home, to-more}
 use Rattle.eng_ends.proofs.returned.copy_returns.Goals as goal
 

@@ -27,18 +27,28 @@ goes_home-requires-clause-count g c = λ none end. home-counts g.L.Layout g.D.Di
 
 pub returns-clause-steady : goal.returns-clause-steady
 returns-clause-steady g c =
+    let h = c.goes_home.ensures.home in
     home-steady g.L.Layout g.D.Disk c.args.self.now.array c.args.job c.args.outcome c.requires.steady c.requires.back c.goes_home.new.array
-    c.goes_home.ensures.step c.goes_home.ensures.sound c.goes_home.ensures.goes c.goes_home.ensures.trace
+    h.step h.sound h.goes c.goes_home.ensures.trace
 
 pub returns-clause-happens : goal.returns-clause-happens
 returns-clause-happens g c =
-    let e = c.goes_home.ensures in
-    home-happens g.L.Layout g.D.Disk c.args.self.now.array c.goes_home.new.array c.args.job c.args.outcome c.requires.steady c.requires.back e.devices (returns-clause-steady g c) e.step e.goes e.trace
+    let h = c.goes_home.ensures.home in
+    home-happens g.L.Layout g.D.Disk c.args.self.now.array c.goes_home.new.array c.args.job c.args.outcome c.requires.steady c.requires.back h.devices (returns-clause-steady g c) h.step h.goes c.goes_home.ensures.trace
 
 pub returns-clause-end : goal.returns-clause-end
 returns-clause-end g c = end-of (ends_bad c.args.self.now.array c.args.job c.args.outcome) (id_of c.args.self.now.array.clients c.args.job.client) c.args.job.node
 
 pub returns-clause-gets : goal.returns-clause-gets
 returns-clause-gets g c =
-    let e = c.goes_home.ensures in
-    home-gets g.L.Layout g.D.Disk c.args.self.now.array c.goes_home.new.array c.args.job c.args.outcome c.requires.steady c.requires.back e.devices (returns-clause-steady g c) e.step e.goes e.trace e.stays
+    let h = c.goes_home.ensures.home in
+    home-gets g.L.Layout g.D.Disk c.args.self.now.array c.goes_home.new.array c.args.job c.args.outcome c.requires.steady c.requires.back h.devices (returns-clause-steady g c) h.step h.goes c.goes_home.ensures.trace h.stays
+
+pub returns-clause-step : goal.returns-clause-step
+returns-clause-step g c = c.goes_home.ensures.home.step
+
+pub returns-clause-stays : goal.returns-clause-stays
+returns-clause-stays g c = c.goes_home.ensures.home.stays
+
+pub returns-clause-devices : goal.returns-clause-devices
+returns-clause-devices g c = c.goes_home.ensures.home.devices

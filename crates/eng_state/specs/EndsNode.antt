@@ -14,7 +14,7 @@ use Rattle.eng_state.specs.Steps.{Follows}
 module _ {L D : Type 0} (lay : LayoutGhosts L) (disk : DiskGhosts D) where
   -- Node n of client c ended by this event of the world. The device that it took along, if any, is home as it is now; each client
   -- serves on, and every other job that is out is out still.
-  pub record ComesHome (old : Array L D) (c n : ℕ) (event : Traced) (device : Option D) (new : Array L D) : Type 0 where
+  pub record EndsNode (old : Array L D) (c n : ℕ) (event : Traced) (device : Option D) (new : Array L D) : Type 0 where
     pub step : Follows lay disk old event new
     pub sound : IsSound lay disk new
     pub goes : GoesOn old new
