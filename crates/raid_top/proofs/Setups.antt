@@ -46,7 +46,7 @@ use Rattle.top_duty.proofs.Drawing.{either_asked, either_few}
 use Rattle.top_duty.proofs.Fits.{fit_apart, fit_labelled, fit_there}
 use Rattle.raid_conf.proofs.TableLaws.{shape-columns}
 use Rattle.raid_label.specs.declared.label.Label.{Label}
-use Rattle.top_acts.specs.Acts.{IsSettable}
+use Rattle.top_rounds.specs.Settable.{IsSettable}
 use Rattle.top_rounds.specs.Passes.{CanBeLabelled}
 use Rattle.top_labelled.specs.Given as given
 use Rattle.top_labelled.specs.Given.{RebuildsIf}

@@ -9,7 +9,7 @@ use Rattle.raid_label.specs.declared.label.Label.{Label}
 use Rattle.raid_label.specs.Bytes.{IsHeld}
 use Rattle.raid_recon.specs.Array.{IsArray}
 use Rattle.top_rounds.specs.Passes.{CanBeLabelled}
-use Rattle.top_acts.specs.Acts.{IsSettable}
+use Rattle.top_rounds.specs.Settable.{IsSettable}
 use Rattle.top_acts.specs.Checked.{IsChecked}
 use Rattle.top_acts.specs.Killed.{IsKilled}
 use Rattle.top_acts.specs.Labelled.{IsFirstLabelled}

@@ -5,9 +5,9 @@ ghost use Rattle.raid_conf.specs.Form.{IsConf};
 ghost use Rattle.top_bay.specs.Asked.{names_for};
 ghost use Rattle.top_bay.specs.Lent.{AreBack, AreOut};
 ghost use Rattle.top_bay.specs.Told.{Told};
-ghost use Rattle.top_bay.specs.Views.{IsWithinLimits, asked_seen};
-ghost use Rattle.top_duty.specs.Opening.{sizes_of};
-ghost use Rattle.top_duty.specs.Views.{IsDutyOver, IsFitFor, duty_seen};
+ghost use Rattle.top_bay.specs.Views.{asked_seen};
+ghost use Rattle.top_duty.specs.Admitted.{IsAdmitted};
+ghost use Rattle.top_duty.specs.Views.{duty_seen};
 ghost use Rattle.top_words.specs.Views.{action_seen};
 ghost use Rattle.raid_top.specs.Ends.{Acted};
 ghost use Rattle.raid_top.specs.Refused.{CallIsRefused};
@@ -34,10 +34,7 @@ fn end<'a, B: Bay, R: Threads + Wait + Sync>(
 ) -> Result<Ended<'a>, Refusal>
 where
     B::D: Send + Drop,
-    requires within { IsWithinLimits (asked_seen admitted.asked) }
-    requires duty { IsDutyOver (asked_seen admitted.asked) (sizes_of B.D.size admitted.devices.items) admitted.fronts.items admitted.duty }
-    requires fit { IsFitFor B.D.Disk (asked_seen admitted.asked) admitted.devices.items admitted.duty }
-    requires sizes { admitted.sizes.items ≡ sizes_of B.D.size admitted.devices.items }
+    requires admitted { IsAdmitted B.D.Disk admitted }
     requires fronts { length admitted.fronts.items ≡ length admitted.devices.items }
     requires many { length admitted.devices.items ≡ length (names_for (asked_seen admitted.asked)) }
     requires out { AreOut (B.is_out bay.old) (names_for (asked_seen admitted.asked)) admitted.devices.items }

@@ -12,10 +12,9 @@ use Rattle.eng_cols.specs.Deaths.{Dies}
 use Rattle.std.specs.Prelude.{count_by}
 use Rattle.raid_recon.specs.Array.{states_of, IsArray}
 use Rattle.top_close.specs.Settled.{HaveDevices, IsLiveOn}
-use Rattle.top_rounds.proofs.RoundLaws.{can-after}
+use Rattle.top_rounds.proofs.RoundLaws.{any_death, can-after, settable_after}
 use Rattle.top_acts.specs.Begun.{CanAct}
 use Rattle.top_acts.proofs.Backs.{array_after}
-use Rattle.top_acts.proofs.Columns.{any_death, settable_after}
 
 has_live : (y : Shape) (columns : List Column) (c d : ℕ) → IsLiveOn columns c d → HasDevice (states_of y columns) c d
 has_live y columns c d live = inl (slice_get-map (state_set y.stripes) columns c ∙ ap (option_map (state_set y.stripes)) live)

@@ -2,7 +2,6 @@ pub mod Backs
 pub mod Begins
 pub mod Checks
 pub mod Closes
-pub mod Columns
 pub mod Counted
 pub mod Ended
 pub mod Fails

@@ -21,9 +21,8 @@ use Rattle.top_close.specs.Settled.{AreSettled, FailsToSettle, HaveDevices, IsLi
 use Rattle.top_rounds.specs.Labels.{seats_of, with_round}
 use Rattle.top_rounds.specs.Rounds.{AreRounds, IsInUse, clean_in_end, live_count}
 use Rattle.top_rounds.proofs.PassLaws.{live_before}
-use Rattle.top_rounds.proofs.RoundLaws.{live_less}
+use Rattle.top_rounds.proofs.RoundLaws.{any_death, live_less}
 use Rattle.top_acts.specs.Closed.{IsBroken, ClosesLabelled, TriesToClose}
-use Rattle.top_acts.proofs.Columns.{any_death}
 use Rattle.top_acts.proofs.Counted.{Behind, counted-then, counted_rounds}
 use Rattle.top_acts.proofs.Settled.{Death, death_of, settled}
 

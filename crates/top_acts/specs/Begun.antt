@@ -18,7 +18,7 @@ use Rattle.top_rounds.specs.Calls.{IsLabelWrite}
 use Rattle.top_rounds.specs.Labels.{with_round}
 use Rattle.top_rounds.specs.Passes.{CanBeLabelled, HoldsLabel, IsFirstInUse, LosesDevice}
 use Rattle.top_rounds.specs.Rounds.{HaveFailed, IsInUse, IsUncalled, live_count}
-use Rattle.top_acts.specs.Acts.{IsSettable}
+use Rattle.top_rounds.specs.Settable.{IsSettable}
 use Rattle.top_acts.specs.Stages.{NoCalls, StagesOn}
 
 -- the sweep of an array whose labels say that it isn't clean

@@ -1,4 +1,3 @@
-pub mod Acts
 pub mod Begun
 pub mod Checked
 pub mod Closed

@@ -2,7 +2,7 @@
 ghost use Rattle.std.specs.Prelude.{◌≡◌, ◌≤◌, ◌<◌, ◌+◌, ◌^◌, length};
 ghost use Rattle.eng_cols.specs.Cols.{IsFor};
 ghost use Rattle.raid_label.specs.Bytes.{IsHeld};
-ghost use Rattle.top_acts.specs.Acts.{IsSettable};
+ghost use Rattle.top_rounds.specs.Settable.{IsSettable};
 ghost use Rattle.top_acts.specs.Closed.{ClosesLabelled, TriesToClose};
 ghost use Rattle.top_close.specs.Ended.{IsLossBy, states_of};
 ghost use Rattle.top_close.specs.Settled.{is_live};

@@ -3,7 +3,7 @@ ghost use Rattle.std.specs.Prelude.{◌≡◌, ◌<◌, ◌+◌, ◌^◌, ℕ, t
 ghost use Rattle.blk_disk.specs.Devices.{calls_of};
 ghost use Rattle.eng_cols.specs.Cols.{IsFor};
 ghost use Rattle.raid_label.specs.Bytes.{IsHeld};
-ghost use Rattle.top_acts.specs.Acts.{IsSettable};
+ghost use Rattle.top_rounds.specs.Settable.{IsSettable};
 ghost use Rattle.top_acts.specs.Closed.{ClosesLabelled};
 ghost use Rattle.top_acts.specs.Stages.{SettlesFirstOn};
 ghost use Rattle.top_close.specs.Ended.{IsLossBy, states_of};

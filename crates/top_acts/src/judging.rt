@@ -1,7 +1,7 @@
 //! Whether an array is lost by its columns.
 ghost use Rattle.std.specs.Prelude.{◌≡◌, ◌≤◌, length, count_by};
 ghost use Rattle.eng_cols.specs.Cols.{IsFor, is_set_filling, is_set_spread};
-ghost use Rattle.top_acts.specs.Acts.{IsSettable};
+ghost use Rattle.top_rounds.specs.Settable.{IsSettable};
 ghost use Rattle.top_close.specs.Ended.{states_of, IsLossBy};
 
 use eng_cols::{Cols, Column, Loss};

@@ -2,7 +2,7 @@
 ghost use Rattle.std.specs.Prelude.{◌<◌, ◌+◌, ◌^◌};
 ghost use Rattle.eng_cols.specs.Cols.{IsFor};
 ghost use Rattle.raid_label.specs.Bytes.{IsHeld};
-ghost use Rattle.top_acts.specs.Acts.{IsSettable};
+ghost use Rattle.top_rounds.specs.Settable.{IsSettable};
 ghost use Rattle.top_acts.specs.Killed.{EndsAlive, IsKilled};
 ghost use Rattle.std.specs.Prelude.{length};
 ghost use Rattle.std.specs.Prelude.{None};

@@ -3,7 +3,7 @@ ghost use Rattle.std.specs.Prelude.{◌≡◌, ◌≤◌, ◌<◌, ◌+◌, ◌*
 ghost use Rattle.eng_cols.specs.Cols.{IsFor};
 ghost use Rattle.raid_label.specs.Bytes.{IsHeld};
 ghost use Rattle.raid_recon.specs.Array.{IsArray};
-ghost use Rattle.top_acts.specs.Acts.{IsSettable};
+ghost use Rattle.top_rounds.specs.Settable.{IsSettable};
 ghost use Rattle.top_acts.specs.Begun.{CanAct};
 ghost use Rattle.top_acts.specs.Done.{unless_lost};
 ghost use Rattle.top_acts.specs.Renewed.{IsRenewed, IsRenewedPlain, renewed};

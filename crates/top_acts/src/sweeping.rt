@@ -2,7 +2,7 @@
 ghost use Rattle.std.specs.Prelude.{◌≡◌, ◌≤◌, ◌*◌, None};
 ghost use Rattle.eng_cols.specs.Cols.{IsFor};
 ghost use Rattle.raid_recon.specs.Array.{IsArray};
-ghost use Rattle.top_acts.specs.Acts.{IsSettable};
+ghost use Rattle.top_rounds.specs.Settable.{IsSettable};
 ghost use Rattle.top_acts.specs.Renewed.{sweep_of};
 ghost use Rattle.top_acts.specs.Sweeping.{DoesSweep};
 ghost use Rattle.top_close.specs.Ended.{IsLossBy, states_of};

@@ -4,3 +4,4 @@ pub mod Duty
 pub mod Taken
 pub mod Fit
 pub mod Views
+pub mod Admitted

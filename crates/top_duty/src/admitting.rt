@@ -9,6 +9,7 @@ ghost use Rattle.top_bay.specs.Lent.{AreOut};
 ghost use Rattle.top_bay.specs.Told.{Told};
 ghost use Rattle.top_bay.specs.Views.{IsWithinLimits, asked_seen};
 ghost use Rattle.top_status.specs.Refusals.{only};
+ghost use Rattle.top_duty.specs.Admitted.{IsAdmitted};
 ghost use Rattle.top_duty.specs.Duty.{IsWanted, duty_in};
 ghost use Rattle.top_duty.specs.Opening.{reads_fronts, sizes_of};
 ghost use Rattle.top_duty.specs.Taken.{DevicesAreTaken, Reads, RefusedFor, RefusedOver};
@@ -88,7 +89,7 @@ pub fn admit<'a, B: Bay>(
     bay: &mut B,
 ) -> Result<Admitted<'a, B::D>, Refusal>
     ensures command { IfOk result (λ a. command_of words.entry.now ≡ Ok (command_seen a.asked.command)) }
-    ensures within { IfOk result (λ a. IsWithinLimits (asked_seen a.asked)) }
+    ensures admitted { IfOk result (λ a. IsAdmitted B.D.Disk a) }
     ensures wanted { IfOk result (λ a. B.tells → IsWanted
         (duty_in B.D.size
         (record {
@@ -107,9 +108,6 @@ pub fn admit<'a, B: Bay>(
           home = B.home bay.old;
           after = B.home bay.new;
         }) (asked_seen a.asked) a.devices.items a.fronts.items) }
-    ensures sizes { IfOk result (λ a. a.sizes.items ≡ sizes_of B.D.size a.devices.items) }
-    ensures duty { IfOk result (λ a. IsDutyOver (asked_seen a.asked) (sizes_of B.D.size a.devices.items) a.fronts.items a.duty) }
-    ensures fit { IfOk result (λ a. IsFitFor B.D.Disk (asked_seen a.asked) a.devices.items a.duty) }
     ensures out { IfOk result (λ a. (vec_len a.devices ≡ length (names_for (asked_seen a.asked)))
         × AreOut (B.is_out bay.new) (names_for (asked_seen a.asked)) a.devices.items) }
     ensures refused { IfErr result (λ r. B.tells → RefusedFor B.D.Disk

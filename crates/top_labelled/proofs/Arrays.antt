@@ -14,7 +14,7 @@ use Rattle.eng_cols.proofs.Lists.{count_at_most}
 use Rattle.eng_events.specs.Opened.{IsSetup}
 use Rattle.eng_parts.specs.declared.setup.Setup.{Setup}
 use Rattle.raid_recon.specs.Array.{IsArray}
-use Rattle.top_acts.specs.Acts.{IsSettable}
+use Rattle.top_rounds.specs.Settable.{IsSettable}
 use Rattle.top_close.specs.Settled.{IsLiveOn}
 use Rattle.top_rounds.specs.Labels.{IsNumbered}
 use Rattle.top_rounds.specs.Passes.{CanBeLabelled}

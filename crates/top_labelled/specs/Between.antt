@@ -14,7 +14,7 @@ use Rattle.eng_parts.specs.declared.core_room.CoreRoom.{CoreRoom}
 use Rattle.eng_parts.specs.declared.setup.Closed.{Closed}
 use Rattle.raid_label.specs.declared.label.Label.{Label}
 use Rattle.raid_label.specs.Bytes.{IsHeld}
-use Rattle.top_acts.specs.Acts.{IsSettable}
+use Rattle.top_rounds.specs.Settable.{IsSettable}
 use Rattle.top_acts.specs.Begun.{CanAct, HasBegun}
 use Rattle.top_acts.specs.Closed.{ClosesLabelled}
 use Rattle.top_acts.specs.Failed.{EndsFailed}

@@ -3,7 +3,7 @@ ghost use Rattle.top_labelled.specs.Given.{CanRunLabelled};
 ghost use Rattle.top_labelled.specs.Between.{IsBegun};
 
 use crate::labelled::Labelled;
-use crate::opening::opened;
+use crate::opening::{AskedRebuild, opened};
 use blk_disk::Disk;
 use eng_array::{Loss, Setup, Start};
 use eng_cols::Cols;
@@ -34,7 +34,7 @@ pub(crate) fn begun<L: Layout + Drop, D: Disk + Drop>(labelled: Labelled<L, D>) 
         mut label,
         mut judge,
         mut room,
-        start: asked,
+        start,
         failed,
     } = labelled;
     let Setup {
@@ -50,8 +50,7 @@ pub(crate) fn begun<L: Layout + Drop, D: Disk + Drop>(labelled: Labelled<L, D>) 
         lost: None,
     };
     let began = opened(
-        asked,
-        failed,
+        AskedRebuild { start, failed },
         &layout,
         devices.as_mut_slice(),
         &mut ending,
@@ -73,7 +72,7 @@ pub(crate) fn begun<L: Layout + Drop, D: Disk + Drop>(labelled: Labelled<L, D>) 
         label,
         judge,
         lost,
-        asked,
+        asked: start,
         began,
     }
 }

@@ -18,6 +18,15 @@ use raid_recon::Room;
 use top_acts::{begin_labelled, fail_column};
 use top_close::Ending;
 
+/// What is asked of a rebuild.
+#[derive(Clone, Copy)]
+pub(crate) struct AskedRebuild {
+    /// The rebuild that is to begin, where one is. Its column isn't dead yet.
+    pub start: Option<Start>,
+    /// Whether the device onto which that goes has failed in this call already.
+    pub failed: bool,
+}
+
 // The column is dead that is to be rebuilt, where one is.
 fn fail_asked<L: Layout, D: Disk>(
     start: Option<Start>,
@@ -51,8 +60,7 @@ fn fail_asked<L: Layout, D: Disk>(
 /// column is dead that is to be rebuilt, and where the array is lost by that, its one round is
 /// written. Says what begins of the rebuild.
 pub(crate) fn opened<L: Layout, D: Disk>(
-    start: Option<Start>,
-    failed: bool,
+    asked: AskedRebuild,
     layout: &L,
     devices: &mut [Option<D>],
     ending: &mut Ending,
@@ -60,18 +68,19 @@ pub(crate) fn opened<L: Layout, D: Disk>(
     room: &mut Room,
     judge: &mut Cols,
 ) -> Option<Start>
-    requires within { IsColumnWithin start (length ending.old.columns.items) }
+    requires within { IsColumnWithin asked.start (length ending.old.columns.items) }
     requires can { CanAct D.Disk (L.shape layout.now) ending.old.columns.items devices.old }
     requires held { IsHeld label.old }
     requires counter { label.old.counter + 67 < 2 ^ 32 }
     requires room { 1024 * (L.shape layout.now).unit_sectors ≤ room.old }
     requires judge { IsFor (L.shape layout.now) judge.old }
-    ensures opened { HasOpened D.Disk (L.shape layout.now) start failed label.old label.new
+    ensures opened { HasOpened D.Disk (L.shape layout.now) asked.start asked.failed label.old label.new
         ending.old.columns.items ending.new.columns.items devices.old devices.new ending.new.lost result }
     ensures can { CanAct D.Disk (L.shape layout.now) ending.new.columns.items devices.new }
     ensures held { IsHeld label.new }
     ensures judge { IsFor (L.shape layout.now) judge.new }
 {
+    let AskedRebuild { start, failed } = asked;
     let dirty = label.clean == 0;
     let was = is_in_place(start, &ending.columns);
     let _ = begin_labelled(layout, devices, ending, label, dirty, room, judge);

@@ -1,6 +1,6 @@
 -- Rounds that follow one another.
 use Rattle.std.proofs.Common.{◌≡◌, ◌≢◌, ◌⊎◌, ◌∙◌, ℕ, suc, ◌+◌, ◌≤◌, true, false, cond, List, [], ◌∷◌, ◌++◌, length, get_or, Option, Some, None, refl, sym, ap, subst, inl, inr, arith, append-nil, take, drop}
-use Rattle.std.specs.Prelude.{All, IsSome, is_some, set, slice_get}
+use Rattle.std.specs.Prelude.{All, IsSome, count_by, is_some, set, slice_get}
 use Rattle.std.proofs.lemmas.List.{drop_all, length-append, take_all}
 use Rattle.std.proofs.lemmas.List.Elements.{All-from_get_or, All-get_or, All-nil, All-push, All-weaker}
 use Rattle.std.proofs.lemmas.List.Quantifiers.{all_pairs_push}
@@ -12,7 +12,7 @@ use Rattle.blk_disk.proofs.DeviceLaws.{changes-more, changes-refl, changes-then,
 use Rattle.eng_cols.specs.declared.column.Column.{Column}
 use Rattle.eng_cols.specs.declared.column.Column.TheVariants as column
 use Rattle.eng_cols.specs.declared.spot.Loss.{Loss}
-use Rattle.eng_cols.specs.Cols.{ColumnState}
+use Rattle.eng_cols.specs.Cols.{ColumnState, is_set_filling, is_set_spread}
 use Rattle.eng_cols.specs.Deaths.{Dies}
 use Rattle.eng_cols.specs.Lost.{NotLost}
 use Rattle.eng_cols.proofs.DeathLaws.{dies-more, dies-refl, dies-then}
@@ -25,6 +25,7 @@ use Rattle.top_rounds.specs.Labels.{IsNumbered, seats_of, with_round}
 use Rattle.top_rounds.specs.Passes.{AreLabelled, CanBeLabelled, EndsByDeath, EndsPass, IsFirstInUse, LosesDevice}
 use Rattle.top_rounds.specs.Rounds.{AreRounds, HaveRounds, HaveTried, IsInUse, IsUncalled, clean_in_end, live_count}
 use Rattle.top_rounds.specs.Calls.{WritesOn}
+use Rattle.top_rounds.specs.Settable.{IsSettable}
 use Rattle.top_rounds.proofs.CallLaws.{writes_on-refl, writes_on-then}
 use Rattle.top_rounds.proofs.PassLaws.{live_before, set_here}
 
@@ -33,6 +34,14 @@ use Rattle.top_rounds.proofs.PassLaws.{live_before, set_here}
 -- whatever they died of
 pub any_death : (cause : ℕ → Type 0) (old new : List Column) → Dies cause old new → Dies AnyCause old new
 any_death cause old new dies = dies-more cause AnyCause old new (λ c h. tt) dies
+
+-- columns of which some died are settable still
+pub settable_after : (y : Shape) (old new : List Column) → Dies AnyCause old new → count_by is_set_filling new ≤ count_by is_set_filling old → count_by is_set_spread new ≤ count_by is_set_spread old → IsSettable y old → IsSettable y new
+settable_after y old new dies filling spread h = record {
+  entries = dies.count ∙ h.entries;
+  filling = omega (arith, filling, h.filling);
+  spread = omega (arith, spread, h.spread);
+}
 
 one_if_live : Column → ℕ
 one_if_live x = cond (is_live (Some x)) 1 0

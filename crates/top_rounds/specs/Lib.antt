@@ -3,3 +3,4 @@ pub mod Labels
 pub mod Passes
 pub mod Rounds
 pub mod Samples
+pub mod Settable

@@ -1,12 +1,13 @@
 //! Rounds, one behind the other.
-ghost use Rattle.std.specs.Prelude.{◌≡◌, ◌<◌, ◌≤◌, ◌+◌, ◌^◌, ℕ, length, count_by, true, false, None};
-ghost use Rattle.eng_cols.specs.Cols.{IsFor, is_set_filling, is_set_spread};
+ghost use Rattle.std.specs.Prelude.{◌≡◌, ◌<◌, ◌+◌, ◌^◌, ℕ, true, false, None};
+ghost use Rattle.eng_cols.specs.Cols.{IsFor};
 ghost use Rattle.eng_cols.specs.Lost.{NotLost};
 ghost use Rattle.raid_label.specs.Bytes.{IsHeld};
 ghost use Rattle.top_close.specs.Ended.{IsLossBy, states_of};
 ghost use Rattle.top_rounds.specs.Labels.{with_round};
 ghost use Rattle.top_rounds.specs.Passes.{CanBeLabelled};
 ghost use Rattle.top_rounds.specs.Rounds.{AreRounds, HaveRounds, HaveTried, clean_in_end};
+ghost use Rattle.top_rounds.specs.Settable.{IsSettable};
 
 use crate::pass::{last_round, try_round};
 use blk_disk::Disk;
@@ -17,9 +18,7 @@ use top_close::{Ending, deaths_bring_no_unit_back};
 
 // By what an array is lost that has these columns.
 fn loss_of<L: Layout>(layout: &L, columns: &[Column], judge: &mut Cols) -> Option<Loss>
-    requires columns { length columns.now ≡ (L.shape layout.now).columns }
-    requires filling { count_by is_set_filling columns.now ≡ 0 }
-    requires spread { count_by is_set_spread columns.now ≤ 1 }
+    requires columns { IsSettable (L.shape layout.now) columns.now }
     requires judge { IsFor (L.shape layout.now) judge.old }
     ensures lost { IsLossBy (L.shape layout.now) None
         (states_of (L.shape layout.now) columns.now) result }
@@ -31,9 +30,7 @@ fn loss_of<L: Layout>(layout: &L, columns: &[Column], judge: &mut Cols) -> Optio
 
 // Whether an array is lost that has these columns.
 fn is_lost<L: Layout>(layout: &L, columns: &[Column], judge: &mut Cols) -> bool
-    requires columns { length columns.now ≡ (L.shape layout.now).columns }
-    requires filling { count_by is_set_filling columns.now ≡ 0 }
-    requires spread { count_by is_set_spread columns.now ≤ 1 }
+    requires columns { IsSettable (L.shape layout.now) columns.now }
     requires judge { IsFor (L.shape layout.now) judge.old }
     ensures lost { result ≡ true → NotLost (L.shape layout.now)
         (states_of (L.shape layout.now) columns.now) → ⊥ }
@@ -59,9 +56,7 @@ fn try_rounds<L: Layout, D: Disk>(
     requires array { CanBeLabelled D.Disk columns.old devices.old }
     requires held { IsHeld label.old }
     requires counter { label.old.counter + 33 < 2 ^ 32 }
-    requires columns { length columns.old ≡ (L.shape layout.now).columns }
-    requires filling { count_by is_set_filling columns.old ≡ 0 }
-    requires spread { count_by is_set_spread columns.old ≤ 1 }
+    requires columns { IsSettable (L.shape layout.now) columns.old }
     requires judge { IsFor (L.shape layout.now) judge.old }
     ensures label { label.new
         ≡ with_round label.old label.new.counter label.old.clean label.new.seats }
@@ -95,9 +90,7 @@ fn rounds_of_kept<L: Layout, D: Disk>(
     requires array { CanBeLabelled D.Disk columns.old devices.old }
     requires held { IsHeld label.old }
     requires counter { label.old.counter + 33 < 2 ^ 32 }
-    requires columns { length columns.old ≡ (L.shape layout.now).columns }
-    requires filling { count_by is_set_filling columns.old ≡ 0 }
-    requires spread { count_by is_set_spread columns.old ≤ 1 }
+    requires columns { IsSettable (L.shape layout.now) columns.old }
     requires judge { IsFor (L.shape layout.now) judge.old }
     ensures label { label.new
         ≡ with_round label.old label.new.counter (clean_in_end result label.old.clean) label.new.seats }
@@ -138,9 +131,7 @@ pub fn round<L: Layout, D: Disk>(
     requires array { CanBeLabelled D.Disk ending.old.columns.items devices.old }
     requires held { IsHeld label.old }
     requires counter { label.old.counter + 33 < 2 ^ 32 }
-    requires columns { length ending.old.columns.items ≡ (L.shape layout.now).columns }
-    requires filling { count_by is_set_filling ending.old.columns.items ≡ 0 }
-    requires spread { count_by is_set_spread ending.old.columns.items ≤ 1 }
+    requires columns { IsSettable (L.shape layout.now) ending.old.columns.items }
     requires judge { IsFor (L.shape layout.now) judge.old }
     ensures label { label.new ≡ with_round label.old label.new.counter
         (clean_in_end ending.new.lost label.old.clean) label.new.seats }

@@ -16,6 +16,9 @@ use Rattle.raid_top.proofs.Reading.{fronts_count}
 use Rattle.raid_top.proofs.Wanted.{duty_same}
 use Rattle.raid_top.proofs.act.act.Goals as goal
 
+pub end-requires-clause-admitted : goal.end-requires-clause-admitted
+end-requires-clause-admitted g c κs w = c.in-Ok.ensures.admitted
+
 pub end-requires-clause-fronts : goal.end-requires-clause-fronts
 end-requires-clause-fronts g c κs w =
     let a = c.in-Ok.admitted in

@@ -4,10 +4,10 @@ use Rattle.std.specs.Option.{option_map}
 use Rattle.top_rounds.specs.Labels.{with_round}
 use Rattle.top_rounds.specs.Passes.{IsFirstInUse, LosesDevice}
 use Rattle.top_rounds.specs.Rounds.{HaveRounds}
+use Rattle.top_rounds.proofs.RoundLaws.{any_death}
 use Rattle.top_acts.specs.Begun.{HasBegun}
 use Rattle.top_acts.specs.Renewed.{sweep_of}
 use Rattle.top_acts.proofs.Begins.{begun_only, begun_swept}
-use Rattle.top_acts.proofs.Columns.{any_death}
 use Rattle.top_acts.proofs.Counted.{counted_rounds}
 use Rattle.top_acts.proofs.Ended.{clean_none, no_loss, rounds_of}
 use Rattle.top_acts.proofs.Having.{acts_after}

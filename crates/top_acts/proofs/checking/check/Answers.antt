@@ -1,10 +1,10 @@
 use Rattle.std.proofs.Common.{◌≡◌, ◌∙◌, ap, length, subst, sym}
 use Rattle.raid_recon.specs.Array.{Failed, states_of}
-use Rattle.top_acts.specs.Acts.{IsSettable}
+use Rattle.top_rounds.specs.Settable.{IsSettable}
+use Rattle.top_rounds.proofs.RoundLaws.{any_death, settable_after, whole_slice}
 use Rattle.top_acts.specs.Done.{unless_lost}
 use Rattle.top_acts.specs.declared.done.Done.TheVariants as done
 use Rattle.top_acts.proofs.Checks.{checked_whole}
-use Rattle.top_acts.proofs.Columns.{any_death, settable_after, whole_slice}
 use Rattle.top_acts.proofs.checking.check.Goals as goal
 
 pub loss_of-ending-requires-clause-columns : goal.loss_of-ending-requires-clause-columns

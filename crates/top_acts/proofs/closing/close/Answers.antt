@@ -2,9 +2,8 @@ use Rattle.std.proofs.Common.{◌∙◌, ap, refl, arith}
 use Rattle.raid_label.specs.declared.label.Label.{Label}
 use Rattle.top_rounds.specs.Labels.{with_round}
 use Rattle.top_rounds.specs.Passes.{IsFirstInUse, LosesDevice}
-use Rattle.top_rounds.proofs.RoundLaws.{can-after}
+use Rattle.top_rounds.proofs.RoundLaws.{any_death, can-after, settable_after}
 use Rattle.top_acts.proofs.Closes.{broken_again, closed_then, counted-none, few, label_again, still_held}
-use Rattle.top_acts.proofs.Columns.{any_death, settable_after}
 use Rattle.top_acts.proofs.closing.close.Goals as goal
 
 pub loop-init : goal.loop-init

@@ -4,8 +4,7 @@ use Rattle.eng_cols.proofs.DeathLaws.{dies-set}
 use Rattle.blk_disk.proofs.DeviceLaws.{changes-refl}
 use Rattle.top_close.specs.Dying.{AnyCause}
 use Rattle.top_rounds.specs.Passes.{IsFirstInUse}
-use Rattle.top_rounds.proofs.RoundLaws.{can-after}
-use Rattle.top_acts.proofs.Columns.{settable_after}
+use Rattle.top_rounds.proofs.RoundLaws.{can-after, settable_after}
 use Rattle.top_acts.proofs.killing.kill.Goals as goal
 
 pub settle_and_close-requires-clause-array : goal.settle_and_close-requires-clause-array

@@ -1,6 +1,6 @@
 use Rattle.std.proofs.Common.{◌∙◌, ap, length, subst, sym, None}
 use Rattle.top_close.specs.Ended.{IsLossBy, states_of}
-use Rattle.top_acts.proofs.Columns.{whole_slice}
+use Rattle.top_rounds.proofs.RoundLaws.{whole_slice}
 use Rattle.top_acts.proofs.sweeping.sweep_and_judge.Goals as goal
 
 pub returns-clause-lost : goal.returns-clause-lost

@@ -9,8 +9,9 @@ use Rattle.top_bay.specs.Views.{asked_seen}
 use Rattle.top_bay.proofs.Homes.{lent_are_named}
 use Rattle.top_status.specs.Refusals.{Refused}
 use Rattle.top_words.specs.Views.{action_seen}
-use Rattle.top_duty.specs.Opening.{reads_fronts}
+use Rattle.top_duty.specs.Opening.{reads_fronts, sizes_of}
 use Rattle.top_duty.specs.Taken.{DevicesAreTaken, Reads, RefusedFor, RefusedOver}
+use Rattle.top_duty.specs.Views.{IsDutyOver, IsFitFor}
 use Rattle.top_duty.proofs.Returning.{back_named, home_stays, out_still, written_back}
 use Rattle.top_duty.proofs.Sized.{asked_same, is_wanted, refused_asking, refused_judging}
 use Rattle.top_duty.proofs.admitting.admit.Goals as goal
@@ -21,6 +22,24 @@ returns-in-Err-clause-refused g c = λ told.
     let b : Told _ = record { tells = B.tells; rose = Rose (B.faults c.args.bay.now) (B.faults c.ask.new.bay); texts = B.text_of c.args.bay.now; home = B.home c.args.bay.now; after = B.home c.ask.new.bay } in
     subst (λ (r : Refused). RefusedFor g.B.D.Disk b c.args.words.now r) (sym c.only.ensures)
     (refused_asking g.B.D.Disk b c.args.words.now c.in-Err.status (λ e. c.in-Err.ensures.cause (ap (λ s. Err s) e)) (c.in-Err.ensures.answer told))
+
+pub returns-in-Ok-judge-clause-admitted : goal.returns-in-Ok-judge-clause-admitted
+returns-in-Ok-judge-clause-admitted g c =
+    let size = g.B.D.Disk.size in
+    let k = asked_seen c.in-Ok.taken.asked in
+    let ds = c.in-Ok.taken.devices.items in
+    let now = c.judge.new.devices in
+    let j = c.in-Ok-judge.field-0 in
+    let e = c.in-Ok-judge.ensures in
+    let stays : Changes g.B.D.Disk (λ _ _. ⊥) ds now = subst (λ l. Changes g.B.D.Disk (λ _ _. ⊥) l now) c.as_mut_slice.ensures.value c.judge.ensures.stays in
+    let long : length ds ≡ c.in-Ok.taken.devices.len = omega (arith, c.in-Ok.taken.devices.ok.0) in
+    let whole : take c.in-Ok.taken.devices.len (now ++ drop (length now) ds) ≡ now = written_back c.in-Ok.taken.devices.len now ds long (omega (arith, long, stays.count)) in
+    record {
+      within = c.in-Ok.ensures.within;
+      sizes = e.sizes ∙ ap (λ l. sizes_of size l) (sym whole);
+      duty = subst (λ l. IsDutyOver k (sizes_of size l) j.fronts.items j.duty) (sym whole) e.duty;
+      fit = subst (λ l. IsFitFor g.B.D.Disk k l j.duty) (sym whole) e.fit;
+    }
 
 pub returns-in-Ok-judge-clause-wanted : goal.returns-in-Ok-judge-clause-wanted
 returns-in-Ok-judge-clause-wanted g c = λ told.

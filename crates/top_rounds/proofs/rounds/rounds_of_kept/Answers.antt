@@ -1,4 +1,4 @@
-use Rattle.std.proofs.Common.{◌∙◌, ap, arith, refl}
+use Rattle.std.proofs.Common.{◌∙◌, ap, refl}
 use Rattle.eng_cols.specs.Lost.{NotLost}
 use Rattle.eng_cols.proofs.DeathLaws.{dies-then}
 use Rattle.raid_label.specs.declared.label.Label.{Label}
@@ -6,7 +6,7 @@ use Rattle.top_close.specs.Dying.{AnyCause}
 use Rattle.top_close.specs.Ended.{states_of}
 use Rattle.top_rounds.specs.Labels.{with_round}
 use Rattle.top_rounds.specs.Passes.{IsFirstInUse, LosesDevice}
-use Rattle.top_rounds.proofs.RoundLaws.{any_death, can-after, lost_clean, round_again, rounds_are, rounds_lost}
+use Rattle.top_rounds.proofs.RoundLaws.{any_death, can-after, lost_clean, round_again, rounds_are, rounds_lost, settable_after}
 use Rattle.top_rounds.proofs.rounds.rounds_of_kept.Goals as goal
 
 pub last_round-requires-clause-array : goal.last_round-requires-clause-array
@@ -14,11 +14,13 @@ last_round-requires-clause-array g c =
     let t = c.if-try_rounds.ensures.tried refl in
     can-after g.D.Disk (LosesDevice g.D.Disk c.args.columns.now c.args.devices.now c.try_rounds.new.devices) (IsFirstInUse c.args.columns.now) c.args.columns.now c.try_rounds.new.columns c.args.devices.now c.try_rounds.new.devices t.dies t.frame c.requires.array
 
-pub loss_of-requires-clause-filling : goal.loss_of-requires-clause-filling
-loss_of-requires-clause-filling g c =
+pub loss_of-requires-clause-columns : goal.loss_of-requires-clause-columns
+loss_of-requires-clause-columns g c =
     let t = c.if-try_rounds.ensures.tried refl in
-    let dies = dies-then AnyCause c.args.columns.now c.try_rounds.new.columns c.last_round.new.columns (any_death _ _ _ t.dies) (any_death _ _ _ c.last_round.ensures.pass.dies) in
-    omega (arith, c.deaths_bring_no_unit_back.ensures.filling c.args.columns.now c.last_round.new.columns dies, c.requires.filling)
+    let old = c.args.columns.now in
+    let new = c.last_round.new.columns in
+    let dies = dies-then AnyCause old c.try_rounds.new.columns new (any_death _ _ _ t.dies) (any_death _ _ _ c.last_round.ensures.pass.dies) in
+    settable_after (g.L.Layout.shape c.args.layout.now) old new dies (c.deaths_bring_no_unit_back.ensures.filling old new dies) (c.deaths_bring_no_unit_back.ensures.spread old new dies) c.requires.columns
 
 pub returns-clause-label : goal.returns-clause-label
 returns-clause-label g c =
