@@ -1,6 +1,7 @@
 //! The room of a core is taken.
-ghost use Rattle.std.specs.Prelude.{◌≡◌, ◌<◌, ◌≤◌, ◌*◌, ℕ, length, replicate, IfOk};
+ghost use Rattle.std.specs.Prelude.{◌≡◌, ◌<◌, ◌≤◌, ◌*◌, ℕ, [], length, replicate, IfOk};
 ghost use Rattle.buf_pool.specs.Pool.{IsFresh};
+ghost use Rattle.stripe_lock.specs.Table.{IsIdle};
 ghost use Rattle.eng_cols.specs.Cols.{Dead};
 ghost use Rattle.eng_log.specs.Given.{items_at};
 ghost use Rattle.eng_clients.specs.Desk.{desk_at};
@@ -81,6 +82,85 @@ fn clients_for(alloc: Global, clients: &[Vec<Item>]) -> Result<Clients, Memory>
     Ok(Clients::open(alloc, clients)?)
 }
 
+// The room is taken in three groups: each part that may be wanting adds an exit on which all parts before it are let go.
+
+// What depends on the layout's shape.
+#[derive(Drop)]
+struct Shaped {
+    cols: Cols,
+    pool: Pool,
+    log: Log,
+}
+
+// What an event works with.
+#[derive(Drop)]
+struct Tools<D> {
+    devices: DeviceRoom<D>,
+    locks: Locks,
+    lists: Lists,
+    scratch: Scratch,
+}
+
+// The clients, the engine's own among them, and the lists that they are handed out in.
+#[derive(Drop)]
+struct Desks {
+    clients: Clients,
+    rebuilds: Rebuilds,
+    spare: Spare,
+}
+
+// All columns are dead, all buffers are free, and the log is empty.
+fn shaped_for<L: Layout>(
+    alloc: Global,
+    layout: &L,
+    trace: bool,
+    clients: &[Vec<Item>],
+) -> Result<Shaped, Memory>
+    requires clients { length clients.now ≤ 16 }
+    requires sectors { sectors_before clients.now 16 ≤ 262144 }
+    ensures cols { IfOk result (λ shaped. shaped.cols ≡ record { states = replicate (L.shape layout.now).columns Dead; stripes = (L.shape layout.now).stripes }) }
+    ensures unit { IfOk result (λ shaped. shaped.pool.unit ≡ 512 * (L.shape layout.now).unit_sectors) }
+    ensures fresh { IfOk result (λ shaped. IsFresh shaped.pool 2048) }
+    ensures log { IfOk result (λ shaped. shaped.log ≡ fresh_log (L.shape layout.now) trace shaped.log.handed) }
+    ensures laid { IfOk result (λ shaped. IsLaidOut clients.now (L.shape layout.now).stripes shaped.log.handed) }
+{
+    Ok(Shaped {
+        cols: cols_for(alloc, layout)?,
+        pool: pool_for(alloc, layout)?,
+        log: log_for(alloc, layout, trace, clients)?,
+    })
+}
+
+// Room for so many devices; no stripe is held, and all lists are at home.
+fn tools_for<D: Drop>(alloc: Global, devices: u32) -> Result<Tools<D>, Memory>
+    ensures devices { IfOk result (λ tools. tools.devices ≡ devices) }
+    ensures locks { IfOk result (λ tools. IsIdle tools.locks 17) }
+    ensures lists { IfOk result (λ tools. tools.lists ≡ 32) }
+{
+    Ok(Tools {
+        devices: DeviceRoom::open(alloc, devices)?,
+        locks: Locks::open(alloc, OWNERS)?,
+        lists: Lists::open(alloc)?,
+        scratch: Scratch::open(alloc)?,
+    })
+}
+
+// None of the clients has begun an item, and there is a rebuild's place for each stripe.
+fn desks_for(alloc: Global, stripes: u32, clients: &[Vec<Item>]) -> Result<Desks, Memory>
+    requires clients { length clients.now ≤ 16 }
+    requires items { items_before clients.now 16 ≤ 65536 }
+    ensures count { IfOk result (λ desks. length desks.clients ≡ 17) }
+    ensures each { IfOk result (λ desks. (c : ℕ) → c < 17 → desk_at desks.clients c ≡ new_desk (items_at clients.now c)) }
+    ensures rebuilds { IfOk result (λ desks. desks.rebuilds ≡ record { items = []; room = stripes }) }
+    ensures spare { IfOk result (λ desks. desks.spare ≡ length clients.now) }
+{
+    Ok(Desks {
+        clients: clients_for(alloc, clients)?,
+        rebuilds: Rebuilds::open(alloc, stripes)?,
+        spare: Spare::open(alloc, clients.len() as u32)?,
+    })
+}
+
 impl<D: Drop> CoreRoom<D> {
     /// Takes all memory that a run takes over this layout, so many devices and these items, with the trace if it is to
     /// be kept. The only error is want of memory.
@@ -98,20 +178,20 @@ impl<D: Drop> CoreRoom<D> {
         ensures { IfOk result (IsRoomFor (L.shape layout.now) devices clients.now trace) }
     {
         let _ = graphs;
-        let cols = cols_for(alloc, layout)?;
-        let pool = pool_for(alloc, layout)?;
-        let log = log_for(alloc, layout, trace, clients)?;
+        let shaped = shaped_for(alloc, layout, trace, clients)?;
+        let tools = tools_for(alloc, devices)?;
+        let desks = desks_for(alloc, layout.stripes(), clients)?;
         Ok(CoreRoom {
-            cols,
-            devices: DeviceRoom::open(alloc, devices)?,
-            pool,
-            locks: Locks::open(alloc, OWNERS)?,
-            lists: Lists::open(alloc)?,
-            clients: clients_for(alloc, clients)?,
-            scratch: Scratch::open(alloc)?,
-            log,
-            rebuilds: Rebuilds::open(alloc, layout.stripes())?,
-            spare: Spare::open(alloc, clients.len() as u32)?,
+            cols: shaped.cols,
+            devices: tools.devices,
+            pool: shaped.pool,
+            locks: tools.locks,
+            lists: tools.lists,
+            clients: desks.clients,
+            scratch: tools.scratch,
+            log: shaped.log,
+            rebuilds: desks.rebuilds,
+            spare: desks.spare,
         })
     }
 }
