@@ -136,6 +136,22 @@ fn push_node(
     ensures sources { All (λ n. n < 2 ^ 32) sources.now }
     ensures antes { All (λ n. n < 2 ^ 32) antes.now }
 {
+    push_node_line(text, i, node, sources, antes)
+}
+
+// The same; apart, since what is said of the arguments would be shown again at each early exit.
+fn push_node_line(
+    text: &mut Vec<u8>,
+    i: u32,
+    node: Node,
+    sources: &[u32],
+    antes: &[u32],
+) -> Result<(), Memory>
+    ensures { OnOk result (
+        text.new.items ≡ text.old.items
+        ++ line_text (node_places i (record { kind = node; sources = sources.now; antes = antes.now }))
+        ) }
+{
     text.extend_from_slice(b"node")?;
     push_number(text, i)?;
     push_kind(text, node)?;

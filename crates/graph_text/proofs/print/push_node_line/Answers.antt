@@ -3,10 +3,10 @@ use Rattle.std.proofs.Common.{ap, append_assoc, ◌∙◌}
 use Rattle.graph_text.specs.FormatForm.{Literal, Number, after_places, kind_places, number_places}
 use Rattle.graph_text.specs.Printing.{line_text}
 use Rattle.graph_text.proofs.PrintedLines.{line_then, words_then}
-use Rattle.graph_text.proofs.print.push_node.Goals as goal
+use Rattle.graph_text.proofs.print.push_node_line.Goals as goal
 
-pub returns-clause-line : goal.returns-clause-line
-returns-clause-line c =
+pub returns : goal.returns
+returns c =
     let index = Number c.args.i ∷ [] in
     let kind = kind_places c.args.node in
     let sources = number_places c.args.sources.now in
