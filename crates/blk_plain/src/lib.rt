@@ -8,8 +8,6 @@ mod blocks;
 pub mod limits;
 mod memory;
 mod op;
-#[cfg(test)]
-mod tests;
 
 pub use blocks::{Blocks, fill, replay};
 pub use memory::Memory;

@@ -9,8 +9,6 @@ mod buffer;
 mod lease;
 mod pool;
 mod seat;
-#[cfg(test)]
-mod tests;
 
 pub use buffer::{Buffer, Memory};
 pub use lease::{Full, Lease};

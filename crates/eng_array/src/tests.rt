@@ -5,6 +5,7 @@ mod closed;
 mod driving;
 mod faults;
 mod graphs;
+mod judging;
 mod late;
 mod opening;
 mod orders;
@@ -14,11 +15,14 @@ mod rows;
 mod together;
 mod traced;
 
-use crate::{Item, Setup};
+use crate::{Closed, Item, Setup};
 use blk_disk::{MemDisk, SECTOR};
 use blk_plain::{Op, OpId, Pattern, Span};
+use driving::run;
 use eng_cols::Column;
+use lay_plain::Raid5;
 use std::alloc::Global;
+use std::process::Abort;
 use std::test::Fail;
 
 // A device of so many sectors of zeros that fails its calls of these numbers.
@@ -116,4 +120,37 @@ fn setup<L: Drop>(
         graphs: Vec::new(alloc),
         trace: false,
     })
+}
+
+// Level 5 over three columns of 64 rows, with units of one sector.
+fn level_five(
+    rt: &impl Abort,
+    alloc: Global,
+    fails: &[&[u32]],
+    lists: &[&[Item]],
+) -> Result<Setup<Raid5, MemDisk>, Fail>
+    ensures { IfOk result (λ setup. setup.trace ≡ false) }
+{
+    let layout = Raid5::new(3, 1, 64).expect(rt, "a layout");
+    setup(alloc, layout, fails, lists)
+}
+
+// What these clients leave there.
+fn ran(
+    rt: &impl Abort,
+    alloc: Global,
+    fails: &[&[u32]],
+    lists: &[&[Item]],
+) -> Result<Closed<Raid5, MemDisk>, Fail> {
+    run(alloc, level_five(rt, alloc, fails, lists)?)
+}
+
+// What a client leaves there that writes and reads block 0.
+fn written(
+    rt: &impl Abort,
+    alloc: Global,
+    fails: &[&[u32]],
+) -> Result<Closed<Raid5, MemDisk>, Fail> {
+    let items = [write(0, 1, 0xa5), read(0, 1)];
+    ran(rt, alloc, fails, &[&items])
 }

@@ -4,4 +4,3 @@ pub mod Following
 pub mod Keeps
 pub mod Placing
 pub mod Sent
-pub mod Trials

@@ -2,4 +2,3 @@ pub mod Drained
 pub mod Idle
 pub mod Laws
 pub mod Places
-pub mod Trial

@@ -9,8 +9,6 @@ mod crew;
 mod draining;
 mod laws;
 mod rule;
-#[cfg(test)]
-mod tests;
 mod turns;
 mod worker;
 

@@ -9,8 +9,6 @@ mod bytes;
 mod job;
 mod lists;
 mod perform;
-#[cfg(test)]
-mod tests;
 
 pub use blk_plain::Outcome;
 pub use job::{Job, Source, Work};

@@ -5,8 +5,6 @@
 
 mod checked;
 mod planning;
-#[cfg(test)]
-mod tests;
 
 pub use checked::plan_and_check;
 pub use planning::{kind_of, lease_size, list_missing, mode_by, span_of};

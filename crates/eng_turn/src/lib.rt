@@ -11,8 +11,6 @@
 
 mod rule;
 mod table_rule;
-#[cfg(test)]
-mod tests;
 mod turn;
 mod view;
 

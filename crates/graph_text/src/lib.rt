@@ -45,6 +45,3 @@ pub use fault::BookFault;
 pub use laws::{file_is_of_the_form, file_is_read, file_text_is_read, graph_text_is_read};
 pub use print::print_graph;
 pub use reader::read_graphs;
-
-#[cfg(test)]
-mod tests;

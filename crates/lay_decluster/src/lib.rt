@@ -20,6 +20,3 @@ pub use laws::{
     data_units_stand_in_tuple_order, rows_are_the_lowest_free, spare_places_lie_by_units,
 };
 pub use spared::Spared;
-
-#[cfg(test)]
-mod tests;

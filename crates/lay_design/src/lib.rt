@@ -21,6 +21,3 @@ mod tuples;
 pub use design::Design;
 pub use fault::DesignFault;
 pub use laws::designs_have_no_fault;
-
-#[cfg(test)]
-mod tests;

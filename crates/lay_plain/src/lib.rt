@@ -15,8 +15,3 @@ pub use level_five::Raid5;
 pub use level_four::Raid4;
 pub use level_one::Raid1;
 pub use level_zero::Raid0;
-
-#[cfg(test)]
-mod tables;
-#[cfg(test)]
-mod tests;

@@ -7,6 +7,3 @@
 mod text_line;
 
 pub use text_line::Line;
-
-#[cfg(test)]
-mod tests;

@@ -61,6 +61,3 @@ pub use parameters::Parameters;
 pub use print::print_conf;
 pub use reader::read_conf;
 pub use tables::{design_parameters, table_rows, table_stripes};
-
-#[cfg(test)]
-mod tests;

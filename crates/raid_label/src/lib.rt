@@ -21,6 +21,3 @@ pub use label::Label;
 pub use laws::{held_labels_are_written, written_labels_are_read};
 pub use read::{found_version, read_label};
 pub use write::write_label;
-
-#[cfg(test)]
-mod tests;

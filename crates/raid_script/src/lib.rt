@@ -50,6 +50,3 @@ pub use runs::{put_blocks, run_length};
 pub use script::Script;
 pub use summary::put_summary;
 pub use trace::put_trace;
-
-#[cfg(test)]
-mod tests;

@@ -17,6 +17,3 @@ pub use laws::{lines_are_read_again, numbers_are_read_again, patterns_are_read_a
 pub use numbers::number;
 pub use patterns::pattern;
 pub use readers::{Line, Lines, Words};
-
-#[cfg(test)]
-mod tests;

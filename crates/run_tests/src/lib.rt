@@ -5,4 +5,6 @@
 #![tactic(auto)]
 
 #[cfg(test)]
+mod judging;
+#[cfg(test)]
 mod tests;

@@ -1,4 +1,5 @@
 //! Sessions: commands on a bay in memory, and what each of them prints and leaves.
+use crate::judging::same_at;
 use blk_disk::{Call, Disk, MemDisk, SECTOR};
 use raid_bay::{Bay, MemBay, MemSink, Name};
 use raid_top::run;
@@ -258,20 +259,20 @@ fn act_out<R: Abort + Threads + Wait + Sync>(
     match step {
         Step::Run(words, exit, lines) => {
             let (number, printed) = answer(rt, alloc, bay, words)?;
-            assert_eq!(rt; printed.as_slice(), lines.as_bytes(), "{words}");
-            assert_eq!(rt; number, exit, "{words}");
+            same_at(rt, words, printed.as_slice(), lines.as_bytes());
+            same_at(rt, words, number, exit);
         }
         Step::Holds(name, lines) => {
             let held = held_by(alloc, found(bay, name)?)?;
-            assert_eq!(rt; held.as_str(), lines, "{name}");
+            same_at(rt, name, held.as_str(), lines);
         }
         Step::Begins(name, bytes) => {
             let disk = found(bay, name)?;
-            assert!(rt; disk.bytes().starts_with(bytes), "{name}");
+            same_at(rt, name, disk.bytes().starts_with(bytes), true);
         }
         Step::Calls(name, lines) => {
             let calls = calls_of(alloc, found(bay, name)?)?;
-            assert_eq!(rt; calls.as_str(), lines, "{name}");
+            same_at(rt, name, calls.as_str(), lines);
         }
         Step::Renew(name) => renew(alloc, bay, name)?,
         Step::Resize(name, sectors) => resize(alloc, bay, name, sectors)?,

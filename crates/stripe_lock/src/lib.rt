@@ -8,8 +8,6 @@ mod holder;
 mod locks;
 mod mode;
 mod row;
-#[cfg(test)]
-mod tests;
 
 pub use locks::{Locks, Memory};
 pub use mode::Mode;

@@ -5,7 +5,6 @@ pub mod Closes
 pub mod Counted
 pub mod Ended
 pub mod Fails
-pub mod Fitting
 pub mod Having
 pub mod Later
 pub mod Named

@@ -6,6 +6,5 @@ pub mod Failed
 pub mod Killed
 pub mod Labelled
 pub mod Renewed
-pub mod Samples
 pub mod Stages
 pub mod Sweeping

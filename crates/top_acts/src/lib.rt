@@ -17,8 +17,6 @@ mod killing;
 mod labelling;
 mod renewing;
 mod sweeping;
-#[cfg(test)]
-mod tests;
 
 pub use beginning::begin_labelled;
 pub use checking::check;

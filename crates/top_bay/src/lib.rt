@@ -14,6 +14,3 @@ mod texts;
 
 pub use asked::{Asked, Taken, ask};
 pub use devices::put_all;
-
-#[cfg(test)]
-mod tests;

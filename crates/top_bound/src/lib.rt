@@ -15,6 +15,3 @@ pub use laws::{
     few_items_have_room, file_graphs_fit_the_pool, sectors_are_counted_alike,
     traces_are_counted_alike, what_fits_has_room,
 };
-
-#[cfg(test)]
-mod tests;

@@ -1,6 +1,5 @@
 mod Settling
 mod SettledLaws
-mod Counts
-mod Fitting
+pub mod Counts
 pub mod DyingLaws
 pub mod ClosingLaws

@@ -8,8 +8,6 @@
 mod ending;
 mod laws;
 mod settle;
-#[cfg(test)]
-mod tests;
 
 pub use ending::{Ending, end_unlabelled};
 pub use laws::{

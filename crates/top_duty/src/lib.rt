@@ -25,6 +25,3 @@ pub use duty::{Duty, Ready};
 pub use judge::traces;
 pub use kind::Kind;
 pub use plan::plan_of;
-
-#[cfg(test)]
-mod tests;

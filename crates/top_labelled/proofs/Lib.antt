@@ -12,5 +12,3 @@ pub mod Leaving
 pub mod All
 pub mod Steps
 pub mod Outlived
-pub mod TestArrays
-pub mod TestLosing

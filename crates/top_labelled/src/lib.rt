@@ -21,6 +21,3 @@ pub use in_turn::a_sweep_comes_client_after_client;
 pub use labelled::{Labelled, Outcome};
 pub use outliving::{what_is_not_lost_is_answered, what_is_outlived_is_not_lost};
 pub use running::run_labelled;
-
-#[cfg(test)]
-mod tests;

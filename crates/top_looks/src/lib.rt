@@ -17,6 +17,3 @@ pub use label::put_label;
 pub use laws::devices_are_own_or_spares;
 pub use printed::printed_conf;
 pub use show::put_show;
-
-#[cfg(test)]
-mod tests;

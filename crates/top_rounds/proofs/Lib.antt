@@ -3,4 +3,3 @@ mod Devices
 pub mod PassLaws
 mod SeatLaws
 pub mod RoundLaws
-mod Fitting

@@ -2,5 +2,4 @@ pub mod Calls
 pub mod Labels
 pub mod Passes
 pub mod Rounds
-pub mod Samples
 pub mod Settable

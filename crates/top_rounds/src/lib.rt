@@ -8,9 +8,8 @@
 
 mod pass;
 mod rounds;
-mod seats;
-#[cfg(test)]
-mod tests;
+mod seating;
 
 pub use pass::{last_round, try_round};
 pub use rounds::round;
+pub use seating::seats;

@@ -7,7 +7,7 @@ ghost use Rattle.top_close.specs.Settled.{IsLiveOn};
 ghost use Rattle.top_rounds.specs.Labels.{IsNumbered, seats_of, with_round};
 ghost use Rattle.top_rounds.specs.Passes.{AreLabelled, CanBeLabelled, IsLabelling, IsTry, LabelsColumn};
 
-use crate::seats::seats;
+use crate::seating::seats;
 use blk_disk::{Disk, Failed, SECTOR};
 use eng_cols::Column;
 use raid_label::{Label, write_label};

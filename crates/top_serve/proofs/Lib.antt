@@ -21,4 +21,3 @@ pub mod Leaving
 pub mod Causing
 pub mod All
 pub mod Deaths
-pub mod TestSetups

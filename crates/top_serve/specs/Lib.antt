@@ -2,4 +2,3 @@ pub mod Setups
 pub mod Caused
 pub mod Judged
 pub mod Served
-pub mod Trials

@@ -18,6 +18,3 @@ mod serving;
 pub use opening::room_for;
 pub use refused::{Refused, ServeFault};
 pub use serving::{serve, serve_in};
-
-#[cfg(test)]
-mod tests;

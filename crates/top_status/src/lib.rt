@@ -11,8 +11,6 @@ mod ending;
 mod refusal;
 mod status;
 mod status_line;
-#[cfg(test)]
-mod tests;
 
 pub use dead::put_dead;
 pub use ending::{put_ending, put_refusal};

@@ -11,8 +11,6 @@ ghost use Rattle.xor_lanes.specs.Bytes.{SumsBelow, IsZeroBelow};
 ghost use Rattle.xor_lanes.specs.declared.lane.TheConstants.{LANE};
 
 mod lane;
-#[cfg(test)]
-mod tests;
 
 use lane::{LANE, clear_lane, is_zero_lane, xor_lane};
 

@@ -1,13 +1,28 @@
 //! What is wanted of a closed core.
-use crate::{Closed, Reply};
+use super::judging::{same, same_at};
+use crate::{Closed, Column, Loss, Reply};
 use blk_disk::{Call, MemDisk, SECTOR};
+use blk_plain::OpId;
 use std::process::Abort;
+
+// A device that is wanted isn't there.
+fn is_missing(rt: &impl Abort, device: usize) {
+    same_at(rt, "there is device", device, false, true);
+}
 
 // The device of this number.
 fn device_of<L>(closed: &Closed<L, MemDisk>, device: usize) -> Option<&MemDisk> {
     match closed.devices.get(device) {
         Some(Some(disk)) => Some(disk),
         _ => None,
+    }
+}
+
+// The replies to the client of this number.
+fn replies_of<L>(closed: &Closed<L, MemDisk>, client: usize) -> Option<&[Reply]> {
+    match closed.replies.get(client) {
+        Some(replies) => Some(replies.as_slice()),
+        None => None,
     }
 }
 
@@ -18,34 +33,77 @@ pub(super) fn replied<L>(
     client: usize,
     wanted: &[Reply],
 ) {
-    match closed.replies.get(client) {
-        Some(replies) => assert_eq!(rt; replies.as_slice(), wanted, "client {client}"),
-        None => assert!(rt; false, "client {client} is there"),
+    same_at(
+        rt,
+        "client",
+        client,
+        replies_of(closed, client),
+        Some(wanted),
+    );
+}
+
+// The operations in the order in which they took effect.
+pub(super) fn history<L>(rt: &impl Abort, closed: &Closed<L, MemDisk>, wanted: &[OpId]) {
+    same(rt, closed.history.as_slice(), wanted);
+}
+
+// By which columns the array is lost, if it is.
+pub(super) fn lost<L>(rt: &impl Abort, closed: &Closed<L, MemDisk>, wanted: Option<Loss>) {
+    same(rt, closed.lost, wanted);
+}
+
+// What each column is.
+pub(super) fn columns<L>(rt: &impl Abort, closed: &Closed<L, MemDisk>, wanted: &[Column]) {
+    same(rt, closed.columns.as_slice(), wanted);
+}
+
+// A call by its kind, its first sector, how many, and whether it was good.
+pub(super) type Told = (u8, u64, u32, bool);
+
+fn call_of(told: Told) -> Call {
+    let (kind, first, count, good) = told;
+    Call {
+        kind,
+        first,
+        count,
+        good,
     }
 }
 
-// The calls of a device, each by kind, first sector, how many, and whether it was good.
+// The calls of a device are these.
+fn are_calls(rt: &impl Abort, device: usize, kept: &[Call], calls: &[Told]) {
+    same_at(rt, "calls of device", device, kept.len(), calls.len());
+    for (call, told) in kept.iter().zip(calls) {
+        same_at(rt, "device", device, *call, call_of(*told));
+    }
+}
+
+// The calls of a device.
 pub(super) fn has_calls<L>(
     rt: &impl Abort,
     closed: &Closed<L, MemDisk>,
     device: usize,
-    calls: &[(u8, u64, u32, bool)],
+    calls: &[Told],
 ) {
-    let Some(disk) = device_of(closed, device) else {
-        assert!(rt; false, "device {device} is there");
-        return;
-    };
-    let kept = disk.calls();
-    assert_eq!(rt; kept.len(), calls.len(), "calls of device {device}");
-    for (call, told) in kept.iter().zip(calls) {
-        let (kind, first, count, good) = *told;
-        let told = Call {
-            kind,
-            first,
-            count,
-            good,
-        };
-        assert_eq!(rt; *call, told, "device {device}");
+    match device_of(closed, device) {
+        Some(disk) => are_calls(rt, device, disk.calls(), calls),
+        None => is_missing(rt, device),
+    }
+}
+
+// The byte that fills the sector of this number, where the sectors from the first on have these.
+fn filled(sector: usize, first: usize, bytes: &[u8]) -> u8 {
+    if sector < first {
+        return 0;
+    }
+    bytes.get(sector - first).copied().unwrap_or(0)
+}
+
+// The sectors from this one on are filled with these bytes, and each other sector is zero.
+fn are_filled(rt: &impl Abort, device: usize, held: &[u8], first: usize, bytes: &[u8]) {
+    for (at, held) in held.iter().enumerate() {
+        let wanted = filled(at / SECTOR, first, bytes);
+        same_at(rt, "byte", at, (device, *held), (device, wanted));
     }
 }
 
@@ -57,26 +115,17 @@ pub(super) fn holds<L>(
     first: usize,
     bytes: &[u8],
 ) {
-    let Some(disk) = device_of(closed, device) else {
-        assert!(rt; false, "device {device} is there");
-        return;
-    };
-    for (at, held) in disk.bytes().iter().enumerate() {
-        let sector = at / SECTOR;
-        let wanted = if sector < first {
-            0
-        } else {
-            bytes.get(sector - first).copied().unwrap_or(0)
-        };
-        assert_eq!(rt; *held, wanted, "byte {at} of device {device}");
+    match device_of(closed, device) {
+        Some(disk) => are_filled(rt, device, disk.bytes(), first, bytes),
+        None => is_missing(rt, device),
     }
 }
 
 // The reads handed out blocks that are filled with these bytes, client by client and item by item.
 pub(super) fn handed<L>(rt: &impl Abort, closed: &Closed<L, MemDisk>, blocks: &[u8]) {
-    assert_eq!(rt; closed.sectors.len() / SECTOR, blocks.len());
+    same(rt, closed.sectors.len() / SECTOR, blocks.len());
     for (at, held) in closed.sectors.iter().enumerate() {
-        let wanted = blocks.get(at / SECTOR).copied().unwrap_or(0);
-        assert_eq!(rt; *held, wanted, "byte {at} that was handed out");
+        let wanted = filled(at / SECTOR, 0, blocks);
+        same_at(rt, "byte that was handed out", at, *held, wanted);
     }
 }

@@ -59,6 +59,16 @@ pub(super) fn rested<L: Layout + Drop, D: Disk + Drop>(
     Ok(core.close())
 }
 
+// Does all that can be done, and closes the core.
+pub(super) fn drained<L: Layout + Drop, D: Disk + Drop>(
+    mut core: Core<L, D>,
+) -> Result<Closed<L, D>, Fail>
+    requires { IsSteady L.Layout D.Disk core.array }
+{
+    drain(&mut core);
+    rested(core)
+}
+
 // Opens a core, does all that can be done, and closes it.
 pub(super) fn run<L: Layout + Drop, D: Disk + Drop>(
     alloc: Global,
@@ -66,9 +76,8 @@ pub(super) fn run<L: Layout + Drop, D: Disk + Drop>(
 ) -> Result<Closed<L, D>, Fail>
     requires { FitsTrace L.Layout setup }
 {
-    let mut core = opened(alloc, setup)?;
-    drain(&mut core);
-    rested(core)
+    let core = opened(alloc, setup)?;
+    drained(core)
 }
 
 // The node of the client's that can be skipped or fired, the least below 64.

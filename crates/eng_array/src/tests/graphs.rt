@@ -1,16 +1,18 @@
 //! Operations by a graph of the file.
-ghost use Rattle.std.specs.Prelude.{◌≡◌, IfOk, false};
+ghost use Rattle.std.specs.Prelude.{◌≡◌};
 ghost use Rattle.graph_mean.specs.LargeWrite.{in_room, large_bufs, large_front};
 
-use super::closed::{handed, has_calls, holds, replied};
+use super::closed::{handed, has_calls, history, holds, replied};
 use super::driving::run;
-use super::{id, read, setup, write};
-use crate::{Column, Item, Reply, Setup};
+use super::judging::same;
+use super::{id, level_five, read, write};
+use crate::{Closed, Column, Item, Reply};
 use blk_disk::MemDisk;
 use graph_mean::samples::{large_bufs, large_front, large_write};
 use graph_mean::{Graph, Node, Refusal};
 use lay_plain::Raid5;
 use std::alloc::Global;
+use std::process::Abort;
 use std::test::Fail;
 
 // The two writes and the terminator, but that the write of unit 0 doesn't follow the commit.
@@ -66,38 +68,28 @@ fn by_graph(item: Item) -> Item {
     }
 }
 
-// Three columns, with this graph.
-fn with_graph(
+// What these items leave with this graph.
+fn ran_by(
+    rt: &impl Abort,
     alloc: Global,
-    layout: Raid5,
     graph: Graph,
     fails: &[&[u32]],
     items: &[Item],
-) -> Result<Setup<Raid5, MemDisk>, Fail>
-    ensures { IfOk result (λ setup. setup.trace ≡ false) }
-{
-    let mut setup = setup(alloc, layout, fails, &[items])?;
+) -> Result<Closed<Raid5, MemDisk>, Fail> {
+    let mut setup = level_five(rt, alloc, fails, &[items])?;
     setup.graphs = vec![in alloc; graph]?;
-    Ok(setup)
+    run(alloc, setup)
 }
 
 // The read of unit 1 on device 1 fails. The write goes by the graph of the file, so that it isn't planned anew.
 #[test]
 fn an_operation_by_a_graph_of_the_file_is_replied_undone(rt: HostRuntime) -> Result<(), Fail> {
     let alloc = rt.alloc();
-    let layout = Raid5::new(3, 1, 64).expect(&rt, "a layout");
     let items = [by_graph(write(0, 1, 0xa5)), read(0, 1)];
-    let setup = with_graph(
-        alloc,
-        layout,
-        large_write(alloc)?,
-        &[&[], &[0], &[]],
-        &items,
-    )?;
-    let closed = run(alloc, setup)?;
+    let closed = ran_by(&rt, alloc, large_write(alloc)?, &[&[], &[0], &[]], &items)?;
     replied(&rt, &closed, 0, &[Reply::Undone { device: 1 }, Reply::Data]);
-    assert_eq!(rt; closed.history.as_slice(), [id(0, 1)].as_slice());
-    assert_eq!(rt; closed.columns.get(1).copied(), Some(Column::Dead));
+    history(&rt, &closed, &[id(0, 1)]);
+    same(&rt, closed.columns.get(1).copied(), Some(Column::Dead));
     handed(&rt, &closed, &[0]);
     has_calls(&rt, &closed, 0, &[(0, 64, 1, true)]);
     has_calls(&rt, &closed, 1, &[(0, 64, 1, false)]);
@@ -108,10 +100,8 @@ fn an_operation_by_a_graph_of_the_file_is_replied_undone(rt: HostRuntime) -> Res
 #[test]
 fn an_operation_goes_by_a_graph_of_the_file(rt: HostRuntime) -> Result<(), Fail> {
     let alloc = rt.alloc();
-    let layout = Raid5::new(3, 1, 64).expect(&rt, "a layout");
     let items = [by_graph(write(0, 1, 0xa5))];
-    let setup = with_graph(alloc, layout, large_write(alloc)?, &[&[], &[], &[]], &items)?;
-    let closed = run(alloc, setup)?;
+    let closed = ran_by(&rt, alloc, large_write(alloc)?, &[&[], &[], &[]], &items)?;
     replied(&rt, &closed, 0, &[Reply::Done]);
     holds(&rt, &closed, 0, 64, &[0xa5]);
     holds(&rt, &closed, 1, 64, &[]);
@@ -119,27 +109,26 @@ fn an_operation_goes_by_a_graph_of_the_file(rt: HostRuntime) -> Result<(), Fail>
     Ok(())
 }
 
+// A write by the graph is refused, and no device has a call.
+fn is_refused(rt: &impl Abort, alloc: Global, graph: Graph, refusal: Refusal) -> Result<(), Fail> {
+    let items = [by_graph(write(0, 1, 0xa5))];
+    let closed = ran_by(rt, alloc, graph, &[&[], &[], &[]], &items)?;
+    replied(rt, &closed, 0, &[Reply::Refused(refusal)]);
+    history(rt, &closed, &[]);
+    for device in 0..3 {
+        has_calls(rt, &closed, device, &[]);
+    }
+    Ok(())
+}
+
 #[test]
 fn graphs_that_are_not_atomic_are_refused(rt: HostRuntime) -> Result<(), Fail> {
     let alloc = rt.alloc();
+    is_refused(&rt, alloc, early(alloc)?, Refusal::EarlyWrite { node: 3 })?;
     let wrong_value = Refusal::WrongValue {
         stripe: 0,
         unit: 2,
         offset: 0,
     };
-    for (graph, refusal) in [
-        (early(alloc)?, Refusal::EarlyWrite { node: 3 }),
-        (wrong(alloc)?, wrong_value),
-    ] {
-        let layout = Raid5::new(3, 1, 64).expect(&rt, "a layout");
-        let items = [by_graph(write(0, 1, 0xa5))];
-        let setup = with_graph(alloc, layout, graph, &[&[], &[], &[]], &items)?;
-        let closed = run(alloc, setup)?;
-        replied(&rt, &closed, 0, &[Reply::Refused(refusal)]);
-        assert_eq!(rt; closed.history.len(), 0);
-        for device in 0..3 {
-            has_calls(&rt, &closed, device, &[]);
-        }
-    }
-    Ok(())
+    is_refused(&rt, alloc, wrong(alloc)?, wrong_value)
 }

@@ -1,14 +1,49 @@
 //! A column fails while a job is out.
-use super::closed::{handed, holds, replied};
-use super::driving::{begin_beside, drain, hold, reaches, rested};
+ghost use Rattle.std.specs.Prelude.{IfOk};
+ghost use Rattle.eng_state.specs.Out.{CameBack};
+ghost use Rattle.eng_array.specs.Steady.{IsSteady};
+
+use super::closed::{handed, history, holds, lost, replied};
+use super::driving::{Held, begin_beside, drained, hold, reaches};
+use super::judging::same;
 use super::opening::opened;
-use super::{fail, id, read, setup, write};
-use crate::{Closed, Column, Event, Reply};
-use blk_disk::MemDisk;
+use super::{fail, id, level_five, read, write};
+use crate::{Closed, Column, Core, Event, Reply};
+use blk_disk::{Disk, MemDisk};
+use lay_core::Layout;
 use lay_plain::Raid5;
 use std::alloc::Global;
 use std::process::Abort;
 use std::test::Fail;
+
+// Client 0 does what it can until this node of its can be fired, which then is out.
+fn held_at<L: Layout, D: Disk + Drop>(core: &mut Core<L, D>, node: u32) -> Result<Held<D>, Fail>
+    requires { IsSteady L.Layout D.Disk core.old.array }
+    ensures steady { IsSteady L.Layout D.Disk core.new.array }
+    ensures back { IfOk result (λ h. CameBack D.Disk L.Layout core.new.array h.job h.outcome) }
+{
+    if !reaches(core, 0, Event::Fire { client: 0, node }) {
+        return Err(Fail::from("the node is never fired"));
+    }
+    Ok(hold(core, 0, node))
+}
+
+// Client 1 has its column fail while the job is out, which then comes home.
+fn fails_beside<L: Layout, D: Disk + Drop>(core: &mut Core<L, D>, held: Held<D>) -> Result<(), Fail>
+    requires steady { IsSteady L.Layout D.Disk core.old.array }
+    requires back { CameBack D.Disk L.Layout core.old.array held.job held.outcome }
+    ensures { IsSteady L.Layout D.Disk core.new.array }
+{
+    if !core.can(Event::Begin { client: 1 }) {
+        return Err(Fail::from("client 1 can't begin"));
+    }
+    begin_beside(core, 1, &held);
+    if core.rest() {
+        return Err(Fail::from("at rest with a job out"));
+    }
+    core.finish(held.job, held.outcome);
+    Ok(())
+}
 
 // Client 0 writes and reads block 0. While this node of the write is out, client 1 has a column fail.
 fn failing(
@@ -17,23 +52,13 @@ fn failing(
     node: u32,
     column: u32,
 ) -> Result<Closed<Raid5, MemDisk>, Fail> {
-    let layout = Raid5::new(3, 1, 64).expect(rt, "a layout");
     let first = [write(0, 1, 0xa5), read(0, 1)];
     let second = [fail(column)];
-    let setup = setup(alloc, layout, &[&[], &[], &[]], &[&first, &second])?;
+    let setup = level_five(rt, alloc, &[&[], &[], &[]], &[&first, &second])?;
     let mut core = opened(alloc, setup)?;
-    if !reaches(&mut core, 0, Event::Fire { client: 0, node }) {
-        return Err(Fail::from("the node is never fired"));
-    }
-    let held = hold(&mut core, 0, node);
-    if !core.can(Event::Begin { client: 1 }) {
-        return Err(Fail::from("client 1 can't begin"));
-    }
-    begin_beside(&mut core, 1, &held);
-    assert!(rt; !core.rest());
-    core.finish(held.job, held.outcome);
-    drain(&mut core);
-    rested(core)
+    let held = held_at(&mut core, node)?;
+    fails_beside(&mut core, held)?;
+    drained(core)
 }
 
 // Node 3 writes unit 0 on device 0. Its call went well, and the column has failed meanwhile.
@@ -42,9 +67,9 @@ fn a_late_write_is_bad_and_the_operation_done(rt: HostRuntime) -> Result<(), Fai
     let closed = failing(&rt, rt.alloc(), 3, 0)?;
     replied(&rt, &closed, 0, &[Reply::Done, Reply::Data]);
     replied(&rt, &closed, 1, &[Reply::Okay]);
-    assert_eq!(rt; closed.history.as_slice(), [id(0, 0), id(0, 1)].as_slice());
-    assert_eq!(rt; closed.lost, None);
-    assert_eq!(rt; closed.columns.first().copied(), Some(Column::Dead));
+    history(&rt, &closed, &[id(0, 0), id(0, 1)]);
+    lost(&rt, &closed, None);
+    same(&rt, closed.columns.first().copied(), Some(Column::Dead));
     handed(&rt, &closed, &[0xa5]);
     holds(&rt, &closed, 0, 64, &[0xa5]);
     holds(&rt, &closed, 2, 64, &[0xa5]);
@@ -56,8 +81,8 @@ fn a_late_write_is_bad_and_the_operation_done(rt: HostRuntime) -> Result<(), Fai
 fn a_late_read_is_planned_anew(rt: HostRuntime) -> Result<(), Fail> {
     let closed = failing(&rt, rt.alloc(), 0, 1)?;
     replied(&rt, &closed, 0, &[Reply::Done, Reply::Data]);
-    assert_eq!(rt; closed.history.as_slice(), [id(0, 0), id(0, 1)].as_slice());
-    assert_eq!(rt; closed.columns.get(1).copied(), Some(Column::Dead));
+    history(&rt, &closed, &[id(0, 0), id(0, 1)]);
+    same(&rt, closed.columns.get(1).copied(), Some(Column::Dead));
     handed(&rt, &closed, &[0xa5]);
     holds(&rt, &closed, 0, 64, &[0xa5]);
     holds(&rt, &closed, 2, 64, &[0xa5]);

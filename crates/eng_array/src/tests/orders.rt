@@ -2,14 +2,17 @@
 //! writes block 1: all of them are of stripe 0.
 ghost use Rattle.eng_array.specs.Steady.{IsSteady};
 
-use super::closed::{handed, holds, replied};
+use super::closed::{handed, history, holds, replied};
 use super::driving::{rested, turn};
+use super::judging::same;
 use super::opening::opened;
-use super::{id, read, setup, write};
-use crate::{Core, Event, Reply};
-use blk_disk::Disk;
+use super::{id, level_five, read, write};
+use crate::{Closed, Core, Event, Reply};
+use blk_disk::{Disk, MemDisk};
+use blk_plain::OpId;
 use lay_core::Layout;
 use lay_plain::Raid5;
+use std::alloc::Global;
 use std::process::Abort;
 use std::test::Fail;
 
@@ -28,10 +31,10 @@ fn does<L: Layout, D: Disk>(rt: &impl Abort, core: &mut Core<L, D>, event: Event
     requires { IsSteady L.Layout D.Disk core.old.array }
     ensures { IsSteady L.Layout D.Disk core.new.array }
 {
-    if core.can(event) {
+    let can = core.can(event);
+    same(rt, can, true);
+    if can {
         turn(core, event);
-    } else {
-        assert!(rt; false, "the event can be done");
     }
 }
 
@@ -52,7 +55,7 @@ fn goes<L: Layout, D: Disk>(rt: &impl Abort, core: &mut Core<L, D>, client: u32,
 {
     match step {
         Step::Begins => does(rt, core, Event::Begin { client }),
-        Step::Waits => assert!(rt; !core.can(Event::Take { client })),
+        Step::Waits => same(rt, core.can(Event::Take { client }), false),
         Step::Takes => does(rt, core, Event::Take { client }),
         Step::Fires { nodes } => fires(rt, core, client, nodes),
     }
@@ -117,29 +120,44 @@ const FIRST: [(u32, Step); 10] = [
     (0, READS),
 ];
 
+// What the two clients leave by these steps.
+fn gone(
+    rt: &impl Abort,
+    alloc: Global,
+    steps: &[(u32, Step)],
+) -> Result<Closed<Raid5, MemDisk>, Fail> {
+    let first = [write(0, 1, 0x11), read(0, 2)];
+    let second = [write(1, 1, 0x22)];
+    let setup = level_five(rt, alloc, &[&[], &[], &[]], &[&first, &second])?;
+    let mut core = opened(alloc, setup)?;
+    go(rt, &mut core, steps);
+    rested(core)
+}
+
+// By these steps the history is this one, and block 1 is read as this byte.
+fn ends(
+    rt: &impl Abort,
+    alloc: Global,
+    steps: &[(u32, Step)],
+    operations: &[OpId],
+    byte: u8,
+) -> Result<(), Fail> {
+    let closed = gone(rt, alloc, steps)?;
+    history(rt, &closed, operations);
+    replied(rt, &closed, 0, &[Reply::Done, Reply::Data]);
+    replied(rt, &closed, 1, &[Reply::Done]);
+    handed(rt, &closed, &[0x11, byte]);
+    holds(rt, &closed, 0, 64, &[0x11]);
+    holds(rt, &closed, 1, 64, &[0x22]);
+    holds(rt, &closed, 2, 64, &[0x33]);
+    Ok(())
+}
+
 // Block 1 is read as it was, where its write comes behind the read in the history, and else as it was written.
 #[test]
 fn a_read_is_as_the_history_has_it(rt: HostRuntime) -> Result<(), Fail> {
     let alloc = rt.alloc();
-    for (steps, history, byte) in [
-        (LAST.as_slice(), [id(0, 0), id(0, 1), id(1, 0)], 0x00),
-        (BETWEEN.as_slice(), [id(0, 0), id(1, 0), id(0, 1)], 0x22),
-        (FIRST.as_slice(), [id(1, 0), id(0, 0), id(0, 1)], 0x22),
-    ] {
-        let layout = Raid5::new(3, 1, 64).expect(&rt, "a layout");
-        let first = [write(0, 1, 0x11), read(0, 2)];
-        let second = [write(1, 1, 0x22)];
-        let setup = setup(alloc, layout, &[&[], &[], &[]], &[&first, &second])?;
-        let mut core = opened(alloc, setup)?;
-        go(&rt, &mut core, steps);
-        let closed = rested(core)?;
-        assert_eq!(rt; closed.history.as_slice(), history.as_slice());
-        replied(&rt, &closed, 0, &[Reply::Done, Reply::Data]);
-        replied(&rt, &closed, 1, &[Reply::Done]);
-        handed(&rt, &closed, &[0x11, byte]);
-        holds(&rt, &closed, 0, 64, &[0x11]);
-        holds(&rt, &closed, 1, 64, &[0x22]);
-        holds(&rt, &closed, 2, 64, &[0x33]);
-    }
-    Ok(())
+    ends(&rt, alloc, &LAST, &[id(0, 0), id(0, 1), id(1, 0)], 0x00)?;
+    ends(&rt, alloc, &BETWEEN, &[id(0, 0), id(1, 0), id(0, 1)], 0x22)?;
+    ends(&rt, alloc, &FIRST, &[id(1, 0), id(0, 0), id(0, 1)], 0x22)
 }

@@ -5,8 +5,9 @@
 ghost use Rattle.std.specs.Prelude.{◌≡◌, false, IfOk};
 ghost use Rattle.eng_array.specs.Steady.{IsSteady};
 
-use super::closed::{handed, has_calls, holds, replied};
-use super::driving::{drain, reaches, rested, serve, turn};
+use super::closed::{columns, handed, has_calls, holds, lost, replied};
+use super::driving::{drained, reaches, serve, turn};
+use super::judging::same;
 use super::rebuilding::{column_fails, filling, spreading};
 use super::{device, read, setup};
 use crate::{Closed, Column, Core, Event, Item, Loss, Reply, Setup};
@@ -21,8 +22,9 @@ const BEGIN: Event = Event::Begin { client: 16 };
 
 // A device of 128 sectors, of which sector 64 is filled with this byte and all others are zero.
 fn marked(alloc: Global, byte: u8) -> Result<MemDisk, Fail> {
-    let mut bytes = vec![in alloc; 0; SECTOR * 128]?;
-    bytes[SECTOR * 64..SECTOR * 65].fill(byte);
+    let mut bytes = vec![in alloc; 0; SECTOR * 64]?;
+    bytes.resize(SECTOR * 65, byte)?;
+    bytes.resize(SECTOR * 128, 0)?;
     Ok(MemDisk::new(alloc, bytes, Vec::new(alloc), 100)?)
 }
 
@@ -58,28 +60,39 @@ fn first_done(core: &mut Core<Spared, MemDisk>) -> bool
 
 // What each column is.
 fn are(rt: &impl Abort, closed: &Closed<Spared, MemDisk>, first: Column, second: Column) {
-    let columns = [
-        first,
-        second,
-        Column::Live { device: 2 },
-        Column::Live { device: 3 },
-    ];
-    assert_eq!(rt; closed.columns.as_slice(), columns.as_slice());
+    columns(
+        rt,
+        closed,
+        &[
+            first,
+            second,
+            Column::Live { device: 2 },
+            Column::Live { device: 3 },
+        ],
+    );
+}
+
+// How many stripes are rebuilt.
+fn rebuilt(rt: &impl Abort, closed: &Closed<Spared, MemDisk>, wanted: u32) {
+    same(rt, closed.rebuilt, wanted);
+}
+
+// Column 0 is rebuilt onto device 4.
+fn filled(alloc: Global) -> Result<Closed<Spared, MemDisk>, Fail> {
+    let core = filling(alloc, dead(alloc, &[])?, 0, 4)?;
+    drained(core)
 }
 
 #[test]
 fn a_dead_column_is_rebuilt_onto_a_device(rt: HostRuntime) -> Result<(), Fail> {
-    let alloc = rt.alloc();
-    let mut core = filling(alloc, dead(alloc, &[])?, 0, 4)?;
-    drain(&mut core);
-    let closed = rested(core)?;
+    let closed = filled(rt.alloc())?;
     are(
         &rt,
         &closed,
         Column::Filling { device: 4 },
         Column::Live { device: 1 },
     );
-    assert_eq!(rt; closed.rebuilt, 3);
+    rebuilt(&rt, &closed, 3);
     holds(&rt, &closed, 4, 64, &[6]);
     has_calls(&rt, &closed, 1, &[(0, 64, 1, true), (0, 67, 1, true)]);
     let calls = [(1, 64, 1, true), (1, 66, 1, true), (1, 67, 1, true)];
@@ -87,15 +100,18 @@ fn a_dead_column_is_rebuilt_onto_a_device(rt: HostRuntime) -> Result<(), Fail> {
     Ok(())
 }
 
+// Column 0 is rebuilt into the spare places.
+fn spread(alloc: Global) -> Result<Closed<Spared, MemDisk>, Fail> {
+    let core = spreading(alloc, dead(alloc, &[])?, 0)?;
+    drained(core)
+}
+
 // Stripe 0 has its spare place on column 3, stripe 2 on column 1, stripe 3 on column 2.
 #[test]
 fn a_dead_column_is_rebuilt_into_the_spare_places(rt: HostRuntime) -> Result<(), Fail> {
-    let alloc = rt.alloc();
-    let mut core = spreading(alloc, dead(alloc, &[])?, 0)?;
-    drain(&mut core);
-    let closed = rested(core)?;
+    let closed = spread(rt.alloc())?;
     are(&rt, &closed, Column::Spread, Column::Live { device: 1 });
-    assert_eq!(rt; closed.rebuilt, 3);
+    rebuilt(&rt, &closed, 3);
     holds(&rt, &closed, 3, 64, &[6]);
     let calls = [(0, 64, 1, true), (1, 66, 1, true), (0, 67, 1, true)];
     has_calls(&rt, &closed, 1, &calls);
@@ -104,41 +120,47 @@ fn a_dead_column_is_rebuilt_into_the_spare_places(rt: HostRuntime) -> Result<(),
     Ok(())
 }
 
-// Column 1 fails once all is spread: in each stripe at most one unit is missing, and every block is read.
-#[test]
-fn a_column_that_fails_behind_the_spreading_loses_nothing(rt: HostRuntime) -> Result<(), Fail> {
-    let alloc = rt.alloc();
+// Column 0 is spread, and then column 1 fails; a client reads every block.
+fn behind(rt: &impl Abort, alloc: Global) -> Result<Closed<Spared, MemDisk>, Fail> {
     let mut core = spreading(alloc, dead(alloc, &[read(0, 8)])?, 0)?;
     serve(&mut core, 16);
-    assert!(rt; column_fails(&mut core, 1));
-    drain(&mut core);
-    let closed = rested(core)?;
+    same(rt, column_fails(&mut core, 1), true);
+    drained(core)
+}
+
+// In each stripe at most one unit is missing, and every block is read.
+#[test]
+fn a_column_that_fails_behind_the_spreading_loses_nothing(rt: HostRuntime) -> Result<(), Fail> {
+    let closed = behind(&rt, rt.alloc())?;
     are(&rt, &closed, Column::Spread, Column::Dead);
-    assert_eq!(rt; closed.lost, None);
-    assert_eq!(rt; closed.rebuilt, 3);
+    lost(&rt, &closed, None);
+    rebuilt(&rt, &closed, 3);
     replied(&rt, &closed, 0, &[Reply::Data]);
     handed(&rt, &closed, &[6, 5, 0, 0, 0, 0, 0, 0]);
     Ok(())
 }
 
-// Column 2 fails once stripe 0 is spread and no other: stripe 2 has a unit on column 2 and one on column 0.
+// Stripe 0 is spread and no other, and then column 2 fails; a client reads every block.
+fn meanwhile(rt: &impl Abort, alloc: Global) -> Result<Closed<Spared, MemDisk>, Fail> {
+    let mut core = spreading(alloc, dead(alloc, &[read(0, 8)])?, 0)?;
+    same(rt, first_done(&mut core), true);
+    same(rt, column_fails(&mut core, 2), true);
+    drained(core)
+}
+
+// Stripe 2 has a unit on column 2 and one on column 0.
 #[test]
 fn a_column_that_fails_while_another_is_spread_may_lose_the_array(
     rt: HostRuntime,
 ) -> Result<(), Fail> {
-    let alloc = rt.alloc();
-    let mut core = spreading(alloc, dead(alloc, &[read(0, 8)])?, 0)?;
-    assert!(rt; first_done(&mut core));
-    assert!(rt; column_fails(&mut core, 2));
-    drain(&mut core);
-    let closed = rested(core)?;
+    let closed = meanwhile(&rt, rt.alloc())?;
     let loss = Loss {
         first: 0,
         second: 2,
         stripe: 2,
     };
-    assert_eq!(rt; closed.lost, Some(loss));
-    assert_eq!(rt; closed.rebuilt, 1);
+    lost(&rt, &closed, Some(loss));
+    rebuilt(&rt, &closed, 1);
     replied(&rt, &closed, 0, &[Reply::Lost]);
     holds(&rt, &closed, 3, 64, &[6]);
     Ok(())

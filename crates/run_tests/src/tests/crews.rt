@@ -1,5 +1,6 @@
 //! Runs with workers.
 use super::*;
+use crate::judging::{holds, same, same_at};
 use blk_disk::{Gate, GateDisk};
 
 // Each of the two writes waits for the other to have begun, so that they are made at the same time, or the one fails.
@@ -22,10 +23,11 @@ fn writes_meet<R: Abort + Threads + Wait + Sync>(
     ]?;
     let mut bay = MemBay::new(alloc, texts, disks, Vec::new(alloc));
     let (number, lines) = answer(rt, alloc, &mut bay, words)?;
-    assert_eq!(rt; number, 0);
-    assert_eq!(rt;
+    same(rt, number, 0);
+    same(
+        rt,
         lines.as_slice(),
-        b"reply 0.0 done\ncommit 0.0\nstatus ok\n".as_slice()
+        b"reply 0.0 done\ncommit 0.0\nstatus ok\n".as_slice(),
     );
     Ok(())
 }
@@ -61,8 +63,8 @@ fn a_write_fails_among_workers(rt: HostRuntime) -> Result<(), Fail> {
         for words in ["r5 --io s1 -w 1", "r5 --io s1 -w 4", "r5 --io s1 -w 16"] {
             let mut bay = bay_of(alloc, &session)?;
             let (number, printed) = answer(&rt, alloc, &mut bay, words)?;
-            assert_eq!(rt; number, 0, "{words}");
-            assert_eq!(rt; printed.as_slice(), lines.as_slice(), "{words}");
+            same_at(&rt, words, number, 0);
+            same_at(&rt, words, printed.as_slice(), lines.as_slice());
         }
     }
     Ok(())
@@ -85,15 +87,15 @@ fn a_column_is_rebuilt_beside_two_clients(rt: HostRuntime) -> Result<(), Fail> {
     answer(&rt, alloc, &mut bay, "r5 -I 1001")?;
     answer(&rt, alloc, &mut bay, "r5 -i")?;
     let (_, lines) = answer(&rt, alloc, &mut bay, "r5 --io t1 -w 0")?;
-    assert!(rt; lines.ends_with(b"\ndead 3\nstatus ok\n"));
+    holds(&rt, lines.ends_with(b"\ndead 3\nstatus ok\n"));
     let (number, lines) = answer(&rt, alloc, &mut bay, "r5 -F d3 --io s1 -w 4")?;
     let replies =
         b"reply 0.0 done\nreply 0.1 data\nblock 64 256 5a\nreply 1.0 done\nreply 1.1 data\nblock 4096 256 c3\ncommit ";
     let end = b"\nreconstruct column 3 device 5 done 64\nstatus ok\n";
-    assert_eq!(rt; number, 0);
-    assert!(rt; lines.starts_with(replies));
-    assert!(rt; lines.ends_with(end));
-    assert_eq!(rt; lines.len(), replies.len() + 36 + end.len());
+    same(&rt, number, 0);
+    holds(&rt, lines.starts_with(replies));
+    holds(&rt, lines.ends_with(end));
+    same(&rt, lines.len(), replies.len() + 36 + end.len());
     let steps = [
         Step::Run("r5 -p", 0, "parity clean\nstatus ok\n"),
         Step::Run("r5 -f d0", 0, "failed column 0\ndead 0\nstatus ok\n"),
@@ -102,6 +104,6 @@ fn a_column_is_rebuilt_beside_two_clients(rt: HostRuntime) -> Result<(), Fail> {
         act_out(&rt, alloc, &mut bay, step)?;
     }
     let (_, lines) = answer(&rt, alloc, &mut bay, "r5 --io s1 -w 4")?;
-    assert!(rt; lines.starts_with(replies));
+    holds(&rt, lines.starts_with(replies));
     Ok(())
 }

@@ -1,5 +1,6 @@
 //! Runs at each level.
 use super::*;
+use crate::judging::{holds, same, same_at};
 
 const MIRRORED: &str = "START array\n4 0\nSTART disks\nd0\nd1\nd2\nd3\nSTART layout\n1 1 1 1\n";
 
@@ -103,11 +104,11 @@ fn share<R: Abort + Threads + Wait + Sync>(
     };
     let mut bay = bay_of(alloc, &session)?;
     let (number, lines) = answer(rt, alloc, &mut bay, "r5 --io s1 -w 2")?;
-    assert_eq!(rt; number, 0);
-    assert!(rt; is_shared(&lines));
+    same(rt, number, 0);
+    holds(rt, is_shared(&lines));
     for (name, wanted) in [("d0", held[0]), ("d1", held[1]), ("d2", held[2])] {
         let lines = held_by(alloc, found(&bay, name)?)?;
-        assert_eq!(rt; lines.as_str(), wanted, "{name}");
+        same_at(rt, name, lines.as_str(), wanted);
     }
     Ok(())
 }

@@ -1,5 +1,6 @@
 //! Calls that are refused, and output that fails.
 use super::*;
+use crate::judging::same;
 
 const MISSING: &str = "START array\n1 3 0\nSTART disks\nd0\nd1\nd9\nSTART layout\n1 1 1 5\n";
 
@@ -100,8 +101,8 @@ fn a_long_text_is_refused(rt: HostRuntime) -> Result<(), Fail> {
     let texts = vec![in alloc; (Name::new(alloc, "r5")?, long)]?;
     let mut bay: MemBay<MemDisk> = MemBay::new(alloc, texts, Vec::new(alloc), Vec::new(alloc));
     let (number, lines) = answer(&rt, alloc, &mut bay, "r5 -s")?;
-    assert_eq!(rt; number, 13);
-    assert_eq!(rt; lines.as_slice(), b"status long r5\n".as_slice());
+    same(&rt, number, 13);
+    same(&rt, lines.as_slice(), b"status long r5\n".as_slice());
     Ok(())
 }
 
@@ -112,9 +113,9 @@ fn a_sink_that_fails_hides_the_output_alone(rt: HostRuntime) -> Result<(), Fail>
     let mut out = MemSink::new(alloc, 4096, vec![in alloc; 0]?)?;
     let words = names_of(alloc, "r5 --io s1 -w 0")?;
     let status = run(&rt, alloc, &words, &mut bay, &mut out);
-    assert_eq!(rt; status.number(), 7);
-    assert_eq!(rt; out.bytes(), b"".as_slice());
+    same(&rt, status.number(), 7);
+    same(&rt, out.bytes(), b"".as_slice());
     let held = held_by(alloc, found(&bay, "d2")?)?;
-    assert_eq!(rt; held.as_str(), "64 a5\n");
+    same(&rt, held.as_str(), "64 a5\n");
     Ok(())
 }

@@ -1,5 +1,6 @@
 //! Runs in which nothing fails.
 use super::*;
+use crate::judging::same;
 
 const FIVE: &str = "START array\n1 5 0\nSTART disks\nd0\nd1\nd2\nd3\nd4\nSTART layout\n1 1 1 5\n";
 
@@ -155,7 +156,7 @@ fn a_sweep_is_summed_up(rt: HostRuntime) -> Result<(), Fail> {
     let mut other = bay_of(alloc, &PLAIN)?;
     let none = answer(&rt, alloc, &mut one, "r5 --sweep 1 --clients 2 --ops 0")?;
     let wanted = b"sweep clients 2 operations 0\nwritten 0 read 0 sum 0\nstatus ok\n";
-    assert_eq!(rt; none.1.as_slice(), wanted.as_slice());
+    same(&rt, none.1.as_slice(), wanted.as_slice());
     let alone = answer(
         &rt,
         alloc,
@@ -168,7 +169,7 @@ fn a_sweep_is_summed_up(rt: HostRuntime) -> Result<(), Fail> {
         &mut other,
         "r5 --sweep 1 --clients 2 --ops 1000 -w 4",
     )?;
-    assert_eq!(rt; (alone.0, beside.0), (0, 0));
-    assert_eq!(rt; alone.1.as_slice(), beside.1.as_slice());
+    same(&rt, (alone.0, beside.0), (0, 0));
+    same(&rt, alone.1.as_slice(), beside.1.as_slice());
     Ok(())
 }

@@ -1,0 +1,92 @@
+-- The tests' arrays can be acted on.
+use Rattle.std.proofs.Common.{◌≡◌, ℕ, suc, ◌<◌, ◌≤◌, Bool, false, cond, List, [], ◌∷◌, length, get_or, Option, Some, None, inl, inr, refl, sym, ap, subst, arith}
+use Rattle.std.specs.Prelude.{count_by, slice_get}
+use Rattle.std.proofs.lemmas.Bool.{cases_lt}
+use Rattle.std.proofs.lemmas.List.Elements.{All-from_get_or}
+use Rattle.std.proofs.lemmas.List.Sums.{sum_by-cons}
+use Rattle.std.proofs.lemmas.Option.{slice_get-get_or, slice_get_past}
+use Rattle.blk_disk.specs.declared.disk.Disk.{Ghosts}
+use Rattle.blk_disk.specs.Devices.{size_of}
+use Rattle.lay_core.specs.Layout.{Shape}
+use Rattle.eng_cols.specs.declared.column.Column.{Column}
+use Rattle.eng_cols.specs.declared.column.Column.TheVariants as column
+use Rattle.eng_cols.specs.Cols.{is_set_filling, is_set_spread}
+use Rattle.raid_recon.specs.Samples as recon
+use Rattle.raid_recon.proofs.Fitting as recon_laws
+use Rattle.top_rounds.specs.Labels.{IsNumbered}
+use Rattle.top_acts.specs.Begun.{CanAct}
+use Rattle.act_tests.specs.ActSamples.{Fits, FitsAt}
+use Rattle.top_acts.proofs.Having.{have_of}
+
+-- neither filling nor spread
+abbrev IsPlain : Option Column → Type 0
+IsPlain (Some (column.Live d)) = Unit {0}
+IsPlain (Some column.Dead) = Unit {0}
+IsPlain (Some (column.Filling d)) = ⊥
+IsPlain (Some column.Spread) = ⊥
+IsPlain None = Unit {0}
+
+not_filling : (x : Column) → IsPlain (Some x) → is_set_filling x ≡ false
+not_filling (column.Live d) h = refl
+not_filling column.Dead h = refl
+not_filling (column.Filling d) h = absurd h
+not_filling column.Spread h = absurd h
+
+not_spread : (x : Column) → IsPlain (Some x) → is_set_spread x ≡ false
+not_spread (column.Live d) h = refl
+not_spread column.Dead h = refl
+not_spread (column.Filling d) h = absurd h
+not_spread column.Spread h = absurd h
+
+count_none : (p : Column → Bool) → ((x : Column) → IsPlain (Some x) → p x ≡ false) → (xs : List Column) → ((c : ℕ) → IsPlain (slice_get xs c)) → count_by p xs ≡ 0
+count_none p none [] each = refl
+count_none p none (x ∷ xs) each =
+    let here : ◌≡◌ {A = ℕ} (cond (p x) 1 0) 0 = ap (λ b. cond b 1 0) (none x (each 0)) in
+    omega (arith, sum_by-cons (λ y. cond (p y) 1 0) x xs, here, count_none p none xs (λ c. each (suc c)))
+
+module _ {D : Type 0} (g : Ghosts D) (y : Shape) (columns : List Column) (ds : List (Option D)) where
+  -- a column past the last fits
+  fits_all : ((c : ℕ) → c < length columns → FitsAt g y columns ds c) → (c : ℕ) → FitsAt g y columns ds c
+  fits_all below c = elim (cases_lt c (length columns)) [
+    | inl lt ↦ below c lt
+    | inr le ↦ subst (λ o. Fits g y ds c o) (sym (slice_get_past columns c le)) tt
+  ]
+
+  plain : (c : ℕ) (o : Option Column) → Fits g y ds c o → IsPlain o
+  plain c (Some (column.Live d)) f = tt
+  plain c (Some column.Dead) f = tt
+  plain c (Some (column.Filling d)) f = f
+  plain c (Some column.Spread) f = f
+  plain c None f = tt
+
+  swept : (c : ℕ) (o : Option Column) → Fits g y ds c o → recon.Fits g y ds c o
+  swept c (Some (column.Live d)) f = f
+  swept c (Some column.Dead) f = tt
+  swept c (Some (column.Filling d)) f = f
+  swept c (Some column.Spread) f = absurd f
+  swept c None f = tt
+
+  numbered : (c : ℕ) (x : Column) → c < length columns → Fits g y ds c (Some x) → IsNumbered (length columns) x
+  numbered c (column.Live d) within f = omega (arith, within, f.0)
+  numbered c column.Dead within f = tt
+  numbered c (column.Filling d) within f = absurd f
+  numbered c column.Spread within f = tt
+
+  pub fitting : length columns ≡ y.columns → length columns ≤ 32 → ((c : ℕ) → c < length columns → FitsAt g y columns ds c) → CanAct g y columns ds
+  fitting many few below =
+      let fits = fits_all below in
+      let array = recon_laws.fitting g y columns ds many (λ c within. swept c (slice_get columns c) (fits c)) in
+      let filling = count_none is_set_filling not_filling columns (λ c. plain c (slice_get columns c) (fits c)) in
+      let spread = count_none is_set_spread not_spread columns (λ c. plain c (slice_get columns c) (fits c)) in
+      record {
+        array = array;
+        labels = record {
+          have = have_of g y columns ds array;
+          sized = λ c d live.
+              let f : Fits g y ds c (Some (column.Live d)) = subst (λ o. Fits g y ds c o) live (fits c) in
+              subst (λ k. 1 ≤ size_of g ds k) (sym f.0) (omega (arith, f.1));
+          columns_most = few;
+          numbered = All-from_get_or (IsNumbered (length columns)) columns column.Dead (λ i within. numbered i (get_or columns i column.Dead) within (subst (λ o. Fits g y ds i o) (slice_get-get_or columns i column.Dead within) (fits i)));
+        };
+        settable = record { entries = many; filling = filling; spread = omega (arith, spread) };
+      }

@@ -1,0 +1,3 @@
+mod ActFitting
+mod CloseFitting
+mod RoundFitting

@@ -1,0 +1,7 @@
+use Rattle.std.proofs.Common.{◌<◌, ℕ}
+use Rattle.act_tests.specs.CloseSamples.{FitsAt}
+use Rattle.act_tests.proofs.closes.asked.fit.Given as goal
+
+-- the columns so far fit
+abbrev pub invariant-loop-c : goal.invariant-loop-c
+invariant-loop-c g l = (k : ℕ) → k < l.c → FitsAt l.columns l.devices k

@@ -1,0 +1,3 @@
+pub mod ActSamples
+pub mod CloseSamples
+pub mod RoundSamples

@@ -1,0 +1,281 @@
+//! Arrays of devices in memory, what is done to them, and what tests ask of them.
+ghost use Rattle.std.specs.Prelude.{◌≡◌, ◌≤◌, ◌<◌, ◌+◌, ◌*◌, None, length, IsTrue};
+ghost use Rattle.blk_disk.specs.Devices.{size_of};
+ghost use Rattle.eng_cols.specs.Cols.{IsFor};
+ghost use Rattle.top_close.specs.Ended.{states_of, IsLossBy};
+ghost use Rattle.top_rounds.specs.Settable.{IsSettable};
+ghost use Rattle.top_acts.specs.Begun.{CanAct};
+ghost use Rattle.act_tests.specs.ActSamples.{FitsAt};
+
+use crate::judging::same;
+use blk_disk::{Call, Disk, MemDisk, SECTOR};
+use eng_cols::{Cols, Column, Loss};
+use lay_core::Layout;
+use lay_plain::Raid5;
+use raid_label::Label;
+use raid_recon::Room;
+use std::alloc::Global;
+use std::process::Abort;
+use std::test::Fail;
+use top_acts::{
+    Done, Renewal, begin_labelled, check, close, end_labelled, fail_column, kill, label, renew,
+    renew_unlabelled,
+};
+use top_close::Ending;
+
+/// The label that was written last. Its array is clean.
+pub(crate) const LAST: Label = Label {
+    version: 1,
+    serial: 1001,
+    counter: 7,
+    column: 2,
+    columns: 3,
+    unit: 1,
+    rows: 3,
+    level: 53,
+    clean: 1,
+    b: 0,
+    k: 0,
+    r: 0,
+    lambda: 0,
+    seats: [0; 32],
+};
+
+/// What is done to an array.
+#[derive(Clone, Copy)]
+pub(crate) enum Act {
+    Check,
+    Kill(u32),
+    Fail(u32),
+    Label,
+    Begin(bool),
+    Close,
+    End(Option<Loss>),
+    Renew(Renewal),
+    RenewUnlabelled(Renewal),
+}
+
+fn size<D: Disk>(devices: &[Option<D>], d: usize) -> u64
+    ensures { result ≡ size_of D.Disk devices.now d }
+{
+    if d >= devices.len() {
+        return 0;
+    }
+    match &devices[d] {
+        Some(disk) => disk.sectors(),
+        None => 0,
+    }
+}
+
+fn fits_at<L: Layout, D: Disk>(
+    layout: &L,
+    columns: &[Column],
+    devices: &[Option<D>],
+    c: usize,
+) -> bool
+    requires { c < length columns.now }
+    ensures { IsTrue result → FitsAt D.Disk (L.shape layout.now) columns.now devices.now c }
+{
+    let needs = 64 + u64::from(layout.rows()) * u64::from(layout.unit_sectors());
+    match columns[c] {
+        Column::Live { device } => device as usize == c && needs <= size(devices, c),
+        Column::Dead => true,
+        Column::Spread | Column::Filling { .. } => false,
+    }
+}
+
+// Whether these are an array's columns and devices, each column with the disk of its own number.
+fn can_act<L: Layout, D: Disk>(layout: &L, columns: &[Column], devices: &[Option<D>]) -> bool
+    ensures { IsTrue result → CanAct D.Disk (L.shape layout.now) columns.now devices.now }
+{
+    if columns.len() != layout.columns() as usize {
+        return false;
+    }
+    if columns.len() > 32 {
+        return false;
+    }
+    for c in 0..columns.len() {
+        if !fits_at(layout, columns, devices, c) {
+            return false;
+        }
+    }
+    true
+}
+
+/// Three devices of 67 sectors, which hold zeros but for the rows of the first, so that no stripe is
+/// in sync. Of each the call of one number fails; a number that is greater than there are calls
+/// stands for none.
+pub(crate) fn devices(alloc: Global, fails: [u32; 3]) -> Result<[Option<MemDisk>; 3], Fail> {
+    Ok([
+        device(alloc, 1, fails[0])?,
+        device(alloc, 0, fails[1])?,
+        device(alloc, 0, fails[2])?,
+    ])
+}
+
+fn device(alloc: Global, byte: u8, fails: u32) -> Result<Option<MemDisk>, Fail> {
+    let mut bytes = vec![in alloc; 0; SECTOR * 67]?;
+    bytes.as_mut_slice()[SECTOR * 64..SECTOR * 67].fill(byte);
+    let fails = [fails].to_vec(alloc)?;
+    Ok(Some(MemDisk::new(alloc, bytes, fails, 100)?))
+}
+
+// By what an array is lost that has these columns.
+fn loss_of<L: Layout>(layout: &L, columns: &[Column], judge: &mut Cols) -> Option<Loss>
+    requires columns { IsSettable (L.shape layout.now) columns.now }
+    requires judge { IsFor (L.shape layout.now) judge.old }
+    ensures lost { IsLossBy (L.shape layout.now) None
+        (states_of (L.shape layout.now) columns.now) result }
+    ensures judge { IsFor (L.shape layout.now) judge.new }
+{
+    judge.set(layout, columns);
+    judge.lost(layout)
+}
+
+/// What comes of an act on such devices of level 5, each of which is in use. The label is the
+/// newest's, and then the label of the last round.
+pub(crate) fn acted(
+    alloc: Global,
+    act: Act,
+    devices: &mut [Option<MemDisk>],
+    newest: &mut Label,
+) -> Result<(Done, Ending), Fail> {
+    acted_on(alloc, &Raid5::new(3, 1, 3)?, act, devices, newest)
+}
+
+/// The same of another layout.
+pub(crate) fn acted_on<L: Layout>(
+    alloc: Global,
+    layout: &L,
+    act: Act,
+    devices: &mut [Option<MemDisk>],
+    newest: &mut Label,
+) -> Result<(Done, Ending), Fail> {
+    let mut columns = Vec::new(alloc);
+    for device in 0..3 {
+        columns.push(Column::Live { device })?;
+    }
+    if !can_act(layout, &columns, devices) || columns.len() != 3 {
+        return Err("no array".into());
+    }
+    let mut room = Room::open(alloc, 1024 * layout.unit_sectors())?;
+    let mut judge = Cols::with_room(alloc, layout.columns(), layout.stripes())?;
+    let mut ending = Ending {
+        columns,
+        lost: None,
+    };
+    *newest = LAST;
+    let done = match act {
+        Act::Check => check(layout, devices, &mut ending, &mut room, &mut judge),
+        Act::Kill(column) if column < 3 => {
+            kill(layout, devices, &mut ending, column, newest, &mut judge)
+        }
+        Act::Fail(column) if column < 3 => {
+            ending.lost = loss_of(layout, &ending.columns, &mut judge);
+            fail_column(layout, devices, &mut ending, column, newest, &mut judge);
+            Done::Nothing
+        }
+        Act::Kill(_) | Act::Fail(_) => return Err("no column".into()),
+        Act::Label => label(layout, devices, &mut ending, newest, &mut judge),
+        Act::Begin(dirty) => {
+            let rewritten = begin_labelled(
+                layout,
+                devices,
+                &mut ending,
+                newest,
+                dirty,
+                &mut room,
+                &mut judge,
+            );
+            Done::Rewrite(rewritten)
+        }
+        Act::Close => {
+            close(layout, devices, &mut ending, newest, &mut judge);
+            Done::Nothing
+        }
+        Act::End(lost) => {
+            ending.lost = lost;
+            end_labelled(layout, devices, &mut ending, newest, &mut judge);
+            Done::Nothing
+        }
+        Act::Renew(kind) => renew(
+            kind,
+            layout,
+            devices,
+            &mut ending,
+            newest,
+            &mut room,
+            &mut judge,
+        ),
+        Act::RenewUnlabelled(kind) => {
+            renew_unlabelled(kind, layout, devices, &mut ending, &mut room, &mut judge)
+        }
+    };
+    Ok((done, ending))
+}
+
+// A call as one letter: a label, a unit that is read or written, or a settle; a small one where it
+// failed.
+fn letter(call: &Call) -> u8 {
+    let letter = match (call.kind, call.first) {
+        (1, 0) => b'L',
+        (0, 64..) => b'R',
+        (1, 64..) => b'W',
+        (2, _) => b'S',
+        _ => b'?',
+    };
+    if call.good {
+        letter
+    } else {
+        letter.to_ascii_lowercase()
+    }
+}
+
+/// The device has had these calls, a letter each.
+pub(crate) fn has_calls(rt: &impl Abort, device: &Option<MemDisk>, calls: &[u8]) {
+    let kept: &[Call] = match device {
+        Some(disk) => disk.calls(),
+        None => &[],
+    };
+    same(rt, kept.len(), calls.len());
+    for (call, told) in kept.iter().zip(calls) {
+        same(rt, letter(call), *told);
+    }
+}
+
+/// All three have had theirs.
+pub(crate) fn have_calls(rt: &impl Abort, devices: &[Option<MemDisk>; 3], calls: [&[u8]; 3]) {
+    for d in 0..3 {
+        has_calls(rt, &devices[d], calls[d]);
+    }
+}
+
+/// Of the label on a device: counter, column, clean field, and the first three seats. None where
+/// there is no label.
+pub(crate) fn label_on(device: &Option<MemDisk>) -> Option<[u8; 6]> {
+    let bytes = device.as_ref()?.bytes();
+    if bytes.len() != 67 * SECTOR || !bytes.starts_with(b"RFLABEL1") {
+        return None;
+    }
+    Some([
+        bytes[16], bytes[20], bytes[40], bytes[60], bytes[61], bytes[62],
+    ])
+}
+
+/// The first byte of each row of a device.
+pub(crate) fn rows_on(device: &Option<MemDisk>) -> Option<[u8; 3]> {
+    let bytes = device.as_ref()?.bytes();
+    if bytes.len() != 67 * SECTOR {
+        return None;
+    }
+    Some([bytes[64 * SECTOR], bytes[65 * SECTOR], bytes[66 * SECTOR]])
+}
+
+/// Which columns are dead.
+pub(crate) fn dead(ending: &Ending) -> [bool; 3] {
+    let mut dead = [false; 3];
+    for c in 0..3 {
+        dead[c] = ending.columns.get(c).copied() == Some(Column::Dead);
+    }
+    dead
+}

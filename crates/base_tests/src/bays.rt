@@ -1,0 +1,159 @@
+//! Bays and sinks, in memory and over real files.
+use crate::judging::{same, same_at};
+use blk_disk::{Disk, Failed, MemDisk};
+use raid_bay::*;
+use std::alloc::Global;
+use std::fs;
+use std::process::Abort;
+use std::test::Fail;
+
+// Takes a device, asks for its sectors, and puts it back.
+fn sectors_of<B: Bay>(alloc: Global, bay: &mut B, name: &str) -> Result<u64, TakeFault> {
+    let disk = bay.take(alloc, name)?;
+    let sectors = disk.sectors();
+    bay.put(name, disk);
+    Ok(sectors)
+}
+
+// Whether the text of that name is this one.
+fn is_text<B: Bay>(
+    alloc: Global,
+    bay: &mut B,
+    name: &str,
+    limit: usize,
+    text: &[u8],
+) -> Result<bool, TextFault> {
+    let found = bay.text(alloc, name, limit)?;
+    Ok(found.as_slice() == text)
+}
+
+// The text of that name, which may have so many bytes, is this one, or is refused for that cause.
+fn gives<B: Bay>(
+    rt: &impl Abort,
+    alloc: Global,
+    bay: &mut B,
+    asked: (&str, usize),
+    text: &[u8],
+    answer: Result<bool, TextFault>,
+) {
+    let (name, limit) = asked;
+    let given = is_text(alloc, bay, name, limit, text);
+    same_at(rt, name, (limit, given), (limit, answer));
+}
+
+// The device of that name has so many sectors, or is refused for that cause.
+fn lends<B: Bay>(
+    rt: &impl Abort,
+    alloc: Global,
+    bay: &mut B,
+    name: &str,
+    answer: Result<u64, TakeFault>,
+) {
+    same_at(rt, name, sectors_of(alloc, bay, name), answer);
+}
+
+fn is_home(rt: &impl Abort, bay: &MemBay<MemDisk>, name: &str, want: bool) {
+    same_at(rt, name, bay.disk(name).is_some(), want);
+}
+
+// A bay with the text `conf` of five bytes and the device `d0` of two sectors, whose calls 3 and 5 fail.
+fn small_bay(alloc: Global) -> Result<MemBay<MemDisk>, Fail> {
+    let bytes = vec![in alloc; 0; 1024]?;
+    let disk = MemDisk::new(alloc, bytes, Vec::new(alloc), 0)?;
+    let text = b"START".to_vec(alloc)?;
+    let texts = vec![in alloc; (Name::new(alloc, "conf")?, text)]?;
+    let disks = vec![in alloc; (Name::new(alloc, "d0")?, disk)]?;
+    let fails = vec![in alloc; 3, 5]?;
+    Ok(MemBay::new(alloc, texts, disks, fails))
+}
+
+// A device that is taken is gone till it's put back.
+fn lends_once(rt: &impl Abort, alloc: Global, bay: &mut MemBay<MemDisk>) -> Result<(), Fail> {
+    let disk = bay.take(alloc, "d0")?;
+    is_home(rt, bay, "d0", false);
+    same(rt, bay.take(alloc, "d0").err(), Some(TakeFault::Missing));
+    bay.put("d0", disk);
+    is_home(rt, bay, "d0", true);
+    is_home(rt, bay, "d1", false);
+    Ok(())
+}
+
+#[test]
+fn memory_gives_texts_and_lends_devices(rt: HostRuntime) -> Result<(), Fail> {
+    let alloc = rt.alloc();
+    let mut bay = small_bay(alloc)?;
+    for (name, limit, answer) in [
+        ("conf", 5, Ok(true)),
+        ("conf", 4, Err(TextFault::TooLong)),
+        ("d0", 5, Err(TextFault::Missing)),
+        ("conf", 5, Err(TextFault::Fault)),
+    ] {
+        gives(&rt, alloc, &mut bay, (name, limit), b"START", answer);
+    }
+    for (name, answer) in [
+        ("conf", Err(TakeFault::Missing)),
+        ("d0", Err(TakeFault::Fault)),
+        ("d0", Ok(2)),
+        ("d0", Ok(2)),
+    ] {
+        lends(&rt, alloc, &mut bay, name, answer);
+    }
+    lends_once(&rt, alloc, &mut bay)
+}
+
+#[test]
+fn memory_appends_what_fits(rt: HostRuntime) -> Result<(), Fail> {
+    let mut sink = MemSink::new(rt.alloc(), 6, vec![in rt.alloc(); 1]?)?;
+    for (piece, answer, held) in [
+        ("abc", Ok(()), "abc"),
+        ("d", Err(Failed), "abc"),
+        ("de", Ok(()), "abcde"),
+        ("fgh", Err(Failed), "abcdef"),
+        ("", Ok(()), "abcdef"),
+    ] {
+        same_at(&rt, piece, sink.put(piece.as_bytes()), answer);
+        same_at(&rt, piece, sink.bytes(), held.as_bytes());
+    }
+    Ok(())
+}
+
+#[test]
+fn files_are_texts_and_devices(rt: HostRuntime) -> Result<(), Fail> {
+    let alloc = rt.alloc();
+    let mut bay = FileBay::new(rt.clone()?);
+    fs::write(&rt, "a_text", "START array\n")?;
+    fs::write(&rt, "a_device", vec![in alloc; 1u8; 1100]?.as_slice())?;
+    for (name, limit, answer) in [
+        ("a_text", 12, Ok(true)),
+        ("a_text", 11, Err(TextFault::TooLong)),
+        ("no_text", 12, Err(TextFault::Missing)),
+        (".", 12, Err(TextFault::Fault)),
+    ] {
+        gives(
+            &rt,
+            alloc,
+            &mut bay,
+            (name, limit),
+            b"START array\n",
+            answer,
+        );
+    }
+    for (name, answer) in [
+        ("a_device", Ok(2)),
+        ("a_device", Ok(2)),
+        ("no_device", Err(TakeFault::Missing)),
+        (".", Err(TakeFault::Fault)),
+    ] {
+        lends(&rt, alloc, &mut bay, name, answer);
+    }
+    fs::remove_file(&rt, "a_text")?;
+    fs::remove_file(&rt, "a_device")?;
+    Ok(())
+}
+
+#[test]
+fn standard_output_takes_bytes(rt: HostRuntime) -> Result<(), Fail> {
+    let mut out = OutSink::new(rt.clone()?);
+    same(&rt, out.put(b"status ok\n"), Ok(()));
+    Ok(())
+}

@@ -1,0 +1,4 @@
+mod Trials
+mod Setups
+mod Arrays
+mod Losing

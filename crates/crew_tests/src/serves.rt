@@ -1,0 +1,173 @@
+//! What no clause says: that what is asked is done, with a crew and without; what becomes of it where a device fails; and
+//! that a lost array is refused. With two columns a stripe is one block and its check, which is the same.
+ghost use Rattle.std.specs.Prelude.{◌≡◌, ◌≤◌, IfOk, All, length};
+ghost use Rattle.blk_disk.specs.Mem.{mem_bytes};
+ghost use Rattle.crew_tests.specs.Trial.{IsSmall, AreSmall};
+
+use crate::judging::same;
+use blk_disk::{MemDisk, SECTOR};
+use blk_plain::{Op, Pattern, Span};
+use eng_array::{Closed, Column, Item, Loss, Reply};
+use lay_plain::Raid5;
+use std::alloc::{AllocError, Global};
+use std::process::Abort;
+use std::test::Fail;
+use top_serve::{ServeFault, serve};
+
+mod ready;
+mod rebuilt;
+
+use ready::{lost, ready};
+
+// A device of 128 sectors of zeros that fails its calls of these numbers.
+fn device(alloc: Global, fails: &[u32]) -> Result<MemDisk, Fail>
+    ensures { IfOk result (λ disk. length (mem_bytes disk) ≡ 65536) }
+{
+    let bytes = vec![in alloc; 0; SECTOR * 128]?;
+    let fails = fails.to_vec(alloc)?;
+    Ok(MemDisk::new(alloc, bytes, fails, 100)?)
+}
+
+// The write of one block.
+fn write(block: u64, byte: u8) -> Item
+    ensures { IsSmall result }
+{
+    let mut bytes = [0; 32];
+    bytes[0] = byte;
+    Item::Run {
+        op: Op::Write {
+            span: Span {
+                first: block,
+                count: 1,
+            },
+            pattern: Pattern { len: 1, bytes },
+        },
+        graph: None,
+    }
+}
+
+// The read of a block and the next.
+fn read(block: u64) -> Item
+    ensures { IsSmall result }
+{
+    Item::Run {
+        op: Op::Read {
+            span: Span {
+                first: block,
+                count: 2,
+            },
+        },
+        graph: None,
+    }
+}
+
+// Two clients: each fills a block, the one block 0 and the other block 2, and reads it and the next.
+fn clients(alloc: Global) -> Result<Vec<Vec<Item>>, AllocError>
+    ensures { IfOk result (λ clients. (length clients.items ≡ 2) × All AreSmall clients.items) }
+{
+    let first = vec![in alloc; write(0, 1), read(0)]?;
+    let second = vec![in alloc; write(2, 3), read(2)]?;
+    Ok(vec![in alloc; first, second]?)
+}
+
+// The byte that the sector begins with.
+fn begins(bytes: &[u8], sector: usize) -> Option<u8>
+    requires { sector ≤ 128 }
+{
+    bytes.get(sector * SECTOR).copied()
+}
+
+// The device has both blocks.
+fn holds(rt: &impl Abort, device: Option<&Option<MemDisk>>) {
+    match device {
+        Some(Some(disk)) => {
+            same(rt, begins(disk.bytes(), 64), Some(1));
+            same(rt, begins(disk.bytes(), 66), Some(3));
+        }
+        _ => same(rt, false, true),
+    }
+}
+
+// Both clients have their reply, and the reads their data.
+fn all_replied(rt: &impl Abort, closed: &Closed<Raid5, MemDisk>) {
+    same(rt, closed.replies.len(), 2);
+    for replies in closed.replies.iter() {
+        same(
+            rt,
+            replies.as_slice(),
+            [Reply::Done, Reply::Data].as_slice(),
+        );
+    }
+    same(rt, closed.sectors.len(), 4 * SECTOR);
+    for (sector, byte) in [1, 0, 3, 0].iter().enumerate() {
+        same(rt, begins(&closed.sectors, sector), Some(*byte));
+    }
+}
+
+#[test]
+fn all_is_served_by_any_number_of_workers(rt: HostRuntime) -> Result<(), Fail> {
+    let alloc = rt.alloc();
+    for workers in [0, 1, 4] {
+        let setup = ready(
+            alloc,
+            device(alloc, &[])?,
+            device(alloc, &[])?,
+            clients(alloc)?,
+        )?;
+        match serve(&rt, alloc, setup, workers) {
+            Ok(closed) => {
+                all_replied(&rt, &closed);
+                same(&rt, closed.history.len(), 4);
+                holds(&rt, closed.devices.first());
+                holds(&rt, closed.devices.last());
+            }
+            Err(_) => same(&rt, false, true),
+        }
+    }
+    Ok(())
+}
+
+// The second device refuses its first call, which is a write, since writes over two columns read nothing.
+#[test]
+fn a_device_that_fails_leaves_its_column_dead(rt: HostRuntime) -> Result<(), Fail> {
+    let alloc = rt.alloc();
+    let setup = ready(
+        alloc,
+        device(alloc, &[])?,
+        device(alloc, &[0])?,
+        clients(alloc)?,
+    )?;
+    match serve(&rt, alloc, setup, 4) {
+        Ok(closed) => {
+            all_replied(&rt, &closed);
+            holds(&rt, closed.devices.first());
+            same(
+                &rt,
+                closed.columns.as_slice(),
+                [Column::Live { device: 0 }, Column::Dead].as_slice(),
+            );
+            same(&rt, closed.lost, None);
+        }
+        Err(_) => same(&rt, false, true),
+    }
+    Ok(())
+}
+
+#[test]
+fn a_lost_array_comes_back(rt: HostRuntime) -> Result<(), Fail> {
+    let alloc = rt.alloc();
+    let setup = lost(alloc, device(alloc, &[])?, device(alloc, &[])?)?;
+    match serve(&rt, alloc, setup, 1) {
+        Ok(_) => same(&rt, false, true),
+        Err(refused) => {
+            let loss = Loss {
+                first: 0,
+                second: 1,
+                stripe: 0,
+            };
+            same(&rt, refused.fault, ServeFault::Lost(loss));
+            same(&rt, refused.setup.devices.len(), 2);
+        }
+    }
+    Ok(())
+}

@@ -1,8 +1,0 @@
-use Rattle.std.proofs.Common.{subst, sym}
-use Rattle.graph_mean.specs.Graph.{Held}
-use Rattle.eng_one.specs.Counts.{CanStart}
-use Rattle.eng_one.proofs.Starting.{whole-starts}
-use Rattle.eng_one.proofs.tests.graphs.whole.Goals as goal
-
-pub returns-clause-starts : goal.returns-clause-starts
-returns-clause-starts c = subst (λ (h : Held). CanStart h.drawn) (sym c.push_whole_end.ensures) whole-starts

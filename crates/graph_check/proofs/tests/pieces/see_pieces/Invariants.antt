@@ -1,6 +1,0 @@
-use Rattle.graph_check.specs.Samples.{HasRoom}
-use Rattle.graph_check.proofs.tests.pieces.see_pieces.Given as goal
-
--- the room stays
-abbrev pub invariant-loop-row : goal.invariant-loop-row
-invariant-loop-row g l = HasRoom l.graph

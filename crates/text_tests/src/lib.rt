@@ -1,0 +1,19 @@
+//! Tests of what reads and prints texts: lines, configurations, graph files, scripts and the words of the command line.
+//!
+//! They stand in a crate of their own, since a crate with tests is proved twice.
+#![tactic(auto)]
+
+#[cfg(test)]
+mod conf;
+#[cfg(test)]
+mod graphs;
+#[cfg(test)]
+mod judging;
+#[cfg(test)]
+mod lines;
+#[cfg(test)]
+mod scripts;
+#[cfg(test)]
+mod texts;
+#[cfg(test)]
+mod words;

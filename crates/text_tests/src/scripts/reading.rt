@@ -1,0 +1,158 @@
+//! Scripts that are read.
+use crate::graphs;
+use crate::judging::{same, same_at};
+use blk_plain::{Op, Pattern, Span};
+use eng_world::Item;
+use graph_text::{Book, read_graphs};
+use raid_script::{Memory, ScriptFault, generate, read_script};
+use std::alloc::Global;
+use std::process::Abort;
+use std::test::Fail;
+
+// The pattern of two bytes, or of one where the second is none.
+fn pattern(first: u8, second: Option<u8>) -> Pattern {
+    let mut bytes = [0u8; 32];
+    bytes[0] = first;
+    match second {
+        Some(byte) => {
+            bytes[1] = byte;
+            Pattern { len: 2, bytes }
+        }
+        None => Pattern { len: 1, bytes },
+    }
+}
+
+fn read(first: u64, count: u32, graph: Option<u32>) -> Item {
+    let span = Span { first, count };
+    Item::Run {
+        op: Op::Read { span },
+        graph,
+    }
+}
+
+fn write(first: u64, count: u32, pattern: Pattern, graph: Option<u32>) -> Item {
+    let span = Span { first, count };
+    Item::Run {
+        op: Op::Write { span, pattern },
+        graph,
+    }
+}
+
+// The items of a client are these.
+fn see(rt: &impl Abort, clients: &[Vec<Item>], client: usize, items: &[Item]) {
+    assert!(rt; client < clients.len());
+    same_at(rt, client, clients[client].as_slice(), items);
+}
+
+// The items of each client in a short text.
+fn items(rt: &impl Abort, alloc: Global, text: &[u8], book: &Book, columns: u32) -> Vec<Vec<Item>> {
+    assert!(rt; text.len() < 1_000);
+    read_script(alloc, text, book, columns)
+        .expect(rt, "a script")
+        .clients()
+}
+
+// Each kind of line, loosely written.
+const LOOSE: &[u8] =
+    b"# a script\r\n\n1 write 5 3 a5F0\r\n0 read 0 1\n\t1 \t use h  read 7 2# by the second graph\n3 use g write 4294967295 4294967295 00\n01 sync 9\n0 fail 4\n15 read 0000000002 01";
+
+#[test]
+fn each_kind_of_line_is_read(rt: HostRuntime) -> Result<(), Fail> {
+    let book = graphs::read(&rt, rt.alloc(), b"graph g\nend\ngraph h\nend\n");
+    let clients = items(&rt, rt.alloc(), LOOSE, &book, 5);
+    same(&rt, clients.len(), 16);
+    see(
+        &rt,
+        &clients,
+        0,
+        &[read(0, 1, None), Item::Fail { column: 4 }],
+    );
+    see(
+        &rt,
+        &clients,
+        1,
+        &[
+            write(5, 3, pattern(0xa5, Some(0xf0)), None),
+            read(7, 2, Some(1)),
+            Item::Run {
+                op: Op::Sync { stripe: 9 },
+                graph: None,
+            },
+        ],
+    );
+    see(&rt, &clients, 2, &[]);
+    let most = u64::from(u32::MAX);
+    see(
+        &rt,
+        &clients,
+        3,
+        &[write(most, u32::MAX, pattern(0, None), Some(0))],
+    );
+    see(&rt, &clients, 15, &[read(2, 1, None)]);
+    Ok(())
+}
+
+// A short text is a script that asks for nothing.
+fn see_nothing(rt: &impl Abort, alloc: Global, text: &[u8], book: &Book) {
+    assert!(rt; text.len() < 100);
+    let clients = items(rt, alloc, text, book, 2);
+    same(rt, clients.len(), 16);
+    see(rt, &clients, 0, &[]);
+    see(rt, &clients, 15, &[]);
+}
+
+#[test]
+fn a_text_without_a_line_is_a_script(rt: HostRuntime) -> Result<(), Fail> {
+    let book = graphs::read(&rt, rt.alloc(), b"");
+    see_nothing(&rt, rt.alloc(), b"", &book);
+    see_nothing(&rt, rt.alloc(), b"\n \n# nothing\n", &book);
+    Ok(())
+}
+
+#[test]
+fn a_name_is_that_of_a_graph(rt: HostRuntime) -> Result<(), Fail> {
+    let text = b"0 read 0 1\n0 use g read 0 1";
+    let none = graphs::read(&rt, rt.alloc(), b"");
+    let other = graphs::read(&rt, rt.alloc(), b"graph f\nend");
+    for book in [&none, &other] {
+        let is = read_script(rt.alloc(), text, book, 2).err();
+        same(&rt, is, Some(ScriptFault::At { line: 2, code: 6 }));
+    }
+    let both = graphs::read(&rt, rt.alloc(), b"graph f\nend\ngraph g\nend");
+    let clients = items(&rt, rt.alloc(), text, &both, 2);
+    same(&rt, clients.len(), 16);
+    see(&rt, &clients, 0, &[read(0, 1, None), read(0, 1, Some(1))]);
+    Ok(())
+}
+
+// Three clients have four items each, or there is no memory.
+fn see_drawn(rt: &impl Abort, alloc: Global) {
+    match generate(alloc, 9, 3, 4, 100) {
+        Ok(script) => {
+            let clients = script.clients();
+            assert!(rt; clients.len() == 3);
+            same(rt, clients[2].len(), 4);
+        }
+        Err(Memory) => {}
+    }
+}
+
+// Where each allocation is refused in turn, as `rt try --test --fail-alloc N` does, there is no other
+// answer than the script and want of memory.
+#[test]
+fn want_of_memory_is_the_only_other_answer(rt: HostRuntime) -> Result<(), Fail> {
+    let Ok(book) = read_graphs(rt.alloc(), b"graph g\nend") else {
+        return Ok(());
+    };
+    let text = b"0 use g read 0 1\n3 sync 2\n0 fail 1\n0 read 2 3\n0 read 4 5\n0 read 6 7\n";
+    match read_script(rt.alloc(), text, &book, 2) {
+        Ok(script) => {
+            let clients = script.clients();
+            assert!(rt; clients.len() == 16);
+            same(&rt, (clients[0].len(), clients[3].len()), (5, 1));
+        }
+        Err(fault) => same(&rt, fault, ScriptFault::Memory),
+    }
+    see_drawn(&rt, rt.alloc());
+    Ok(())
+}

@@ -1,0 +1,209 @@
+//! Words and the commands that they are. The wanted ones are read off the table of the program's words.
+use crate::judging::{holds, same, same_at};
+use raid_bay::Name;
+use std::alloc::Global;
+use std::process::Abort;
+use std::test::Fail;
+use top_words::{Action, Command, WordsFault, read_words};
+
+// the names of these words
+fn names(alloc: Global, words: &[&str]) -> Result<Vec<Name>, Fail> {
+    let mut names = Vec::new(alloc);
+    for word in words {
+        names.push(Name::new(alloc, *word)?)?;
+    }
+    Ok(names)
+}
+
+// which case of Usage the words are, 9 where they are a command
+fn case(alloc: Global, words: &[&str]) -> Result<u8, Fail> {
+    let names = names(alloc, words)?;
+    Ok(match read_words(alloc, names.as_slice()) {
+        Ok(_) => 9,
+        Err(WordsFault::Usage(case)) => case,
+        Err(WordsFault::Memory) => 10,
+    })
+}
+
+// each row's words are its case
+fn see(rt: &impl Abort, alloc: Global, rows: &[(&[&str], u8)]) -> Result<(), Fail> {
+    for (words, wanted) in rows {
+        same_at(rt, *words, case(alloc, words)?, *wanted);
+    }
+    Ok(())
+}
+
+#[test]
+fn words_that_are_refused(rt: HostRuntime) -> Result<(), Fail> {
+    let rows: [(&[&str], u8); 14] = [
+        (&[], 0),
+        (&["--io", "S"], 0),
+        (&["CONF", "--copyback"], 0),
+        (&["CONF", "-F"], 0),
+        (&["CONF", "-R", "d0", "-R", "d0"], 0),
+        (&["CONF", "--trace", "--trace"], 0),
+        (&["CONF"], 1),
+        (&["CONF", "--trace"], 1),
+        (&["CONF", "--io", "S", "--sweep", "1"], 1),
+        (&["CONF", "--sweep", "1", "--clients", "2"], 2),
+        (&["CONF", "--io", "S", "--ops", "2"], 2),
+        (&["CONF", "--io", "S", "-w", "17"], 3),
+        (&["CONF", "--io", "S", "-w", "two"], 3),
+        (&["CONF", "--sweep", "1", "--clients", "0", "--ops", "0"], 3),
+    ];
+    see(&rt, rt.alloc(), &rows)
+}
+
+#[test]
+fn rebuilds_that_are_refused(rt: HostRuntime) -> Result<(), Fail> {
+    let rows: [(&[&str], u8); 6] = [
+        (&["CONF", "-F", "d0", "-R", "d0"], 1),
+        (&["CONF", "-R", "d0", "-f", "d0"], 1),
+        (&["CONF", "-F", "d0", "--trace"], 2),
+        (&["CONF", "-F", "d0", "--graphs", "G"], 2),
+        (&["CONF", "-R", "d0", "--ops", "1"], 2),
+        (&["CONF", "-R", "d0", "-w", "17"], 3),
+    ];
+    see(&rt, rt.alloc(), &rows)
+}
+
+#[test]
+fn letters_that_are_refused(rt: HostRuntime) -> Result<(), Fail> {
+    let rows: [(&[&str], u8); 9] = [
+        (&["CONF", "-s", "-s"], 0),
+        (&["CONF", "-f"], 0),
+        (&["CONF", "-h"], 0),
+        (&["CONF", "-s", "-p"], 1),
+        (&["CONF", "-f", "d0", "-g", "d0", "-w", "1"], 1),
+        (&["CONF", "-s", "--trace"], 2),
+        (&["CONF", "-i", "-w", "17"], 2),
+        (&["CONF", "-I", "one"], 3),
+        (&["CONF", "-I", "4294967296"], 3),
+    ];
+    see(&rt, rt.alloc(), &rows)
+}
+
+// the command that the words are
+fn command<'a>(alloc: Global, words: &'a [Name]) -> Result<Command<'a>, Fail> {
+    match read_words(alloc, words) {
+        Ok(command) => Ok(command),
+        Err(_) => Err("refused".into()),
+    }
+}
+
+// an action's letter, and the component or the serial number behind it; '-' where it is none of a letter
+fn letter(action: Action<'_>) -> (char, &str, u32) {
+    match action {
+        Action::Show => ('s', "", 0),
+        Action::Init => ('i', "", 0),
+        Action::Check => ('p', "", 0),
+        Action::Rewrite => ('P', "", 0),
+        Action::Print => ('G', "", 0),
+        Action::Fail { comp } => ('f', comp, 0),
+        Action::ShowLabel { comp } => ('g', comp, 0),
+        Action::Label { serial } => ('I', "", serial),
+        _ => ('-', "", 0),
+    }
+}
+
+#[test]
+fn letters_that_are_commands(rt: HostRuntime) -> Result<(), Fail> {
+    let table: [(&[&str], (char, &str, u32)); 8] = [
+        (&["C", "-s"], ('s', "", 0)),
+        (&["C", "-i"], ('i', "", 0)),
+        (&["-p", "C"], ('p', "", 0)),
+        (&["C", "-P"], ('P', "", 0)),
+        (&["C", "-G"], ('G', "", 0)),
+        (&["C", "-f", "d1"], ('f', "d1", 0)),
+        (&["-g", "s0", "C"], ('g', "s0", 0)),
+        (&["C", "-I", "4294967295"], ('I', "", 4_294_967_295)),
+    ];
+    for (words, wanted) in table {
+        let words = names(rt.alloc(), words)?;
+        let command = command(rt.alloc(), words.as_slice())?;
+        same(&rt, command.conf, "C");
+        same(&rt, letter(command.action), wanted);
+    }
+    Ok(())
+}
+
+// A column is rebuilt from a spare, beside a script.
+fn see_rebuild_beside(rt: &impl Abort, action: Action<'_>) -> Result<(), Fail> {
+    let Action::Rebuild {
+        in_place: false,
+        comp,
+        beside: Some(beside),
+        workers: 2,
+    } = action
+    else {
+        return Err("another action".into());
+    };
+    same(rt, comp, "d1");
+    same(rt, beside.script, "S");
+    holds(rt, beside.trace);
+    Ok(())
+}
+
+// A column is rebuilt where it was, by itself.
+fn see_rebuild_alone(rt: &impl Abort, action: Action<'_>) -> Result<(), Fail> {
+    let Action::Rebuild {
+        in_place: true,
+        comp,
+        beside: None,
+        workers: 4,
+    } = action
+    else {
+        return Err("another action".into());
+    };
+    same(rt, comp, "d1");
+    Ok(())
+}
+
+#[test]
+fn rebuilds_that_are_commands(rt: HostRuntime) -> Result<(), Fail> {
+    let words = names(
+        rt.alloc(),
+        &["C", "--io", "S", "-F", "d1", "--trace", "-w", "2"],
+    )?;
+    see_rebuild_beside(&rt, command(rt.alloc(), words.as_slice())?.action)?;
+    let words = names(rt.alloc(), &["C", "-R", "d1"])?;
+    see_rebuild_alone(&rt, command(rt.alloc(), words.as_slice())?.action)
+}
+
+// A script runs.
+fn see_io(rt: &impl Abort, action: Action<'_>) -> Result<(), Fail> {
+    let Action::Io { beside, workers: 0 } = action else {
+        return Err("another action".into());
+    };
+    same(rt, beside.script, "S");
+    holds(rt, beside.graphs.is_none());
+    holds(rt, beside.trace);
+    Ok(())
+}
+
+// A sweep runs.
+fn see_sweep(action: Action<'_>) -> Result<(), Fail> {
+    let Action::Sweep {
+        seed: 7,
+        clients: 16,
+        ops: 2048,
+        workers: 4,
+    } = action
+    else {
+        return Err("another action".into());
+    };
+    Ok(())
+}
+
+#[test]
+fn words_that_are_commands(rt: HostRuntime) -> Result<(), Fail> {
+    let words = names(rt.alloc(), &["C", "--io", "S", "-w", "0", "--trace"])?;
+    let io = command(rt.alloc(), words.as_slice())?;
+    same(&rt, io.conf, "C");
+    see_io(&rt, io.action)?;
+    let words = names(
+        rt.alloc(),
+        &["--sweep", "7", "--clients", "16", "--ops", "2048", "C"],
+    )?;
+    see_sweep(command(rt.alloc(), words.as_slice())?.action)
+}

@@ -1,7 +1,0 @@
-use Rattle.std.proofs.Common.{◌<◌, ℕ}
-use Rattle.top_rounds.specs.Samples.{FitsAt}
-use Rattle.top_rounds.proofs.tests.fit.Given as goal
-
--- the columns so far fit
-abbrev pub invariant-loop-c : goal.invariant-loop-c
-invariant-loop-c g l = (k : ℕ) → k < l.c → FitsAt g.D.Disk l.columns l.devices k

@@ -1,7 +1,0 @@
-use Rattle.std.proofs.Common.{◌∙◌, sym, ap, subst, Some}
-use Rattle.std.proofs.lemmas.Option.{slice_get-get_or}
-use Rattle.top_rounds.specs.Samples.{Fits}
-use Rattle.top_rounds.proofs.tests.fits_at.Goals as goal
-
-pub returns-in-Dead : goal.returns-in-Dead
-returns-in-Dead g c = λ h. subst (λ o. Fits g.D.Disk c.args.devices.now c.args.c o) (sym (slice_get-get_or c.args.columns.now c.args.c _ c.requires ∙ ap (λ x. Some x) c.in-Dead.is)) tt

@@ -1,6 +1,0 @@
-use Rattle.std.proofs.Common.{refl}
-use Rattle.top_serve.proofs.TestSetups.{dead-ready}
-use Rattle.top_serve.proofs.tests.ready.lost.Goals as goal
-
-pub returns : goal.returns
-returns c = dead-ready _ _ _ c.args.first c.args.second c.in-Ok.ensures.made c.in_ok-devices.ensures c.new-3.ensures.items refl c.in_ok-columns.ensures.items c.new-2.ensures.items
