@@ -1,4 +1,4 @@
 mod Trials
 mod Setups
-mod Arrays
+mod TwoColumns
 mod Losing

@@ -4,6 +4,7 @@ ghost use Rattle.std.specs.Prelude.{◌≡◌, ◌≤◌, ◌+◌, ◌*◌, IfOk
 ghost use Rattle.blk_disk.specs.Mem.{mem_bytes};
 ghost use Rattle.crew_tests.specs.Trial.{IsSmall, AreSmall, IsServable};
 
+use crate::arrays::{device, read, write};
 use crate::judging::{same, same_at};
 use blk_disk::{Disk, Gate, GateDisk, MemDisk, SECTOR};
 use blk_plain::{Op, OpId, Pattern, Span};
@@ -23,60 +24,18 @@ use opened::opened;
 
 const LIVE: [Column; 2] = [Column::Live { device: 0 }, Column::Live { device: 1 }];
 
-// A device of 128 sectors of zeros that fails its calls of these numbers.
-fn device(alloc: Global, fails: &[u32]) -> Result<MemDisk, Fail>
-    ensures { IfOk result (λ disk. length (mem_bytes disk) ≡ 65536) }
-{
-    let bytes = vec![in alloc; 0; SECTOR * 128]?;
-    let fails = fails.to_vec(alloc)?;
-    Ok(MemDisk::new(alloc, bytes, fails, 100)?)
-}
-
-// The write of one block.
-fn write(block: u32, byte: u8) -> Item
-    ensures { IsSmall result }
-{
-    let mut bytes = [0; 32];
-    bytes[0] = byte;
-    Item::Run {
-        op: Op::Write {
-            span: Span {
-                first: u64::from(block),
-                count: 1,
-            },
-            pattern: Pattern { len: 1, bytes },
-        },
-        graph: None,
-    }
-}
-
-// The read of four blocks.
-fn read(block: u32) -> Item
-    ensures { IsSmall result }
-{
-    Item::Run {
-        op: Op::Read {
-            span: Span {
-                first: u64::from(block),
-                count: 4,
-            },
-        },
-        graph: None,
-    }
-}
-
 // Items that fill four blocks from this one on, each with its own number and one, and read them.
 fn items(alloc: Global, first: u8) -> Result<Vec<Item>, AllocError>
     requires { first ≤ 60 }
     ensures { IfOk result AreSmall }
 {
-    let block = u32::from(first);
+    let block = u64::from(first);
     Ok(vec![in alloc;
         write(block, first + 1),
         write(block + 1, first + 2),
         write(block + 2, first + 3),
         write(block + 3, first + 4),
-        read(block),
+        read(block, 4),
     ]?)
 }
 
@@ -162,8 +121,8 @@ fn crews_of_any_size_serve_every_item(rt: HostRuntime) -> Result<(), Fail> {
     for workers in [1, 2, 16] {
         let core = opened(
             alloc,
-            device(alloc, &[])?,
-            device(alloc, &[])?,
+            device(alloc, 0, &[])?,
+            device(alloc, 0, &[])?,
             clients(alloc, 8)?,
         )?;
         let closed = served(&rt, alloc, core, workers)?;
@@ -186,8 +145,8 @@ fn four_workers_go_on_where_a_device_fails(rt: HostRuntime) -> Result<(), Fail> 
     let alloc = rt.alloc();
     let core = opened(
         alloc,
-        device(alloc, &[])?,
-        device(alloc, &[0])?,
+        device(alloc, 0, &[])?,
+        device(alloc, 0, &[0])?,
         clients(alloc, 8)?,
     )?;
     let closed = served(&rt, alloc, core, 4)?;
@@ -211,8 +170,8 @@ fn four_workers_go_on_where_a_device_fails(rt: HostRuntime) -> Result<(), Fail> 
 fn two_workers_perform_at_the_same_time(rt: HostRuntime) -> Result<(), Fail> {
     let alloc = rt.alloc();
     let gate = Gate::new(alloc)?;
-    let first = GateDisk::new(device(alloc, &[])?, gate.clone()?, 0, 64);
-    let second = GateDisk::new(device(alloc, &[])?, gate, 1, 64);
+    let first = GateDisk::new(device(alloc, 0, &[])?, gate.clone()?, 0, 64);
+    let second = GateDisk::new(device(alloc, 0, &[])?, gate, 1, 64);
     let clients = vec![in alloc; vec![in alloc; write(0, 1)]?]?;
     let core = opened(alloc, first, second, clients)?;
     let closed = served(&rt, alloc, core, 2)?;

@@ -5,6 +5,7 @@ ghost use Rattle.blk_disk.specs.Mem.{mem_bytes};
 ghost use Rattle.crew_tests.specs.Trial.{AreSmall};
 ghost use Rattle.top_labelled.specs.Given.{CanRunLabelled};
 
+use crate::arrays::{device, read, write};
 use crate::judging::{holds, same};
 use blk_disk::{Disk, MemDisk, SECTOR};
 use blk_plain::{Op, Pattern, Span};
@@ -23,37 +24,11 @@ mod ready;
 
 use ready::{losing, ready, replacing};
 
-// A device of 128 sectors of zeros, but for the first byte of sector 64, that fails its calls of
-// these numbers.
-fn device(alloc: Global, byte: u8, fails: &[u32]) -> Result<MemDisk, Fail>
-    ensures { IfOk result (λ disk. length (mem_bytes disk) ≡ 65536) }
-{
-    let mut bytes = vec![in alloc; 0; SECTOR * 128]?;
-    bytes[SECTOR * 64] = byte;
-    let fails = fails.to_vec(alloc)?;
-    Ok(MemDisk::new(alloc, bytes, fails, 100)?)
-}
-
 // One client that fills block 0 with ones, and reads it and the next.
 fn clients(alloc: Global) -> Result<Vec<Vec<Item>>, AllocError>
     ensures { IfOk result (λ clients. (length clients.items ≡ 1) × All AreSmall clients.items) }
 {
-    let mut bytes = [0; 32];
-    bytes[0] = 1;
-    let write = Item::Run {
-        op: Op::Write {
-            span: Span { first: 0, count: 1 },
-            pattern: Pattern { len: 1, bytes },
-        },
-        graph: None,
-    };
-    let read = Item::Run {
-        op: Op::Read {
-            span: Span { first: 0, count: 2 },
-        },
-        graph: None,
-    };
-    let items = vec![in alloc; write, read]?;
+    let items = vec![in alloc; write(0, 1), read(0, 2)]?;
     Ok(vec![in alloc; items]?)
 }
 

@@ -4,6 +4,7 @@ ghost use Rattle.std.specs.Prelude.{◌≡◌, ◌≤◌, IfOk, All, length};
 ghost use Rattle.blk_disk.specs.Mem.{mem_bytes};
 ghost use Rattle.crew_tests.specs.Trial.{IsSmall, AreSmall};
 
+use crate::arrays::{device, read, write};
 use crate::judging::same;
 use blk_disk::{MemDisk, SECTOR};
 use blk_plain::{Op, Pattern, Span};
@@ -19,54 +20,12 @@ mod rebuilt;
 
 use ready::{lost, ready};
 
-// A device of 128 sectors of zeros that fails its calls of these numbers.
-fn device(alloc: Global, fails: &[u32]) -> Result<MemDisk, Fail>
-    ensures { IfOk result (λ disk. length (mem_bytes disk) ≡ 65536) }
-{
-    let bytes = vec![in alloc; 0; SECTOR * 128]?;
-    let fails = fails.to_vec(alloc)?;
-    Ok(MemDisk::new(alloc, bytes, fails, 100)?)
-}
-
-// The write of one block.
-fn write(block: u64, byte: u8) -> Item
-    ensures { IsSmall result }
-{
-    let mut bytes = [0; 32];
-    bytes[0] = byte;
-    Item::Run {
-        op: Op::Write {
-            span: Span {
-                first: block,
-                count: 1,
-            },
-            pattern: Pattern { len: 1, bytes },
-        },
-        graph: None,
-    }
-}
-
-// The read of a block and the next.
-fn read(block: u64) -> Item
-    ensures { IsSmall result }
-{
-    Item::Run {
-        op: Op::Read {
-            span: Span {
-                first: block,
-                count: 2,
-            },
-        },
-        graph: None,
-    }
-}
-
 // Two clients: each fills a block, the one block 0 and the other block 2, and reads it and the next.
 fn clients(alloc: Global) -> Result<Vec<Vec<Item>>, AllocError>
     ensures { IfOk result (λ clients. (length clients.items ≡ 2) × All AreSmall clients.items) }
 {
-    let first = vec![in alloc; write(0, 1), read(0)]?;
-    let second = vec![in alloc; write(2, 3), read(2)]?;
+    let first = vec![in alloc; write(0, 1), read(0, 2)]?;
+    let second = vec![in alloc; write(2, 3), read(2, 2)]?;
     Ok(vec![in alloc; first, second]?)
 }
 
@@ -110,8 +69,8 @@ fn all_is_served_by_any_number_of_workers(rt: HostRuntime) -> Result<(), Fail> {
     for workers in [0, 1, 4] {
         let setup = ready(
             alloc,
-            device(alloc, &[])?,
-            device(alloc, &[])?,
+            device(alloc, 0, &[])?,
+            device(alloc, 0, &[])?,
             clients(alloc)?,
         )?;
         match serve(&rt, alloc, setup, workers) {
@@ -133,8 +92,8 @@ fn a_device_that_fails_leaves_its_column_dead(rt: HostRuntime) -> Result<(), Fai
     let alloc = rt.alloc();
     let setup = ready(
         alloc,
-        device(alloc, &[])?,
-        device(alloc, &[0])?,
+        device(alloc, 0, &[])?,
+        device(alloc, 0, &[0])?,
         clients(alloc)?,
     )?;
     match serve(&rt, alloc, setup, 4) {
@@ -156,7 +115,7 @@ fn a_device_that_fails_leaves_its_column_dead(rt: HostRuntime) -> Result<(), Fai
 #[test]
 fn a_lost_array_comes_back(rt: HostRuntime) -> Result<(), Fail> {
     let alloc = rt.alloc();
-    let setup = lost(alloc, device(alloc, &[])?, device(alloc, &[])?)?;
+    let setup = lost(alloc, device(alloc, 0, &[])?, device(alloc, 0, &[])?)?;
     match serve(&rt, alloc, setup, 1) {
         Ok(_) => same(&rt, false, true),
         Err(refused) => {

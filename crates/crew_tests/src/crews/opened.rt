@@ -2,22 +2,13 @@
 ghost use Rattle.std.specs.Prelude.{◌≡◌, ◌≤◌, [], ◌∷◌, IfOk, All, Some, length};
 ghost use Rattle.crew_tests.specs.Trial.{AreSmall, IsServable};
 
+use crate::arrays::pair;
 use blk_disk::Disk;
 use eng_array::{Column, Core, CoreRoom, Item, Setup};
 use lay_core::Layout;
 use lay_plain::Raid5;
 use std::alloc::{AllocError, Global};
 use std::test::Fail;
-
-// The two devices, by number.
-fn pair<D: Drop>(alloc: Global, first: D, second: D) -> Result<Vec<Option<D>>, AllocError>
-    ensures { IfOk result (λ devices. devices.items ≡ Some first ∷ Some second ∷ []) }
-{
-    let mut devices = Vec::with_capacity(alloc, 2)?;
-    devices.push_reserved(Some(first));
-    devices.push_reserved(Some(second));
-    Ok(devices)
-}
 
 // A core at level 5 over two columns of 64 rows, with units of one sector, that live on these devices. It keeps no
 // trace.

@@ -8,6 +8,7 @@ ghost use Rattle.eng_events.specs.Opened.{states_of};
 ghost use Rattle.raid_label.specs.Bytes.{IsHeld};
 ghost use Rattle.top_labelled.specs.Given.{CanRunLabelled};
 
+use crate::arrays::{judged, pair};
 use blk_disk::{Disk, MemDisk};
 use eng_array::{Column, Item, Setup, Start};
 use eng_cols::Cols;
@@ -18,16 +19,6 @@ use raid_recon::Room;
 use std::alloc::{AllocError, Global};
 use std::test::Fail;
 use top_labelled::Labelled;
-
-// The two devices, by number.
-fn pair(alloc: Global, first: MemDisk, second: MemDisk) -> Result<Vec<Option<MemDisk>>, AllocError>
-    ensures { IfOk result (λ devices. devices.items ≡ Some first ∷ Some second ∷ []) }
-{
-    let mut devices = Vec::with_capacity(alloc, 2)?;
-    devices.push_reserved(Some(first));
-    devices.push_reserved(Some(second));
-    Ok(devices)
-}
 
 // The three devices, by number.
 fn three(
@@ -43,25 +34,6 @@ fn three(
     devices.push_reserved(Some(second));
     devices.push_reserved(Some(third));
     Ok(devices)
-}
-
-// Room for the columns, by which an array isn't lost.
-fn judged<L: Layout>(alloc: Global, layout: &L, columns: &[Column]) -> Result<Cols, Fail>
-    requires entries { length columns.now ≡ (L.shape layout.now).columns }
-    requires filling { count_by is_set_filling columns.now ≡ 0 }
-    requires spread { count_by is_set_spread columns.now ≡ 0 }
-    ensures judge { IfOk result (IsFor (L.shape layout.now)) }
-    ensures kept { IfOk result (λ _. NotLost (L.shape layout.now)
-        (states_of (L.shape layout.now) columns.now)) }
-{
-    let Ok(mut judge) = Cols::with_room(alloc, layout.columns(), layout.stripes()) else {
-        return Err(Fail::from("no memory"));
-    };
-    judge.set(layout, columns);
-    match judge.lost(layout) {
-        None => Ok(judge),
-        Some(_) => Err(Fail::from("lost")),
-    }
 }
 
 // The newest label of so many columns of 64 rows at level 5.

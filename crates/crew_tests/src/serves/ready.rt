@@ -6,6 +6,7 @@ ghost use Rattle.crew_tests.specs.Trial.{AreSmall};
 ghost use Rattle.eng_events.specs.Opened.{states_of};
 ghost use Rattle.crew_tests.specs.Ready.{IsDegraded, IsReadyToServe};
 
+use crate::arrays::{judged, pair};
 use blk_disk::{Disk, MemDisk};
 use eng_array::{Column, Item, Setup};
 use eng_cols::Cols;
@@ -13,16 +14,6 @@ use lay_core::Layout;
 use lay_plain::Raid5;
 use std::alloc::{AllocError, Global};
 use std::test::Fail;
-
-// The two devices, by number.
-fn pair(alloc: Global, first: MemDisk, second: MemDisk) -> Result<Vec<Option<MemDisk>>, AllocError>
-    ensures { IfOk result (λ devices. devices.items ≡ Some first ∷ Some second ∷ []) }
-{
-    let mut devices = Vec::with_capacity(alloc, 2)?;
-    devices.push_reserved(Some(first));
-    devices.push_reserved(Some(second));
-    Ok(devices)
-}
 
 // Level 5 over two columns of 64 rows, with units of one sector, that live on these devices. No trace is kept.
 pub fn ready(
@@ -52,24 +43,6 @@ pub fn ready(
     })
 }
 
-// The array isn't lost by these columns.
-fn judged<L: Layout>(alloc: Global, layout: &L, columns: &[Column]) -> Result<(), Fail>
-    requires entries { length columns.now ≡ (L.shape layout.now).columns }
-    requires filling { count_by is_set_filling columns.now ≡ 0 }
-    requires spread { count_by is_set_spread columns.now ≡ 0 }
-    ensures { IfOk result (λ _. NotLost (L.shape layout.now)
-        (states_of (L.shape layout.now) columns.now)) }
-{
-    let Ok(mut judge) = Cols::with_room(alloc, layout.columns(), layout.stripes()) else {
-        return Err(Fail::from("no memory"));
-    };
-    judge.set(layout, columns);
-    match judge.lost(layout) {
-        None => Ok(()),
-        Some(_) => Err(Fail::from("lost")),
-    }
-}
-
 // The same of which the second column is dead, and the second device in no column.
 pub fn degraded(
     alloc: Global,
@@ -87,7 +60,7 @@ pub fn degraded(
         return Err(Fail::from("no layout"));
     };
     let columns = vec![in alloc; Column::Live { device: 0 }, Column::Dead]?;
-    judged(alloc, &layout, &columns)?;
+    let _judge = judged(alloc, &layout, &columns)?;
     let devices = pair(alloc, first, second)?;
     Ok(Setup {
         layout,

@@ -3,7 +3,8 @@
 ghost use Rattle.std.specs.Prelude.{◌≤◌};
 
 use super::ready::degraded;
-use super::{all_replied, clients, device, holds};
+use super::{all_replied, clients, holds};
+use crate::arrays::device;
 use crate::judging::same;
 use blk_disk::MemDisk;
 use eng_array::{Closed, Column, Start};
@@ -26,8 +27,8 @@ fn rebuilt<R: Threads + Wait + Sync>(
 {
     let setup = degraded(
         alloc,
-        device(alloc, &[])?,
-        device(alloc, fails)?,
+        device(alloc, 0, &[])?,
+        device(alloc, 0, fails)?,
         clients(alloc)?,
     )?;
     let Some(room) = room_for(alloc, &setup) else {

@@ -2,7 +2,7 @@ use Rattle.std.proofs.Common.{refl, ◌∙◌}
 use Rattle.blk_disk.specs.contracts.mem.MemDiskDisk.TheImpl as mem
 use Rattle.lay_plain.specs.contracts.level_five.Raid5Layout.TheImpl as five
 use Rattle.crew_tests.proofs.Setups.{live-ready}
-use Rattle.crew_tests.proofs.Arrays.{two-asked, two-can-run, two-rebuilds}
+use Rattle.crew_tests.proofs.TwoColumns.{two-asked, two-can-run, two-rebuilds}
 use Rattle.crew_tests.proofs.labelled.ready.two_columns.Goals as goal
 
 pub returns : goal.returns

@@ -11,4 +11,4 @@ pub returns : goal.returns
 returns c =
     let y = five.ghosts.shape c.in-Ok.layout in
     degraded-ready five.ghosts mem.ghosts _ c.args.first c.args.second c.in-Ok.ensures.made c.in_ok-devices.ensures c.new-2.ensures.items refl c.in_ok-columns.ensures.items c.requires.first c.requires.second c.requires.few c.requires.small
-    (subst (λ (l : List Column). NotLost y (states_of y l)) c.deref.ensures.value c.in_ok-judged.ensures)
+    (subst (λ (l : List Column). NotLost y (states_of y l)) c.deref.ensures.value c.in_ok-_judge.ensures.kept)

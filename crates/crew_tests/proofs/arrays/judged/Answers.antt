@@ -1,7 +1,7 @@
 use Rattle.std.proofs.Common.{◌≡◌, ℕ, map, subst, ap, ◌∙◌}
 use Rattle.eng_cols.specs.Cols.{Columns, state_set}
 use Rattle.eng_cols.specs.Lost.{NotLost}
-use Rattle.crew_tests.proofs.labelled.ready.judged.Goals as goal
+use Rattle.crew_tests.proofs.arrays.judged.Goals as goal
 
 pub returns-in-None-clause-kept : goal.returns-in-None-clause-kept
 returns-in-None-clause-kept g c =
