@@ -45,6 +45,18 @@ fn fails_beside<L: Layout, D: Disk + Drop>(core: &mut Core<L, D>, held: Held<D>)
     Ok(())
 }
 
+// The run from its opening to its close. While this node of client 0 is out, client 1 has its column fail.
+fn failed_beside<L: Layout + Drop, D: Disk + Drop>(
+    mut core: Core<L, D>,
+    node: u32,
+) -> Result<Closed<L, D>, Fail>
+    requires { IsSteady L.Layout D.Disk core.array }
+{
+    let held = held_at(&mut core, node)?;
+    fails_beside(&mut core, held)?;
+    drained(core)
+}
+
 // Client 0 writes and reads block 0. While this node of the write is out, client 1 has a column fail.
 fn failing(
     rt: &impl Abort,
@@ -55,10 +67,7 @@ fn failing(
     let first = [write(0, 1, 0xa5), read(0, 1)];
     let second = [fail(column)];
     let setup = level_five(rt, alloc, &[&[], &[], &[]], &[&first, &second])?;
-    let mut core = opened(alloc, setup)?;
-    let held = held_at(&mut core, node)?;
-    fails_beside(&mut core, held)?;
-    drained(core)
+    failed_beside(opened(alloc, setup)?, node)
 }
 
 // Node 3 writes unit 0 on device 0. Its call went well, and the column has failed meanwhile.
