@@ -1,5 +1,4 @@
 //! A label in its bytes, sectors that hold none, and labels that aren't the wanted one.
-ghost use Rattle.std.specs.Prelude.{◌≡◌, length};
 ghost use Rattle.raid_label.specs.Bytes.{IsHeld};
 
 use crate::judging::same;

@@ -1,13 +1,12 @@
 //! What no clause says: that workers come to an end, that two of them work at the same time, and what becomes of blocks
 //! that are asked for. With two columns a stripe is one block and its check, which is the same: both devices hold each.
 ghost use Rattle.std.specs.Prelude.{◌≡◌, ◌≤◌, ◌+◌, ◌*◌, IfOk, All, length};
-ghost use Rattle.blk_disk.specs.Mem.{mem_bytes};
-ghost use Rattle.crew_tests.specs.Trial.{IsSmall, AreSmall, IsServable};
+ghost use Rattle.crew_tests.specs.Trial.{AreSmall, IsServable};
 
 use crate::arrays::{device, read, write};
 use crate::judging::{same, same_at};
 use blk_disk::{Disk, Gate, GateDisk, MemDisk, SECTOR};
-use blk_plain::{Op, OpId, Pattern, Span};
+use blk_plain::OpId;
 use eng_array::{Closed, Column, Core, Item, Reply};
 use eng_crew::{drain, run_crew};
 use lay_core::Layout;

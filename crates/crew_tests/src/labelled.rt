@@ -1,14 +1,12 @@
 //! What no clause says: that there is memory, and the bytes that an array's devices hold in the end,
 //! worked by hand. With two columns a stripe is one block and its check, which is the same.
 ghost use Rattle.std.specs.Prelude.{◌≡◌, ◌≤◌, IfOk, All, length};
-ghost use Rattle.blk_disk.specs.Mem.{mem_bytes};
 ghost use Rattle.crew_tests.specs.Trial.{AreSmall};
 ghost use Rattle.top_labelled.specs.Given.{CanRunLabelled};
 
 use crate::arrays::{device, read, write};
 use crate::judging::{holds, same};
 use blk_disk::{Disk, MemDisk, SECTOR};
-use blk_plain::{Op, Pattern, Span};
 use eng_array::{Column, Item, Loss, Reply};
 use lay_core::Layout;
 use lay_plain::Raid5;

@@ -1,13 +1,11 @@
 //! What no clause says: that what is asked is done, with a crew and without; what becomes of it where a device fails; and
 //! that a lost array is refused. With two columns a stripe is one block and its check, which is the same.
 ghost use Rattle.std.specs.Prelude.{◌≡◌, ◌≤◌, IfOk, All, length};
-ghost use Rattle.blk_disk.specs.Mem.{mem_bytes};
-ghost use Rattle.crew_tests.specs.Trial.{IsSmall, AreSmall};
+ghost use Rattle.crew_tests.specs.Trial.{AreSmall};
 
 use crate::arrays::{device, read, write};
 use crate::judging::same;
 use blk_disk::{MemDisk, SECTOR};
-use blk_plain::{Op, Pattern, Span};
 use eng_array::{Closed, Column, Item, Loss, Reply};
 use lay_plain::Raid5;
 use std::alloc::{AllocError, Global};

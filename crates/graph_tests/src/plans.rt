@@ -1,5 +1,5 @@
 //! What no clause can show: how many pieces the checker looks at, by graphs that were worked out by hand.
-ghost use Rattle.std.specs.Prelude.{◌≡◌, ◌<◌, ◌≤◌};
+ghost use Rattle.std.specs.Prelude.{◌<◌, ◌≤◌};
 
 use blk_plain::Span;
 use eng_plan::plan_and_check;
@@ -9,7 +9,6 @@ use graph_mean::{Graph, Kind, Task, split_is_a_map};
 use lay_core::{Layout, StripeMap, split};
 use lay_plain::Raid5;
 use std::alloc::Global;
-use std::process::Abort;
 use std::test::Fail;
 
 // At how many pieces the checker looks in the library's graph of a write of some blocks.

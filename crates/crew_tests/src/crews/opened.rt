@@ -1,5 +1,5 @@
 //! The opening of a core over two columns.
-ghost use Rattle.std.specs.Prelude.{◌≡◌, ◌≤◌, [], ◌∷◌, IfOk, All, Some, length};
+ghost use Rattle.std.specs.Prelude.{◌≤◌, IfOk, All, length};
 ghost use Rattle.crew_tests.specs.Trial.{AreSmall, IsServable};
 
 use crate::arrays::pair;
@@ -7,7 +7,7 @@ use blk_disk::Disk;
 use eng_array::{Column, Core, CoreRoom, Item, Setup};
 use lay_core::Layout;
 use lay_plain::Raid5;
-use std::alloc::{AllocError, Global};
+use std::alloc::Global;
 use std::test::Fail;
 
 // A core at level 5 over two columns of 64 rows, with units of one sector, that live on these devices. It keeps no

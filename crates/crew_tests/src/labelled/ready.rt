@@ -1,17 +1,13 @@
 //! An array with labels over two columns.
-ghost use Rattle.std.specs.Prelude.{◌≡◌, ◌⊎◌, ◌≤◌, [], ◌∷◌, IfOk, All, Some, None, count_by, length};
+ghost use Rattle.std.specs.Prelude.{◌≡◌, ◌⊎◌, ◌≤◌, [], ◌∷◌, IfOk, All, Some, None, length};
 ghost use Rattle.eng_array.specs.declared.start.Start.TheVariants as how;
-ghost use Rattle.eng_cols.specs.Cols.{IsFor, is_set_filling, is_set_spread};
-ghost use Rattle.eng_cols.specs.Lost.{NotLost};
 ghost use Rattle.crew_tests.specs.Trial.{AreSmall};
-ghost use Rattle.eng_events.specs.Opened.{states_of};
 ghost use Rattle.raid_label.specs.Bytes.{IsHeld};
 ghost use Rattle.top_labelled.specs.Given.{CanRunLabelled};
 
 use crate::arrays::{judged, pair};
 use blk_disk::{Disk, MemDisk};
 use eng_array::{Column, Item, Setup, Start};
-use eng_cols::Cols;
 use lay_core::Layout;
 use lay_plain::Raid5;
 use raid_label::Label;

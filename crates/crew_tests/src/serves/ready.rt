@@ -1,18 +1,14 @@
 //! Setups over two columns.
-ghost use Rattle.std.specs.Prelude.{◌≡◌, ◌≤◌, [], ◌∷◌, IfOk, All, Some, length, count_by};
-ghost use Rattle.eng_cols.specs.Cols.{is_set_filling, is_set_spread};
-ghost use Rattle.eng_cols.specs.Lost.{NotLost};
+ghost use Rattle.std.specs.Prelude.{◌≤◌, IfOk, All, length};
 ghost use Rattle.crew_tests.specs.Trial.{AreSmall};
-ghost use Rattle.eng_events.specs.Opened.{states_of};
 ghost use Rattle.crew_tests.specs.Ready.{IsDegraded, IsReadyToServe};
 
 use crate::arrays::{judged, pair};
 use blk_disk::{Disk, MemDisk};
 use eng_array::{Column, Item, Setup};
-use eng_cols::Cols;
 use lay_core::Layout;
 use lay_plain::Raid5;
-use std::alloc::{AllocError, Global};
+use std::alloc::Global;
 use std::test::Fail;
 
 // Level 5 over two columns of 64 rows, with units of one sector, that live on these devices. No trace is kept.

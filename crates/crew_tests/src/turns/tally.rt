@@ -1,5 +1,5 @@
 //! Threads that take units out of a shared number one by one, and count each unit that they took.
-ghost use Rattle.std.specs.Prelude.{◌≡◌, ◌<◌, ◌≤◌, ◌+◌, ◌^◌, IfSome};
+ghost use Rattle.std.specs.Prelude.{◌≡◌, ◌<◌, ◌≤◌, ◌+◌, IfSome};
 ghost use Rattle.std.specs.Thread.{IsSync};
 ghost use Rattle.eng_turn.specs.Turn.{share_of};
 ghost use Rattle.eng_turn.specs.Tally.{IsReady, HasNoneLeft};

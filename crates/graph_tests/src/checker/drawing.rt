@@ -1,6 +1,6 @@
 //! Graphs as tables, drawn and checked.
 
-ghost use Rattle.std.specs.Prelude.{◌≡◌, ◌<◌, ◌↔◌, IsTrue, IfOk};
+ghost use Rattle.std.specs.Prelude.{◌<◌, ◌↔◌, IsTrue, IfOk};
 ghost use Rattle.graph_mean.specs.Task.{HasUnitBelow};
 ghost use Rattle.graph_check.specs.Samples.{HasRoom};
 

@@ -8,7 +8,6 @@ ghost use Rattle.graph_mean.specs.LargeWrite.{first_block};
 use crate::judging::{same, same_at};
 use graph_mean::samples::large_write;
 use graph_mean::{Buf, Graph, Node, Ret, accepted_is_atomic};
-use std::alloc::Global;
 use std::process::Abort;
 use std::test::Fail;
 

@@ -1,15 +1,11 @@
 //! Where the nodes of a run stand, and what is so of every run.
-ghost use Rattle.std.specs.Prelude.{◌≡◌, ℕ};
-ghost use Rattle.graph_mean.specs.Graph.{View};
-ghost use Rattle.graph_mean.specs.Task.{Aim, Missing};
-ghost use Rattle.graph_mean.specs.Steps.{IsRunning};
-ghost use Rattle.graph_mean.specs.Ordered.{IsOrdered};
-ghost use Rattle.eng_one.specs.Control.{HasOut, NoneOut, IsReached, IsReadyIn};
+ghost use Rattle.std.specs.Prelude.{◌≡◌};
+ghost use Rattle.eng_one.specs.Control.{HasOut, NoneOut};
 
 use crate::judging::{same, same_at};
 use crate::runs::graphs;
 use crate::runs::orders::{do_finish, do_fire, do_pass, see_phase};
-use eng_one::{Outcome, Phase, Run, Status, run_goes_on};
+use eng_one::{Outcome, Phase, Run, Status};
 use graph_mean::{Graph, Node};
 use std::process::Abort;
 use std::test::Fail;
