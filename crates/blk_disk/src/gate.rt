@@ -2,7 +2,7 @@
 ghost use Rattle.std.specs.Prelude.{◌≡◌, ◌<◌, ◌≤◌, ◌+◌, ◌/◌, ◌%◌, ◌⊎◌, ℕ, length, is_ok, replicate, take, drop, if◌then◌else◌};
 ghost use Rattle.blk_disk.specs.Sectors.{put};
 
-use crate::disk::{Disk, Failed, SECTOR};
+use crate::disk::{Disk, Failed, SECTOR, StopDisk};
 use crate::mem::MemDisk;
 use crate::memory::Memory;
 use std::alloc::Global;
@@ -149,6 +149,8 @@ impl Disk for GateDisk {
 
     ghost calls = { λ d. None };
 
+    ghost left = { λ d. None };
+
     ghost long = { λ d s told inside. length-sector_at (mem_bytes (inner_of d)) s d.inner.whole inside };
 
     fn sectors(&self) -> u64 {
@@ -219,3 +221,5 @@ impl Disk for GateDisk {
         }
     }
 }
+
+impl StopDisk for GateDisk {}

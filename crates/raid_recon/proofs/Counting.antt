@@ -29,9 +29,6 @@ any-where p (suc n) h = elim (cases_Bool (any_below p n)) [
 pub any-more : (p : ℕ → Bool) (n m : ℕ) → m ≡ suc n → any_below p n ≡ false → p n ≡ false → any_below p m ≡ false
 any-more p n m next none e = ap (any_below p) next ∙ (ap (λ b. b || p n) none ∙ e)
 
-pub count-more : (p : ℕ → Bool) (n m : ℕ) → m ≡ suc n → count_below p m ≡ count_below p n + (if p n then 1 else 0)
-count-more p n m next = ap (count_below p) next
-
 pub count-few : (p : ℕ → Bool) (n : ℕ) → count_below p n ≤ n
 count-few p zero = omega arith
 count-few p (suc n) = omega (arith, count-few p n, one (p n))

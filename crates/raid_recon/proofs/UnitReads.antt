@@ -71,7 +71,3 @@ module _ {D : Type 0} (g : Ghosts D) (y : Shape) (cols : List ColumnState) (s : 
       zero = λ e told. zero-from y (contents_of g old) cols s n last (λ o k ou ku. sym (unit-bytes told is there o k ou ku) ∙ (h (512 * o + k) ∙ sums told o k ou ku));
       not_zero = λ e. let u : ⊥ = cc in absurd u;
     }
-
--- more units than were to be read
-pub stopped-wider : {D : Type 0} (g : Ghosts D) (y : Shape) (cols : List ColumnState) (s n m : ℕ) (old new : List (Option D)) (e : FailedAt) → n ≤ m → Stopped g y cols s n old new e → Stopped g y cols s m old new e
-stopped-wider g y cols s n m old new e le st = record { unit = st.unit; within = omega (arith, st.within, le); at = st.at; stands = st.stands; column = st.column; rose = st.rose; same = st.same; told = st.told }

@@ -8,7 +8,6 @@ use crate::place::is_spread;
 use eng_cols::Column;
 use lay_core::{Layout, Place};
 
-// Whether the place lies on the column.
 fn is_on(place: Option<Place>, column: u32) -> bool
     ensures { result ≡ is_place_on place column }
 {
@@ -37,7 +36,6 @@ fn is_unit_of<L: Layout>(
     column == own || (is_spread(columns, own) && is_on(layout.spare_place(stripe), column))
 }
 
-// Whether the stripe is one of the column's.
 fn is_stripe_of<L: Layout>(layout: &L, columns: &[Column], column: u32, stripe: u32) -> bool
     requires entries { length columns.now ≡ (L.shape layout.now).columns }
     requires stripe { stripe < (L.shape layout.now).stripes }

@@ -3,17 +3,15 @@ ghost use Rattle.std.specs.Prelude.{◌≡◌, ◌<◌, ◌≤◌, ◌+◌, ◌*
 ghost use Rattle.blk_disk.specs.Devices.{size_of};
 ghost use Rattle.raid_recon.specs.Units.{IsRead, IsWritten};
 
-use blk_disk::{Disk, Failed};
+use blk_disk::{DATA_SECTOR, Disk, Failed};
 use eng_cols::Spot;
 
-// The first sector of the unit that stands there.
 fn first_sector(at: Spot, unit_sectors: u32) -> u64
     ensures { result ≡ 64 + at.row * unit_sectors }
 {
-    64 + u64::from(at.row) * u64::from(unit_sectors)
+    DATA_SECTOR + u64::from(at.row) * u64::from(unit_sectors)
 }
 
-/// Reads the unit that stands there.
 pub(crate) fn read_at<D: Disk>(
     devices: &mut [Option<D>],
     at: Spot,
@@ -32,7 +30,6 @@ pub(crate) fn read_at<D: Disk>(
     }
 }
 
-/// Writes the unit that stands there.
 pub(crate) fn write_at<D: Disk>(
     devices: &mut [Option<D>],
     at: Spot,

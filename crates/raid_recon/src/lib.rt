@@ -24,4 +24,4 @@ mod tests;
 pub use count::rebuild_count;
 pub use memory::Memory;
 pub use room::Room;
-pub use sweep::{sweep_check, sweep_init, sweep_sync};
+pub use sweep::{sweep_check, sweep_init, sweep_sync, sync_one};

@@ -22,7 +22,6 @@ fn live_spot(columns: &[Column], place: Place) -> Option<Spot>
     }
 }
 
-// Whether the column is spread.
 pub(crate) fn is_spread(columns: &[Column], column: u32) -> bool
     requires { column < length columns.now }
     ensures { result ≡ passes is_set_spread (slice_get columns.now column) }

@@ -11,7 +11,6 @@ use blk_disk::Disk;
 use eng_cols::Column;
 use lay_core::Layout;
 
-// Tests the stripe's sum.
 fn check_stripe<L: Layout, D: Disk>(
     layout: &L,
     devices: &mut [Option<D>],

@@ -1,5 +1,5 @@
 //! The sweeps.
-ghost use Rattle.std.specs.Prelude.{◌≡◌, ◌≤◌, ◌*◌, ℕ, length, false};
+ghost use Rattle.std.specs.Prelude.{◌≡◌, ◌<◌, ◌≤◌, ◌*◌, ℕ, length, false};
 ghost use Rattle.blk_disk.specs.Devices.{Changes, contents_of, calls_of};
 ghost use Rattle.eng_cols.specs.Contents.{InSync};
 ghost use Rattle.eng_cols.specs.Deaths.{Dies};
@@ -7,6 +7,7 @@ ghost use Rattle.raid_recon.specs.Array.{states_of, IsArray, Failed};
 ghost use Rattle.raid_recon.specs.Ends.{MayRewrite, ChecksHold, IsCounted, CallsUnits};
 ghost use Rattle.raid_recon.specs.Swept.{IsSwept};
 ghost use Rattle.raid_recon.specs.Turns.{is_check};
+ghost use Rattle.raid_recon.specs.Units.{SweepsStripe};
 ghost use Rattle.raid_recon.specs.declared.kind.Sweep.TheVariants as sweep;
 
 use crate::kind::Sweep;
@@ -109,6 +110,57 @@ fn sweep<L: Layout, D: Disk>(
     let sum = room.sum.as_mut_slice();
     let unit = room.unit.as_mut_slice();
     sweep_in(kind, layout, devices, columns, sum, unit)
+}
+
+// One stripe's turn in a sync, in the front of buffers that may be longer.
+fn sync_in<L: Layout, D: Disk>(
+    layout: &L,
+    devices: &mut [Option<D>],
+    columns: &mut [Column],
+    stripe: u32,
+    sum: &mut [u8],
+    unit: &mut [u8],
+) -> bool
+    requires array { IsArray D.Disk (L.shape layout.now) columns.old devices.old }
+    requires checks { (L.shape layout.now).checks ≡ 1 }
+    requires stripe { stripe < (L.shape layout.now).stripes }
+    requires sum { 512 * (L.shape layout.now).unit_sectors ≤ length sum.old }
+    requires unit { 512 * (L.shape layout.now).unit_sectors ≤ length unit.old }
+    ensures { SweepsStripe D.Disk sweep.Sync (L.shape layout.now) stripe
+        columns.old columns.new devices.old devices.new result }
+{
+    let bytes = SECTOR * layout.unit_sectors() as usize;
+    sweep_stripe(
+        Sweep::Sync,
+        layout,
+        devices,
+        columns,
+        stripe,
+        &mut sum[..bytes],
+        &mut unit[..bytes],
+    )
+}
+
+/// Rewrites the check unit of one stripe, if that lacks no unit and doesn't sum to zero. Says whether
+/// it was rewritten.
+pub fn sync_one<L: Layout, D: Disk>(
+    layout: &L,
+    devices: &mut [Option<D>],
+    columns: &mut [Column],
+    stripe: u32,
+    room: &mut Room,
+) -> bool
+    requires array { IsArray D.Disk (L.shape layout.now) columns.old devices.old }
+    requires checks { (L.shape layout.now).checks ≡ 1 }
+    requires stripe { stripe < (L.shape layout.now).stripes }
+    requires room { 1024 * (L.shape layout.now).unit_sectors ≤ room.old }
+    ensures turn { SweepsStripe D.Disk sweep.Sync (L.shape layout.now) stripe
+        columns.old columns.new devices.old devices.new result }
+    ensures room { room.new ≡ room.old }
+{
+    let sum = room.sum.as_mut_slice();
+    let unit = room.unit.as_mut_slice();
+    sync_in(layout, devices, columns, stripe, sum, unit)
 }
 
 /// How many stripes, of those that lack no unit, don't sum to zero.

@@ -115,7 +115,6 @@ pub(crate) fn has_calls(rt: &impl Abort, device: &Option<MemDisk>, calls: &[(u8,
     }
 }
 
-/// How many calls the device has had.
 pub(crate) fn count_calls(device: &Option<MemDisk>) -> usize {
     match device {
         Some(disk) => disk.calls().len(),

@@ -1,0 +1,15 @@
+pub mod Sited
+pub mod Asked
+pub mod Holding
+pub mod Safe
+pub mod Devices
+pub mod Images
+pub mod Unsound
+pub mod Columns
+pub mod Cleared
+pub mod Stopped
+pub mod MapBytes
+pub mod MarkOne
+pub mod MarkLaws
+pub mod SweepOn
+pub mod Unions
