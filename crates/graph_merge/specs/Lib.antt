@@ -1,0 +1,4 @@
+pub mod Form
+pub mod Grown
+pub mod Joined
+pub mod Tasks

@@ -1,0 +1,15 @@
+//! Two graphs joined under one commit.
+#![tactic(auto)]
+
+mod fault;
+mod form;
+mod half;
+mod joining;
+mod laws;
+mod marks;
+mod pushing;
+mod sizes;
+
+pub use fault::MergeFault;
+pub use joining::merge;
+pub use laws::{joined_is_accepted, joined_is_in_order, spans_in_turn_follow};
