@@ -171,9 +171,6 @@ module _ (unit : ℕ) (free : List ℕ) (seats : List Seat) (k : ℕ) (s x : Sea
       subst (λ (l : List SeatView). IsPool (record { unit = unit; free = free; seats = l })) (sym (map-set seen seats k x))
       (changes (record { unit = unit; free = free; seats = map seen seats }) k (seen x) (omega arith) (ap leased_in (seen_at seats k s inside read) ∙ was) is many h)
 
-pub seat_read : (seats : List Seat) (k : ℕ) (s : Seat) (v : SeatView) → k < length seats → s ≡ get_or seats k s → seat_at (map seen seats) k ≡ v → seen s ≡ v
-seat_read seats k s v inside read e = sym (seen_at seats k s inside read) ∙ e
-
 -- a buffer leaves, or comes home
 module _ (unit : ℕ) (free : List ℕ) (seats : List Seat) (k : ℕ) (s : Seat) (inside : k < length seats) (read : s ≡ get_or seats k s) where
   abbrev held : List SeatView → PoolView

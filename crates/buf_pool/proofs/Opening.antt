@@ -1,5 +1,5 @@
 -- A pool that is opened seat by seat.
-use Rattle.std.proofs.Common.{◌≡◌, ℕ, ◌+◌, ◌<◌, List, [], ◌∷◌, ◌++◌, length, get_or, false, map, replicate, sum_by, arith, sym, ap, ◌∙◌, refl, inl, inr}
+use Rattle.std.proofs.Common.{◌≡◌, ℕ, ◌+◌, ◌<◌, List, [], ◌∷◌, ◌++◌, length, get_or, false, map, replicate, sum_by, arith, sym, ap, ◌∙◌, inl, inr}
 use Rattle.std.proofs.lemmas.Bool.{cases_eq}
 use Rattle.std.proofs.lemmas.List.{length-replicate, length_push, get_or_append_left, get_or_push, map_push}
 use Rattle.std.proofs.lemmas.List.Sums.{sum_by_push}
@@ -16,12 +16,6 @@ pub record Opened (unit : ℕ) (free : List ℕ) (seats : List SeatView) (i : �
 
 abbrev pub fresh_seat : ℕ → ℕ → SeatView
 fresh_seat unit i = record { owner = Free i; out = false; bytes = replicate unit 0 }
-
-pub opened_none : (unit : ℕ) → Opened unit [] [] 0
-opened_none unit = record {
-  pool = record { listed = λ at h. absurd (omega arith); whole = refl; room = omega arith; home = λ k at h f. absurd (omega arith); long = λ k h. absurd (omega arith) };
-  fresh = record { seats = refl; free = refl; each = λ k h. absurd (omega arith) };
-}
 
 module _ (unit : ℕ) (free : List ℕ) (seats : List SeatView) (i : ℕ) (few : i < 2048) (o : Opened unit free seats i) where
   abbrev w : SeatView

@@ -12,7 +12,8 @@ pub struct Full;
 
 /// Some buffers of a pool, numbered from 0. Contracts see the list of their seats.
 ///
-/// It holds the numbers of its seats itself, so that it takes no memory.
+/// It holds the numbers of its seats itself, so that it takes no memory. Who leases often keeps one
+/// where it is, and has it filled there.
 #[derive(Drop)]
 pub struct Lease {
     seats: [u32; MOST],
@@ -30,13 +31,21 @@ impl Model for Lease {
 }
 
 impl Lease {
-    pub(crate) fn empty() -> Lease
+    /// A lease of none, which may be filled.
+    pub fn empty() -> Lease
         ensures { result ≡ [] }
     {
         Lease {
             seats: [0; MOST],
             count: 0,
         }
+    }
+
+    /// It has no buffers any more. Only their numbers are forgotten.
+    pub fn clear(&mut self)
+        ensures { self.new ≡ [] }
+    {
+        self.count = 0;
     }
 
     pub(crate) fn push(&mut self, seat: u32)

@@ -1,5 +1,5 @@
 //! The pool.
-ghost use Rattle.std.specs.Prelude.{◌≡◌, ◌<◌, ◌≤◌, ◌+◌, ◌++◌, ◌↔◌, [], ◌∷◌, ℕ, List, length, get_or, IfOk, OnErr, IsErr, IsTrue, replicate, true, false};
+ghost use Rattle.std.specs.Prelude.{◌≡◌, ◌<◌, ◌≤◌, ◌+◌, ◌++◌, ◌↔◌, [], ◌∷◌, ℕ, List, length, get_or, IfOk, OnOk, OnErr, IsErr, IsTrue, replicate, true, false};
 ghost use Rattle.buf_pool.specs.Pool.{PoolView, IsLease, AllHome, Leases, StandsApart, Returns, KeepsOthers, KeepsLeases, IsPool, claim, release, seat_at, taken, put, leased_in, leased_count, IsFresh};
 
 use crate::buffer::{Buffer, Memory};
@@ -120,16 +120,32 @@ impl Pool {
         ensures leased { IfOk result (λ l. Leases self.old n l self.new) }
         ensures apart { IfOk result (λ l. StandsApart self.old l self.new) }
     {
+        let mut lease = Lease::empty();
+        match self.lease_into(n, &mut lease) {
+            Ok(()) => Ok(lease),
+            Err(Full) => Err(Full),
+        }
+    }
+
+    /// The same, into a lease that stands where it is kept: no more of it is written than the seats.
+    /// What it held is forgotten.
+    pub fn lease_into(&mut self, n: u32, lease: &mut Lease) -> Result<(), Full>
+        ensures full { IsErr result ↔ (length self.old.free < n) }
+        ensures refused { OnErr result (self.new ≡ self.old) }
+        ensures kept { OnErr result (lease.new ≡ lease.old) }
+        ensures leased { OnOk result (Leases self.old n lease.new self.new) }
+        ensures apart { OnOk result (StandsApart self.old lease.new self.new) }
+    {
         if n > self.free() {
             return Err(Full);
         }
         let first = self.next();
-        let mut lease = Lease::empty();
+        lease.clear();
         for i in 0..n {
             let seat = self.claim(first, i);
             lease.push(seat);
         }
-        Ok(lease)
+        Ok(())
     }
 
     /// Takes a lease's buffers back, each with the bytes that it has. All are at home.
@@ -138,6 +154,16 @@ impl Pool {
         requires home { AllHome self.old lease }
         ensures freed { Returns self.old lease self.new }
         ensures others { KeepsOthers self.old lease self.new }
+    {
+        self.return_from(&lease);
+    }
+
+    /// The same, of a lease that stays where it is kept. Its seats are another's from then on.
+    pub fn return_from(&mut self, lease: &Lease)
+        requires lease { IsLease self.old lease.now }
+        requires home { AllHome self.old lease.now }
+        ensures freed { Returns self.old lease.now self.new }
+        ensures others { KeepsOthers self.old lease.now self.new }
     {
         for i in 0..lease.count() {
             self.release(lease.seat(i));
@@ -190,7 +216,6 @@ impl Pool {
     }
 }
 
-// So many zeros.
 fn zeros(alloc: Global, count: usize) -> Result<Vec<u8>, Memory>
     ensures { IfOk result (λ z. z.items ≡ replicate count 0) }
 {

@@ -8,11 +8,12 @@ use denote.Struct.Owning.{shape}
 use denote.Struct.Field.{row_field, usize-field, u64-field}
 use denote.Enum.Enum.{Enum}
 use denote.Enum.Declared.{shape as shape_of}
-use Rattle.std.proofs.Crossing.{frees, send as heap_send, sync as heap_sync}
+use Rattle.std.proofs.Crossing.{crosses, frees, send as heap_send, sync as heap_sync}
 use Rattle.std.specs.declared.alloc.Allocator.{Ghosts as AllocGhosts}
 use Rattle.std.specs.contracts.alloc.Global as global
 use Rattle.std.specs.contracts.option.Option as option
 use Rattle.std.specs.contracts.snapshot.Snapshot as snapshot
+use Rattle.std.specs.contracts.sync.atomic.AtomicU64 as atomic
 use Rattle.atomic_table.specs.declared.shared.TableRule.{Ghosts as TableGhosts}
 use Rattle.atomic_table.specs.contracts.owned.Table as table
 use Rattle.atomic_table.specs.contracts.shared.Seat as seat
@@ -64,6 +65,12 @@ size_send = search sendable
 size_sync : IsSync usize-field.row
 size_sync = search sendable
 
+atomic_send : IsSend atomic.the_field.row
+atomic_send = search crosses depth 20
+
+atomic_sync : IsSync atomic.the_field.row
+atomic_sync = search crosses depth 20
+
 module _ (S V K P A : RattleType) (g : TableGhosts P.Denot S.Denot V.Denot K.Denot) (h : AllocGhosts A.Denot) (s : IsSend S) (a : IsSend A) (f : Frees h h.dealloc_token) where
   table_send : IsSend (table.the_row S V K P A g h)
   table_send = declared_send (table.the_type S V K P A g h)
@@ -79,8 +86,8 @@ module _ (R V T : RattleType) (g : TurnGhosts R.Denot V.Denot T.Denot) (v : IsSe
 
   pub turn_send : IsSend (turn.the_row R V T g)
   turn_send = declared_send (turn.the_type R V T g)
-      (table_send (option.the_row (resting.the_row V T)) (view.the_row V T) (snapshot.the_row V) (table_rule.the_row R) global.the_row kept _ (content_send V T v) heap_send frees, tt)
+      (table_send (option.the_row (resting.the_row V T)) (view.the_row V T) (snapshot.the_row V) (table_rule.the_row R) global.the_row kept _ (content_send V T v) heap_send frees, (as_row_send atomic.the_field atomic_send, tt))
 
   pub turn_sync : IsSync (turn.the_row R V T g)
   turn_sync = declared_sync (turn.the_type R V T g)
-      (table_sync (option.the_row (resting.the_row V T)) (view.the_row V T) (snapshot.the_row V) (table_rule.the_row R) global.the_row kept _ (content_send V T v) heap_send frees heap_sync, tt)
+      (table_sync (option.the_row (resting.the_row V T)) (view.the_row V T) (snapshot.the_row V) (table_rule.the_row R) global.the_row kept _ (content_send V T v) heap_send frees heap_sync, (as_row_sync atomic.the_field atomic_sync, tt))

@@ -1,5 +1,5 @@
-//! A lock through which threads take turns at one value, where the value and the tickets of all threads fit together
-//! by a rule whenever the value is free.
+//! A lock through which threads take turns at one value. Each finds a value that fits, by a rule, with its own ticket
+//! among those of the others.
 //!
 //! A `Turn` holds the value. A `Pass` is the right to take it: a token of no bytes, which a thread owns. It carries a
 //! ticket, which says what its thread has taken away and not yet brought back, and a mark, the value as the pass left

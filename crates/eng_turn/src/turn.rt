@@ -7,6 +7,7 @@ use crate::view::{PassView, Resting};
 use atomic_table::{Seat, Table};
 use std::alloc::Global;
 use std::snapshot::Snapshot;
+use std::sync::atomic::AtomicU64;
 
 mod calls;
 
@@ -20,7 +21,8 @@ pub struct Memory;
 /// A value that one pass at a time has.
 ///
 /// It is one word and one slot. The word is twice the number of passes, plus 1 while a pass has the value; the slot
-/// holds the value while none has.
+/// holds the value while none has. Beside them stands how many passes are parked, or about to be: it only saves wakes
+/// of nobody, so no rule speaks of it.
 #[derive(Drop)]
 pub struct Turn<R: TurnRule> {
     table: Table<
@@ -30,6 +32,7 @@ pub struct Turn<R: TurnRule> {
         TurnTable<R>,
         Global,
     >,
+    parked: AtomicU64,
     ghost shape: { (table.shared.table_id.words ≡ 1) × (table.shared.table_id.slots ≡ 1) },
 }
 

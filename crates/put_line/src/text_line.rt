@@ -29,7 +29,6 @@ impl Model for Line {
     ghost invariant = { λ l. l.len ≤ 1200 };
 }
 
-// Puts bytes into the place from `at` on.
 fn paste(to: &mut [u8; ROOM], at: usize, bytes: &[u8])
     requires { at + length bytes.now ≤ 1200 }
     ensures { take (at + length bytes.now) to.new ≡ take at to.old ++ bytes.now }

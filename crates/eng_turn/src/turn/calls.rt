@@ -11,6 +11,7 @@ use atomic_table::Table;
 use std::alloc::{AllocFailed, Global};
 use std::snapshot::Snapshot;
 use std::sync::Wait;
+use std::sync::atomic::{AtomicU64, Ordering};
 
 impl<R: TurnRule> Turn<R> {
     /// A turn that holds this value, and a pass with every share, the empty ticket and the value as its mark.
@@ -40,7 +41,10 @@ impl<R: TurnRule> Turn<R> {
             return Err((resting.value, Memory));
         }
         match Table::new(alloc, &[2], slots, &about) {
-            Ok((table, seat)) => Ok((Turn { table }, Pass { seat })),
+            Ok((table, seat)) => {
+                let parked = AtomicU64::new(0);
+                Ok((Turn { table, parked }, Pass { seat }))
+            }
             Err(mut refused) => {
                 let Some(Some(resting)) = refused.slots.pop() else {
                     unreachable!()
@@ -65,16 +69,49 @@ impl<R: TurnRule> Turn<R> {
         ensures fits { FitsAmong R.fits (opening_of self.now) result (ticket_of pass.old) }
         ensures after { ForSome (mark_of pass.old) (λ mark. R.after mark result) }
     {
+        let mut waits = false;
         for _ in rt.forever() {
             let found = self.table.shared.fetch_or::<Take<R>>(&mut pass.seat, 0, 1);
             if found % 2 == 0 {
+                self.got_in(waits);
                 let taken = self.table.shared.exchange(&mut pass.seat, 0, None);
                 let Some(resting) = taken else { unreachable!() };
                 return resting.value;
             }
-            self.table.shared.park(rt, 0, found as u32);
+            self.wait(rt, found as u32, waits);
+            waits = true;
         }
         unreachable!()
+    }
+
+    // A pass found the value away. At first it is counted, and is to look once more; from then on it parks while the word is
+    // as it was found.
+    fn wait<W: Wait>(&self, rt: &W, found: u32, waits: bool) {
+        if waits {
+            self.table.shared.park(rt, 0, found);
+        } else {
+            self.parked.fetch_add(1, Ordering::SeqCst);
+        }
+    }
+
+    // A pass got in, and is no longer counted, if it was.
+    fn got_in(&self, waits: bool) {
+        if waits {
+            self.parked.fetch_sub(1, Ordering::SeqCst);
+        }
+    }
+
+    // Wakes one pass, if one is parked or about to be. The word was made even before.
+    //
+    // No pass sleeps on for want of this wake. All steps have one order. Where the count is read as 0 here, a pass that parks
+    // later was counted later still than the word was made even, and looked at the word after that: it found it even and got
+    // in, or found it odd by another pass inside, which reads the count when it leaves. That pass made the word even after
+    // that look, or the look would have found what came of it; so it finds the sleeper counted, and wakes one. Who is woken,
+    // and doesn't get in, parks anew, still counted; who gets in wakes the next when it leaves.
+    fn wake(&self) {
+        if self.parked.load(Ordering::SeqCst) != 0 {
+            self.table.shared.wake_one(0);
+        }
     }
 
     /// Gives a value back, with which the pass gets a new ticket. The pass must be this turn's and inside.
@@ -100,7 +137,7 @@ impl<R: TurnRule> Turn<R> {
         };
         let _none = self.table.shared.exchange(&mut pass.seat, 0, Some(resting));
         self.table.shared.fetch_sub::<Give>(&mut pass.seat, 0, 1);
-        self.table.shared.wake_one(0);
+        self.wake();
     }
 
     /// A new pass, outside, with the empty ticket and this pass's mark, to which this pass gives up one share. This

@@ -1,9 +1,9 @@
 use Rattle.std.proofs.Common.{◌+◌, List, ℕ, arith, sym, subst}
 use Rattle.buf_pool.proofs.Leasing.{Gives, starts, more, ends, stands_apart}
-use Rattle.buf_pool.proofs.pool.Pool.lease.Goals as goal
+use Rattle.buf_pool.proofs.pool.Pool.lease_into.Goals as goal
 
 pub loop-i-init : goal.loop-i-init
-loop-i-init c = starts c.args.self.now c.next-first.result c.empty-lease.result c.empty-lease.ensures
+loop-i-init c = starts c.args.self.now c.next-first.result c.clear.new.self c.clear.ensures
 
 pub loop-i-preserved : goal.loop-i-preserved
 loop-i-preserved c =
