@@ -1,9 +1,9 @@
 //! The list of blocks.
 ghost use Rattle.std.specs.Prelude.{◌≡◌, ◌<◌, ◌≤◌, ◌+◌, length, Some, slice_get, All, IfOk};
-ghost use Rattle.blk_plain.specs.Plain.{sector_of, written, after, after_option, replayed, IsInRange, zero_blocks};
+ghost use Rattle.blk_plain.specs.Plain.{sector_of, written, patched, used_of, AreSound, Fits, after, after_option, replayed, IsInRange, zero_blocks};
 
 use crate::memory::Memory;
-use crate::op::{Op, Pattern, SECTOR, Span};
+use crate::op::{Op, Patches, Pattern, SECTOR, Span};
 use std::alloc::Global;
 use std::marker::Model;
 
@@ -42,19 +42,19 @@ impl Blocks {
         &self.sectors[block as usize]
     }
 
-    /// One step of the plain machine: a write changes its span, and nothing else changes a block.
+    /// One step of the plain machine: a write changes its span or spans, and nothing else changes a block.
     pub fn apply(&mut self, op: &Op)
         requires { IsInRange (length self.old) op.now }
         ensures { self.new ≡ after op.now self.old }
     {
         match op {
             Op::Write { span, pattern } => write(&mut self.sectors, *span, pattern),
+            Op::Writes { patches } => write_all(&mut self.sectors, patches),
             Op::Read { .. } | Op::Rebuild { .. } | Op::Sync { .. } => {}
         }
     }
 }
 
-// Writes the pattern over each sector of the span.
 fn write(sectors: &mut [[u8; SECTOR]], span: Span, pattern: &Pattern)
     requires { span.first + span.count ≤ length sectors.old }
     ensures { sectors.new ≡ written span (sector_of pattern.now) sectors.old }
@@ -62,6 +62,18 @@ fn write(sectors: &mut [[u8; SECTOR]], span: Span, pattern: &Pattern)
     let first = span.first as usize;
     for i in 0..span.count as usize {
         fill(&mut sectors[first + i], pattern);
+    }
+}
+
+// Writes each pattern over each sector of its span.
+fn write_all(sectors: &mut [[u8; SECTOR]], patches: &Patches)
+    requires sound { AreSound patches.now }
+    requires fit { All (Fits (length sectors.old)) (used_of patches.now) }
+    ensures { sectors.new ≡ patched (used_of patches.now) sectors.old }
+{
+    for i in 0..patches.used as usize {
+        let patch = &patches.list[i];
+        write(sectors, patch.span, &patch.pattern);
     }
 }
 
@@ -75,7 +87,6 @@ pub fn fill(to: &mut [u8; SECTOR], pattern: &Pattern)
     }
 }
 
-// Applies the operation at a position.
 fn apply_at(ops: &[Op], at: usize, blocks: &mut Blocks)
     requires known { at < length ops.now }
     requires in_range { All (IsInRange (length blocks.old)) ops.now }

@@ -4,11 +4,13 @@
 //! keeps such a list.
 #![tactic(auto)]
 
+mod apart;
 mod blocks;
 pub mod limits;
 mod memory;
 mod op;
 
+pub use apart::are_apart;
 pub use blocks::{Blocks, fill, replay};
 pub use memory::Memory;
-pub use op::{Op, OpId, Outcome, Pattern, SECTOR, Span};
+pub use op::{Op, OpId, Outcome, Patch, Patches, Pattern, SECTOR, Span};

@@ -18,8 +18,12 @@ pub const STRIPES: u32 = 1_048_576;
 /// The stripes that one operation touches.
 pub const TASK_STRIPES: u32 = 16;
 
-/// The touched parts of data units of one operation: each unit of each of its stripes.
-pub const TASK_PARTS: u32 = 512;
+/// The spans that one write has.
+pub const SPANS: u32 = 8;
+
+/// The touched parts of data units of one operation: one for each unit of each of its stripes, and one more for each of
+/// its spans.
+pub const TASK_PARTS: u32 = 520;
 
 /// The nodes of an access graph (cause G14 of docs/GRAPHS.md).
 pub const NODES: u32 = 2048;

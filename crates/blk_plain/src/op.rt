@@ -27,11 +27,31 @@ pub struct Pattern {
     pub ghost rest: { IsTrue (list_all (λ b. nat_eq b 0) (drop len bytes)) },
 }
 
+/// A span of blocks, and what is written over each of them.
+#[derive(Clone, Copy, Debug, PartialEq, Eq)]
+pub struct Patch {
+    /// The blocks.
+    pub span: Span,
+    /// The bytes that are repeated in each of them.
+    pub pattern: Pattern,
+}
+
+/// Up to eight patches. Those in use stand first, in any order.
+#[derive(Clone, Copy, Debug, PartialEq, Eq)]
+pub struct Patches {
+    /// How many are in use.
+    pub used: u8,
+    /// The patches. What stands past those in use counts for nothing.
+    pub list: [Patch; 8],
+}
+
 /// An operation on an array, as the list of its blocks sees it.
 #[derive(Clone, Copy, Debug, PartialEq, Eq)]
 pub enum Op {
     /// Each block of the span takes the sector that the pattern fills, all at once.
     Write { span: Span, pattern: Pattern },
+    /// Each block of each span takes the sector that this span's pattern fills, all at once.
+    Writes { patches: Patches },
     /// The blocks of the span are replied. It changes no block.
     Read { span: Span },
     /// A missing unit of the stripe is made again. It changes no block.

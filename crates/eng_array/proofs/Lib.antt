@@ -1,5 +1,4 @@
 pub mod Standing
-pub mod ReturningPlain
 pub mod Promised
 pub mod Reaching
 pub mod Reached

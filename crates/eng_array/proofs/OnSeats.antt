@@ -111,6 +111,7 @@ done-forward a b true s d e (inr h) = inr (slice_set h.0 s true, e ∙ ap (λ (o
 
 after-forward : (y : Shape) (o : Op) (r : Running) (old new : World) → ColumnsAfter y o r old new → (c d : ℕ) → HasDevice old.columns c d → HasDevice new.columns c d
 after-forward y (op.Write span pattern) r old new h c d has = subst (λ cs. HasDevice cs c d) (sym h.0) has
+after-forward y (op.Writes patches) r old new h c d has = subst (λ cs. HasDevice cs c d) (sym h.0) has
 after-forward y (op.Read span) r old new h c d has = subst (λ cs. HasDevice cs c d) (sym h.0) has
 after-forward y (op.Sync stripe) r old new h c d has = subst (λ cs. HasDevice cs c d) (sym h.0) has
 after-forward y (op.Rebuild stripe) r old new (inl h) c d has = done-forward (slice_get old.columns c) (slice_get new.columns c) (is_unit_of y old.columns stripe h.0 c) stripe d (h.4 c) has
@@ -118,6 +119,7 @@ after-forward y (op.Rebuild stripe) r old new (inr h) c d has = subst (λ cs. Ha
 
 pub after-back : (y : Shape) (o : Op) (r : Running) (old new : World) → ColumnsAfter y o r old new → (c d : ℕ) → HasDevice new.columns c d → HasDevice old.columns c d
 after-back y (op.Write span pattern) r old new h c d has = subst (λ cs. HasDevice cs c d) h.0 has
+after-back y (op.Writes patches) r old new h c d has = subst (λ cs. HasDevice cs c d) h.0 has
 after-back y (op.Read span) r old new h c d has = subst (λ cs. HasDevice cs c d) h.0 has
 after-back y (op.Sync stripe) r old new h c d has = subst (λ cs. HasDevice cs c d) h.0 has
 after-back y (op.Rebuild stripe) r old new (inl h) c d has = rebuilt-back y stripe h.0 old.columns new.columns h.4 c d has

@@ -3,7 +3,7 @@ use Rattle.std.proofs.Common.{◌≡◌, ℕ, ◌<◌, ◌≤◌, List, length, 
 use Rattle.std.specs.Prelude.{slice_set}
 use Rattle.std.proofs.lemmas.Bool.{cases_eq}
 use Rattle.blk_plain.specs.declared.op.Op.{Op}
-use Rattle.lay_core.specs.Touched.{Touched, IsSpanSplit}
+use Rattle.lay_core.specs.Touched.{Touched}
 use Rattle.lay_core.specs.Layout.{Shape}
 use Rattle.graph_mean.specs.Graph.{Held, View}
 use Rattle.eng_world.specs.declared.item.Item.{Item}
@@ -12,7 +12,7 @@ use Rattle.eng_world.specs.declared.item.Reply.{Reply}
 use Rattle.eng_clients.specs.declared.stage.Stage.TheVariants.{Runs}
 use Rattle.eng_state.specs.Beginning.{IsAsked}
 use Rattle.eng_clients.specs.Desk.{Desk, desk_at, item_at}
-use Rattle.eng_plan.specs.Asked.{span_of}
+use Rattle.eng_plan.specs.Asked.{IsOpSplit}
 use Rattle.eng_array.specs.Serving.{NamesGraph, WasPlanned, IsServing, most_for}
 use Rattle.eng_state.proofs.Shown.{desk-set, desk-else}
 
@@ -56,7 +56,7 @@ module _ (y : Shape) (graphs : List Held) (old new : Desk) (items : new.items �
         let item-old : item_at old ≡ Some (item.Run op file) = ap (λ (l : List Reply). slice_get old.items (length l)) (sym replies) ∙ (ap (λ (l : List Item). slice_get l (length new.replies)) (sym items) ∙ at) in
         let p = s.runs (ran is) op file item-old in
         record {
-          split = subst (λ (m : Touched). IsSpanSplit y (span_of y op) m) (sym (map is)) p.split;
+          split = subst (λ (m : Touched). IsOpSplit y op m) (sym (map is)) p.split;
           lease = ap (λ (l : List ℕ). length l) lease ∙ p.lease;
           nodes = subst (λ (g : View). length g.nodes ≤ most_for y graphs op file) (sym graph) p.nodes;
         };

@@ -1,11 +1,10 @@
 -- What a sound core whose world is reached by a run knows of its clients while the array isn't lost.
-use Rattle.std.proofs.Common.{◌≡◌, ◌≢◌, ℕ, ◌<◌, ◌≤◌, ◌*◌, List, length, subst, sym, ap, ◌∙◌, arith, inl, inr, refl, Bool, true, Option, Some, None, slice_get}
+use Rattle.std.proofs.Common.{◌≡◌, ◌≢◌, ℕ, ◌<◌, List, length, subst, sym, ap, ◌∙◌, inl, inr, refl, Bool, true, Option, Some, None, slice_get}
 use Rattle.std.specs.Prelude.{IsSome, cond, slice_index}
-use Rattle.std.proofs.Math.Nat.{mul-le-mul}
 use Rattle.blk_plain.specs.declared.op.Op.{Op}
-use Rattle.blk_plain.specs.declared.op.Op.TheVariants.{Write, Read, Rebuild, Sync}
+use Rattle.blk_plain.specs.declared.op.Op.TheVariants.{Write, Writes, Read, Rebuild, Sync}
 use Rattle.blk_disk.specs.declared.disk.Disk.{Ghosts as DiskGhosts}
-use Rattle.lay_core.specs.Layout.{Shape, IsLayout, data_units}
+use Rattle.lay_core.specs.Layout.{Shape}
 use Rattle.lay_core.specs.declared.layout.Layout.{Ghosts as LayoutGhosts}
 use Rattle.graph_mean.specs.declared.graph.Node.{Node}
 use Rattle.graph_mean.specs.declared.graph.Node.TheVariants.{Rd, Wr, Xor, Cmt, Trm}
@@ -42,8 +41,9 @@ use Rattle.eng_clients.specs.Desk.{Desk, desk_at, item_at, spot_at}
 use Rattle.eng_state.specs.Shows.{ShowsCurrent, HoldBytes, running_as}
 use Rattle.eng_state.specs.Sound.{IsSound, IsOutOf, RunsWell, mode_for}
 use Rattle.eng_state.specs.Steps.{graphs_of}
-use Rattle.eng_plan.specs.Asked.{IsInside, span_of, mode_by}
-use Rattle.eng_state.specs.Beginning.{IsAsked, HasBlocks}
+use Rattle.eng_plan.specs.Asked.{IsInside, mode_by}
+use Rattle.eng_state.specs.Beginning.{IsAsked}
+use Rattle.eng_plan.specs.Asked.{HasBlocks}
 use Rattle.eng_state.specs.Serves.{Serves, RunsOn, Stands}
 use Rattle.eng_state.specs.Bad.{Standing, IsOnColumn}
 use Rattle.eng_array.specs.Run.{HasRun}
@@ -55,24 +55,13 @@ use Rattle.eng_state.proofs.Running.{runs_below, read_buf, read_unit, write_buf,
 use Rattle.eng_state.proofs.Served.{same-op}
 
 -- an operation in reach whose span has blocks touches some
-inside-of : (y : Shape) → IsLayout y → (op : Op) → HasBlocks op → InReach y op → IsInside y op
-inside-of y law op blocks reach = record { some = some op blocks; inside = reach.0; short = reach.1 }
-  where
-    stripe_blocks : 1 ≤ data_units y * y.unit_sectors
-    stripe_blocks =
-        let a = law.checks_below in let b = law.unit_least in
-        let c : 1 ≤ data_units y = omega (arith, a) in
-        mul-le-mul c b
-
-    some : (o : Op) → HasBlocks o → 1 ≤ (span_of y o).count
-    some (Write span pattern) h = h
-    some (Read span) h = h
-    some (Rebuild stripe) h = stripe_blocks
-    some (Sync stripe) h = stripe_blocks
+inside-of : (y : Shape) → (op : Op) → HasBlocks op → InReach y op → IsInside y op
+inside-of y op blocks reach = record { asked = blocks; inside = reach.0; short = reach.1 }
 
 -- a task of an operation's kind is held as the operation is
 mode-of : (op : Op) (k : Kind) → IsKind op k → mode_for k ≡ mode_by op
 mode-of (Write span pattern) k is = ap mode_for is
+mode-of (Writes patches) k is = ap mode_for is
 mode-of (Read span) k is = ap mode_for is
 mode-of (Rebuild stripe) k is = ap mode_for is.1
 mode-of (Sync stripe) k is = ap mode_for is
@@ -191,7 +180,7 @@ module _ {L D : Type 0} (lay : LayoutGhosts L) (disk : DiskGhosts D) (core : Arr
           i.2,
           record {
             item = i.3;
-            inside = inside-of y sound.layout i.1 (asked-blocks y i.1 i.2 ((serving c).asked n (item.Run i.1 i.2) i.3)) (inv.control.within c i.1 i.2 i.0 (item-shown c ∙ i.3));
+            inside = inside-of y i.1 (asked-blocks y i.1 i.2 ((serving c).asked n (item.Run i.1 i.2) i.3)) (inv.control.within c i.1 i.2 i.0 (item-shown c ∙ i.3));
             there = named-there core.graphs.items i.1 i.2 ((serving c).named n (item.Run i.1 i.2) i.3);
           },
         )

@@ -65,6 +65,7 @@ ends-tell y c n old new f = go f.op f.replies f.after
     go : (o : Op) → RepliesTo y o f.was c old new → ColumnsAfter y o f.was old new → Tells old new
     go (op.Read span) h a = same old new a.1 (replied-grows c old new reply.Data h.0)
     go (op.Write span pattern) h a = same old new a.1 (replied-grows c old new reply.Done h)
+    go (op.Writes patches) h a = same old new a.1 (replied-grows c old new reply.Done h)
     go (op.Rebuild stripe) h (inl a) = let z = a.5 in record { grows = replied-grows c old new reply.Done h; rebuilt = inr (omega (arith, z), c, replied-more c old new reply.Done h) }
     go (op.Rebuild stripe) h (inr a) = same old new a.1.1 (replied-grows c old new reply.Done h)
     go (op.Sync stripe) h a = same old new a.1 (replied-grows c old new reply.Done h)

@@ -1,11 +1,9 @@
 -- A core of which no job is out, and that can do nothing, has nothing left to do.
 use Rattle.std.proofs.Common.{◌≡◌, ◌≢◌, ◌≤◌, inl, inr, ℕ, List, length, refl, sym, ◌∙◌, ap, arith, Option, Some, None}
 use Rattle.std.specs.Prelude.{◌+◌, ◌*◌}
-use Rattle.std.proofs.Math.Nat.{mul-le-mul}
 use Rattle.blk_plain.specs.declared.op.Op.{Op}
 use Rattle.blk_disk.specs.declared.disk.Disk.{Ghosts as DiskGhosts}
 use Rattle.lay_core.specs.Layout.{Shape, data_units}
-use Rattle.lay_core.specs.Touched.{stripe_count}
 use Rattle.lay_core.specs.declared.layout.Layout.{Ghosts as LayoutGhosts}
 use Rattle.eng_world.specs.declared.item.Event.TheVariants as may
 use Rattle.eng_world.specs.declared.item.Item.{Item}
@@ -22,11 +20,12 @@ use Rattle.eng_state.specs.declared.array.Array.{Array}
 use Rattle.eng_clients.specs.Desk.{Desk, desk_at}
 use Rattle.eng_events.specs.Opened.{NoneOut}
 use Rattle.eng_choice.specs.Picked.{IsResting, IsStuck}
-use Rattle.eng_plan.specs.Asked.{span_of, lease_for}
+use Rattle.eng_plan.specs.Asked.{stripes_by, lease_for}
+use Rattle.eng_world.specs.Planning.{span_count}
+use Rattle.std.proofs.Math.Nat.{min-le_left}
 use Rattle.eng_state.specs.Serves.{Serves, CanTake}
 use Rattle.eng_array.specs.Steady.{IsSteady}
 use Rattle.eng_state.specs.Steps.{graphs_of}
-use Rattle.eng_plan.proofs.Maps.{span-short}
 use Rattle.eng_choice.proofs.Possible.{current-waits}
 use Rattle.eng_choice.proofs.PossibleDoing.{possible-can}
 use Rattle.eng_array.proofs.Promised.{library-promises}
@@ -76,13 +75,7 @@ module _ {L D : Type 0} (lay : LayoutGhosts L) (disk : DiskGhosts D) (core : Arr
   -- no operation wants more
   lease-fits : (op : Op) (file : Option ℕ) (d : Desk) → Serves core.graphs.items y d op file → lease_for y core.graphs.items op file ≤ 2048
   lease-fits op None d serves =
-      let w = steady.sound.layout.width_most in
-      let c = steady.sound.layout.columns_most in
-      let few = span-short y steady.sound.layout op serves.inside in
-      let units : 2 * data_units y + 2 ≤ 66 = omega (arith, w, c) in
-      let stripes : stripe_count y (span_of y op) + 2 ≤ 18 = omega (arith, few) in
-      let all : (2 * data_units y + 2) * (stripe_count y (span_of y op) + 2) ≤ 66 * 18 = mul-le-mul units stripes in
-      omega (arith, all)
+      min-le_left 2048 ((2 * data_units y + 2) * (stripes_by y op + 2 * span_count op))
   lease-fits op (Some n) d serves = steady.fit n
 
   -- ## Who waits

@@ -143,6 +143,7 @@ module _ {L D : Type 0} (lay : LayoutGhosts L) (disk : DiskGhosts D) (old new : 
     where
       none-of : Op → Type 0
       none-of (op.Write span pattern) = Unit {0}
+      none-of (op.Writes patches) = Unit {0}
       none-of (op.Read span) = ⊥
       none-of (op.Rebuild stripe) = Unit {0}
       none-of (op.Sync stripe) = Unit {0}

@@ -2,7 +2,6 @@
 use Rattle.std.proofs.Common.{◌≡◌, ℕ, zero, suc, ◌<◌, ◌≤◌, List, length, subst, sym, ap, ◌∙◌, arith, inl, inr, refl, Option, Some, None}
 use Rattle.std.proofs.lemmas.Bool.{cases_eq}
 use Rattle.blk_plain.specs.declared.op.OpId.{OpId}
-use Rattle.blk_plain.specs.declared.op.Outcome.{Outcome}
 use Rattle.blk_disk.specs.declared.disk.Disk.{Ghosts as DiskGhosts}
 use Rattle.lay_core.specs.declared.layout.Layout.{Ghosts as LayoutGhosts}
 use Rattle.graph_mean.specs.declared.graph.Node.TheVariants.{Cmt}
@@ -17,8 +16,7 @@ use Rattle.eng_one.proofs.Walking.{late-commit}
 use Rattle.eng_cols.specs.declared.spot.Loss.{Loss}
 use Rattle.eng_world.specs.declared.item.Item.{Item}
 use Rattle.eng_world.specs.declared.item.Item.TheVariants as item
-use Rattle.eng_world.specs.declared.item.Reply.{Reply}
-use Rattle.eng_world.specs.World.{Running, Current, Client, World, RunsAs}
+use Rattle.eng_world.specs.World.{Running, World, RunsAs}
 use Rattle.eng_world.specs.World as world
 use Rattle.eng_world.specs.Pool.{job_of, out_below}
 use Rattle.eng_world.specs.Invariant.{IsTold}
@@ -26,10 +24,9 @@ use Rattle.eng_world.proofs.Promised.{reached-told}
 use Rattle.eng_rest.specs.Left.{below, left, cost, run_left, current_left, outs_of, item_left, IsIndexed}
 use Rattle.eng_rest.proofs.Items.{left-done, left-now, outs-of-it}
 use Rattle.eng_rest.proofs.Summing.{below-le, below-less}
-use Rattle.eng_clients.specs.declared.stage.Stage.TheVariants.{Nothing, Runs}
+use Rattle.eng_clients.specs.declared.stage.Stage.TheVariants.{Runs}
 use Rattle.eng_state.specs.declared.array.Array.{Array}
-use Rattle.eng_state.specs.Bad.{with_bad}
-use Rattle.eng_clients.specs.Desk.{Desk, desk_at, with_ended, with_reply}
+use Rattle.eng_clients.specs.Desk.{Desk, desk_at}
 use Rattle.eng_state.specs.Room.{HasRoom, MayEnter}
 use Rattle.eng_state.specs.Shows.{running_as}
 use Rattle.eng_state.specs.Sound.{IsOutOf, RunsWell}
@@ -37,7 +34,6 @@ use Rattle.eng_array.specs.Steady.{IsSteady}
 use Rattle.eng_state.specs.Steps.{graphs_of}
 use Rattle.eng_array.proofs.EventsLeft.{below-part, node-left}
 use Rattle.eng_array.proofs.HistoryRoom.{history-room}
-use Rattle.eng_array.proofs.Kept.{Goes, rests, same}
 use Rattle.eng_array.proofs.Reached.{reached, run-uncommitted}
 use Rattle.eng_array.proofs.RebuiltRoom.{replied_of, run-rebuilt}
 use Rattle.eng_state.proofs.Running.{runs_below}
@@ -47,19 +43,6 @@ use Rattle.eng_array.proofs.Steady.{steady-indexed, shown-items, has-room}
 use Rattle.eng_log.specs.Log.{MayCount}
 
 -- ## What becomes of a client
-
--- it goes on as a node ends, and rests once its item is replied
-pub ended-goes : (d : Desk) (n : ℕ) (o : Outcome) → Goes d (with_ended d n o)
-ended-goes d n o = same refl (λ h. h) refl refl refl refl
-
-pub bad-goes : (d : Desk) (n : ℕ) → Goes d (with_bad d n)
-bad-goes d n = same refl (λ h. h) refl refl refl refl
-
-pub replied-goes : (d : Desk) (r : Reply) → Goes d (with_reply d r)
-replied-goes d r = rests refl (λ h. let z : Nothing ≡ Runs = h in let u : ⊥ = cc in u)
-
-pub terminated-goes : (d : Desk) (n : ℕ) (o : Outcome) (r : Reply) → Goes d (with_reply (with_ended d n o) r)
-terminated-goes d n o r = rests refl (λ h. let z : Nothing ≡ Runs = h in let u : ⊥ = cc in u)
 
 -- ## Room for the end of a node, also once the array is lost
 

@@ -55,6 +55,7 @@ on-serving y graphs old new on s = record {
 module _ (y : Shape) (cols : List ColumnState) (d : Desk) (old : Logged) (e : Traced) (new : Logged) where
   op-notes : (o : Op) → LogEndsOp y cols d old e new o → Notes old e new
   op-notes (op.Write span pattern) h = notes-of old e new h
+  op-notes (op.Writes patches) h = notes-of old e new h
   op-notes (op.Read span) h = subst (λ (l : Logged). Notes old e l) (sym h) (record { keeps = refl; trace = refl; history_room = refl; trace_room = refl; regions = refl })
   op-notes (op.Rebuild stripe) (inl h) = subst (λ (l : Logged). Notes old e l) (sym h.2) (record { keeps = refl; trace = refl; history_room = refl; trace_room = refl; regions = refl })
   op-notes (op.Rebuild stripe) (inr h) = notes-of old e new h.1

@@ -1,20 +1,22 @@
 -- A core is steady after an operation is taken, refused, planned anew or given up.
 use Rattle.std.proofs.Common.{◌≡◌, ℕ, ◌<◌, ◌≤◌, ◌+◌, ◌*◌, List, length, get_or, subst, sym, ap, ◌∙◌, arith, inl, inr, refl, Bool, true, false, if◌then◌else◌, Option, Some, None}
 use Rattle.std.specs.Prelude.{slice_set, nat_lt}
-use Rattle.std.proofs.lemmas.Bool.{cases_lt, le-ltb}
+use Rattle.std.proofs.lemmas.Bool.{cases_Bool, cases_lt, le-ltb, ltb-true}
+use Rattle.std.proofs.lemmas.List.Folds.{Any-from_list_any}
 use Rattle.blk_plain.specs.declared.op.Op.{Op}
-use Rattle.blk_plain.specs.declared.op.Op.TheVariants.{Write, Read, Rebuild, Sync}
+use Rattle.blk_plain.specs.declared.op.Op.TheVariants.{Write, Writes, Read, Rebuild, Sync}
 use Rattle.blk_plain.specs.declared.op.Span.{Span}
+use Rattle.blk_plain.specs.Plain.{is_in, is_in_some, spans_of}
 use Rattle.blk_disk.specs.declared.disk.Disk.{Ghosts as DiskGhosts}
 use Rattle.lay_core.specs.Layout.{Shape, IsLayout, data_units, blocks_in}
-use Rattle.lay_core.specs.Touched.{Touched, PassesEnd, IsSpanSplit, stripe_count}
+use Rattle.lay_core.specs.Touched.{Touched, PassesEnd, PassesEndSome, stripe_count, stripes_among}
 use Rattle.lay_core.specs.declared.layout.Layout.{Ghosts as LayoutGhosts}
 use Rattle.graph_mean.specs.Graph.{Held, View}
 use Rattle.graph_mean.specs.Task.{Aim, Missing, IsTask, task_of, missing_of, is_read, is_write}
 use Rattle.graph_lib.specs.Laws.{AreMissing}
 use Rattle.graph_lib.specs.Library.{library}
 use Rattle.graph_lib.proofs.Promises.{few-nodes, few-made}
-use Rattle.graph_lib.proofs.SpanRanges.{span-few}
+use Rattle.graph_lib.proofs.SpanRanges.{spans-few}
 use Rattle.eng_cols.specs.Cols.{ColumnState}
 use Rattle.eng_cols.specs.Lost.{NotLost}
 use Rattle.eng_world.specs.Planning.{kind_of}
@@ -28,17 +30,18 @@ use Rattle.eng_state.specs.declared.array.Array.{Array}
 use Rattle.eng_clients.specs.Desk.{Desk, desk_at, item_at, graph_of, with_reply, with_started, with_lease}
 use Rattle.eng_log.specs.Log.{noted}
 use Rattle.eng_state.specs.Moves.{id_of}
-use Rattle.eng_plan.specs.Asked.{IsInside, span_of, whole, lease_for}
+use Rattle.eng_plan.specs.Asked.{IsInside, IsOpSplit, whole, spans_by, stripes_by, lease_for}
 use Rattle.eng_clients.specs.Planned.{IsPlanned, IsDrawn, CanRun, Replanned}
 use Rattle.eng_state.specs.Room.{HasRoom}
 use Rattle.eng_state.specs.Serves.{Serves, Stands, CanTake, CanBack}
-use Rattle.eng_array.specs.Serving.{WasPlanned, IsServing, most_for_span, most_for_unit, most_drawn, most_for}
+use Rattle.eng_array.specs.Serving.{WasPlanned, IsServing, some_passes, most_for_span, most_for_unit, most_drawn, most_for}
 use Rattle.eng_state.specs.Sound.{IsSound}
 use Rattle.eng_array.specs.Steady.{IsSteady}
 use Rattle.eng_state.specs.Steps.{Follows}
 use Rattle.eng_state.specs.Taken.{Taken, IsTaken, Replaced, GivenUp, BackAs, IsBack}
 use Rattle.eng_plan.proofs.Lacking.{missing-each}
-use Rattle.eng_plan.proofs.Maps.{whole-one, not-past}
+use Rattle.eng_plan.proofs.Maps.{not-past, op-count, op-spans}
+use Rattle.eng_choice.proofs.FreeStripes.{short-few, span-many, whole-many}
 use Rattle.eng_array.proofs.OneServing.{each-set, idle-serving, planned-serving, items-set}
 use Rattle.eng_state.proofs.Plans.{task-sound}
 use Rattle.eng_array.proofs.Reached.{run-stands}
@@ -57,24 +60,41 @@ module _ (y : Shape) (law : IsLayout y) (cols : List ColumnState) (m : Touched) 
     | inr le ↦ le-ltb (blocks_in y) (span.first + span.count) le
   ]
 
-  span-most : (op : Op) (span : Span) → IsTask (task_of y (kind_of y cols op) m) → AreMissing (task_of y (kind_of y cols op) m) missing → IsSpanSplit y span m → (PassesEnd y span → ⊥) → nodes op ≤ most_for_span y span
-  span-most op span task gone split within =
-      let few : nodes op ≤ (2 * data_units y + 1) * (length m.stripes + 2) + 2 = few-nodes (task_of y (kind_of y cols op) m) missing true task gone 2 (span-few y (kind_of y cols op) span m law split) in
-      subst (λ (b : Bool). nodes op ≤ (if b then 0 else (2 * data_units y + 1) * (stripe_count y span + 2) + 2)) (sym (inside-end span within))
-      (subst (λ (n : ℕ). nodes op ≤ (2 * data_units y + 1) * (n + 2) + 2) split.stripes_many few)
+  inside-all : (spans : List Span) → (PassesEndSome y spans → ⊥) → some_passes y spans ≡ false
+  inside-all spans within = elim (cases_Bool (some_passes y spans)) [
+    | inl past ↦
+        let a = Any-from_list_any (λ (s : Span). nat_lt (blocks_in y) (s.first + s.count)) spans past in
+        absurd (within (a.0, a.1, a.2, a.3, ltb-true (blocks_in y) (a.1.first + a.1.count) a.4))
+    | inr none ↦ none
+  ]
 
-  unit-most : (op : Op) (stripe : ℕ) → IsTask (task_of y (kind_of y cols op) m) → AreMissing (task_of y (kind_of y cols op) m) missing → is_read (kind_of y cols op) ≡ false → is_write (kind_of y cols op) ≡ false → IsSpanSplit y (whole y stripe) m → (y.stripes ≤ stripe → ⊥) → nodes op ≤ most_for_unit y
-  unit-most op stripe task gone no_read no_write split within =
+  -- by its stripes and spans
+  spans-most : (op : Op) → IsTask (task_of y (kind_of y cols op) m) → AreMissing (task_of y (kind_of y cols op) m) missing → IsOpSplit y op m → nodes op ≤ (2 * data_units y + 1) * (stripes_by y op + 2 * length (spans_by y op)) + 2
+  spans-most op task gone split =
+      let ranges = spans-few y (kind_of y cols op) (spans_by y op) m law (op-spans y law op m split.split) in
+      let few : nodes op ≤ (2 * data_units y + 1) * (length m.stripes + 2 * length (spans_by y op)) + 2 = few-nodes (task_of y (kind_of y cols op) m) missing true task gone (2 * length (spans_by y op)) (omega (arith, ranges)) in
+      subst (λ (n : ℕ). nodes op ≤ (2 * data_units y + 1) * (n + 2 * length (spans_by y op)) + 2) (op-count y law op m split) few
+
+  span-most : (op : Op) (span : Span) → 1 ≤ span.count → (PassesEnd y span → ⊥) → (16 < stripe_count y span → ⊥) → nodes op ≤ (2 * data_units y + 1) * (stripes_among y (is_in span) + 2) + 2 → nodes op ≤ most_for_span y span
+  span-most op span some within short few =
+      subst (λ (b : Bool). nodes op ≤ (if b then 0 else (2 * data_units y + 1) * (stripe_count y span + 2) + 2)) (sym (inside-end span within))
+      (subst (λ (n : ℕ). nodes op ≤ (2 * data_units y + 1) * (n + 2) + 2) (sym (span-many y law span some within (short-few (stripe_count y span) short))) few)
+
+  unit-most : (op : Op) (stripe : ℕ) → IsTask (task_of y (kind_of y cols op) m) → AreMissing (task_of y (kind_of y cols op) m) missing → is_read (kind_of y cols op) ≡ false → is_write (kind_of y cols op) ≡ false → length m.stripes ≡ stripes_among y (is_in (whole y stripe)) → (y.stripes ≤ stripe → ⊥) → nodes op ≤ most_for_unit y
+  unit-most op stripe task gone no_read no_write count within =
       let few : nodes op ≤ (y.width + 1) * length m.stripes + 2 = few-made (task_of y (kind_of y cols op) m) missing true task gone no_read no_write in
-      let one : length m.stripes ≡ 1 = split.stripes_many ∙ whole-one y law stripe (not-past stripe y.stripes within) in
+      let one : length m.stripes ≡ 1 = count ∙ sym (whole-many y law stripe (not-past stripe y.stripes within)) in
       let least : nodes op ≤ (y.width + 1) * 1 + 2 = subst (λ (n : ℕ). nodes op ≤ (y.width + 1) * n + 2) one few in
       omega (arith, least)
 
-  drawn-most : (op : Op) → IsInside y op → IsSpanSplit y (span_of y op) m → AreMissing (task_of y (kind_of y cols op) m) missing → nodes op ≤ most_drawn y op
-  drawn-most (Write span pattern) inside split gone = span-most (Write span pattern) span (task-sound y law m cols (Write span pattern) inside split) gone split inside.inside
-  drawn-most (Read span) inside split gone = span-most (Read span) span (task-sound y law m cols (Read span) inside split) gone split inside.inside
-  drawn-most (Rebuild stripe) inside split gone = unit-most (Rebuild stripe) stripe (task-sound y law m cols (Rebuild stripe) inside split) gone refl refl split inside.inside
-  drawn-most (Sync stripe) inside split gone = unit-most (Sync stripe) stripe (task-sound y law m cols (Sync stripe) inside split) gone refl refl split inside.inside
+  drawn-most : (op : Op) → IsInside y op → IsOpSplit y op m → AreMissing (task_of y (kind_of y cols op) m) missing → nodes op ≤ most_drawn y op
+  drawn-most (Write span pattern) inside split gone = span-most (Write span pattern) span inside.asked inside.inside inside.short (spans-most (Write span pattern) (task-sound y law m cols (Write span pattern) inside split) gone split)
+  drawn-most (Writes patches) inside split gone =
+      subst (λ (b : Bool). nodes (Writes patches) ≤ (if b then 0 else (2 * data_units y + 1) * (stripes_among y (is_in_some (spans_of patches)) + 2 * length (spans_of patches)) + 2)) (sym (inside-all (spans_of patches) inside.inside))
+      (spans-most (Writes patches) (task-sound y law m cols (Writes patches) inside split) gone split)
+  drawn-most (Read span) inside split gone = span-most (Read span) span inside.asked inside.inside inside.short (spans-most (Read span) (task-sound y law m cols (Read span) inside split) gone split)
+  drawn-most (Rebuild stripe) inside split gone = unit-most (Rebuild stripe) stripe (task-sound y law m cols (Rebuild stripe) inside split) gone refl refl (op-count y law (Rebuild stripe) m split) inside.inside
+  drawn-most (Sync stripe) inside split gone = unit-most (Sync stripe) stripe (task-sound y law m cols (Sync stripe) inside split) gone refl refl (op-count y law (Sync stripe) m split) inside.inside
 
 -- a planned graph has no more nodes than one for its operation may have
 module _ (y : Shape) (law : IsLayout y) (graphs : List Held) (cols : List ColumnState) (kept : NotLost y cols) (op : Op) (file : Option ℕ) (d : Desk) (inside : IsInside y op) (p : IsPlanned y graphs cols op file d) where

@@ -17,7 +17,7 @@ mod traced;
 
 use crate::{Closed, Item, Setup};
 use blk_disk::{MemDisk, SECTOR};
-use blk_plain::{Op, OpId, Pattern, Span};
+use blk_plain::{Op, OpId, Patch, Patches, Pattern, Span};
 use driving::run;
 use eng_cols::Column;
 use lay_plain::Raid5;
@@ -65,6 +65,27 @@ fn write(first: u64, count: u32, byte: u8) -> Item
             pattern: Pattern { len: 1, bytes },
         },
         graph: None,
+    }
+}
+
+// Each span by its first block, how many it has, and their byte.
+fn writes(one: (u64, u32, u8), other: (u64, u32, u8)) -> Item {
+    let mut list = [patch(one); 8];
+    list[1] = patch(other);
+    Item::Run {
+        op: Op::Writes {
+            patches: Patches { used: 2, list },
+        },
+        graph: None,
+    }
+}
+
+fn patch((first, count, byte): (u64, u32, u8)) -> Patch {
+    let mut bytes = [0; 32];
+    bytes[0] = byte;
+    Patch {
+        span: Span { first, count },
+        pattern: Pattern { len: 1, bytes },
     }
 }
 

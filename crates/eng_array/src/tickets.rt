@@ -48,9 +48,9 @@ pub fn chains_are_runs<L: Layout, D: Disk>()
     ensures devices { (old new : AnyCore L D) (events : List Traced) → Goes L.Layout D.Disk old events new → DevicesGoOn D.Disk (devices_of old) (devices_of new) }
 {}
 
-/// A core that comes of an opening by a chain of events hands back what was handed in: the layout, as many clients, and as
-/// many devices, the same of them absent, each of which goes on. A device whose count of faults rose between the two cores
-/// is one whose count rose from the setup to what is handed back.
+/// A core that comes of an opening by a chain of events hands back the layout, as many clients and as many devices as were
+/// handed in, the same of them absent, each of which goes on. A device whose count of faults rose between the two cores is
+/// one whose count rose from the setup to what is handed back.
 pub fn what_was_handed_in_comes_back<L: Layout, D: Disk>()
     ensures back { (setup : Setup L D) (first last : AnyCore L D) (events : List Traced) (closed : Closed L D)
         → IsOpened L.Layout D.Disk setup first → Goes L.Layout D.Disk first events last → IsClosed last closed → HandsBack D.Disk setup closed }

@@ -1,57 +1,42 @@
--- How many stripes a task has, which lists those of an operation in ascending order.
-use Rattle.std.proofs.Common.{◌≡◌, ℕ, zero, suc, ◌<◌, ◌≤◌, ◌+◌, ◌-◌, ap, arith, inl, inr}
+-- How many stripes a task has: tasks of one operation have as many, since each lists its stripes in ascending order.
+use Rattle.std.proofs.Common.{◌≡◌, ℕ, zero, suc, ◌<◌, ◌≤◌, ◌-◌, ap, arith, inl, inr}
 use Rattle.std.proofs.lemmas.Bool.{cases_lt}
 use Rattle.blk_plain.specs.declared.op.Op.{Op}
-use Rattle.lay_core.specs.Layout.{Shape, IsLayout}
+use Rattle.lay_core.specs.Layout.{Shape}
 use Rattle.eng_world.specs.World.{Plan}
 use Rattle.eng_world.specs.Planning.{IsTaskOf}
-use Rattle.eng_plan.specs.Asked.{IsInside}
-use Rattle.eng_choice.proofs.FreeStripes.{range-has, has-range, first, count, concerned, concerns-has, concerns-below}
 
--- a list in ascending order of all numbers of a range is as long as the range
-module _ (f : ℕ → ℕ) (n from many : ℕ) (within : (q : ℕ) → q < n → (from ≤ f q) × (f q < from + many)) (all : (s : ℕ) → from ≤ s → s < from + many → (q : ℕ) × (q < n) × (f q ≡ s)) (ascend : (q r : ℕ) → q < r → r < n → f q < f r) where
-  low : (q : ℕ) → q < n → from + q ≤ f q
-  low zero h = let a = (within 0 h).0 in omega (arith, a)
-  low (suc q) h = let a = low q (omega (arith, h)) in let b = ascend q (suc q) (omega arith) h in omega (arith, a, b)
+-- numbers in ascending order that are all among others in ascending order are no more than those
+module _ (f g : ℕ → ℕ) (n k : ℕ) (up : (q r : ℕ) → q < r → r < n → f q < f r) (above : (q r : ℕ) → q < r → r < k → g q < g r) (has : (q : ℕ) → q < n → (j : ℕ) × (j < k) × (g j ≡ f q)) where
+  no-earlier : (q : ℕ) → q < n → (j : ℕ) → j < k → g j ≡ f q → q ≤ j
+  no-earlier zero h j l e = omega arith
+  no-earlier (suc q) h j l e =
+      let i = has q (omega (arith, h)) in
+      let less = no-earlier q (omega (arith, h)) i.0 i.1 i.2 in
+      let step = up q (suc q) (omega arith) h in
+      let is = i.2 in
+      elim (cases_lt i.0 j) [
+        | inl lt ↦ omega (arith, less, lt)
+        | inr ge ↦ elim (cases_lt j i.0) [
+          | inl lt ↦ let b = above j i.0 lt i.1 in absurd (let u : ⊥ = omega (arith, b, e, is, step) in u)
+          | inr le ↦ let same : i.0 ≡ j = omega (arith, ge, le) in let v = ap g same in absurd (let u : ⊥ = omega (arith, v, e, is, step) in u)
+        ]
+      ]
 
-  few : n ≤ many
-  few = elim (cases_lt 0 n) [
-    | inl some ↦ let lt : n - 1 < n = omega (arith, some) in let a = low (n - 1) lt in let b = (within (n - 1) lt).1 in omega (arith, a, b, some)
+  no-more : n ≤ k
+  no-more = elim (cases_lt 0 n) [
+    | inl some ↦
+        let l : n - 1 < n = omega (arith, some) in
+        let j = has (n - 1) l in
+        let b = no-earlier (n - 1) l j.0 j.1 j.2 in
+        let w = j.1 in
+        omega (arith, b, w, some)
     | inr none ↦ omega (arith, none)
   ]
 
-  later : (q r : ℕ) → q < n → r < n → f q < f r → q < r
-  later q r hq hr lt = elim (cases_lt q r) [
-    | inl less ↦ less
-    | inr over ↦ elim (cases_lt r q) [
-      | inl more ↦ let a = ascend r q more hq in absurd (let u : ⊥ = omega (arith, a, lt) in u)
-      | inr under ↦ let same : q ≡ r = omega (arith, over, under) in let e = ap f same in absurd (let u : ⊥ = omega (arith, e, lt) in u)
-    ]
-  ]
+module _ (y : Shape) (op : Op) where
+  few : (p q : Plan) → IsTaskOf y op p → IsTaskOf y op q → p.task.stripes ≤ q.task.stripes
+  few p q mine theirs = no-more p.stripe q.stripe p.task.stripes q.task.stripes mine.ascend theirs.ascend (λ k l. let s = mine.stripes k l in theirs.all (p.stripe k) s.0 s.1)
 
-  high : (k : ℕ) → k < many → (q : ℕ) × (q < n) × (f q ≡ from + k) × (k ≤ q)
-  high zero h = let a = all from (omega arith) (omega (arith, h)) in let e = a.2 in (a.0, a.1, omega (arith, e), omega arith)
-  high (suc k) h =
-      let p = high k (omega (arith, h)) in
-      let a = all (from + suc k) (omega arith) (omega (arith, h)) in
-      let e = p.2 in let e2 = a.2 in let up = p.3 in
-      let lt = later p.0 a.0 p.1 a.1 (omega (arith, e, e2)) in
-      (a.0, a.1, e2, omega (arith, lt, up))
-
-  most : many ≤ n
-  most = elim (cases_lt 0 many) [
-    | inl some ↦ let a = high (many - 1) (omega (arith, some)) in let b = a.1 in let d = a.3 in omega (arith, b, d, some)
-    | inr none ↦ omega (arith, none)
-  ]
-
-  pub as-long : n ≡ many
-  as-long = let a = few in let b = most in omega (arith, a, b)
-
-pub task-count : (y : Shape) (law : IsLayout y) (op : Op) (inside : IsInside y op) (p : Plan) → IsTaskOf y op p → p.task.stripes ≡ count y law op
-task-count y law op inside p task = as-long p.stripe p.task.stripes (first y law op) (count y law op)
-    (λ q lt. range-has (first y law op) (count y law op) (p.stripe q) (concerns-has y law op inside (p.stripe q) (task.stripes q lt).1))
-    (λ s lo hi.
-    let has = has-range (first y law op) (count y law op) s (s - first y law op) (omega (arith, lo, hi)) (omega (arith, lo)) in
-    let concerns = concerned y law op inside s has in
-    task.all s (concerns-below y law op inside s concerns) concerns)
-    task.ascend
+  pub same-count : (p q : Plan) → IsTaskOf y op p → IsTaskOf y op q → p.task.stripes ≡ q.task.stripes
+  same-count p q mine theirs = let a = few p q mine theirs in let b = few q p theirs mine in omega (arith, a, b)

@@ -1,8 +1,10 @@
 pub mod FreeStripes
+pub mod FreeSpans
 pub mod Resting
 pub mod Picking
 pub mod Possible
 pub mod TakeParts
 pub mod Ascending
+pub mod SplitExists
 pub mod PossibleTake
 pub mod PossibleDoing

@@ -30,9 +30,6 @@ refuted b P iff no_ h = let z : true ≡ false = sym (iff.1 h) ∙ no_ in let u 
 pub turn-of : (next c : ℕ) → c < 17 → (i : ℕ) × (i < 17) × (ring_at next i ≡ c)
 turn-of next c below = ((c + 17 - next % 17) % 17, omega arith, omega (arith, below))
 
-pub ring-below : (next i : ℕ) → ring_at next i < 17
-ring-below next i = omega arith
-
 pub ring-is : (next i : ℕ) → (next % 17 + i) % 17 ≡ ring_at next i
 ring-is next i = omega arith
 
@@ -149,7 +146,6 @@ module _ {L D : Type 0} (lay : LayoutGhosts L) (disk : DiskGhosts D) (core : Arr
     seats = s.seats;
     locked = s.locked;
     jobs = s.jobs;
-    place = s.place;
   }
 
   pub stands-moved : (next : ℕ) → Stands lay core → Stands lay (moved next)

@@ -1,44 +1,44 @@
 -- A take is possible in the worlds that a core shows exactly where it can be done.
-use Rattle.std.proofs.Common.{◌≡◌, ◌≢◌, ℕ, ◌<◌, ◌+◌, ◌*◌, List, length, map, subst, sym, ap, ◌∙◌, arith, inl, inr, refl, true, false, nat_eq, Option, Some, None}
+use Rattle.std.proofs.Common.{◌≡◌, ◌≢◌, ℕ, ◌<◌, List, length, map, subst, sym, ap, ◌∙◌, arith, inl, inr, refl, true, false, nat_eq, Option, Some, None}
 use Rattle.std.specs.Prelude.{Contains}
-use Rattle.std.specs.List.{list_any, range_with_len}
+use Rattle.std.specs.List.{list_any}
 use Rattle.std.proofs.lemmas.Bool.{cases_Bool, eqb-true}
 use Rattle.std.proofs.lemmas.Cmp.{nat_eq_equiv}
 use Rattle.std.proofs.lemmas.List.{get_or_default}
 use Rattle.std.proofs.lemmas.Map.Views.{Contains-from_any, list_any-from_Contains}
 use Rattle.blk_plain.specs.declared.op.Op.{Op}
-use Rattle.blk_plain.specs.declared.op.Op.TheVariants.{Write, Read, Rebuild, Sync}
+use Rattle.blk_plain.specs.declared.op.Op.TheVariants.{Write, Writes, Read, Rebuild, Sync}
 use Rattle.blk_disk.specs.declared.disk.Disk.{Ghosts as DiskGhosts}
 use Rattle.stripe_lock.specs.Table.{mode_of}
 use Rattle.stripe_lock.specs.declared.mode.Mode.{Mode}
 use Rattle.stripe_lock.specs.declared.mode.Mode.TheVariants.{Share}
-use Rattle.lay_core.specs.Layout.{Shape, data_units}
-use Rattle.lay_core.specs.Touched.{Touched, IsSpanSplit}
-use Rattle.lay_core.specs.Cut.{cut_of, first_unit, unit_count, parts_from}
+use Rattle.lay_core.specs.Layout.{Shape}
+use Rattle.lay_core.specs.Touched.{Touched}
 use Rattle.lay_core.specs.declared.layout.Layout.{Ghosts as LayoutGhosts}
-use Rattle.lay_core.proofs.SpanSplit.{is_split}
 use Rattle.graph_mean.specs.Graph.{Held, View}
 use Rattle.graph_mean.specs.Task.{task_of, missing_of}
 use Rattle.graph_lib.specs.Library.{library}
 use Rattle.eng_world.specs.declared.item.Item.TheVariants as item
 use Rattle.eng_world.specs.World.{Plan, Has, IsRead, World, op_of}
-use Rattle.eng_world.specs.Planning.{Concerns, IsChosen, kind_of, missing_for}
+use Rattle.eng_world.specs.Planning.{Concerns, IsChosen, IsTaskOf, kind_of, missing_for, span_count, lease_of}
 use Rattle.eng_world.specs.Serving.{CanTake as MayTake}
 use Rattle.eng_clients.specs.declared.stage.Stage.{Stage}
 use Rattle.eng_clients.specs.declared.stage.Stage.TheVariants.{Nothing, Waits, Runs}
 use Rattle.eng_state.specs.declared.array.Array.{Array}
 use Rattle.eng_clients.specs.Desk.{Desk, desk_at, item_at, plan_of}
 use Rattle.eng_state.specs.Doing.{AreFree}
-use Rattle.eng_plan.specs.Asked.{span_of, mode_by, lease_for}
+use Rattle.eng_plan.specs.Asked.{IsOpSplit, mode_by, lease_for, stripes_by}
 use Rattle.eng_clients.specs.Planned.{IsDrawn, Replanned}
 use Rattle.eng_state.specs.Serves.{Serves, Stands, CanTake}
 use Rattle.eng_state.specs.Shows.{Shows, running_as}
 use Rattle.eng_state.specs.Sound.{IsSound, mode_for}
 use Rattle.eng_state.specs.Steps.{graphs_of}
-use Rattle.eng_choice.proofs.Ascending.{task-count}
+use Rattle.eng_choice.proofs.Ascending.{same-count}
 use Rattle.eng_state.proofs.Asking as asking
-use Rattle.eng_choice.proofs.FreeStripes.{first, count, all-fit, concerns-below}
-use Rattle.eng_plan.proofs.Maps.{span-short}
+use Rattle.eng_choice.proofs.FreeStripes.{concerns-below}
+use Rattle.eng_choice.proofs.SplitExists.{split-exists}
+use Rattle.eng_plan.proofs.Maps.{op-count}
+use Rattle.eng_state.proofs.Plans.{planned-is}
 use Rattle.eng_choice.proofs.Possible.{item-shown, current-waits, running-of, well-of}
 use Rattle.eng_state.proofs.Served.{same-op, same-file}
 use Rattle.eng_choice.proofs.TakeParts.{take-from}
@@ -46,6 +46,7 @@ use Rattle.eng_choice.proofs.TakeParts.{take-from}
 -- a read shares its stripes
 read-shares : (op : Op) → IsRead (Some op) → mode_by op ≡ Share
 read-shares (Write span pattern) h = absurd h
+read-shares (Writes patches) h = absurd h
 read-shares (Read span) h = refl
 read-shares (Rebuild stripe) h = absurd h
 read-shares (Sync stripe) h = absurd h
@@ -59,6 +60,37 @@ module _ {L D : Type 0} (lay : LayoutGhosts L) (disk : DiskGhosts D) (core : Arr
 
   abbrev d : Desk
   d = desk_at core.clients c
+
+  -- ## What is planned for it
+
+  module _ (op : Op) (file : Option ℕ) (served : Serves gs y d op file) where
+    -- its stripes and their parts
+    split : (m : Touched) × IsOpSplit y op m
+    split = split-exists y sound.layout op served.inside
+
+    -- the desk as it would be planned
+    abbrev planned : Touched → Option ℕ → Desk
+    planned m f = record d {
+      map = m;
+      missing = map (missing_for y core.cols.states op) m.stripes;
+      task = task_of y (kind_of y core.cols.states op) m;
+      graph = record d.graph { drawn = library (task_of y (kind_of y core.cols.states op) m) (missing_of (map (missing_for y core.cols.states op) m.stripes)) true };
+      file = f;
+    }
+
+    drawn : (m : Touched) (f : Option ℕ) → ((n : ℕ) → f ≡ Some n → n < length gs) → IsDrawn gs f (planned m f)
+    drawn m None there = refl
+    drawn m (Some n) there = there n refl
+
+    replanned : (m : Touched) → IsOpSplit y op m → Replanned y gs core.cols.states op file d (planned m file)
+    replanned m is = record { planned = record { split = is; task = refl; missing = refl; file_is = refl; drawn = drawn m file served.there }; rest = refl }
+
+    -- each of its tasks has as many stripes as have one of its blocks
+    task-count : (p : Plan) → IsTaskOf y op p → p.task.stripes ≡ stripes_by y op
+    task-count p task =
+        let m = split in
+        let q = planned-is y sound.layout gs core.cols.states op file (planned m.0 file) served.inside (replanned m.0 m.1).planned (lease_for y gs op file) refl in
+        same-count y op p _ task q.task ∙ op-count y sound.layout op m.0 m.1
 
   -- ## What is possible can be done
 
@@ -106,8 +138,8 @@ module _ {L D : Type 0} (lay : LayoutGhosts L) (disk : DiskGhosts D) (core : Arr
     are-free : AreFree lay core c op
     are-free = λ k t m ne concerns held. by-stage k t m ne concerns held (desk_at core.clients k).stage refl
 
-    lease-is : (f : Option ℕ) → IsChosen y (graphs_of gs) f plan → plan.lease ≡ lease_for y gs op f
-    lease-is None chosen = chosen.1 ∙ ap (λ (n : ℕ). (2 * data_units y + 2) * (n + 2)) (task-count y sound.layout op serves.inside plan h.plan.task)
+    lease-is : (f : Option ℕ) → IsChosen y (graphs_of gs) op f plan → plan.lease ≡ lease_for y gs op f
+    lease-is None chosen = chosen.1 ∙ ap (λ (n : ℕ). lease_of y n (span_count op)) (task-count op graph serves plan h.plan.task)
     lease-is (Some n) chosen = chosen.1 ∙ ap (λ (g : View). length g.bufs) chosen.0
 
     pub take-can : CanTake lay core c
@@ -116,38 +148,13 @@ module _ {L D : Type 0} (lay : LayoutGhosts L) (disk : DiskGhosts D) (core : Arr
   -- ## What can be done is possible
 
   module _ (can : CanTake lay core c) (op : Op) (file : Option ℕ) (served : Serves gs y d op file) where
-    -- its stripes and their parts
-    abbrev split : Touched
-    split = record {
-      stripes = range_with_len (first y sound.layout op) (count y sound.layout op);
-      parts = parts_from (cut_of y (span_of y op)) (first_unit (cut_of y (span_of y op))) (unit_count (cut_of y (span_of y op)));
-    }
-
-    is-split : IsSpanSplit y (span_of y op) split
-    is-split = is_split y sound.layout (span_of y op) served.inside.some (all-fit y sound.layout op served.inside) (span-short y sound.layout op served.inside)
-
-    -- the desk as it would be planned
-    abbrev planned : Option ℕ → Desk
-    planned f = record d {
-      map = split;
-      missing = map (missing_for y core.cols.states op) split.stripes;
-      task = task_of y (kind_of y core.cols.states op) split;
-      graph = record d.graph { drawn = library (task_of y (kind_of y core.cols.states op) split) (missing_of (map (missing_for y core.cols.states op) split.stripes)) true };
-      file = f;
-    }
-
-    drawn : (f : Option ℕ) → ((n : ℕ) → f ≡ Some n → n < length gs) → IsDrawn gs f (planned f)
-    drawn None there = refl
-    drawn (Some n) there = there n refl
-
-    replanned : Replanned y gs core.cols.states op file d (planned file)
-    replanned = record { planned = record { split = is-split; task = refl; missing = refl; file_is = refl; drawn = drawn file served.there }; rest = refl }
-
     pub can-take : (plan : Plan) × MayTake y (graphs_of gs) c op file plan w
-    can-take = (
-      asking.asked lay disk core c op file sound stands can served (planned file) replanned (lease_for y gs op file) refl,
-      asking.may lay disk core c op file sound stands can served (planned file) replanned (lease_for y gs op file) refl w s,
-    )
+    can-take =
+        let m = split op file served in
+        let p = replanned op file served m.0 m.1 in (
+          asking.asked lay disk core c op file sound stands can served (planned op file served m.0 file) p (lease_for y gs op file) refl,
+          asking.may lay disk core c op file sound stands can served (planned op file served m.0 file) p (lease_for y gs op file) refl w s,
+        )
 
   pub can-take-some : CanTake lay core c → (op : Op) × (graph : Option ℕ) × (plan : Plan) × MayTake y (graphs_of gs) c op graph plan w
   can-take-some can =

@@ -89,7 +89,6 @@ fn has_buffers<L: Layout, D: Disk>(array: &Array<L, D>, client: u32, node: u32) 
     }
 }
 
-// Whether the node can be fired.
 pub(crate) fn can_fire<L: Layout, D: Disk>(array: &Array<L, D>, client: u32, node: u32) -> bool
     requires { IsSound L.Layout D.Disk array.now }
     ensures { IsTrue result ↔ CanFire L.Layout array.now client node }
@@ -113,7 +112,6 @@ fn is_nowhere<L: Layout, D: Disk>(array: &Array<L, D>, client: u32, node: u32) -
     }
 }
 
-// Whether the node can be skipped.
 pub(crate) fn can_skip<L: Layout, D: Disk>(array: &Array<L, D>, client: u32, node: u32) -> bool
     requires { IsSound L.Layout D.Disk array.now }
     ensures { IsTrue result ↔ CanSkip L.Layout array.now client node }

@@ -21,7 +21,6 @@ use lay_core::Layout;
 /// How many clients there are, the engine's own included.
 pub(crate) const CLIENTS: u32 = limits::CLIENTS + 1;
 
-// Whose event it is.
 fn client_of(event: Event) -> u32
     ensures { result ≡ client_of event }
 {

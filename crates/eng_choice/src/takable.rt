@@ -1,21 +1,25 @@
 //! Whether an operation that waits can be taken.
-ghost use Rattle.std.specs.Prelude.{◌≡◌, ◌<◌, ◌≤◌, ◌+◌, ◌↔◌, ℕ, Some, None, IsTrue, length, get_or};
+ghost use Rattle.std.specs.Prelude.{◌≡◌, ◌<◌, ◌≤◌, ◌+◌, ◌↔◌, ℕ, Some, None, IsTrue, length, get_or, All};
+ghost use Rattle.blk_plain.specs.declared.op.Op.TheVariants as op;
+ghost use Rattle.blk_plain.specs.Plain.{is_in, is_in_some, spans_of};
 ghost use Rattle.lay_core.specs.Layout.{stripe_of};
-ghost use Rattle.lay_core.specs.Touched.{stripe_count};
+ghost use Rattle.lay_core.specs.Touched.{HasBlock, PassesEnd, stripe_count};
 ghost use Rattle.eng_clients.specs.declared.stage.Stage.TheVariants as stage;
 ghost use Rattle.eng_clients.specs.Desk.{desk_at};
-ghost use Rattle.eng_plan.specs.Asked.{IsInside, span_of, lease_for};
+ghost use Rattle.eng_plan.specs.Asked.{IsInside, stripes_by, lease_for};
 ghost use Rattle.eng_state.specs.Serves.{Serves, Stands, CanTake};
 ghost use Rattle.eng_state.specs.Sound.{IsSound};
 ghost use Rattle.eng_state.specs.Doing.{AreFree};
+ghost use Rattle.eng_choice.specs.Free.{AreFreeOf};
 
 use blk_disk::Disk;
-use blk_plain::Op;
+use blk_plain::{Op, Patches, Span};
 use eng_clients::Stage;
-use eng_plan::{lease_size, mode_by, span_of};
+use eng_plan::{lease_size, span_count};
 use eng_state::Array;
 use eng_world::Item;
-use lay_core::{Layout, home};
+use lay_core::{Layout, count_all, home};
+use stripe_lock::Mode;
 
 // Stripes that follow one another.
 #[derive(Clone, Copy)]
@@ -24,15 +28,15 @@ struct Stripes {
     count: u32,
 }
 
-// The stripes of an operation.
-fn stripes_of<L: Layout>(layout: &L, op: Op) -> Stripes
-    requires { IsInside (L.shape layout.now) op }
-    ensures first { result.first ≡ stripe_of (L.shape layout.now) (span_of (L.shape layout.now) op).first }
-    ensures count { result.count ≡ stripe_count (L.shape layout.now) (span_of (L.shape layout.now) op) }
+fn stripes_of<L: Layout>(layout: &L, span: Span) -> Stripes
+    requires some { 1 ≤ span.count }
+    requires inside { PassesEnd (L.shape layout.now) span → ⊥ }
+    requires few { stripe_count (L.shape layout.now) span ≤ 16 }
+    ensures first { result.first ≡ stripe_of (L.shape layout.now) span.first }
+    ensures count { result.count ≡ stripe_count (L.shape layout.now) span }
     ensures few { result.count ≤ 16 }
     ensures within { result.first + result.count ≤ (L.shape layout.now).stripes }
 {
-    let span = span_of(layout, op);
     let first = home(layout, span.first).stripe;
     let last = home(layout, span.first + (u64::from(span.count) - 1)).stripe;
     Stripes {
@@ -41,7 +45,20 @@ fn stripes_of<L: Layout>(layout: &L, op: Op) -> Stripes
     }
 }
 
-// A number and those that follow it.
+fn count_stripes<L: Layout>(layout: &L, op: &Op) -> u32
+    requires { IsInside (L.shape layout.now) op.now }
+    ensures count { result ≡ stripes_by (L.shape layout.now) op.now }
+    ensures few { result ≤ 16 }
+{
+    match op {
+        Op::Write { span, .. } => stripes_of(layout, *span).count,
+        Op::Writes { patches } => count_all(layout, patches),
+        Op::Read { span } => stripes_of(layout, *span).count,
+        Op::Rebuild { .. } => 1,
+        Op::Sync { .. } => 1,
+    }
+}
+
 fn numbers_from(first: u32) -> [u32; 16]
     requires { first ≤ 1048576 }
     ensures each { (k : ℕ) → k < 16 → get_or result k 0 ≡ first + k }
@@ -54,26 +71,67 @@ fn numbers_from(first: u32) -> [u32; 16]
     numbers
 }
 
-// Whether no other holds a stripe of the operation, unless both read.
-fn are_free<L: Layout, D: Disk>(array: &Array<L, D>, client: u32, op: Op) -> bool
-    requires { IsInside (L.shape array.now.layout) op }
-    ensures { IsTrue result ↔ AreFree L.Layout array.now client op }
+// Whether no other holds a stripe of the span, unless both read.
+fn is_span_free<L: Layout, D: Disk>(
+    array: &Array<L, D>,
+    client: u32,
+    span: Span,
+    mode: Mode,
+) -> bool
+    requires some { 1 ≤ span.count }
+    requires inside { PassesEnd (L.shape array.now.layout) span → ⊥ }
+    requires few { stripe_count (L.shape array.now.layout) span ≤ 16 }
+    ensures { IsTrue result ↔ AreFreeOf array.now.locks client mode (HasBlock (L.shape array.now.layout) (is_in span)) }
 {
-    let stripes = stripes_of(&array.layout, op);
+    let stripes = stripes_of(&array.layout, span);
     let numbers = numbers_from(stripes.first);
     array
         .locks
-        .can_take(client, &numbers[..stripes.count as usize], mode_by(op))
+        .can_take(client, &numbers[..stripes.count as usize], mode)
+}
+
+// Whether no other holds the stripe.
+fn is_stripe_free<L: Layout, D: Disk>(array: &Array<L, D>, client: u32, stripe: u32) -> bool
+    ensures { IsTrue result ↔ AreFreeOf array.now.locks client Mode.Exclude (λ s. s ≡ stripe) }
+{
+    array.locks.can_take(client, &[stripe], Mode::Exclude)
+}
+
+// Whether no other holds a stripe of one of the spans.
+fn are_spans_free<L: Layout, D: Disk>(array: &Array<L, D>, client: u32, patches: &Patches) -> bool
+    requires { IsInside (L.shape array.now.layout) (op.Writes patches.now) }
+    ensures { IsTrue result ↔ AreFreeOf array.now.locks client Mode.Exclude (HasBlock (L.shape array.now.layout) (is_in_some (spans_of patches.now))) }
+{
+    for i in 0..patches.used as usize {
+        if !is_span_free(array, client, patches.list[i].span, Mode::Exclude) {
+            return false;
+        }
+    }
+    true
+}
+
+// Whether no other holds a stripe of the operation, unless both read.
+fn are_free<L: Layout, D: Disk>(array: &Array<L, D>, client: u32, op: &Op) -> bool
+    requires { IsInside (L.shape array.now.layout) op.now }
+    ensures { IsTrue result ↔ AreFree L.Layout array.now client op.now }
+{
+    match op {
+        Op::Write { span, .. } => is_span_free(array, client, *span, Mode::Exclude),
+        Op::Writes { patches } => are_spans_free(array, client, patches),
+        Op::Read { span } => is_span_free(array, client, *span, Mode::Share),
+        Op::Rebuild { stripe } => is_stripe_free(array, client, *stripe),
+        Op::Sync { stripe } => is_stripe_free(array, client, *stripe),
+    }
 }
 
 // Whether its buffers are free.
-fn fits<L: Layout, D: Disk>(array: &Array<L, D>, op: Op, file: Option<u32>) -> bool
-    requires inside { IsInside (L.shape array.now.layout) op }
+fn fits<L: Layout, D: Disk>(array: &Array<L, D>, op: &Op, file: Option<u32>) -> bool
+    requires inside { IsInside (L.shape array.now.layout) op.now }
     requires there { (n : ℕ) → file ≡ Some n → n < length array.now.graphs.items }
-    ensures { IsTrue result ↔ (lease_for (L.shape array.now.layout) array.now.graphs.items op file ≤ length array.now.pool.free) }
+    ensures { IsTrue result ↔ (lease_for (L.shape array.now.layout) array.now.graphs.items op.now file ≤ length array.now.pool.free) }
 {
-    let stripes = stripes_of(&array.layout, op);
-    lease_size(&array.layout, stripes.count, file, &array.graphs) <= array.pool.free()
+    let stripes = count_stripes(&array.layout, op);
+    lease_size(&array.layout, stripes, span_count(op), file, &array.graphs) <= array.pool.free()
 }
 
 // Whether the client's operation, which is this, can be taken, where it waits.
@@ -88,7 +146,7 @@ fn can_take_op<L: Layout, D: Disk>(
     requires serves { Serves array.now.graphs.items (L.shape array.now.layout) (desk_at array.now.clients client) op file }
     ensures { IsTrue result ↔ CanTake L.Layout array.now client }
 {
-    are_free(array, client, op) && fits(array, op, file)
+    are_free(array, client, &op) && fits(array, &op, file)
 }
 
 // Whether the client's operation can be taken, where it waits.

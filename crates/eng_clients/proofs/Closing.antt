@@ -1,15 +1,15 @@
 -- The clients and columns of a closed core.
-use Rattle.std.proofs.Common.{◌≡◌, ℕ, zero, suc, ◌<◌, ◌≤◌, ◌+◌, List, [], ◌∷◌, ◌++◌, length, length-append, map, take, get_or, sym, ap, ◌∙◌, arith, inl, inr, refl, Option, Some, None}
+use Rattle.std.proofs.Common.{◌≡◌, ℕ, zero, suc, ◌<◌, ◌≤◌, ◌+◌, List, [], ◌∷◌, ◌++◌, length, length-append, map, take, sym, ap, ◌∙◌, arith, inl, inr, refl, Option, Some, None}
 use Rattle.std.specs.Prelude.{Vec, slice_get, option_map}
 use Rattle.std.specs.declared.alloc.Global.{Global}
 use Rattle.std.proofs.lemmas.Bool.{cases_eq}
-use Rattle.std.proofs.lemmas.List.{get_or_push, get_or_append_left, get_or-take, length-take-le}
+use Rattle.std.proofs.lemmas.List.{get_or_push, get_or_append_left}
 use Rattle.eng_cols.specs.declared.column.Column.{Column}
 use Rattle.eng_cols.specs.declared.spot.Loss.{Loss}
 use Rattle.eng_cols.specs.Cols.{ColumnState, column_of}
 use Rattle.eng_world.specs.declared.item.Item.{Item}
 use Rattle.eng_world.specs.declared.item.Reply.{Reply}
-use Rattle.eng_clients.specs.Desk.{Desk, desk_at, no_desk}
+use Rattle.eng_clients.specs.Desk.{Desk, no_desk}
 use Rattle.eng_log.specs.Given.{items_in}
 use Rattle.eng_clients.specs.Replied.{replies_of, replies_in, AreClosed}
 
@@ -21,14 +21,6 @@ slice-left (x ∷ xs) ys (suc k) lt = slice-left xs ys k (omega (arith, lt))
 slice-here : {X : Type 0} (xs : List X) (y : X) → slice_get (xs ++ y ∷ []) (length xs) ≡ Some y
 slice-here [] y = refl
 slice-here (x ∷ xs) y = slice-here xs y
-
-pub closed-none : (lost : Option Loss) (items : List (Vec Item Global)) (replies : List (Vec Reply Global)) → items ≡ [] → replies ≡ [] → AreClosed lost [] 0 items replies
-closed-none lost items replies i r = record {
-  items_count = ap length i;
-  replies_count = ap length r;
-  items_each = λ c lt. absurd (omega (arith, lt));
-  replies_each = λ c lt. absurd (omega (arith, lt));
-}
 
 -- one client more
 pub closed-more : (lost : Option Loss) (desks : List Desk) (d : Desk) (items : List (Vec Item Global)) (replies : List (Vec Reply Global)) (a : Vec Item Global) (b : Vec Reply Global) → AreClosed lost desks (length desks) items replies → a.items ≡ d.items → b.items ≡ replies_of lost d → AreClosed lost (desks ++ d ∷ []) (length (desks ++ d ∷ [])) (items ++ a ∷ []) (replies ++ b ∷ [])
@@ -63,21 +55,6 @@ closed-more lost desks d items replies a b h i r = record {
 
     ra : length (replies ++ b ∷ []) ≡ length replies + 1
     ra = length-append replies (b ∷ [])
-
--- the first so many of all
-pub closed-front : (lost : Option Loss) (desks front : List Desk) (n : ℕ) (items : List (Vec Item Global)) (replies : List (Vec Reply Global)) → n ≤ length desks → front ≡ take n desks → AreClosed lost front (length front) items replies → AreClosed lost desks n items replies
-closed-front lost desks front n items replies le is h = record {
-  items_count = h.items_count ∙ count;
-  replies_count = h.replies_count ∙ count;
-  items_each = λ c lt. h.items_each c (omega (arith, lt, count)) ∙ ap (λ (d : Desk). d.items) (same c lt);
-  replies_each = λ c lt. h.replies_each c (omega (arith, lt, count)) ∙ ap (replies_of lost) (same c lt);
-}
-  where
-    count : length front ≡ n
-    count = ap length is ∙ length-take-le n desks le
-
-    same : (c : ℕ) → c < n → desk_at front c ≡ desk_at desks c
-    same c lt = ap (λ (l : List Desk). get_or l c no_desk) is ∙ get_or-take n desks c no_desk lt
 
 -- one column more
 pub columns-more : (states : List ColumnState) (i : ℕ) (x : Column) → option_map column_of (slice_get states i) ≡ Some x → map column_of (take i states) ++ x ∷ [] ≡ map column_of (take (suc i) states)

@@ -7,7 +7,6 @@ use denote.Struct.Field.{u8-field, u32-field}
 use denote.Enum.Enum.{Enum}
 use denote.Enum.Declared.{shape as shape_of}
 use Rattle.std.specs.contracts.option.Option as option
-use Rattle.buf_pool.specs.contracts.lease.Lease as lease
 use Rattle.buf_pool.proofs.Sent.{lease_send}
 use Rattle.lay_core.proofs.Sent.{stripe_map_send}
 use Rattle.graph_mean.proofs.Sent.{graph_send, task_send}
@@ -27,7 +26,7 @@ pub option_send : (X : RattleType) → IsSend X → IsSend (option.the_row X)
 option_send X x = let E = option.the_type X in recorded_send (Enum (shape_of E)) E.D E.to E.to_one (enum_send (shape_of E) (tt, ((x, tt), tt)))
 
 pub item_send : IsSend item.the_row
-item_send = search sendable depth 20
+item_send = search sendable depth 60 fits 10000
 
 pub reply_send : IsSend reply.the_row
 reply_send = search sendable depth 60 fits 10000
@@ -58,7 +57,7 @@ client_send = view_send _ _ _ _ _ (declared_send client.TheInside.the_type (
               (
                 Vec-send (option.the_row u8-field.row) (option_send u8-field.row byte_send),
                 (
-                  option_send lease.the_row lease_send,
+                  lease_send,
                   (
                     Vec-send (option.the_row spot.the_row) (option_send spot.the_row spot_send),
                     (option_send u32-field.row number_send, (option_send u32-field.row number_send, tt)),

@@ -29,11 +29,6 @@ pub record Desk : Type 0 where
   pub by : Option ℕ
   pub file : Option ℕ
 
--- the seats of a lease, if there is one
-abbrev pub seats_of : Option (List ℕ) → List ℕ
-seats_of None = []
-seats_of (Some seats) = seats
-
 -- what stands at a number past the last client: one without items
 abbrev pub no_desk : Desk
 no_desk = record {

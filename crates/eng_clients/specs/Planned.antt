@@ -2,7 +2,6 @@
 use Rattle.std.specs.Prelude.{◌≡◌, ◌<◌, ℕ, List, length, map, true, Option, Some, None, slice_index}
 use Rattle.blk_plain.specs.declared.op.Op.{Op}
 use Rattle.lay_core.specs.Layout.{Shape}
-use Rattle.lay_core.specs.Touched.{IsSpanSplit}
 use Rattle.graph_mean.specs.Graph.{Held, View}
 use Rattle.graph_mean.specs.Task.{task_of, missing_of}
 use Rattle.graph_mean.specs.declared.refusal.Refusal.{Refusal}
@@ -14,7 +13,7 @@ use Rattle.eng_cols.specs.Cols.{ColumnState}
 use Rattle.eng_world.specs.World.{Plan}
 use Rattle.eng_world.specs.Planning.{kind_of, missing_for}
 use Rattle.eng_clients.specs.Desk.{Desk, graph_of}
-use Rattle.eng_plan.specs.Asked.{span_of}
+use Rattle.eng_plan.specs.Asked.{IsOpSplit}
 
 -- the plan of a desk by this graph, with so many buffers
 abbrev pub plan_with : Desk → View → ℕ → Plan
@@ -34,7 +33,7 @@ IsDrawn graphs (Some n) d = n < length graphs
 
 -- The desk has its operation's stripes and their touched parts, its task, the units missing while the columns stand like this, and its graph.
 pub record IsPlanned (y : Shape) (graphs : List Held) (cols : List ColumnState) (op : Op) (file : Option ℕ) (d : Desk) : Type 0 where
-  pub split : IsSpanSplit y (span_of y op) d.map
+  pub split : IsOpSplit y op d.map
   pub task : d.task ≡ task_of y (kind_of y cols op) d.map
   pub missing : d.missing ≡ map (missing_for y cols op) d.map.stripes
   pub file_is : d.file ≡ file

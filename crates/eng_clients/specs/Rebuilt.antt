@@ -19,6 +19,7 @@ use Rattle.eng_log.specs.Log.{Logged, counted}
 abbrev pub IsRebuildOp : Op → Type 0
 IsRebuildOp (op.Rebuild stripe) = Unit {0}
 IsRebuildOp (op.Write span pattern) = ⊥
+IsRebuildOp (op.Writes patches) = ⊥
 IsRebuildOp (op.Read span) = ⊥
 IsRebuildOp (op.Sync stripe) = ⊥
 

@@ -5,7 +5,7 @@ ghost use Rattle.eng_one.specs.Control.{mark_of, IsReadyIn, IsWrite, MayEnd};
 ghost use Rattle.graph_mean.specs.Task.{is_rebuild_of};
 ghost use Rattle.buf_pool.specs.Pool.{IsLease, taken, put};
 ghost use Rattle.eng_clients.specs.Seats.{bytes_at, seat_of};
-ghost use Rattle.eng_clients.specs.Desk.{Desk, Lends, spot_at, with_fired, with_ended, with_reply, with_skipped, with_waiting, seats_of};
+ghost use Rattle.eng_clients.specs.Desk.{Desk, Lends, spot_at, with_fired, with_ended, with_reply, with_skipped, with_waiting};
 
 mod fails;
 mod open;
@@ -31,7 +31,7 @@ pub struct Client {
     pub(crate) task: Task,
     pub(crate) map: StripeMap,
     pub(crate) missing: Vec<Option<u8>>,
-    pub(crate) lease: Option<Lease>,
+    pub(crate) lease: Lease,
     pub(crate) spots: Vec<Option<Spot>>,
     pub(crate) by: Option<u32>,
     pub(crate) file: Option<u32>,
@@ -39,7 +39,7 @@ pub struct Client {
 
 impl Model for Client {
     ghost use Rattle.std.specs.Prelude.{◌≡◌, ◌≤◌, length, vec_capacity};
-    ghost use Rattle.eng_clients.specs.Desk.{Desk, seats_of};
+    ghost use Rattle.eng_clients.specs.Desk.{Desk};
 
     ghost Value = { Desk };
 
@@ -52,7 +52,7 @@ impl Model for Client {
       task = c.task;
       map = c.map;
       missing = c.missing.items;
-      lease = seats_of c.lease;
+      lease = c.lease;
       spots = c.spots.items;
       by = c.by;
       file = c.file;
@@ -125,10 +125,7 @@ impl Client {
         ensures long { length result ≡ pool.old.unit }
         ensures left { pool.new ≡ taken pool.old (get_or self.now.lease buf 0) }
     {
-        match &self.lease {
-            Some(lease) => pool.take(lease, buf),
-            None => unreachable!(),
-        }
+        pool.take(&self.lease, buf)
     }
 
     /// It comes home with these bytes.
@@ -139,10 +136,7 @@ impl Client {
         requires long { length buffer ≡ pool.old.unit }
         ensures { pool.new ≡ put pool.old (get_or self.now.lease buf 0) buffer }
     {
-        match &self.lease {
-            Some(lease) => pool.put(lease, buf, buffer),
-            None => unreachable!(),
-        }
+        pool.put(&self.lease, buf, buffer);
     }
 
     /// A node is fired, whose unit stands there.
@@ -181,15 +175,14 @@ impl Client {
         self.spots[node as usize]
     }
 
-    /// Its item is replied, and it has no operation any more. The lease is handed out.
-    pub fn reply(&mut self, reply: Reply) -> Option<Lease>
+    /// Its item is replied, and it has no operation and no lease any more.
+    pub fn reply(&mut self, reply: Reply)
         requires { length self.old.replies < length self.old.items }
-        ensures now { self.new ≡ with_reply self.old reply }
-        ensures lease { seats_of result ≡ self.old.lease }
+        ensures { self.new ≡ with_reply self.old reply }
     {
         self.replies.push_reserved(reply);
         self.stage = Stage::Nothing;
-        self.lease.take()
+        self.lease.clear();
     }
 
     /// The write of a missing unit is skipped.

@@ -5,7 +5,7 @@ ghost use Rattle.eng_one.specs.Control.{IsReadyIn, IsWrite, MayEnd, mark_of};
 ghost use Rattle.graph_mean.specs.Task.{is_rebuild_of};
 ghost use Rattle.buf_pool.specs.Pool.{IsLease, taken, put};
 ghost use Rattle.eng_clients.specs.Seats.{bytes_at, seat_of};
-ghost use Rattle.eng_clients.specs.Desk.{Desk, Lends, desk_at, spot_at, with_fired, with_ended, with_reply, with_skipped, with_waiting, seats_of};
+ghost use Rattle.eng_clients.specs.Desk.{Desk, Lends, desk_at, spot_at, with_fired, with_ended, with_reply, with_skipped, with_waiting};
 
 mod close;
 mod fails;
@@ -13,7 +13,7 @@ mod open;
 
 use crate::client::Client;
 use blk_plain::Outcome;
-use buf_pool::{Buffer, Lease, Pool};
+use buf_pool::{Buffer, Pool};
 use eng_cols::Spot;
 use eng_world::Reply;
 use graph_mean::{Buf, Graph, Node, Phase, Status};
@@ -137,14 +137,13 @@ impl Clients {
         self.list[client as usize].spot(node)
     }
 
-    /// Its item is replied, and it has no operation any more. The lease is handed out.
-    pub fn reply(&mut self, client: u32, reply: Reply) -> Option<Lease>
+    /// Its item is replied, and it has no operation and no lease any more.
+    pub fn reply(&mut self, client: u32, reply: Reply)
         requires client { client < length self.old }
         requires left { length (desk_at self.old client).replies < length (desk_at self.old client).items }
-        ensures now { self.new ≡ slice_set self.old client (with_reply (desk_at self.old client) reply) }
-        ensures lease { seats_of result ≡ (desk_at self.old client).lease }
+        ensures { self.new ≡ slice_set self.old client (with_reply (desk_at self.old client) reply) }
     {
-        self.list[client as usize].reply(reply)
+        self.list[client as usize].reply(reply);
     }
 
     /// The write of a missing unit is skipped.

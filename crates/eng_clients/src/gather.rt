@@ -37,10 +37,7 @@ impl Client {
         requires buf { buf < length self.now.lease }
         ensures { IsTrue result ↔ ((seat_of pool.now self.now buf).out ≡ false) }
     {
-        match &self.lease {
-            Some(lease) => pool.home(lease, buf),
-            None => unreachable!(),
-        }
+        pool.home(&self.lease, buf)
     }
 
     // One source more: it leaves the pool, or counts the other way if it has left already.

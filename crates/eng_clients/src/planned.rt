@@ -1,6 +1,5 @@
 //! A client's operation is planned.
 ghost use Rattle.std.specs.Prelude.{◌≡◌, ◌<◌, ◌≤◌, ℕ, All, Some, None, true, length, map, OnOk, IfErr};
-ghost use Rattle.lay_core.specs.Touched.{IsSpanSplit};
 ghost use Rattle.graph_mean.specs.Task.{HasUnitBelow, IsMapOf, task_of, missing_of};
 ghost use Rattle.graph_mean.specs.Refused.{IsRefused};
 ghost use Rattle.graph_lib.specs.Library.{library};
@@ -9,17 +8,17 @@ ghost use Rattle.eng_cols.specs.Cols.{IsFor};
 ghost use Rattle.eng_cols.specs.Lost.{NotLost};
 ghost use Rattle.eng_world.specs.Planning.{missing_for};
 ghost use Rattle.eng_clients.specs.Desk.{graph_of};
-ghost use Rattle.eng_plan.specs.Asked.{span_of, IsInside};
+ghost use Rattle.eng_plan.specs.Asked.{IsInside, IsOpSplit};
 ghost use Rattle.eng_clients.specs.Planned.{IsDrawn, IsPlanned, CanRun, IsRefusedFor};
 
 use crate::client::Client;
 use blk_plain::Op;
 use eng_cols::Cols;
-use eng_plan::{kind_of, list_missing, span_of};
+use eng_plan::{kind_of, list_missing, split_op};
 use graph_check::{Scratch, check};
-use graph_lib::{plan, span_is_plannable};
+use graph_lib::{plan, spans_are_plannable};
 use graph_mean::{Graph, Kind, Refusal};
-use lay_core::{Layout, SplitFault, split};
+use lay_core::Layout;
 
 /// What a client asks for: an operation, and the number of the graph of the file that it names, if it names one.
 #[derive(Clone, Copy)]
@@ -32,14 +31,10 @@ impl Client {
     // Its operation's stripes and their touched parts.
     fn cut<L: Layout>(&mut self, layout: &L, op: Op)
         requires { IsInside (L.shape layout.now) op }
-        ensures split { IsSpanSplit (L.shape layout.now) (span_of (L.shape layout.now) op) self.new.map }
+        ensures split { IsOpSplit (L.shape layout.now) op self.new.map }
         ensures rest { self.new ≡ record self.old { map = self.new.map } }
     {
-        match split(layout, span_of(layout, op), &mut self.map) {
-            Ok(()) => {}
-            Err(SplitFault::OutOfRange) => unreachable!(),
-            Err(SplitFault::TooLong) => unreachable!(),
-        }
+        split_op(layout, &op, &mut self.map);
     }
 
     // The units of its stripes that count as missing.
@@ -135,7 +130,7 @@ impl Client {
         self.cut(layout, op);
         self.miss(layout, cols, op);
         self.aim(layout, kind_of(layout, cols, op));
-        span_is_plannable();
+        spans_are_plannable();
         self.pick(file, graphs, scratch)
     }
 }

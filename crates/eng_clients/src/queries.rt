@@ -28,7 +28,6 @@ impl Client {
         true
     }
 
-    // Whether the sources of a node are at home.
     fn sources_home(&self, node: u32, graphs: &[Graph], pool: &Pool) -> bool
         requires lends { Lends graphs.now self.now }
         requires node { node < length self.now.run.graph.nodes }
@@ -42,7 +41,6 @@ impl Client {
         }
     }
 
-    // Whether each of its items has a reply.
     fn is_replied(&self) -> bool
         ensures { IsTrue result ↔ (length self.now.replies ≡ length self.now.items) }
     {

@@ -8,7 +8,6 @@ use crate::clients::Clients;
 use graph_mean::{Graph, Ret};
 
 impl Client {
-    // How many returns its graph has.
     fn rets(&self, graphs: &[Graph]) -> u32
         requires { Lends graphs.now self.now }
         ensures { result ≡ length self.now.run.graph.rets }
@@ -19,7 +18,6 @@ impl Client {
         }
     }
 
-    // Return n of it.
     fn ret(&self, number: u32, graphs: &[Graph]) -> Ret
         requires lends { Lends graphs.now self.now }
         requires number { number < length self.now.run.graph.rets }

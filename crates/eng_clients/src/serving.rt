@@ -1,16 +1,19 @@
 //! What a client does as its operation is taken, planned anew or given up.
 ghost use Rattle.std.specs.Prelude.{◌≡◌, ◌<◌, ◌≤◌, ℕ, Some, None, length};
+ghost use Rattle.buf_pool.specs.Pool.{IsLease, AllHome, Leases, StandsApart, Returns, KeepsOthers};
 ghost use Rattle.eng_one.specs.Counts.{CanStart};
-ghost use Rattle.eng_clients.specs.Desk.{graph_of, item_at, seats_of, with_started, with_lease};
+ghost use Rattle.eng_clients.specs.Desk.{graph_of, item_at, with_started, with_lease};
 ghost use Rattle.eng_log.specs.Filled.{HasBuffers, Filled};
+ghost use Rattle.eng_world.specs.Planning.{span_count};
 
 use crate::client::Client;
 use crate::stage::Stage;
 use blk_plain::Op;
-use buf_pool::{Lease, Pool};
+use buf_pool::{Full, Pool};
 use eng_log::fill_fresh;
 use eng_world::{Item, Reply};
 use graph_mean::Graph;
+use lay_core::Layout;
 
 impl Client {
     /// The item that it serves now or next.
@@ -41,25 +44,53 @@ impl Client {
         self.by = None;
     }
 
-    /// It leases these buffers.
-    pub fn hold(&mut self, lease: Lease)
-        ensures { self.new ≡ with_lease self.old lease }
+    /// It leases that many buffers, which are free.
+    pub fn hold(&mut self, count: u32, pool: &mut Pool)
+        requires { count ≤ length pool.old.free }
+        ensures leased { Leases pool.old count self.new.lease pool.new }
+        ensures apart { StandsApart pool.old self.new.lease pool.new }
+        ensures now { self.new ≡ with_lease self.old self.new.lease }
     {
-        self.lease = Some(lease);
+        match pool.lease_into(count, &mut self.lease) {
+            Ok(()) => {}
+            Err(Full) => unreachable!(),
+        }
+    }
+
+    /// Its buffers are free again. Which they were it forgets with the reply.
+    pub fn give_back(&self, pool: &mut Pool)
+        requires lease { IsLease pool.old self.now.lease }
+        requires home { AllHome pool.old self.now.lease }
+        ensures freed { Returns pool.old self.now.lease pool.new }
+        ensures others { KeepsOthers pool.old self.now.lease pool.new }
+    {
+        pool.return_from(&self.lease);
     }
 
     /// Its buffers of new data are filled.
-    pub fn fill(&self, op: &Op, graphs: &[Graph], pool: &mut Pool)
+    pub fn fill<L: Layout>(&self, layout: &L, op: &Op, graphs: &[Graph], pool: &mut Pool)
         requires there { (n : ℕ) → self.now.file ≡ Some n → n < length graphs.now }
         requires buffers { HasBuffers (graph_of graphs.now self.now) pool.old self.now.lease }
-        ensures { Filled (graph_of graphs.now self.now) op.now self.now.lease pool.old pool.new }
+        requires few { span_count op.now ≤ 8 }
+        ensures { Filled (L.shape layout.now) self.now.map.stripes (graph_of graphs.now self.now) op.now self.now.lease pool.old pool.new }
     {
-        match &self.lease {
-            None => {}
-            Some(lease) => match self.file {
-                None => fill_fresh(&self.graph, pool, lease, op),
-                Some(n) => fill_fresh(&graphs[n as usize], pool, lease, op),
-            },
+        match self.file {
+            None => fill_fresh(
+                layout,
+                self.map.stripes(),
+                &self.graph,
+                pool,
+                &self.lease,
+                op,
+            ),
+            Some(n) => fill_fresh(
+                layout,
+                self.map.stripes(),
+                &graphs[n as usize],
+                pool,
+                &self.lease,
+                op,
+            ),
         }
     }
 }

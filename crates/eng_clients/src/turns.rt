@@ -2,16 +2,18 @@
 ghost use Rattle.std.specs.Prelude.{◌≡◌, ◌<◌, ◌≤◌, ℕ, Some, None, OnOk, IfErr, length, slice_set};
 ghost use Rattle.eng_cols.specs.Cols.{IsFor};
 ghost use Rattle.eng_cols.specs.Lost.{NotLost};
+ghost use Rattle.buf_pool.specs.Pool.{IsLease, AllHome, Leases, StandsApart, Returns, KeepsOthers};
 ghost use Rattle.eng_one.specs.Counts.{CanStart};
-ghost use Rattle.eng_clients.specs.Desk.{desk_at, graph_of, item_at, seats_of, with_started, with_lease};
+ghost use Rattle.eng_clients.specs.Desk.{desk_at, graph_of, item_at, with_started, with_lease};
 ghost use Rattle.eng_log.specs.Filled.{HasBuffers, Filled};
 ghost use Rattle.eng_plan.specs.Asked.{IsInside};
+ghost use Rattle.eng_world.specs.Planning.{span_count};
 ghost use Rattle.eng_clients.specs.Planned.{CanRun, IsRefusedFor, Replanned};
 
 use crate::clients::Clients;
 use crate::planned::Asked;
 use blk_plain::Op;
-use buf_pool::{Lease, Pool};
+use buf_pool::Pool;
 use eng_cols::Cols;
 use eng_world::{Item, Reply};
 use graph_check::Scratch;
@@ -77,21 +79,43 @@ impl Clients {
         self.list[client as usize].start(graphs);
     }
 
-    /// It leases these buffers.
-    pub fn hold(&mut self, client: u32, lease: Lease)
-        requires { client < length self.old }
-        ensures { self.new ≡ slice_set self.old client (with_lease (desk_at self.old client) lease) }
+    /// It leases that many buffers, which are free.
+    pub fn hold(&mut self, client: u32, count: u32, pool: &mut Pool)
+        requires client { client < length self.old }
+        requires fits { count ≤ length pool.old.free }
+        ensures leased { Leases pool.old count (desk_at self.new client).lease pool.new }
+        ensures apart { StandsApart pool.old (desk_at self.new client).lease pool.new }
+        ensures now { self.new ≡ slice_set self.old client (with_lease (desk_at self.old client) (desk_at self.new client).lease) }
     {
-        self.list[client as usize].hold(lease);
+        self.list[client as usize].hold(count, pool);
+    }
+
+    /// Its buffers are free again. Which they were it forgets with the reply.
+    pub fn give_back(&self, client: u32, pool: &mut Pool)
+        requires client { client < length self.now }
+        requires lease { IsLease pool.old (desk_at self.now client).lease }
+        requires home { AllHome pool.old (desk_at self.now client).lease }
+        ensures freed { Returns pool.old (desk_at self.now client).lease pool.new }
+        ensures others { KeepsOthers pool.old (desk_at self.now client).lease pool.new }
+    {
+        self.list[client as usize].give_back(pool);
     }
 
     /// Its buffers of new data are filled.
-    pub fn fill(&self, client: u32, op: &Op, graphs: &[Graph], pool: &mut Pool)
+    pub fn fill<L: Layout>(
+        &self,
+        client: u32,
+        layout: &L,
+        op: &Op,
+        graphs: &[Graph],
+        pool: &mut Pool,
+    )
         requires client { client < length self.now }
         requires there { (n : ℕ) → (desk_at self.now client).file ≡ Some n → n < length graphs.now }
         requires buffers { HasBuffers (graph_of graphs.now (desk_at self.now client)) pool.old (desk_at self.now client).lease }
-        ensures { Filled (graph_of graphs.now (desk_at self.now client)) op.now (desk_at self.now client).lease pool.old pool.new }
+        requires few { span_count op.now ≤ 8 }
+        ensures { Filled (L.shape layout.now) (desk_at self.now client).map.stripes (graph_of graphs.now (desk_at self.now client)) op.now (desk_at self.now client).lease pool.old pool.new }
     {
-        self.list[client as usize].fill(op, graphs, pool);
+        self.list[client as usize].fill(layout, op, graphs, pool);
     }
 }

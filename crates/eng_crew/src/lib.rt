@@ -10,6 +10,7 @@ mod draining;
 mod laws;
 mod rule;
 mod turns;
+mod waiting;
 mod worker;
 
 pub use crew::{Memory, run_crew};

@@ -5,11 +5,12 @@ ghost use Rattle.eng_crew.specs.Idle.{IsReady, HasIdleMark};
 
 use crate::rule::CrewRule;
 use crate::turns::{Found, turn_by};
+use crate::waiting::back_off;
 use blk_disk::Disk;
 use eng_turn::{Pass, Turn};
 use lay_core::Layout;
 use std::sync::Wait;
-use std::thread;
+use std::thread::Parker;
 
 // A worker ends after so many turns in a row in which there was nothing to do.
 const EMPTY: u32 = 1_048_576;
@@ -30,6 +31,7 @@ pub fn work<L: Layout + Drop, D: Disk + Drop, W: Wait>(
     ensures share { share_of pass.new ≡ share_of pass.old }
     ensures idle { HasIdleMark L.Layout D.Disk (opening_of turn.now) pass.new }
 {
+    let idle = Parker::new();
     let mut empty = 0;
     for _ in rt.forever() {
         match turn_by(rt, turn, pass) {
@@ -40,7 +42,7 @@ pub fn work<L: Layout + Drop, D: Disk + Drop, W: Wait>(
                 if empty == EMPTY {
                     return;
                 }
-                thread::yield_now();
+                back_off(rt, &idle, empty);
             }
         }
     }

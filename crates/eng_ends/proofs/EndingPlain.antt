@@ -71,12 +71,14 @@ not-out status.Skipped h e = let z : status.Skipped ≡ status.Out = e in let u 
 -- the end of a write or a sync is replied done, and changes no column
 replies-plain : (y : Shape) (o : Op) (r : Running) (c : ℕ) (old new : World) → IsPlainOp o → Replied c reply.Done old new → RepliesTo y o r c old new
 replies-plain y (op.Write span pattern) r c old new plain h = h
+replies-plain y (op.Writes patches) r c old new plain h = h
 replies-plain y (op.Sync stripe) r c old new plain h = h
 replies-plain y (op.Read span) r c old new plain h = absurd plain
 replies-plain y (op.Rebuild stripe) r c old new plain h = absurd plain
 
 columns-plain : (y : Shape) (o : Op) (r : Running) (old new : World) → IsPlainOp o → new.columns ≡ old.columns → new.rebuilt ≡ old.rebuilt → ColumnsAfter y o r old new
 columns-plain y (op.Write span pattern) r old new plain a b = (a, b)
+columns-plain y (op.Writes patches) r old new plain a b = (a, b)
 columns-plain y (op.Sync stripe) r old new plain a b = (a, b)
 columns-plain y (op.Read span) r old new plain a b = absurd plain
 columns-plain y (op.Rebuild stripe) r old new plain a b = absurd plain

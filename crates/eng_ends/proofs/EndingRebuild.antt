@@ -37,6 +37,7 @@ use Rattle.eng_state.specs.Restored.{StripeEnds}
 replies-done : (y : Shape) (o : Op) (r : Running) (c : ℕ) (old new : World) → IsRebuildOp o → Replied c reply.Done old new → RepliesTo y o r c old new
 replies-done y (op.Rebuild stripe) r c old new is h = h
 replies-done y (op.Write span pattern) r c old new is h = absurd is
+replies-done y (op.Writes patches) r c old new is h = absurd is
 replies-done y (op.Read span) r c old new is h = absurd is
 replies-done y (op.Sync stripe) r c old new is h = absurd is
 
@@ -133,6 +134,7 @@ module _ {L D : Type 0} (lay : LayoutGhosts L) (disk : DiskGhosts D) (old end : 
       )
     ]
     columns-after (op.Write span pattern) is r = absurd r
+    columns-after (op.Writes patches) is r = absurd r
     columns-after (op.Read span) is r = absurd r
     columns-after (op.Sync stripe) is r = absurd r
 

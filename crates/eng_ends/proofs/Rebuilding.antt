@@ -148,5 +148,4 @@ module _ {L D : Type 0} (lay : LayoutGhosts L) (disk : DiskGhosts D) (core : Arr
     seats = sound.seats;
     locked = sound.locked;
     jobs = sound.jobs;
-    place = tt;
   }

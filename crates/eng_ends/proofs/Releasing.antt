@@ -186,7 +186,6 @@ module _ {L D : Type 0} (lay : LayoutGhosts L) (disk : DiskGhosts D) (old new : 
     seats = subst (λ (l : List Desk). SeatsOut l new.pool) (sym f.clients) seats;
     locked = subst (λ (l : List Desk). Locked l new.locks) (sym f.clients) locked;
     jobs = jobs;
-    place = tt;
   }
     where
       shape : y ≡ lay.shape new.layout

@@ -19,6 +19,7 @@ module _ (y : Shape) (cols : List ColumnState) (d : Desk) (old : Logged) (event 
   -- at the terminator of an operation bytes are handed out by a read, and a stripe is counted where a rebuild has made its unit again
   abbrev pub LogEndsOp : Op → Type 0
   LogEndsOp (op.Write span pattern) = new ≡ noted old event
+  LogEndsOp (op.Writes patches) = new ≡ noted old event
   LogEndsOp (op.Read span) = new ≡ noted (with_bytes old new.handed.bytes) event
   LogEndsOp (op.Rebuild stripe) = CountsRebuilt y cols d (noted old event) new
   LogEndsOp (op.Sync stripe) = new ≡ noted old event

@@ -5,7 +5,7 @@ ghost use Rattle.stripe_lock.specs.Table.{Releases, owners_of};
 ghost use Rattle.graph_mean.specs.Graph.{kind_at};
 ghost use Rattle.eng_world.specs.declared.item.Traced.TheVariants as event;
 ghost use Rattle.eng_state.specs.Room.{HasRoom};
-ghost use Rattle.eng_clients.specs.Desk.{desk_at, item_at, seats_of};
+ghost use Rattle.eng_clients.specs.Desk.{desk_at, item_at};
 ghost use Rattle.eng_log.specs.Log.{noted};
 ghost use Rattle.eng_state.specs.Sound.{IsSound, IsOutOf};
 ghost use Rattle.eng_state.specs.Moves.{id_of, Released, Terminated};
@@ -14,25 +14,22 @@ ghost use Rattle.eng_ends.specs.Ends.{IsPlain};
 
 use blk_disk::Disk;
 use blk_plain::Outcome;
-use buf_pool::Lease;
 use eng_job::Source;
 use eng_state::Array;
 use eng_world::{Reply, Traced};
 use graph_mean::Node;
 use lay_core::Layout;
 
-// The buffers of a lease are given back.
-fn lease_home<L: Layout, D: Disk>(array: &mut Array<L, D>, lease: Option<Lease>)
-    requires lease { IsLease array.old.pool (seats_of lease) }
-    requires home { AllHome array.old.pool (seats_of lease) }
-    ensures returns { Returns array.old.pool (seats_of lease) array.new.pool }
-    ensures others { KeepsOthers array.old.pool (seats_of lease) array.new.pool }
+// The buffers of a client's lease are given back.
+fn lease_home<L: Layout, D: Disk>(array: &mut Array<L, D>, client: u32)
+    requires client { client < length array.old.clients }
+    requires lease { IsLease array.old.pool (desk_at array.old.clients client).lease }
+    requires home { AllHome array.old.pool (desk_at array.old.clients client).lease }
+    ensures returns { Returns array.old.pool (desk_at array.old.clients client).lease array.new.pool }
+    ensures others { KeepsOthers array.old.pool (desk_at array.old.clients client).lease array.new.pool }
     ensures rest { array.new ≡ record array.old { pool = array.new.pool } }
 {
-    match lease {
-        Some(lease) => array.pool.give_back(lease),
-        None => {}
-    }
+    array.clients.give_back(client, &mut array.pool);
 }
 
 // The stripes of a client are given back.
@@ -54,8 +51,8 @@ pub(crate) fn release<L: Layout, D: Disk>(array: &mut Array<L, D>, client: u32, 
     ensures released { Released array.old client reply array.new }
     ensures log { array.new.log ≡ array.old.log }
 {
-    let lease = array.reply(client, reply);
-    lease_home(array, lease);
+    lease_home(array, client);
+    array.reply(client, reply);
     unlock(array, client);
 }
 

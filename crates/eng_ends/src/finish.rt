@@ -23,7 +23,6 @@ use eng_world::Traced;
 use graph_mean::Node;
 use lay_core::Layout;
 
-// The buffer of a call.
 fn call_buf<L: Layout, D: Disk>(array: &Array<L, D>, client: u32, node: u32) -> u32
     requires sound { IsSound L.Layout D.Disk array.now }
     requires out { IsOutOf (desk_at array.now.clients client) node }

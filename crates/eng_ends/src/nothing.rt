@@ -26,7 +26,6 @@ use eng_world::Item;
 use graph_mean::Node;
 use lay_core::Layout;
 
-// A node that is out.
 fn node_out<L: Layout, D: Disk>(array: &Array<L, D>, client: u32, node: u32) -> Node
     requires sound { IsSound L.Layout D.Disk array.now }
     requires out { IsOutOf (desk_at array.now.clients client) node }
@@ -59,6 +58,7 @@ fn operation_ends<L: Layout, D: Disk>(
 {
     match op {
         Op::Write { .. } => end_plain(array, client, node, sources),
+        Op::Writes { .. } => end_plain(array, client, node, sources),
         Op::Read { .. } => end_read(array, client, node, sources),
         Op::Rebuild { .. } => end_rebuild(array, client, node, sources),
         Op::Sync { .. } => end_plain(array, client, node, sources),

@@ -26,7 +26,6 @@ use eng_world::{Item, Reply, Traced};
 use graph_mean::Node;
 use lay_core::Layout;
 
-// The number of the block at an offset of a data unit of a stripe.
 fn block_number<L: Layout>(layout: &L, stripe: u32, unit: u32, offset: u32) -> u64
     requires stripe { stripe < (L.shape layout.now).stripes }
     requires unit { unit < data_units (L.shape layout.now) }
@@ -82,7 +81,6 @@ fn copy_return<L: Layout, D: Disk>(array: &mut Array<L, D>, client: u32, number:
     copy_front(array, client, ret.buf, first, range.count);
 }
 
-// All of them are.
 fn copy_returns<L: Layout, D: Disk>(array: &mut Array<L, D>, client: u32, span: Span)
     requires sound { IsSound L.Layout D.Disk array.old }
     requires runs { (desk_at array.old.clients client).stage ≡ stage.Runs }
@@ -97,7 +95,6 @@ fn copy_returns<L: Layout, D: Disk>(array: &mut Array<L, D>, client: u32, span: 
     }
 }
 
-// The span of the read that a client serves.
 fn read_span<L: Layout, D: Disk>(array: &Array<L, D>, client: u32) -> Span
     requires client { client < length array.now.clients }
     requires reads { (span : Span) × Reads array.now.clients client span }

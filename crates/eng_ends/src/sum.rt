@@ -23,7 +23,6 @@ use eng_world::Traced;
 use graph_mean::Node;
 use lay_core::Layout;
 
-// The sources of an exclusive-or come home.
 fn sources_home<L: Layout, D: Disk>(array: &mut Array<L, D>, client: u32, sources: &mut Vec<Source>)
     requires client { client < length array.old.clients }
     requires lease { IsLease array.old.pool (desk_at array.old.clients client).lease }
@@ -72,7 +71,6 @@ fn sum_home<L: Layout, D: Disk>(
     array.plain_home(client, node, sources, Outcome::Good);
 }
 
-// An exclusive-or ends.
 fn sum_ends<L: Layout, D: Disk>(
     array: &mut Array<L, D>,
     client: u32,

@@ -147,7 +147,6 @@ module _ {L D : Type 0} (lay : LayoutGhosts L) (disk : DiskGhosts D) (setup : Se
     seats = desks.seats-out core.clients asked-of o.count o.clients core.pool;
     locked = desks.locked core.clients asked-of o.count o.clients core.locks o.locks;
     jobs = let none = desks.no-sum core.clients asked-of o.count o.clients in let lists = o.lists in omega (arith, none, lists);
-    place = tt;
   }
 
   pub opened-sound : IsSound lay disk core

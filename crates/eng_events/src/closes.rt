@@ -11,7 +11,6 @@ use eng_parts::{Closed, SpareLists};
 use eng_state::Array;
 use lay_core::Layout;
 
-// What each of so many columns is.
 fn list_columns(cols: &Cols, count: u32, columns: &mut Vec<Column>)
     requires count { length cols.now.states ≡ count }
     requires empty { columns.old.items ≡ [] }

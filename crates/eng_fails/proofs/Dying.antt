@@ -1,5 +1,5 @@
 -- What the death of a column makes of its device, of units, and of the nodes that read them.
-use Rattle.std.proofs.Common.{◌≡◌, ℕ, suc, ◌<◌, ◌+◌, List, length, subst, ap, ◌∙◌, arith, inl, inr, Bool, false, Option, Some, None, ◌&&◌, ◌||◌, not}
+use Rattle.std.proofs.Common.{◌≡◌, ℕ, suc, ◌<◌, ◌+◌, List, length, ap, ◌∙◌, arith, inl, inr, Bool, Option, Some, None, ◌&&◌, ◌||◌, not}
 use Rattle.std.specs.Prelude.{option_map, slice_get, slice_index, nat_lt}
 use Rattle.std.proofs.lemmas.Bool.{lt-ltb}
 use Rattle.blk_disk.specs.declared.disk.Disk.{Ghosts as DiskGhosts}
@@ -7,7 +7,7 @@ use Rattle.lay_core.specs.Layout.{Shape}
 use Rattle.graph_mean.specs.declared.graph.Node.{Node}
 use Rattle.graph_mean.specs.declared.graph.Node.TheVariants.{Rd}
 use Rattle.graph_mean.specs.Graph.{kind_at}
-use Rattle.graph_mean.specs.Steps.{any_below, reads, stripe_of}
+use Rattle.graph_mean.specs.Steps.{reads, stripe_of}
 use Rattle.eng_cols.specs.declared.column.Column.TheVariants as column
 use Rattle.eng_cols.specs.Cols.{ColumnState, Columns, Live, Dead, Filling, Spread, column_of, HasDevice}
 use Rattle.eng_cols.specs.Changes.{killed}
@@ -49,7 +49,3 @@ dying-here y cols k d q i hq hi =
 pub read-dies : (y : Shape) (cols : List ColumnState) (k : ℕ) (d : Desk) (n i b : ℕ) → kind_at d.run.graph n ≡ Rd i b → stripe_of d.run.graph b < d.task.stripes → i < y.width
     → reads d.run.graph (kind_at d.run.graph n) (dying y cols k d) ≡ (is_available y cols (slice_index d.map.stripes (stripe_of d.run.graph b)) i && not (is_available y (killed cols k) (slice_index d.map.stripes (stripe_of d.run.graph b)) i))
 read-dies y cols k d n i b is hq hi = ap (λ (v : Node). reads d.run.graph v (dying y cols k d)) is ∙ dying-here y cols k d (stripe_of d.run.graph b) i hq hi
-
--- none of the first n passes, if none of those before and not this one
-pub none-further : (p : ℕ → Bool) (n m : ℕ) → m ≡ n + 1 → any_below p n ≡ false → p n ≡ false → any_below p m ≡ false
-none-further p n m e before here = subst (λ (j : ℕ). any_below p j ≡ false) (let q : suc n ≡ m = omega (arith, e) in q) (ap (λ (b : Bool). b || any_below p n) here ∙ before)

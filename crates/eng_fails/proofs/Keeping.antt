@@ -143,5 +143,4 @@ module _ {L D : Type 0} (lay : LayoutGhosts L) (disk : DiskGhosts D) (old : Arra
     seats = seats;
     locked = locked;
     jobs = jobs;
-    place = tt;
   }

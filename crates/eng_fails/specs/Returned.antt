@@ -1,14 +1,10 @@
 -- How a job that came back ends.
 use Rattle.std.specs.Prelude.{◌≡◌, ◌⊎◌, ℕ, List, Bool, true, false, if◌then◌else◌, Option, Some, None}
-use Rattle.blk_plain.specs.declared.op.OpId.{OpId}
 use Rattle.blk_plain.specs.declared.op.Outcome.{Outcome}
 use Rattle.blk_plain.specs.declared.op.Outcome.TheVariants.{Good, Bad}
 use Rattle.blk_disk.specs.declared.disk.Disk.{Ghosts as DiskGhosts}
 use Rattle.lay_core.specs.declared.layout.Layout.{Ghosts as LayoutGhosts}
-use Rattle.graph_mean.specs.declared.graph.Node.{Node}
-use Rattle.graph_mean.specs.declared.graph.Node.TheVariants.{Rd, Wr, Xor, Cmt, Trm}
 use Rattle.eng_cols.specs.declared.spot.Spot.{Spot}
-use Rattle.eng_cols.specs.declared.spot.Loss.{Loss}
 use Rattle.eng_job.specs.declared.job.Job.{Job}
 use Rattle.eng_job.specs.declared.job.Work.{Work}
 use Rattle.eng_job.specs.declared.job.Work.TheVariants.{Nothing, Read, Write, Sum}
@@ -17,7 +13,6 @@ use Rattle.eng_world.specs.declared.item.Traced.TheVariants as event
 use Rattle.eng_state.specs.declared.array.Array.{Array}
 use Rattle.eng_parts.specs.Shelf.{Shelved, has_failed}
 use Rattle.eng_clients.specs.Desk.{desk_at, spot_at}
-use Rattle.eng_log.specs.Log.{Logged, entered}
 use Rattle.eng_state.specs.Moves.{id_of}
 use Rattle.eng_state.specs.Out.{CameBack}
 
@@ -59,12 +54,3 @@ ends_bad core job outcome = is_bad_end outcome job.work (failed_at core.devices 
 
 abbrev pub ended_by : {L D : Type 0} → Array L D → Job D → Outcome → Traced
 ended_by core job outcome = if ends_bad core job outcome then event.Bad (id_of core.clients job.client) job.node else event.Good (id_of core.clients job.client) job.node
-
--- the log after a good node of this kind, before the event is traced: the operation enters the history as it commits, unless the array is lost
-abbrev pub log_after : Node → Option Loss → Logged → OpId → Logged
-log_after (Rd unit buf) lost l id = l
-log_after (Wr unit buf) lost l id = l
-log_after (Xor to) lost l id = l
-log_after Cmt None l id = entered l id
-log_after Cmt (Some loss) l id = l
-log_after Trm lost l id = l

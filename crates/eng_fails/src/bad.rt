@@ -24,7 +24,6 @@ use eng_world::Traced;
 use graph_mean::Node;
 use lay_core::Layout;
 
-// The buffer of a call.
 fn buf_of<L: Layout, D: Disk>(array: &Array<L, D>, client: u32, node: u32) -> u32
     requires sound { IsSound L.Layout D.Disk array.now }
     requires out { IsOutOf (desk_at array.now.clients client) node }
@@ -40,7 +39,6 @@ fn buf_of<L: Layout, D: Disk>(array: &Array<L, D>, client: u32, node: u32) -> u3
     }
 }
 
-// The column fails, if it isn't dead.
 fn fail_if_alive<L: Layout, D: Disk>(array: &mut Array<L, D>, column: u32)
     requires sound { IsSound L.Layout D.Disk array.old }
     requires column { column < length array.old.cols.states }

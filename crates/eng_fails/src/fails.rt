@@ -86,7 +86,6 @@ fn still_reads<L: Layout, D: Disk>(array: &Array<L, D>, client: u32, column: u32
     false
 }
 
-// The client's operation is abandoned by this device.
 fn abandon<L: Layout, D: Disk>(array: &mut Array<L, D>, client: u32, device: u32)
     requires client { client < length array.old.clients }
     requires before { (desk_at array.old.clients client).run.phase ≡ Phase.Before }
@@ -112,7 +111,6 @@ fn suffer<L: Layout, D: Disk>(array: &mut Array<L, D>, client: u32, column: u32,
     }
 }
 
-// And of all.
 fn suffer_all<L: Layout, D: Disk>(array: &mut Array<L, D>, column: u32, device: u32)
     requires sound { IsSound L.Layout D.Disk array.old }
     requires device { device ≡ device_on (slice_get array.old.cols.states column) column }
@@ -125,7 +123,6 @@ fn suffer_all<L: Layout, D: Disk>(array: &mut Array<L, D>, column: u32, device: 
     }
 }
 
-// The column is dead.
 pub(crate) fn kill<L: Layout, D: Disk>(array: &mut Array<L, D>, column: u32)
     requires { column < length array.old.cols.states }
     ensures dead { array.new ≡ record array.old { cols = record array.old.cols { states = killed array.old.cols.states column } } }
@@ -133,7 +130,6 @@ pub(crate) fn kill<L: Layout, D: Disk>(array: &mut Array<L, D>, column: u32)
     array.cols.kill(column);
 }
 
-// A device has failed.
 pub(crate) fn device_fails<L: Layout, D: Disk>(array: &mut Array<L, D>, device: u32)
     requires { device < length array.old.devices.slots }
     ensures { array.new ≡ record array.old { devices = failing array.old.devices device } }

@@ -6,7 +6,6 @@ use crate::job::Source;
 use blk_disk::SECTOR;
 use xor_lanes::{clear, xor_into};
 
-// Makes the first bytes 0.
 fn clear_front(bytes: &mut [u8], count: u32)
     requires { 512 * count ≤ length bytes.old }
     ensures zero { (k : ℕ) → k < 512 * count → slice_index bytes.new k ≡ 0 }

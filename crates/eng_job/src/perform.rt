@@ -9,8 +9,8 @@ use blk_plain::Outcome;
 use buf_pool::Buffer;
 
 impl<D: Disk> Job<D> {
-    /// Does what is to be done: at most one call of the device. Bad only where the device refused it,
-    /// which raised its count of faults.
+    /// Does what is to be done: at most one call of the device, as far as it tells its calls. Bad only
+    /// where the device's count of faults rose.
     ///
     /// Where the sectors don't lie on the device, or a buffer is too short for them, it does nothing
     /// and answers Good; the engine fires no such job. Takes no memory.
@@ -56,7 +56,6 @@ fn read<D: Disk>(disk: &mut D, first: u64, buffer: &mut Buffer, count: u32) -> O
     read_front(disk, first, buffer.bytes_mut(), count)
 }
 
-// Reads so many sectors into the front of a buffer.
 fn read_front<D: Disk>(disk: &mut D, first: u64, into: &mut [u8], count: u32) -> Outcome
     requires { HasRoom D.Disk disk.old first into.old count }
     ensures { ReadsThere D.Disk disk.old disk.new first into.old into.new count result }
@@ -77,7 +76,6 @@ fn write<D: Disk>(disk: &mut D, first: u64, buffer: &Buffer, count: u32) -> Outc
     write_front(disk, first, buffer.bytes(), count)
 }
 
-// Writes so many sectors from the front of a buffer.
 fn write_front<D: Disk>(disk: &mut D, first: u64, from: &[u8], count: u32) -> Outcome
     requires { HasRoom D.Disk disk.old first from.now count }
     ensures { WritesThere D.Disk disk.old disk.new first from.now count result }

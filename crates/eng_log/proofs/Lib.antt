@@ -4,3 +4,4 @@ pub mod Seating
 pub mod Filling
 pub mod Repeating
 pub mod Sent
+pub mod Patching

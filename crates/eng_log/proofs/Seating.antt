@@ -100,23 +100,3 @@ fills-home p q l m fills home = λ i h. fills.homes (get_or m i 0) ∙ home i h
 
 pub seat-stored : (p q r : PoolView) (k : ℕ) (bytes : List ℕ) → k < length p.seats → (seat_at p.seats k).out ≡ false → q ≡ taken p k → r ≡ put q k bytes → r ≡ stored p k (seat_at r.seats k).bytes
 seat-stored p q r k bytes inside home left back = stored-itself p k inside r bytes (back ∙ (ap (λ (h : PoolView). put h k bytes) left ∙ put-taken p k inside bytes home))
-
-pub seat-bytes : (p q r : PoolView) (k : ℕ) (bytes : List ℕ) → k < length p.seats → (seat_at p.seats k).out ≡ false → q ≡ taken p k → r ≡ put q k bytes → (seat_at r.seats k).bytes ≡ bytes
-seat-bytes p q r k bytes inside home left back = ap (λ (h : PoolView). (seat_at h.seats k).bytes) (back ∙ (ap (λ (h : PoolView). put h k bytes) left ∙ put-taken p k inside bytes home)) ∙ stored-bytes p k inside bytes
-
-pub seat-same : (p q r : PoolView) (k : ℕ) (bytes : List ℕ) → k < length p.seats → (seat_at p.seats k).out ≡ false → q ≡ taken p k → r ≡ put q k bytes → bytes ≡ (seat_at p.seats k).bytes → r ≡ p
-seat-same p q r k bytes inside home left back same = back ∙ (ap (λ (h : PoolView). put h k bytes) left ∙ put-same p k inside bytes home same)
-
--- a buffer that is out has the bytes with which it left
-pub taken-bytes : (p q : PoolView) (k : ℕ) (l : List ℕ) (b : ℕ) → k < length p.seats → q ≡ taken p k → bytes_of q l b ≡ bytes_of p l b
-taken-bytes p q k l b inside left = ap (λ (h : PoolView). bytes_of h l b) left ∙ elim (cases_eq (get_or l b 0) k) [
-  | inl e ↦ ap (λ (j : ℕ). (seat_at (taken p k).seats j).bytes) e ∙ (ap (λ (w : SeatView). w.bytes) (get_or-set_same p.seats k (record (seat_at p.seats k) { out = true }) nowhere inside) ∙ ap (λ (j : ℕ). (seat_at p.seats j).bytes) (sym e))
-  | inr e ↦ ap (λ (w : SeatView). w.bytes) (get_or-set_other p.seats k (get_or l b 0) (record (seat_at p.seats k) { out = true }) nowhere e)
-]
-
--- and another of the lease is at home still
-pub taken-home : (p q : PoolView) (l : List ℕ) (b c : ℕ) → IsLease p l → AllHome p l → b < length l → c < length l → c ≢ b → q ≡ taken p (get_or l b 0) → (seat_at q.seats (get_or l c 0)).out ≡ false
-taken-home p q l b c lease home hb hc apart left =
-    ap (λ (h : PoolView). (seat_at h.seats (get_or l c 0)).out) left
-    ∙ (ap (λ (w : SeatView). w.out) (get_or-set_other p.seats (get_or l b 0) (get_or l c 0) (record (seat_at p.seats (get_or l b 0)) { out = true }) nowhere (λ e. apart (seats-differ p l lease c b hc hb e)))
-    ∙ home c hc)

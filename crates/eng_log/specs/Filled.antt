@@ -1,10 +1,13 @@
 -- The buffers of new data, filled.
 use Rattle.blk_disk.specs.Disk.{sector_at}
-use Rattle.std.specs.Prelude.{◌≡◌, ◌<◌, ◌≤◌, ◌*◌, ℕ, List, length, get_or, slice_set, Some, Contains, ◌-◌}
+use Rattle.std.specs.Prelude.{◌≡◌, ◌<◌, ◌≤◌, ◌*◌, ◌+◌, ℕ, List, length, get_or, slice_index, slice_set, Some, Contains, ◌-◌}
 use Rattle.buf_pool.specs.Pool.{PoolView, seat_at, IsLease, AllHome}
 use Rattle.graph_mean.specs.Graph.{View, buf_at}
-use Rattle.graph_mean.specs.Steps.{Covers}
+use Rattle.lay_core.specs.Layout.{Shape, block_of}
+use Rattle.graph_mean.specs.Steps.{Covers, stripe_of}
+use Rattle.blk_plain.specs.declared.op.Patch.{Patch}
 use Rattle.blk_plain.specs.declared.op.Op.{Op}
+use Rattle.blk_plain.specs.Plain.{patched_sector, zero_sector}
 use Rattle.eng_world.specs.Planning.{fresh}
 
 -- byte k of a buffer at an offset that it covers
@@ -35,7 +38,11 @@ pub record FillsAlone (old : PoolView) (l : List ℕ) (new : PoolView) : Type 0 
   pub homes : (k : ℕ) → (seat_at new.seats k).out ≡ (seat_at old.seats k).out
   pub others : (k : ℕ) → ¬ Contains l k → seat_at new.seats k ≡ seat_at old.seats k
 
--- and its buffers of new data hold what the operation writes, or zeros
-pub record Filled (g : View) (op : Op) (l : List ℕ) (old new : PoolView) : Type 0 where
+-- the sector that some patches write to the j-th block of a buffer of data unit u, or zeros
+abbrev pub sector_for : Shape → List ℕ → View → List Patch → ℕ → ℕ → ℕ → List ℕ
+sector_for y stripes g ps b u j = patched_sector ps (block_of y (slice_index stripes (stripe_of g b)) u (buf_at g b).from + j) zero_sector
+
+-- and its buffers of new data, in these stripes, hold what the operation writes to their blocks, or zeros
+pub record Filled (y : Shape) (stripes : List ℕ) (g : View) (op : Op) (l : List ℕ) (old new : PoolView) : Type 0 where
   pub alone : FillsAlone old l new
-  pub fresh_is : (b u o k block : ℕ) → (buf_at g b).new_of ≡ Some u → Covers g b o → k < 512 → buffer_byte g (bytes_of new l b) b o k ≡ fresh op block k
+  pub fresh_is : (b u o k : ℕ) → (buf_at g b).new_of ≡ Some u → Covers g b o → k < 512 → buffer_byte g (bytes_of new l b) b o k ≡ fresh op (block_of y (slice_index stripes (stripe_of g b)) u o) k

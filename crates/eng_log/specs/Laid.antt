@@ -13,6 +13,7 @@ use Rattle.eng_log.specs.Given.{items_at}
 -- how many sectors an operation, or an item, hands out
 abbrev pub op_sectors : Op → ℕ
 op_sectors (op.Write span pattern) = 0
+op_sectors (op.Writes patches) = 0
 op_sectors (op.Read span) = span.count
 op_sectors (op.Rebuild stripe) = 0
 op_sectors (op.Sync stripe) = 0

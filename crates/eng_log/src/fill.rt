@@ -5,48 +5,67 @@ ghost use Rattle.blk_disk.specs.Sectors.{put};
 ghost use Rattle.buf_pool.specs.Pool.{IsLease, seat_at};
 ghost use Rattle.graph_mean.specs.Graph.{buf_at};
 ghost use Rattle.graph_mean.specs.Steps.{Covers};
+ghost use Rattle.blk_plain.specs.declared.op.Patches.{Patches};
+ghost use Rattle.blk_plain.specs.Plain.{sector_of, zero_sector};
 ghost use Rattle.eng_world.specs.Plain.{filled};
-ghost use Rattle.eng_world.specs.Planning.{fresh};
+ghost use Rattle.eng_world.specs.Planning.{fresh, span_count};
 ghost use Rattle.eng_log.specs.Filled.{HasBuffers, FillsAlone, Filled, bytes_of, stored};
 
+use crate::patched::fill_patches;
 use blk_disk::SECTOR;
-use blk_plain::{Op, Pattern, fill as fill_sector};
+use blk_plain::{Op, Patches, Pattern, fill as fill_sector};
 use buf_pool::{Lease, Pool};
 use graph_mean::Graph;
+use lay_core::Layout;
 
-// The sector that a pattern fills.
-fn written(pattern: &Pattern) -> [u8; SECTOR]
-    ensures { (k : ℕ) → k < 512 → slice_index result k ≡ filled pattern.now k }
+pub(crate) fn written(pattern: &Pattern) -> [u8; SECTOR]
+    ensures bytes { (k : ℕ) → k < 512 → slice_index result k ≡ filled pattern.now k }
+    ensures sector { result ≡ sector_of pattern.now }
 {
     let mut sector = [0; SECTOR];
     fill_sector(&mut sector, pattern);
     sector
 }
 
-// A sector of zeros.
-fn zeros() -> [u8; SECTOR]
-    ensures { (k : ℕ) → k < 512 → slice_index result k ≡ 0 }
+pub(crate) fn zeros() -> [u8; SECTOR]
+    ensures bytes { (k : ℕ) → k < 512 → slice_index result k ≡ 0 }
+    ensures sector { result ≡ zero_sector }
 {
     [0; SECTOR]
 }
 
-// A sector of what the operation writes, or of zeros.
-fn fresh_sector(op: &Op) -> [u8; SECTOR]
+// A sector of what an operation writes that writes the same to each of its blocks, or of zeros.
+fn same_sector(op: &Op) -> [u8; SECTOR]
+    requires { (patches : Patches) → op.now ≡ Op.Writes patches → ⊥ }
     ensures { (block k : ℕ) → k < 512 → slice_index result k ≡ fresh op.now block k }
 {
     match op {
         Op::Write { pattern, .. } => written(pattern),
+        Op::Writes { .. } => unreachable!(),
         Op::Read { .. } | Op::Rebuild { .. } | Op::Sync { .. } => zeros(),
     }
 }
 
-/// Fills each buffer of new data with what the operation writes. The other buffers keep their bytes.
-pub fn fill_fresh(graph: &Graph, pool: &mut Pool, lease: &Lease, op: &Op)
-    requires { HasBuffers graph.now.drawn pool.old lease.now }
-    ensures { Filled graph.now.drawn op.now lease.now pool.old pool.new }
+/// Fills each buffer of new data with what the operation writes to its blocks. The other buffers keep their bytes.
+pub fn fill_fresh<L: Layout>(
+    layout: &L,
+    stripes: &[u32],
+    graph: &Graph,
+    pool: &mut Pool,
+    lease: &Lease,
+    op: &Op,
+)
+    requires buffers { HasBuffers graph.now.drawn pool.old lease.now }
+    requires few { span_count op.now ≤ 8 }
+    ensures { Filled (L.shape layout.now) stripes.now graph.now.drawn op.now lease.now pool.old pool.new }
 {
-    let sector = fresh_sector(op);
-    fill_new(graph, pool, lease, &sector);
+    match op {
+        Op::Writes { patches } => fill_patches(layout, stripes, graph, pool, lease, patches),
+        Op::Write { .. } | Op::Read { .. } | Op::Rebuild { .. } | Op::Sync { .. } => {
+            let sector = same_sector(op);
+            fill_new(graph, pool, lease, &sector);
+        }
+    }
 }
 
 // Fills each buffer of new data with this sector. The other buffers keep their bytes.
@@ -115,7 +134,6 @@ pub(crate) fn put_at(bytes: &mut [u8], first: usize, from: &[u8])
     part.copy_from_slice(from);
 }
 
-// Makes each of the first sectors this one.
 fn repeat(bytes: &mut [u8], sector: &[u8], count: u32)
     requires sector { length sector.now ≡ 512 }
     requires room { 512 * count ≤ length bytes.old }

@@ -7,6 +7,7 @@ mod given;
 mod handed;
 mod log;
 mod memory;
+mod patched;
 mod region;
 
 pub use fill::fill_fresh;

@@ -49,9 +49,6 @@ at-kept RollingBack c e d f a b k l h = h
 at-kept Ended c e d f a b k l h = (a h.0, k h.1)
 at-kept Undone c e d f a b k l h = h
 
-at-commit : (p : Phase) (c e d f : Status) → HasEnded d → (HasEnded f → HasEnded e) → (HasEnded e → ⊥) → AreAt p c e → AreAt After d f
-at-commit p c e d f ended back un h = (ended, λ z. un (back z))
-
 module _ (g : View) (t : Aim) (missing : Missing) (c e : ℕ) (ok : IsOrdered g t missing c e) where
   commit-not_end : c ≢ e
   commit-not_end is = let z : Cmt ≡ Trm = sym ok.commit.here ∙ (ap (kind_at g) is ∙ ok.end.here) in cc

@@ -4,7 +4,7 @@ use Rattle.std.specs.Prelude.{◌==◌, if◌then◌else◌, MatchOption}
 use Rattle.std.specs.Int.{bit_at}
 use Rattle.std.proofs.Math.ListN.{length-set}
 use Rattle.std.proofs.lemmas.List.{get_or-set_same, get_or-set_other, get_or_past}
-use Rattle.std.proofs.lemmas.Bool.{cases_eq, cases_lt, cond-true, cond-false, eq-eqb, ne_eqb, eqb-true}
+use Rattle.std.proofs.lemmas.Bool.{cases_eq, cases_lt, cond-true, eq-eqb, eqb-true}
 use Rattle.std.proofs.lemmas.Nat.Bits.{bit_at-zero}
 use Rattle.eng_one.specs.Bits.{has, AreWords, NoBit, NoneFrom, IsFirstFrom}
 
@@ -26,33 +26,12 @@ has-none words k is h = let e : ◌≡◌ {A = ℕ} 1 0 = sym (eqb-true (bit_at 
 pub has-not : (words : List ℕ) (k : ℕ) → bit_at (slice_index_or words (k / 64) 0) (k % 64) ≡ 0 → has words k ≡ true → ⊥
 has-not words k is h = let e : ◌≡◌ {A = ℕ} 1 0 = sym (eqb-true (bit_at (slice_index_or words (k / 64) 0) (k % 64)) 1 h) ∙ is in absurd (omega arith)
 
-pub has-set : (words : List ℕ) (w b : ℕ) → b < 64 → bit_at (slice_index_or words w 0) b ≡ 1 → has words (w * 64 + b) ≡ true
-has-set words w b l set =
-    eq-eqb (bit_at (slice_index_or words ((w * 64 + b) / 64) 0) ((w * 64 + b) % 64)) 1
-    (ap (λ (x : ℕ). bit_at (slice_index_or words x 0) ((w * 64 + b) % 64)) (let e : (w * 64 + b) / 64 ≡ w = omega arith in e)
-    ∙ ap (bit_at (slice_index_or words w 0)) (let e : (w * 64 + b) % 64 ≡ b = omega arith in e)
-    ∙ set)
-
 -- past the last word there is none
 pub past-none : (words : List ℕ) (k : ℕ) → length words ≡ 32 → 2048 ≤ k → has words k ≡ true → ⊥
 past-none words k long past h = has-none words k (get_or_past words (k / 64) 0 (let e : 32 ≤ k / 64 = omega arith in omega (arith, e, long))) h
 
--- a word of 0 isn't marked, and any other is
-pub filled-not : (words : List ℕ) (blocks w : ℕ) → AreWords words blocks → w < 64 → bit_at blocks w ≡ 0 → slice_index_or words w 0 ≡ 0
-filled-not words blocks w h l none = elim (cases_eq (slice_index_or words w 0) 0) [
-  | inl is ↦ is
-  | inr some ↦ let e : ◌≡◌ {A = ℕ} 0 1 = sym none ∙ (h.filled w l ∙ cond-false (slice_index_or words w 0 == 0) 0 1 (ne_eqb (slice_index_or words w 0) 0 some)) in absurd (omega arith)
-]
-
 pub filled-some : (words : List ℕ) (blocks w : ℕ) → AreWords words blocks → w < 64 → bit_at blocks w ≡ 1 → slice_index_or words w 0 ≢ 0
 filled-some words blocks w h l set is = let e : ◌≡◌ {A = ℕ} 1 0 = sym set ∙ (h.filled w l ∙ cond-true (slice_index_or words w 0 == 0) 0 1 (eq-eqb (slice_index_or words w 0) 0 is)) in absurd (omega arith)
-
--- and lies among the words
-pub filled-below : (words : List ℕ) (blocks w : ℕ) → AreWords words blocks → w < 64 → bit_at blocks w ≡ 1 → w < 32
-filled-below words blocks w h l set = elim (cases_lt w 32) [
-  | inl low ↦ low
-  | inr past ↦ absurd (filled-some words blocks w h l set (get_or_past words w 0 (omega (arith, past, h.long))))
-]
 
 -- what is found from later on is found from here, where none lies between
 pub found-before : (set : ℕ → Bool) (from later : ℕ) (found : Option ℕ) → from ≤ later → ((k : ℕ) → from ≤ k → k < later → set k ≡ true → ⊥) → MatchOption found (NoneFrom set later) (IsFirstFrom set later) → MatchOption found (NoneFrom set from) (IsFirstFrom set from)

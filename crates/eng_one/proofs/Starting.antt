@@ -11,7 +11,7 @@ use Rattle.graph_mean.specs.Graph.{View, Vertex, IsAnte, no_vertex, vertex_at, e
 use Rattle.graph_mean.specs.Task.{Aim, Missing}
 use Rattle.graph_mean.specs.Refused.{IsFree}
 use Rattle.eng_one.specs.Counts.{CanStart, ante_count}
-use Rattle.eng_one.specs.Samples.{whole, small, twice}
+use Rattle.eng_one.specs.Samples.{whole, small}
 
 -- there are no more antecedents than sources and antecedents
 pub antes-le_edges : (g : View) → ante_count g ≤ edge_count g
@@ -54,6 +54,3 @@ whole-starts = record { nodes = omega arith; antes = omega arith; named = named-
 
 pub small-starts : CanStart small
 small-starts = record { nodes = omega arith; antes = omega arith; named = named-by small refl }
-
-pub twice-starts : CanStart twice
-twice-starts = record { nodes = omega arith; antes = omega arith; named = named-by twice refl }

@@ -32,7 +32,6 @@ pub(crate) fn enter_all(graph: &Graph, followers: &mut Followers)
     }
 }
 
-// The nodes that wait for none.
 pub(crate) fn without_antes(unmet: &[u32]) -> NodeSet
     requires { length unmet.now ≤ 2048 }
     ensures { (k : ℕ) → has result k ≡ (slice_index_or unmet.now k 1 == 0) }

@@ -3,7 +3,6 @@ ghost use Rattle.std.specs.Prelude.{◌≡◌, ℕ, ◌<◌, ◌==◌, MatchOpti
 ghost use Rattle.std.specs.Int.{bit_at};
 ghost use Rattle.eng_one.specs.Bits.{NoBit, IsFirstBit};
 
-// The word with that bit set.
 pub(crate) fn with_bit(word: u64, bit: u32) -> u64
     requires { bit < 64 }
     ensures { (k : ℕ) → bit_at result k ≡ (if k == bit then 1 else bit_at word k) }
@@ -11,7 +10,6 @@ pub(crate) fn with_bit(word: u64, bit: u32) -> u64
     word | (1 << bit)
 }
 
-// The word with that bit cleared.
 pub(crate) fn without_bit(word: u64, bit: u32) -> u64
     requires { bit < 64 }
     ensures { (k : ℕ) → bit_at result k ≡ (if k == bit then 0 else bit_at word k) }
@@ -19,7 +17,6 @@ pub(crate) fn without_bit(word: u64, bit: u32) -> u64
     word & !(1 << bit)
 }
 
-// The first bit that is set, from this one on.
 pub(crate) fn first_bit(word: u64, from: u32) -> Option<u32>
     requires { from < 64 }
     ensures { MatchOption result (NoBit word from) (IsFirstBit word from) }

@@ -60,7 +60,6 @@ impl Followers {
         refill(&mut self.first, 0, nodes);
     }
 
-    // One more follower of a node.
     pub(crate) fn push(&mut self, node: u32, follower: u32)
         requires node { node < length self.old.first }
         requires room { length self.old.names < 16384 }

@@ -26,7 +26,6 @@ impl Model for NodeSet {
 }
 
 impl NodeSet {
-    // The set of no node.
     pub(crate) fn new() -> NodeSet
         ensures { (k : ℕ) → has result k ≡ false }
     {
@@ -36,7 +35,6 @@ impl NodeSet {
         }
     }
 
-    // Whether a node is in the set.
     pub(crate) fn contains(&self, node: u32) -> bool
         requires { node < 2048 }
         ensures { result ≡ has self.now node }
@@ -45,7 +43,6 @@ impl NodeSet {
         (word >> (node % 64)) & 1 == 1
     }
 
-    // A node is added.
     pub(crate) fn insert(&mut self, node: u32)
         requires { node < 2048 }
         ensures { (k : ℕ) → has self.new k ≡ (if k == node then true else has self.old k) }

@@ -7,4 +7,4 @@ mod checked;
 mod planning;
 
 pub use checked::plan_and_check;
-pub use planning::{kind_of, lease_size, list_missing, mode_by, span_of};
+pub use planning::{kind_of, lease_size, list_missing, mode_by, span_count, split_op};

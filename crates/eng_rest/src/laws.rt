@@ -55,8 +55,8 @@ pub fn events_of_an_item_are_few()
 {}
 
 /// While the array isn't lost and no job is out, each item has its reply, or an event is possible, or
-/// an operation waits and nothing runs. In the last case no stripe is held and every buffer is free,
-/// so that the operation can be taken by an engine that has a plan for it.
+/// an operation waits and nothing runs. Whether that one can be taken is for `work_goes_on` of eng_world,
+/// which asks for a plan of it.
 pub fn somebody_goes_on()
     ensures { (y : Shape) (graphs : Graphs) (opening now : World) (events : List Traced) (n : ℕ)
         → IsLayout y → Promises graphs → IsOpening y opening → HaveItems opening n

@@ -8,7 +8,7 @@ use Rattle.blk_disk.specs.declared.disk.Disk.{Ghosts as DiskGhosts}
 use Rattle.buf_pool.specs.Pool as held
 use Rattle.lay_core.specs.Layout.{Shape}
 use Rattle.lay_core.specs.declared.layout.Layout.{Ghosts as LayoutGhosts}
-use Rattle.graph_lib.proofs.SpanRanges.{span-few}
+use Rattle.graph_lib.proofs.SpanRanges.{spans-few}
 use Rattle.graph_mean.specs.Graph.{Held}
 use Rattle.eng_world.specs.declared.item.Traced.{Traced}
 use Rattle.eng_state.specs.declared.array.Array.{Array}
@@ -57,7 +57,7 @@ module _ {L D : Type 0} (lay : LayoutGhosts L) (disk : DiskGhosts D) (old s1 : A
   buffers = record {
     lease = subst (λ (l : List ℕ). held.IsLease old.pool l) (sym lease-same) (backing.well lay disk old c op None sound stands can serves).lease;
     home = subst (λ (l : List ℕ). held.AllHome old.pool l) (sym lease-same) (backing.all-home lay disk old c op None sound stands can serves);
-    count = let a = settling.planned-bufs y sound.layout gs old.cols.states op None p serves.inside pf.desk.planned runs span-few in let b = long in omega (arith, a, b);
+    count = let a = settling.planned-bufs y sound.layout gs old.cols.states op None p serves.inside pf.desk.planned runs spans-few in let b = long in omega (arith, a, b);
     long = λ b lt. let a = settling.planned-long y sound.layout gs old.cols.states op None p serves.inside pf.desk.planned runs b lt in let u = sound.unit in omega (arith, a, u);
   }
 
@@ -75,6 +75,9 @@ module _ {L D : Type 0} (lay : LayoutGhosts L) (disk : DiskGhosts D) (old s1 : A
     graphs-3 : s3.graphs.items ≡ gs
     graphs-3 = ap (λ (a : Array L D). a.graphs.items) start ∙ graphs-1
 
+    layout-3 : s3.layout ≡ old.layout
+    layout-3 = ap (λ (a : Array L D). a.layout) start ∙ ap (λ (a : Array L D). a.layout) pf.now
+
     pool-3 : s3.pool ≡ old.pool
     pool-3 = ap (λ (a : Array L D). a.pool) start ∙ ap (λ (a : Array L D). a.pool) pf.now
 
@@ -89,12 +92,13 @@ module _ {L D : Type 0} (lay : LayoutGhosts L) (disk : DiskGhosts D) (old s1 : A
         (subst (λ (l : List Held). HasBuffers (graph_of l p) s3.pool p.lease) (sym graphs-3)
         (subst (λ (q : held.PoolView). HasBuffers (graph_of gs p) q p.lease) (sym pool-3) buffers))
 
-    module _ (s4 s5 : Array L D) (event : Traced) (filled : Filled (graph_of s3.graphs.items (desk_at s3.clients c)) op (desk_at s3.clients c).lease s3.pool s4.pool) (fill : s4 ≡ record s3 { pool = s4.pool }) (note : s5 ≡ record s4 { log = noted s4.log event }) where
-      filled-3 : Filled (graph_of gs p) op p.lease old.pool s4.pool
+    module _ (s4 s5 : Array L D) (event : Traced) (filled : Filled (lay.shape s3.layout) (desk_at s3.clients c).map.stripes (graph_of s3.graphs.items (desk_at s3.clients c)) op (desk_at s3.clients c).lease s3.pool s4.pool) (fill : s4 ≡ record s3 { pool = s4.pool }) (note : s5 ≡ record s4 { log = noted s4.log event }) where
+      filled-3 : Filled y p.map.stripes (graph_of gs p) op p.lease old.pool s4.pool
       filled-3 =
-          subst (λ (q : held.PoolView). Filled (graph_of gs p) op p.lease q s4.pool) pool-3
-          (subst (λ (l : List Held). Filled (graph_of l p) op p.lease s3.pool s4.pool) graphs-3
-          (subst (λ (a : Desk). Filled (graph_of s3.graphs.items a) op a.lease s3.pool s4.pool) desk-3 filled))
+          subst (λ (q : held.PoolView). Filled y p.map.stripes (graph_of gs p) op p.lease q s4.pool) pool-3
+          (subst (λ (l : List Held). Filled y p.map.stripes (graph_of l p) op p.lease s3.pool s4.pool) graphs-3
+          (subst (λ (a : Desk). Filled y a.map.stripes (graph_of s3.graphs.items a) op a.lease s3.pool s4.pool) desk-3
+          (subst (λ (l : L). Filled (lay.shape l) (desk_at s3.clients c).map.stripes (graph_of s3.graphs.items (desk_at s3.clients c)) op (desk_at s3.clients c).lease s3.pool s4.pool) layout-3 filled)))
 
       pub replaced-of : Replaced lay old c op event s5
       replaced-of = record {
@@ -103,7 +107,7 @@ module _ {L D : Type 0} (lay : LayoutGhosts L) (disk : DiskGhosts D) (old s1 : A
         runs = runs;
         clients = ap (λ (a : Array L D). a.clients) note ∙ (ap (λ (a : Array L D). a.clients) fill ∙ clients-3);
         locks = ap (λ (a : Array L D). a.locks) note ∙ (ap (λ (a : Array L D). a.locks) fill ∙ (ap (λ (a : Array L D). a.locks) start ∙ ap (λ (a : Array L D). a.locks) pf.now));
-        filled = subst (λ (q : held.PoolView). Filled (graph_of gs p) op p.lease old.pool q) (sym (ap (λ (a : Array L D). a.pool) note)) filled-3;
+        filled = subst (λ (q : held.PoolView). Filled y p.map.stripes (graph_of gs p) op p.lease old.pool q) (sym (ap (λ (a : Array L D). a.pool) note)) filled-3;
         log = ap (λ (a : Array L D). a.log) note ∙ (ap (λ (a : Array L D). noted a.log event) fill ∙ (ap (λ (a : Array L D). noted a.log event) start ∙ ap (λ (a : Array L D). noted a.log event) pf.now));
         rest = record {
           layout = ap (λ (a : Array L D). a.layout) note ∙ (ap (λ (a : Array L D). a.layout) fill ∙ (ap (λ (a : Array L D). a.layout) start ∙ ap (λ (a : Array L D). a.layout) pf.now));

@@ -1,10 +1,10 @@
 -- An operation that was undone is planned anew: one event of the world.
-use Rattle.std.proofs.Common.{◌≡◌, ◌≢◌, ℕ, ◌<◌, List, length, get_or, subst, sym, ap, ◌∙◌, arith, inl, inr, refl, Option, Some, None}
+use Rattle.std.proofs.Common.{Bool, ◌≡◌, ◌≢◌, ℕ, ◌<◌, List, length, get_or, subst, sym, ap, ◌∙◌, arith, inl, inr, refl, Option, Some, None}
 use Rattle.std.specs.Prelude.{slice_set, Contains, slice_get}
 use Rattle.std.proofs.lemmas.List.{get_or_default}
 use Rattle.std.proofs.lemmas.List.Elements.{All-contains}
 use Rattle.std.proofs.lemmas.Bool.{cases_Bool}
-use Rattle.lay_core.specs.Touched.{Touched, IsSpanSplit}
+use Rattle.lay_core.specs.Touched.{Touched, IsSplit}
 use Rattle.blk_plain.specs.declared.op.Span.{Span}
 use Rattle.blk_plain.specs.declared.op.Op.{Op}
 use Rattle.blk_disk.specs.declared.disk.Disk.{Ghosts as DiskGhosts}
@@ -28,7 +28,9 @@ use Rattle.eng_clients.specs.declared.stage.Stage.TheVariants.{Nothing, Runs}
 use Rattle.eng_state.specs.declared.array.Array.{Array}
 use Rattle.eng_clients.specs.Desk.{Desk, desk_at, graph_of, item_at, plan_of, with_started}
 use Rattle.eng_state.specs.Moves.{id_of}
-use Rattle.eng_plan.specs.Asked.{lease_for, span_of}
+use Rattle.eng_plan.specs.Asked.{lease_for, blocks_by}
+use Rattle.eng_plan.proofs.Maps.{op-count}
+use Rattle.eng_starts.proofs.SameStripes.{same-at}
 use Rattle.eng_clients.specs.Seats.{bytes_at}
 use Rattle.eng_state.specs.Serves.{Serves, ServesWell, RunsOn, Stands, CanBack}
 use Rattle.eng_state.specs.Shows.{Shows, ShowsClient, HoldBytes, running_as}
@@ -46,11 +48,11 @@ use Rattle.eng_state.proofs.Shown.{unlost, shown-running}
 use Rattle.eng_state.proofs.Handing.{hands-kept}
 use Rattle.eng_log.specs.Filled.{buffer_byte}
 
--- two splits of one span have the same stripes
-pub same-stripes : (y : Shape) (span : Span) (a b : Touched) → IsSpanSplit y span a → IsSpanSplit y span b → (s : ℕ) → Contains a.stripes s → Contains b.stripes s
-same-stripes y span a b sa sb s has =
-    let below = All-contains (λ i. i < y.stripes) a.stripes s sa.split.stripes_within has in
-    (sb.split.stripes_touched s below).1 ((sa.split.stripes_touched s below).0 has)
+-- two splits of one test have the same stripes
+pub same-stripes : (y : Shape) (test : ℕ → Bool) (a b : Touched) → IsSplit y test a → IsSplit y test b → (s : ℕ) → Contains a.stripes s → Contains b.stripes s
+same-stripes y test a b sa sb s has =
+    let below = All-contains (λ i. i < y.stripes) a.stripes s sa.stripes_within has in
+    (sb.stripes_touched s below).1 ((sa.stripes_touched s below).0 has)
 
 -- of an operation that is undone nothing is out
 module _ {L D : Type 0} (lay : LayoutGhosts L) (disk : DiskGhosts D) (old : Array L D) (c : ℕ) (op : Op) (file : Option ℕ) (sound : IsSound lay disk old) (stands : Stands lay old) (can : CanBack lay old c)
@@ -157,11 +159,13 @@ module _ {L D : Type 0} (lay : LayoutGhosts L) (disk : DiskGhosts D) (old new : 
       plan = plan_of now;
       is_plan = subst (λ (cols : List ColumnState). IsPlan y (graphs_of gs) cols op None (plan_of now)) (sym s.columns) (served.plan-is y sound.layout gs old.cols.states op None e f.plan serves f.replanned f.runs f.plan.lease long);
       index = ap length (served.replies-same y sound.layout gs old.cols.states op None e f.plan serves f.replanned f.runs f.plan.lease long);
-      stripes = ap (λ (t : Aim). t.stripes) f.replanned.planned.task ∙ (f.replanned.planned.split.stripes_many ∙ (sym ons.split.stripes_many ∙ (well lay disk old c op None sound stands can serves).stripes));
+      stripes = ap (λ (t : Aim). t.stripes) f.replanned.planned.task ∙ (op-count y sound.layout op f.plan.map f.replanned.planned.split ∙ (sym (op-count y sound.layout op e.map ons.split) ∙ (well lay disk old c op None sound stands can serves).stripes));
       stripe = λ q lt.
           let many = ap (λ (t : Aim). t.stripes) f.replanned.planned.task in
-          let a = f.replanned.planned.split.stripes_many in let b = ons.split.stripes_many in
-          f.replanned.planned.split.stripes_follow q (omega (arith, many, lt)) ∙ sym (ons.split.stripes_follow q (omega (arith, many, lt, a, b)));
+          let a = op-count y sound.layout op f.plan.map f.replanned.planned.split in let b = op-count y sound.layout op e.map ons.split in
+          let p = f.replanned.planned.split.split in
+          let o = ons.split.split in
+          same-at f.plan.map.stripes e.map.stripes p.stripes_ascend o.stripes_ascend (same-stripes y (blocks_by y op) f.plan.map e.map p o) (same-stripes y (blocks_by y op) e.map f.plan.map o p) q (omega (arith, many, lt)) (omega (arith, many, lt, a, b));
       lease = ap length lease-same;
       next = next;
       is_fresh = record {
@@ -169,7 +173,7 @@ module _ {L D : Type 0} (lay : LayoutGhosts L) (disk : DiskGhosts D) (old new : 
         node = served.begun-idle g;
         phase = refl;
         by = refl;
-        buf = λ b u o k is covers lt. f.filled.fresh_is b u o k _ is covers lt;
+        buf = λ b u o k is covers lt. f.filled.fresh_is b u o k is covers lt;
       };
       goes = record {
         items = ap (λ (q : Client). q.items) (put-same w.clients c v);
@@ -238,8 +242,8 @@ module _ {L D : Type 0} (lay : LayoutGhosts L) (disk : DiskGhosts D) (old new : 
       (changing.devices-after old.clients c now here-below (quiet lay disk old c op None sound stands can serves) calm old.devices sound.devices)
       (changing.seats-after old.clients c now here-below (quiet lay disk old c op None sound stands can serves) calm old.pool new.pool (λ k b ne lt. ap (λ (t : pool.SeatView). t.out) (other-seat k b ne lt)) (λ runs. home-new) (changing.named-in y gs old.pool old.clients sound.well) sound.seats)
       (subst (λ (t : Table). Locked (slice_set old.clients c now) t) (sym f.locks) (changing.locked-after old.clients c now here-below old.locks old.locks refl (λ k t ne. refl)
-      (λ runs t has. sound.locked.each c t can.runs (same-stripes y (span_of y op) f.plan.map e.map f.replanned.planned.split ons.split t has) ∙ ap (λ (m : Mode). Some m) (sym mode-same))
-      (λ runs t none. sound.locked.only c t can.runs (λ has. none (same-stripes y (span_of y op) e.map f.plan.map ons.split f.replanned.planned.split t has)))
+      (λ runs t has. sound.locked.each c t can.runs (same-stripes y (blocks_by y op) f.plan.map e.map f.replanned.planned.split.split ons.split.split t has) ∙ ap (λ (m : Mode). Some m) (sym mode-same))
+      (λ runs t none. sound.locked.only c t can.runs (λ has. none (same-stripes y (blocks_by y op) e.map f.plan.map ons.split.split f.replanned.planned.split.split t has)))
       (λ ne. absurd (ne refl)) sound.locked))
       (changing.jobs-after old.clients c now here-below (no-jobs lay disk old c op None sound stands can serves) (served.begun-jobs g))
 

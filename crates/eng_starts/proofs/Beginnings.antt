@@ -131,7 +131,6 @@ module _ {L D : Type 0} (lay : LayoutGhosts L) (disk : DiskGhosts D) (old new : 
     seats = mid-sound.seats;
     locked = mid-sound.locked;
     jobs = mid-sound.jobs;
-    place = mid-sound.place;
   })
 
   module _ (w : World) (s : Shows disk old w) where

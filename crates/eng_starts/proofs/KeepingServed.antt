@@ -59,7 +59,6 @@ module _ {L D : Type 0} (lay : LayoutGhosts L) (disk : DiskGhosts D) (old new : 
       seats = subst (λ (l : List Desk). SeatsOut l new.pool) (sym clients) seats;
       locked = subst (λ (l : List Desk). Locked l new.locks) (sym clients) locked;
       jobs = let a = sound.jobs in let b = rest.lists in let e = ap (λ (l : List Desk). sum_by jobs_of l) clients in omega (arith, a, b, e, jobs);
-      place = tt;
     }
 
     pub stands-of : Stands lay old → ((k : ℕ) → ServesWell gs y (desk_at desks k)) → Stands lay new

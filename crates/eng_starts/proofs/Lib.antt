@@ -18,3 +18,4 @@ mod Backing
 mod GivingUp
 mod Anew
 mod Backed
+pub mod SameStripes

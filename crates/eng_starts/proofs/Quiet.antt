@@ -149,7 +149,6 @@ module _ {L D : Type 0} (lay : LayoutGhosts L) (disk : DiskGhosts D) (old new : 
     seats = subst (λ (l : List Desk). SeatsOut l new.pool) (sym f.clients) (subst (λ (p : pool.PoolView). SeatsOut after p) (sym f.pool) seats);
     locked = subst (λ (l : List Desk). Locked l new.locks) (sym f.clients) (subst (λ (t : Table). Locked after t) (sym f.locks) locked);
     jobs = jobs;
-    place = tt;
   }
     where
       shape : y ≡ lay.shape new.layout

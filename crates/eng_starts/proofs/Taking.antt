@@ -124,7 +124,7 @@ module _ {L D : Type 0} (lay : LayoutGhosts L) (disk : DiskGhosts D) (old new : 
       node = served.begun-idle g;
       phase = refl;
       by = refl;
-      buf = λ b u o k is covers lt. f.filled.fresh_is b u o k _ is covers lt;
+      buf = λ b u o k is covers lt. f.filled.fresh_is b u o k is covers lt;
     }
 
     takes : Takes y (graphs_of gs) c w x

@@ -77,8 +77,8 @@ module _ {L D : Type 0} (lay : LayoutGhosts L) (old mid : Array L D) (c : ℕ) (
       mid = s.mid;
       leases = s.leases;
       apart = s.apart;
-      filled = subst (λ (q : held.PoolView). Filled (graph_of gs p) op s.lease s.mid q) (sym (ap (λ (a : Array L D). a.pool) log))
-          (subst (λ (e : Desk). Filled (graph_of gs e) op s.lease s.mid m2.pool) desk-base s.filled);
+      filled = subst (λ (q : held.PoolView). Filled y p.map.stripes (graph_of gs p) op s.lease s.mid q) (sym (ap (λ (a : Array L D). a.pool) log))
+          (subst (λ (e : Desk). Filled y e.map.stripes (graph_of gs e) op s.lease s.mid m2.pool) desk-base s.filled);
       log = ap (λ (a : Array L D). a.log) log ∙ ap (λ (a : Array L D). noted a.log event) s.now;
       rest = record {
         layout = ap (λ (a : Array L D). a.layout) log ∙ ap (λ (a : Array L D). a.layout) s.now;

@@ -1,10 +1,10 @@
 //! An operation that was undone is planned anew, or given up.
 ghost use Rattle.std.specs.Prelude.{◌≡◌, ◌<◌, Some, None, true, length};
-ghost use Rattle.buf_pool.specs.Pool.{IsLease, AllHome, Returns, KeepsOthers};
+ghost use Rattle.buf_pool.specs.Pool.{IsLease, AllHome};
 ghost use Rattle.stripe_lock.specs.Table.{owners_of};
 ghost use Rattle.eng_world.specs.declared.item.Traced.TheVariants as event;
 ghost use Rattle.eng_world.specs.declared.item.Reply.TheVariants as reply;
-ghost use Rattle.eng_clients.specs.Desk.{desk_at, seats_of};
+ghost use Rattle.eng_clients.specs.Desk.{desk_at};
 ghost use Rattle.eng_log.specs.Log.{noted};
 ghost use Rattle.eng_state.specs.Moves.{id_of};
 ghost use Rattle.eng_state.specs.Serves.{Serves, Stands, CanBack};
@@ -16,24 +16,10 @@ ghost use Rattle.eng_state.specs.Taken.{BackAs, IsBack, Replaced, GivenUp};
 use crate::takes::{fill_buffers, plan, start};
 use blk_disk::Disk;
 use blk_plain::Op;
-use buf_pool::{Lease, Pool};
 use eng_job::Job;
 use eng_state::Array;
 use eng_world::{Item, Reply, Traced};
 use lay_core::Layout;
-
-// The buffers of a lease go back, if there is one.
-fn give_back(pool: &mut Pool, lease: Option<Lease>)
-    requires lease { IsLease pool.old (seats_of lease) }
-    requires home { AllHome pool.old (seats_of lease) }
-    ensures freed { Returns pool.old (seats_of lease) pool.new }
-    ensures others { KeepsOthers pool.old (seats_of lease) pool.new }
-{
-    match lease {
-        None => {}
-        Some(lease) => pool.give_back(lease),
-    }
-}
 
 // The operation is planned anew, under the same locks and on the same buffers.
 fn plan_anew<L: Layout, D: Disk>(array: &mut Array<L, D>, client: u32, op: Op)
@@ -65,9 +51,9 @@ fn give_up<L: Layout, D: Disk>(array: &mut Array<L, D>, client: u32, device: u32
     ensures { GivenUp L.Layout array.old client (reply.Undone device) (event.Back (id_of array.old.clients client)) array.new }
 {
     let id = array.id(client);
-    let lease = array.clients.reply(client, Reply::Undone { device });
+    array.clients.give_back(client, &mut array.pool);
+    array.clients.reply(client, Reply::Undone { device });
     array.locks.release(client);
-    give_back(&mut array.pool, lease);
     array.note(Traced::Back { id });
 }
 

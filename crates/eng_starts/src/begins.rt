@@ -13,15 +13,16 @@ ghost use Rattle.eng_state.specs.Sound.{IsSound};
 ghost use Rattle.eng_state.specs.Moves.{id_of};
 ghost use Rattle.eng_state.specs.Out.{IsOut};
 ghost use Rattle.eng_state.specs.Steps.{Follows};
-ghost use Rattle.eng_state.specs.Beginning.{HasBlocks, AllAsked, CanBegin, IsRefusal, IsFine, waiting, replied, BegunAs};
+ghost use Rattle.eng_plan.specs.Asked.{HasBlocks};
+ghost use Rattle.eng_state.specs.Beginning.{AllAsked, CanBegin, IsRefusal, IsFine, waiting, replied, BegunAs};
 
 use blk_disk::Disk;
-use blk_plain::{Op, Span, limits};
+use blk_plain::{Op, Patches, Span, limits};
 use eng_fails::{fail_column, is_dead};
 use eng_job::Job;
 use eng_state::Array;
 use eng_world::{Item, Reply, Traced};
-use lay_core::{Layout, blocks, home};
+use lay_core::{Layout, blocks, count_all, home, some_passes_end};
 
 // Whether a span is refused: it passes the end, or touches more than 16 stripes.
 fn judge_span<L: Layout, D: Disk>(array: &Array<L, D>, span: Span) -> Result<(), Reply>
@@ -51,6 +52,20 @@ fn judge_stripe<L: Layout, D: Disk>(array: &Array<L, D>, stripe: u32) -> Result<
     Ok(())
 }
 
+// Whether some spans are refused: one passes the end, or they touch more than 16 stripes together.
+fn judge_spans<L: Layout, D: Disk>(array: &Array<L, D>, patches: &Patches) -> Result<(), Reply>
+    requires { HasBlocks (op.Writes patches.now) }
+    ensures { MatchResult result (λ u. IsFine (L.shape array.now.layout) (op.Writes patches.now)) (IsRefusal (L.shape array.now.layout) (op.Writes patches.now)) }
+{
+    if some_passes_end(blocks(&array.layout), patches) {
+        return Err(Reply::Range);
+    }
+    if count_all(&array.layout, patches) > limits::TASK_STRIPES {
+        return Err(Reply::Long);
+    }
+    Ok(())
+}
+
 // Whether an operation is refused as it begins.
 fn judge_op<L: Layout, D: Disk>(array: &Array<L, D>, op: Op) -> Result<(), Reply>
     requires { HasBlocks op }
@@ -58,13 +73,13 @@ fn judge_op<L: Layout, D: Disk>(array: &Array<L, D>, op: Op) -> Result<(), Reply
 {
     match op {
         Op::Write { span, .. } => judge_span(array, span),
+        Op::Writes { patches } => judge_spans(array, &patches),
         Op::Read { span } => judge_span(array, span),
         Op::Rebuild { stripe } => judge_stripe(array, stripe),
         Op::Sync { stripe } => judge_stripe(array, stripe),
     }
 }
 
-// The client waits.
 fn wait<L: Layout, D: Disk>(array: &mut Array<L, D>, client: u32)
     requires { client < length array.old.clients }
     ensures { array.new ≡ waiting array.old client }
@@ -78,11 +93,9 @@ fn reply_at_once<L: Layout, D: Disk>(array: &mut Array<L, D>, client: u32, reply
     requires left { length (desk_at array.old.clients client).replies < length (desk_at array.old.clients client).items }
     ensures { array.new ≡ replied array.old client reply }
 {
-    let lease = array.reply(client, reply);
-    let _ = lease;
+    array.reply(client, reply);
 }
 
-// An operation begins.
 fn begin_run<L: Layout, D: Disk>(array: &mut Array<L, D>, client: u32, op: Op, graph: Option<u32>)
     requires client { client < length array.old.clients }
     requires left { length (desk_at array.old.clients client).replies < length (desk_at array.old.clients client).items }
@@ -112,7 +125,6 @@ fn begin_fail<L: Layout, D: Disk>(array: &mut Array<L, D>, client: u32, column: 
     fail_column(array, column);
 }
 
-// What becomes of the core.
 fn begin_item<L: Layout, D: Disk>(array: &mut Array<L, D>, client: u32)
     requires sound { IsSound L.Layout D.Disk array.old }
     requires can { CanBegin array.old client }

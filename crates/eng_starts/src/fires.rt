@@ -20,7 +20,6 @@ use eng_state::Array;
 use eng_world::Traced;
 use lay_core::Layout;
 
-// The node is marked as out.
 fn mark_out<L: Layout, D: Disk>(array: &mut Array<L, D>, client: u32, node: u32, at: Option<Spot>)
     requires client { client < length array.old.clients }
     requires lends { Lends array.old.graphs.items (desk_at array.old.clients client) }
@@ -31,7 +30,6 @@ fn mark_out<L: Layout, D: Disk>(array: &mut Array<L, D>, client: u32, node: u32,
     array.clients.fire(client, node, at, &array.graphs);
 }
 
-// What becomes of the core as a node is fired.
 fn fire_node<L: Layout, D: Disk>(array: &mut Array<L, D>, client: u32, node: u32) -> Job<D>
     requires sound { IsSound L.Layout D.Disk array.old }
     requires place { HasRoom array.old.log }

@@ -12,7 +12,7 @@ ghost use Rattle.eng_state.specs.Can.{place_now, CanFire};
 ghost use Rattle.eng_state.specs.Moves.{DeviceLeft, IsTaken};
 ghost use Rattle.eng_state.specs.Out.{AreSources, IsWork, first_of};
 
-use blk_disk::Disk;
+use blk_disk::{DATA_SECTOR, Disk};
 use buf_pool::Buffer;
 use eng_cols::Spot;
 use eng_job::{Source, Work};
@@ -34,7 +34,6 @@ pub struct Packed<D> {
     pub(crate) sources: Vec<Source>,
 }
 
-// A device leaves.
 fn device_leaves<L: Layout, D: Disk>(array: &mut Array<L, D>, device: u32) -> D
     requires { IsHome array.old.devices device }
     ensures was { seen_at array.old.devices device ≡ Some (record { out = false; device = result }) }
@@ -43,7 +42,6 @@ fn device_leaves<L: Layout, D: Disk>(array: &mut Array<L, D>, device: u32) -> D
     array.devices.leave(device)
 }
 
-// The device and the buffer of a call leave.
 fn call_leaves<L: Layout, D: Disk>(
     array: &mut Array<L, D>,
     client: u32,
@@ -70,13 +68,12 @@ fn call_leaves<L: Layout, D: Disk>(
     let buffer = array.buffer_leaves(client, buf);
     Leaving {
         disk,
-        first: 64 + at.row as u64 * array.layout.unit_sectors() as u64 + range.from as u64,
+        first: DATA_SECTOR + at.row as u64 * array.layout.unit_sectors() as u64 + range.from as u64,
         buffer,
         count: range.count,
     }
 }
 
-// A list for a job's sources leaves.
 fn list_leaves<L: Layout, D: Disk>(array: &mut Array<L, D>) -> Vec<Source>
     requires { 0 < array.old.lists }
     ensures less { array.new.lists + 1 ≡ array.old.lists }

@@ -20,7 +20,6 @@ use eng_state::Array;
 use eng_world::Traced;
 use lay_core::{Layout, Place};
 
-// Whether the place lies on the column.
 fn is_on(place: Option<Place>, column: u32) -> bool
     ensures { result ≡ is_place_on place column }
 {
@@ -47,7 +46,6 @@ fn is_unit<L: Layout>(layout: &L, cols: &Cols, column: u32, stripe: u32, unit: u
     }
 }
 
-// Whether the stripe is one of the column's.
 fn has_unit<L: Layout>(layout: &L, cols: &Cols, column: u32, stripe: u32) -> bool
     requires fit { IsFor (L.shape layout.now) cols.now }
     requires stripe { stripe < (L.shape layout.now).stripes }
@@ -94,7 +92,6 @@ fn list_stripes<L: Layout>(layout: &L, cols: &Cols, column: u32, rebuilds: &mut 
     }
 }
 
-// The column's rebuilds are listed.
 fn list_rebuilds<L: Layout, D: Disk>(array: &mut Array<L, D>, column: u32)
     requires fit { IsFor (L.shape array.old.layout) array.old.cols }
     requires none { array.old.rebuilds.items ≡ [] }
@@ -117,7 +114,6 @@ fn hand_over_rebuilds<L: Layout, D: Disk>(array: &mut Array<L, D>)
         .hand_over(&mut array.clients, limits::CLIENTS);
 }
 
-// The column is filling.
 fn begin_filling<L: Layout, D: Disk>(array: &mut Array<L, D>, column: u32, device: u32)
     requires dead { slice_get array.old.cols.states column ≡ Some Dead }
     requires only { list_any is_filling array.old.cols.states ≡ false }
@@ -127,7 +123,6 @@ fn begin_filling<L: Layout, D: Disk>(array: &mut Array<L, D>, column: u32, devic
     array.cols.fill(column, device);
 }
 
-// The column is spread.
 fn begin_spreading<L: Layout, D: Disk>(array: &mut Array<L, D>, column: u32)
     requires dead { slice_get array.old.cols.states column ≡ Some Dead }
     requires only { list_any is_spread array.old.cols.states ≡ false }

@@ -19,7 +19,6 @@ use eng_world::Traced;
 use graph_mean::Phase;
 use lay_core::Layout;
 
-// The node is marked as skipped.
 fn mark_skipped<L: Layout, D: Disk>(array: &mut Array<L, D>, client: u32, node: u32)
     requires client { client < length array.old.clients }
     requires lends { Lends array.old.graphs.items (desk_at array.old.clients client) }

@@ -13,6 +13,7 @@ ghost use Rattle.eng_log.specs.Filled.{HasBuffers, Filled};
 ghost use Rattle.eng_log.specs.Log.{noted};
 ghost use Rattle.eng_state.specs.Moves.{id_of};
 ghost use Rattle.eng_plan.specs.Asked.{IsInside, mode_by, lease_by, lease_for};
+ghost use Rattle.eng_world.specs.Planning.{span_count};
 ghost use Rattle.eng_clients.specs.Planned.{IsPlanned, CanRun, IsRefusedFor};
 ghost use Rattle.eng_state.specs.Serves.{Serves, Stands, CanTake};
 ghost use Rattle.eng_state.specs.Sound.{IsSound};
@@ -24,7 +25,7 @@ use blk_disk::Disk;
 use blk_plain::{Op, OpId};
 use eng_clients::Asked;
 use eng_job::Job;
-use eng_plan::{lease_size, mode_by};
+use eng_plan::{lease_size, mode_by, span_count};
 use eng_state::Array;
 use eng_world::{Item, Reply, Traced};
 use graph_mean::Refusal;
@@ -57,7 +58,6 @@ pub(crate) fn plan<L: Layout, D: Disk>(
     )
 }
 
-// It takes its stripes.
 fn lock<L: Layout, D: Disk>(array: &mut Array<L, D>, client: u32, mode: Mode)
     requires client { client < length array.old.clients }
     requires owner { client < owners_of array.old.locks }
@@ -73,7 +73,7 @@ fn lock<L: Layout, D: Disk>(array: &mut Array<L, D>, client: u32, mode: Mode)
     prove!(taken);
 }
 
-// It leases that many buffers.
+// Leases the operation so many buffers.
 fn lend<L: Layout, D: Disk>(array: &mut Array<L, D>, client: u32, count: u32)
     requires client { client < length array.old.clients }
     requires fits { count ≤ length array.old.pool.free }
@@ -81,10 +81,7 @@ fn lend<L: Layout, D: Disk>(array: &mut Array<L, D>, client: u32, count: u32)
     ensures apart { StandsApart array.old.pool (desk_at array.new.clients client).lease array.new.pool }
     ensures now { array.new ≡ record array.old { pool = array.new.pool; clients = slice_set array.old.clients client (with_lease (desk_at array.old.clients client) (desk_at array.new.clients client).lease) } }
 {
-    match array.pool.lease(count) {
-        Ok(lease) => array.clients.hold(client, lease),
-        Err(_) => unreachable!(),
-    }
+    array.clients.hold(client, count, &mut array.pool);
 }
 
 // Its graph is run from the beginning.
@@ -102,23 +99,25 @@ pub(crate) fn fill_buffers<L: Layout, D: Disk>(array: &mut Array<L, D>, client: 
     requires client { client < length array.old.clients }
     requires there { (n : ℕ) → (desk_at array.old.clients client).file ≡ Some n → n < length array.old.graphs.items }
     requires buffers { HasBuffers (graph_of array.old.graphs.items (desk_at array.old.clients client)) array.old.pool (desk_at array.old.clients client).lease }
-    ensures filled { Filled (graph_of array.old.graphs.items (desk_at array.old.clients client)) op (desk_at array.old.clients client).lease array.old.pool array.new.pool }
+    requires few { span_count op ≤ 8 }
+    ensures filled { Filled (L.shape array.old.layout) (desk_at array.old.clients client).map.stripes (graph_of array.old.graphs.items (desk_at array.old.clients client)) op (desk_at array.old.clients client).lease array.old.pool array.new.pool }
     ensures rest { array.new ≡ record array.old { pool = array.new.pool } }
 {
     array
         .clients
-        .fill(client, &op, &array.graphs, &mut array.pool);
+        .fill(client, &array.layout, &op, &array.graphs, &mut array.pool);
 }
 
 // How many buffers its operation, which is planned, leases.
-fn size<L: Layout, D: Disk>(array: &Array<L, D>, client: u32, file: Option<u32>) -> u32
+fn size<L: Layout, D: Disk>(array: &Array<L, D>, client: u32, op: &Op, file: Option<u32>) -> u32
     requires client { client < length array.now.clients }
     requires few { length (desk_at array.now.clients client).map.stripes ≤ 16 }
+    requires spans { span_count op.now ≤ 8 }
     requires there { (n : ℕ) → file ≡ Some n → n < length array.now.graphs.items }
-    ensures { result ≡ lease_by (L.shape array.now.layout) array.now.graphs.items (length (desk_at array.now.clients client).map.stripes) file }
+    ensures { result ≡ lease_by (L.shape array.now.layout) array.now.graphs.items (length (desk_at array.now.clients client).map.stripes) (span_count op.now) file }
 {
     let stripes = array.clients.stripes(client).len() as u32;
-    lease_size(&array.layout, stripes, file, &array.graphs)
+    lease_size(&array.layout, stripes, span_count(op), file, &array.graphs)
 }
 
 // The planned operation takes its stripes and buffers, and its run begins.
@@ -136,7 +135,7 @@ fn settle<L: Layout, D: Disk>(array: &mut Array<L, D>, client: u32, op: Op, file
     ensures { Settled L.Layout array.old client op file array.new }
 {
     lock(array, client, mode_by(op));
-    let count = size(array, client, file);
+    let count = size(array, client, &op, file);
     lend(array, client, count);
     start(array, client);
     fill_buffers(array, client, op);
@@ -174,7 +173,7 @@ fn refuse<L: Layout, D: Disk>(array: &mut Array<L, D>, client: u32, cause: Refus
     requires place { array.old.log.keeps ≡ true → length array.old.log.trace < array.old.log.trace_room }
     ensures { array.new ≡ record array.old { clients = slice_set array.old.clients client (with_reply (desk_at array.old.clients client) (reply.Refused cause)); log = noted array.old.log (event.Take id) } }
 {
-    let _lease = array.clients.reply(client, Reply::Refused(cause));
+    array.clients.reply(client, Reply::Refused(cause));
     array.note(Traced::Take { id });
 }
 
@@ -211,7 +210,7 @@ fn take_item<L: Layout, D: Disk>(array: &mut Array<L, D>, client: u32)
     }
 }
 
-/// Acquires the client's operation, which waits: it is planned, holds its stripes, leases its buffers and begins. Where
+/// Takes the client's operation, which waits: it is planned, holds its stripes, leases its buffers and begins. Where
 /// the checker refuses its graph, it is replied so in the same event.
 pub fn take<L: Layout, D: Disk>(array: &mut Array<L, D>, client: u32)
     requires sound { IsSound L.Layout D.Disk array.old }

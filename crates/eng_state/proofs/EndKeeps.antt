@@ -239,7 +239,6 @@ module _ {L D : Type 0} (lay : LayoutGhosts L) (disk : DiskGhosts D) (old new : 
     seats = subst (λ (l : List Desk). SeatsOut l new.pool) (sym f.clients) (seats-ended old.clients c n o below2 marks2 out old.pool new.pool f.pool well.lease (λ a t. named-in c n a out t) (λ k ne. sound.well.apart k c ne) named-in sound.seats);
     locked = subst (λ (t : Table). Locked new.clients t) (sym f.locks) (subst (λ (l : List Desk). Locked l old.locks) (sym f.clients) locked2);
     jobs = jobs;
-    place = tt;
   }
     where
       shape : y ≡ lay.shape new.layout

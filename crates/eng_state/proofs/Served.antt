@@ -5,7 +5,7 @@ use Rattle.std.proofs.lemmas.Bool.{cases_lt}
 use Rattle.std.proofs.lemmas.List.{get_or_past, get_or-replicate, length-replicate}
 use Rattle.std.proofs.lemmas.Option.{slice_get_within}
 use Rattle.blk_plain.specs.declared.op.Op.{Op}
-use Rattle.blk_plain.specs.declared.op.Op.TheVariants.{Write, Read, Rebuild, Sync}
+use Rattle.blk_plain.specs.declared.op.Op.TheVariants.{Write, Writes, Read, Rebuild, Sync}
 use Rattle.buf_pool.specs.Pool as pool
 use Rattle.stripe_lock.specs.declared.mode.Mode.TheVariants.{Share, Exclude}
 use Rattle.lay_core.specs.Layout.{Shape, IsLayout}
@@ -32,7 +32,7 @@ use Rattle.eng_state.specs.Steps.{graphs_of}
 use Rattle.eng_state.proofs.Putting.{none-out-sum}
 use Rattle.eng_state.proofs.Plans.{planned-is}
 use Rattle.eng_state.proofs.Settling as settling
-use Rattle.graph_lib.proofs.SpanRanges.{span-few}
+use Rattle.graph_lib.proofs.SpanRanges.{spans-few}
 
 -- a client that does something is one of them
 pub busy-below : (y : Shape) (graphs : List Held) (p : pool.PoolView) (desks : List Desk) (c : ℕ) → AreWell y graphs p desks → (desk_at desks c).stage ≢ Nothing → c < 17
@@ -45,6 +45,7 @@ busy-below y graphs p desks c well busy = elim (cases_lt c 17) [
 
 pub mode-kind : (y : Shape) (cols : List ColumnState) (op : Op) → mode_for (kind_of y cols op) ≡ mode_by op
 mode-kind y cols (Write span pattern) = refl
+mode-kind y cols (Writes patches) = refl
 mode-kind y cols (Read span) = refl
 mode-kind y cols (Rebuild stripe) = refl
 mode-kind y cols (Sync stripe) = refl
@@ -52,6 +53,7 @@ mode-kind y cols (Sync stripe) = refl
 -- what shares its stripes is a read
 pub share-read : (op : Op) → mode_by op ≡ Share → IsRead (Some op)
 share-read (Write span pattern) is = let z : Exclude ≡ Share = is in absurd (let u : ⊥ = cc in u)
+share-read (Writes patches) is = let z : Exclude ≡ Share = is in absurd (let u : ⊥ = cc in u)
 share-read (Read span) is = tt
 share-read (Rebuild stripe) is = let z : Exclude ≡ Share = is in absurd (let u : ⊥ = cc in u)
 share-read (Sync stripe) is = let z : Exclude ≡ Share = is in absurd (let u : ⊥ = cc in u)
@@ -129,7 +131,7 @@ module _ (y : Shape) (law : IsLayout y) (graphs : List Held) (cols : List Column
     accepted = runs.accepted;
     reached = begun-reached (graph_of graphs plan);
     lease = lease;
-    bufs = let b = settling.planned-bufs y law graphs cols op file plan serves.inside r.planned runs span-few in omega (arith, b, long);
+    bufs = let b = settling.planned-bufs y law graphs cols op file plan serves.inside r.planned runs spans-few in omega (arith, b, long);
   }
 
   pub mode-is : mode_for plan.task.kind ≡ mode_by op

@@ -1,6 +1,6 @@
 -- A planned operation that takes its stripes and buffers, and begins.
 use Rattle.std.proofs.Common.{◌≡◌, ℕ, ◌<◌, ◌≤◌, ◌+◌, ◌*◌, List, length, get_or, subst, sym, ap, ◌∙◌, arith, inl, inr, Option, Some, None}
-use Rattle.std.specs.Prelude.{slice_set}
+use Rattle.std.specs.Prelude.{min, slice_set}
 use Rattle.std.proofs.lemmas.Bool.{cases_lt}
 use Rattle.std.proofs.lemmas.List.{get_or_default, set-set}
 use Rattle.std.proofs.Math.Nat.{mul-le-mul_left}
@@ -13,14 +13,14 @@ use Rattle.graph_mean.specs.declared.refusal.Refusal.TheVariants.{Large}
 use Rattle.graph_mean.specs.Graph.{Held, View, buf_at}
 use Rattle.graph_mean.specs.Task.{Aim, task_of, missing_of}
 use Rattle.graph_mean.specs.Ordered.{IsOrdered}
-use Rattle.graph_lib.specs.Laws.{HasFewBufs, SpanFew}
+use Rattle.graph_lib.specs.Laws.{HasFewBufs, SpansFew}
 use Rattle.eng_cols.specs.Cols.{ColumnState}
-use Rattle.eng_world.specs.Planning.{kind_of}
+use Rattle.eng_world.specs.Planning.{kind_of, span_count}
 use Rattle.eng_state.specs.declared.array.Array.{Array}
 use Rattle.eng_clients.specs.Desk.{Desk, desk_at, graph_of, with_started, with_lease}
-use Rattle.eng_plan.specs.Asked.{no_graph, IsInside, span_of, lease_for}
+use Rattle.eng_plan.specs.Asked.{no_graph, IsInside, spans_by, stripes_by, lease_for}
 use Rattle.eng_clients.specs.Planned.{IsPlanned, IsDrawn, CanRun}
-use Rattle.eng_plan.proofs.Maps.{span-short}
+use Rattle.eng_plan.proofs.Maps.{op-spans, op-count, spans-few}
 use Rattle.eng_state.proofs.Shown.{desk-set}
 
 -- the graph of a desk by its number
@@ -32,7 +32,7 @@ module _ (y : Shape) (law : IsLayout y) (graphs : List Held) (cols : List Column
   g = graph_of graphs d
 
   pub planned-few : length d.map.stripes ≤ 16
-  planned-few = let a = span-short y law op inside in let b = p.split.stripes_many in omega (arith, a, b)
+  planned-few = p.split.stripes_few
 
   pub planned-nodes : length g.nodes ≤ 2048
   planned-nodes = elim (cases_lt 2048 (length g.nodes)) [ inl more ↦ absurd (r.free Large (inl more)) | inr few ↦ few ]
@@ -43,14 +43,20 @@ module _ (y : Shape) (law : IsLayout y) (graphs : List Held) (cols : List Column
   pub planned-few_bufs : length g.bufs ≤ 2048
   planned-few_bufs = elim (cases_lt 2048 (length g.bufs)) [ inl more ↦ absurd (r.free Large (inr (inl more))) | inr few ↦ few ]
 
-  by-file : SpanFew → (o : Option ℕ) → d.file ≡ o → IsDrawn graphs o d → length g.bufs ≤ lease_for y graphs op o
+  by-file : SpansFew → (o : Option ℕ) → d.file ≡ o → IsDrawn graphs o d → length g.bufs ≤ lease_for y graphs op o
   by-file span None is drawn =
       let few : HasFewBufs g (task_of y (kind_of y cols op) d.map) = subst (λ (t : Aim). HasFewBufs g t) p.task (r.bufs is) in
-      let most = few 2 (span y (kind_of y cols op) (span_of y op) d.map law p.split) in
-      subst (λ (n : ℕ). length g.bufs ≤ (2 * data_units y + 2) * (n + 2)) p.split.stripes_many most
+      let ranges = span y (kind_of y cols op) (spans_by y op) d.map law (op-spans y law op d.map p.split.split) in
+      let many = spans-few y law op in
+      let most = few (2 * span_count op) (omega (arith, ranges, many)) in
+      let all = planned-few_bufs in
+      le-min 2048 ((2 * data_units y + 2) * (stripes_by y op + 2 * span_count op)) (length g.bufs) all (subst (λ (n : ℕ). length g.bufs ≤ (2 * data_units y + 2) * (n + 2 * span_count op)) (op-count y law op d.map p.split) most)
+    where
+      le-min : (a b n : ℕ) → n ≤ a → n ≤ b → n ≤ min a b
+      le-min a b n x z = omega (arith, x, z)
   by-file span (Some n) is drawn = let e = ap (λ (v : View). length v.bufs) (lent-file graphs d n is drawn) in omega (arith, e)
 
-  pub planned-bufs : SpanFew → length g.bufs ≤ lease_for y graphs op file
+  pub planned-bufs : SpansFew → length g.bufs ≤ lease_for y graphs op file
   planned-bufs span = by-file span file p.file_is p.drawn
 
   ordered : IsOrdered g d.task (missing_of d.missing) r.accepted.0 r.accepted.1

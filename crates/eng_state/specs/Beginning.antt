@@ -1,7 +1,6 @@
 -- The beginning of a client's item.
 use Rattle.std.specs.Prelude.{◌≡◌, ◌<◌, ◌≤◌, ◌⊎◌, ℕ, Some, None, slice_get, slice_set}
 use Rattle.blk_plain.specs.declared.op.Op.{Op}
-use Rattle.blk_plain.specs.declared.op.Op.TheVariants.{Write, Read, Rebuild, Sync}
 use Rattle.lay_core.specs.Layout.{Shape}
 use Rattle.lay_core.specs.declared.layout.Layout.{Ghosts as LayoutGhosts}
 use Rattle.eng_cols.specs.Cols.{Dead}
@@ -10,19 +9,13 @@ use Rattle.eng_world.specs.declared.item.Item.TheVariants as item
 use Rattle.eng_world.specs.declared.item.Reply.{Reply}
 use Rattle.eng_world.specs.declared.item.Reply.TheVariants as reply
 use Rattle.eng_world.specs.Planning.{IsOut, IsLong}
+use Rattle.eng_plan.specs.Asked.{HasBlocks}
 use Rattle.eng_clients.specs.declared.stage.Stage.TheVariants.{Nothing}
 use Rattle.eng_state.specs.declared.array.Array.{Array}
 use Rattle.eng_clients.specs.Desk.{desk_at, item_at, with_reply, with_waiting}
 use Rattle.eng_state.specs.Failing.{FailedBy}
 
--- the operation has a block, if it has a span
-abbrev pub HasBlocks : Op → Type 0
-HasBlocks (Write span pattern) = 1 ≤ span.count
-HasBlocks (Read span) = 1 ≤ span.count
-HasBlocks (Rebuild stripe) = Unit {0}
-HasBlocks (Sync stripe) = Unit {0}
-
--- the item may be asked: a span isn't empty, and the column that is to fail is one of the array's
+-- the item may be asked: a span isn't empty, spans of one write share no block, and the column that is to fail is one of the array's
 abbrev pub IsAsked : Shape → Item → Type 0
 IsAsked y (item.Run op graph) = HasBlocks op
 IsAsked y (item.Fail column) = column < y.columns

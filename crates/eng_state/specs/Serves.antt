@@ -6,7 +6,6 @@ use Rattle.stripe_lock.specs.declared.mode.Mode.{Mode}
 use Rattle.stripe_lock.specs.declared.mode.Mode.TheVariants.{Share}
 use Rattle.lay_core.specs.Layout.{Shape}
 use Rattle.lay_core.specs.declared.layout.Layout.{Ghosts as LayoutGhosts}
-use Rattle.lay_core.specs.Touched.{IsSpanSplit}
 use Rattle.graph_mean.specs.declared.step.Status.TheVariants as status
 use Rattle.graph_mean.specs.declared.step.Phase.TheVariants as phase
 use Rattle.graph_mean.specs.Graph.{Held}
@@ -18,7 +17,7 @@ use Rattle.eng_clients.specs.declared.stage.Stage.TheVariants.{Nothing, Waits, R
 use Rattle.eng_state.specs.declared.array.Array.{Array}
 use Rattle.eng_clients.specs.Desk.{Desk, desk_at, item_at}
 use Rattle.eng_state.specs.Sound.{mode_for}
-use Rattle.eng_plan.specs.Asked.{IsInside, span_of, mode_by, lease_for}
+use Rattle.eng_plan.specs.Asked.{IsInside, IsOpSplit, mode_by, lease_for}
 
 -- the client serves this operation, which is in range, and whose graph is there
 pub record Serves (graphs : List Held) (y : Shape) (d : Desk) (op : Op) (file : Option ℕ) : Type 0 where
@@ -28,7 +27,7 @@ pub record Serves (graphs : List Held) (y : Shape) (d : Desk) (op : Op) (file : 
 
 -- It runs: its stripes are the operation's, held by the operation's mode, and so many buffers are leased; and once it is undone no node is out, and it is known by which device.
 pub record RunsOn (graphs : List Held) (y : Shape) (d : Desk) (op : Op) (file : Option ℕ) : Type 0 where
-  pub split : IsSpanSplit y (span_of y op) d.map
+  pub split : IsOpSplit y op d.map
   pub mode : mode_for d.task.kind ≡ mode_by op
   pub lease : length d.lease ≡ lease_for y graphs op file
   pub undone : d.run.phase ≡ phase.Undone → (n : ℕ) → mark_of d.run n ≢ status.Out

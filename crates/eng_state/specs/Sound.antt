@@ -27,7 +27,6 @@ use Rattle.eng_state.specs.declared.array.Array.{Array}
 use Rattle.eng_parts.specs.Shelf.{Seen, Shelved, seen_at, IsAway, has_failed}
 use Rattle.eng_clients.specs.Seats.{seat_of}
 use Rattle.eng_clients.specs.Desk.{Desk, Lends, desk_at, item_at, plan_of, spot_at}
-use Rattle.eng_log.specs.Log.{Logged}
 
 -- ## What is out
 
@@ -126,11 +125,7 @@ pub record Seated {D : Type 0} (disk : DiskGhosts D) (y : Shape) (cols : Columns
   pub there : (c device : ℕ) → HasDevice cols.states c device → (x : Seen D) × (seen_at s device ≡ Some x) × (64 + y.rows * y.unit_sectors ≤ disk.size x.device)
   pub unfailed : (c device : ℕ) → HasDevice cols.states c device → has_failed s device ≡ false
 
--- ## Room
-
--- the history has place for each operation that hasn't entered it, and the trace, where it is kept, for each event that may come
-abbrev pub HasPlace : Logged → Type 0
-HasPlace l = Unit {0}
+-- ## All of it
 
 module _ {L D : Type 0} (lay : LayoutGhosts L) (disk : DiskGhosts D) where
   -- all of it
@@ -143,4 +138,3 @@ module _ {L D : Type 0} (lay : LayoutGhosts L) (disk : DiskGhosts D) where
     pub seats : SeatsOut core.clients core.pool
     pub locked : Locked core.clients core.locks
     pub jobs : core.lists + sum_by jobs_of core.clients ≡ 32
-    pub place : HasPlace core.log

@@ -43,7 +43,7 @@ module _ {L D : Type 0} (lay : LayoutGhosts L) where
     pub locks : table.Acquires old.locks c (desk_at old.clients c).map.stripes (mode_by op) new.locks
     pub leases : held.Leases old.pool (lease_for (lay.shape old.layout) old.graphs.items op file) lease mid
     pub apart : held.StandsApart old.pool lease mid
-    pub filled : Filled (graph_of old.graphs.items (desk_at old.clients c)) op lease mid new.pool
+    pub filled : Filled (lay.shape old.layout) (desk_at old.clients c).map.stripes (graph_of old.graphs.items (desk_at old.clients c)) op lease mid new.pool
     pub now : new ≡ record old { locks = new.locks; pool = new.pool; clients = slice_set old.clients c (with_started old.graphs.items (with_lease (desk_at old.clients c) lease)) }
 
   -- the operation was planned and runs, with stripes and buffers of its own
@@ -57,7 +57,7 @@ module _ {L D : Type 0} (lay : LayoutGhosts L) where
     pub mid : held.PoolView
     pub leases : held.Leases old.pool (lease_for (lay.shape old.layout) old.graphs.items op file) lease mid
     pub apart : held.StandsApart old.pool lease mid
-    pub filled : Filled (graph_of old.graphs.items plan) op lease mid new.pool
+    pub filled : Filled (lay.shape old.layout) plan.map.stripes (graph_of old.graphs.items plan) op lease mid new.pool
     pub log : new.log ≡ noted old.log event
     pub rest : SameRest old new
 
@@ -86,7 +86,7 @@ module _ {L D : Type 0} (lay : LayoutGhosts L) where
     pub runs : CanRun old.graphs.items plan
     pub clients : new.clients ≡ slice_set old.clients c (with_started old.graphs.items plan)
     pub locks : new.locks ≡ old.locks
-    pub filled : Filled (graph_of old.graphs.items plan) op plan.lease old.pool new.pool
+    pub filled : Filled (lay.shape old.layout) plan.map.stripes (graph_of old.graphs.items plan) op plan.lease old.pool new.pool
     pub log : new.log ≡ noted old.log event
     pub rest : SameRest old new
 

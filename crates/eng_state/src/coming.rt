@@ -22,7 +22,6 @@ pub struct Coming<D> {
 }
 
 impl<L: Layout, D: Disk> Array<L, D> {
-    // A device comes home.
     fn device_home(&mut self, device: u32, disk: D)
         requires { (x : D) × IsAway self.old.devices device x }
         ensures { self.new ≡ record self.old { devices = come_home self.old.devices device disk } }
@@ -52,7 +51,6 @@ impl<L: Layout, D: Disk> Array<L, D> {
         self.lists.put(sources);
     }
 
-    // A node that was out has ended.
     fn mark_ended(&mut self, client: u32, node: u32, outcome: Outcome)
         requires client { client < length self.old.clients }
         requires can { CanEnd self.old client node outcome }

@@ -1,14 +1,13 @@
 //! An event is traced, and an item replied.
 ghost use Rattle.std.specs.Prelude.{◌≡◌, ◌<◌, true, length, slice_set};
 ghost use Rattle.eng_world.specs.declared.item.Traced.TheVariants as event;
-ghost use Rattle.eng_clients.specs.Desk.{desk_at, seats_of, with_reply};
+ghost use Rattle.eng_clients.specs.Desk.{desk_at, with_reply};
 ghost use Rattle.eng_log.specs.Log.{noted};
 ghost use Rattle.eng_state.specs.Moves.{id_of};
 
 use crate::array::Array;
 use blk_disk::Disk;
 use blk_plain::OpId;
-use buf_pool::Lease;
 use eng_world::{Reply, Traced};
 use lay_core::Layout;
 
@@ -32,13 +31,12 @@ impl<L: Layout, D: Disk> Array<L, D> {
         self.log.note(event);
     }
 
-    /// A client's item is replied. Its lease, if it has one, is handed out.
-    pub fn reply(&mut self, client: u32, reply: Reply) -> Option<Lease>
+    /// A client's item is replied, and it has no lease any more.
+    pub fn reply(&mut self, client: u32, reply: Reply)
         requires client { client < length self.old.clients }
         requires left { length (desk_at self.old.clients client).replies < length (desk_at self.old.clients client).items }
-        ensures now { self.new ≡ record self.old { clients = slice_set self.old.clients client (with_reply (desk_at self.old.clients client) reply) } }
-        ensures lease { seats_of result ≡ (desk_at self.old.clients client).lease }
+        ensures { self.new ≡ record self.old { clients = slice_set self.old.clients client (with_reply (desk_at self.old.clients client) reply) } }
     {
-        self.clients.reply(client, reply)
+        self.clients.reply(client, reply);
     }
 }

@@ -56,11 +56,6 @@ pub kept_end : (kept : List ℕ) → length kept ≤ 16385 → with_kept kept (n
 unfolding numbers_of
 kept_end kept h = ap (λ (xs : List ℕ). Ok xs) (rw (append-nil kept) (few_kept kept h))
 
--- what refuses the numbers that are kept refuses them
-pub refused_without : (kept : List ℕ) (read : Result (List ℕ) ℕ) (code : ℕ) → with_kept kept read ≡ Err code → read ≡ Err code
-refused_without kept (Ok ns) code h = absurd (cc)
-refused_without kept (Err e) code h = cc
-
 -- ---- sources
 
 pub source_kept : (kept : List ℕ) (word : Text) (words : List Text) (n : ℕ) → bytes_eq word (codes "after") ≡ false → Ok n ≡ number_in word
@@ -83,10 +78,6 @@ sources_end kept h = ap (λ (xs : List ℕ). Ok (xs, None)) (rw (append-nil kept
 pub sources_after : (kept : List ℕ) (word : Text) (words : List Text) → length kept ≤ 16385 → bytes_eq word (codes "after") ≡ true → with_kept_sources kept (sources_of (word ∷ words)) ≡ Ok (kept, Some words)
 unfolding sources_of
 sources_after kept word words h is = rw is (ap (λ (xs : List ℕ). Ok (xs, Some words)) (rw (append-nil kept) (few_kept kept h)))
-
-pub sources_refused_without : (kept : List ℕ) (read : Result (List ℕ × Option (List Text)) ℕ) (code : ℕ) → with_kept_sources kept read ≡ Err code → read ≡ Err code
-sources_refused_without kept (Ok s) code h = absurd (cc)
-sources_refused_without kept (Err e) code h = cc
 
 -- ---- antecedents
 

@@ -46,7 +46,6 @@ impl Book {
         })
     }
 
-    /// Appends a graph.
     pub(crate) fn push(&mut self, name: Name, graph: Graph)
         requires { length self.old < 64 }
         ensures { self.new ≡ self.old ++ record { name = name; graph = graph.drawn } ∷ [] }
@@ -55,7 +54,6 @@ impl Book {
         self.graphs.push_reserved(graph);
     }
 
-    /// Whether a graph has this name.
     pub(crate) fn has(&self, name: &[u8]) -> bool
         ensures { result ≡ has_name self.now name.now }
     {
@@ -96,7 +94,6 @@ impl Book {
     }
 }
 
-// Whether the name is among these.
 fn is_among(names: &[Name], name: &[u8]) -> bool
     ensures { result ≡ list_any (λ n. bytes_eq n name.now) names.now }
 {

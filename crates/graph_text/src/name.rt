@@ -48,14 +48,12 @@ impl Name {
     }
 }
 
-// Whether a byte may stand in a name.
 fn is_name_byte(b: u8) -> bool
     ensures { result ≡ is_name_byte b }
 {
     (b'a' <= b && b <= b'z') || ((b'0' <= b && b <= b'9') || (b == b'_' || b == b'-'))
 }
 
-// Whether each byte may stand in a name.
 fn are_name_bytes(word: &[u8]) -> bool
     ensures { result ≡ list_all is_name_byte word.now }
 {

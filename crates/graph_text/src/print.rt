@@ -102,7 +102,6 @@ fn push_head(text: &mut Vec<u8>, name: &[u8]) -> Result<(), Memory>
     Ok(())
 }
 
-// Appends the line of a buffer of this number.
 fn push_buffer(text: &mut Vec<u8>, i: u32, buf: Buf) -> Result<(), Memory>
     ensures line { OnOk result (
         text.new.items ≡ text.old.items
@@ -161,7 +160,6 @@ fn push_node_line(
     Ok(())
 }
 
-// Appends the line of a return.
 fn push_return(text: &mut Vec<u8>, ret: Ret) -> Result<(), Memory>
     ensures line { OnOk result (text.new.items ≡ text.old.items ++ line_text (return_places ret)) }
     ensures words { IsWordRet ret }
@@ -173,7 +171,6 @@ fn push_return(text: &mut Vec<u8>, ret: Ret) -> Result<(), Memory>
     Ok(())
 }
 
-// Appends the lines of all buffers.
 fn push_buffers(text: &mut Vec<u8>, graph: &Graph) -> Result<(), Memory>
     ensures lines { OnOk result (
         text.new.items ≡ text.old.items
@@ -187,7 +184,6 @@ fn push_buffers(text: &mut Vec<u8>, graph: &Graph) -> Result<(), Memory>
     Ok(())
 }
 
-// Appends the lines of all nodes.
 fn push_nodes(text: &mut Vec<u8>, graph: &Graph) -> Result<(), Memory>
     ensures lines { OnOk result (
         text.new.items ≡ text.old.items
@@ -201,7 +197,6 @@ fn push_nodes(text: &mut Vec<u8>, graph: &Graph) -> Result<(), Memory>
     Ok(())
 }
 
-// Appends the lines of all returns.
 fn push_returns(text: &mut Vec<u8>, graph: &Graph) -> Result<(), Memory>
     ensures lines { OnOk result (
         text.new.items ≡ text.old.items

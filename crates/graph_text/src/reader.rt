@@ -111,7 +111,6 @@ impl Reader {
         }
     }
 
-    // Reads a line.
     #[tactic(auto, unfolding(crate::specs::Format::after_line))]
     fn read(&mut self, alloc: Global, line: &Line) -> Result<(), LineFault>
         ensures { GivesRead result self.new (after_line self.old (seen_line line.now)) }

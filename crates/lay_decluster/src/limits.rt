@@ -6,7 +6,6 @@ use crate::fault::TableFault;
 use blk_plain::limits;
 use lay_design::Design;
 
-/// The stripes that so many rows make.
 pub(crate) fn stripes_in(design: &Design, rows: u32) -> u64
     ensures { result ≡ stripes_in design.now rows }
 {

@@ -25,7 +25,6 @@ fn push_counts(
     Ok(())
 }
 
-// Counts one more tuple.
 fn count_tuple(counts: &mut [u32], design: &Design, tuple: u32)
     requires tuple { tuple < design.now.b }
     requires counts { AreCounts design.now tuple counts.old }

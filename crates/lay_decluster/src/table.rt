@@ -31,7 +31,6 @@ impl Model for Table {
 }
 
 impl Table {
-    /// The table of a design.
     pub(crate) fn new(alloc: Global, design: Design) -> Result<Table, AllocError>
         ensures { IfOk result (λ table. table ≡ design) }
     {
@@ -39,7 +38,6 @@ impl Table {
         Ok(Table { design, offsets })
     }
 
-    /// The design that it is of.
     pub(crate) fn design(&self) -> &Design
         ensures { result.now ≡ self.now }
     {
@@ -54,7 +52,6 @@ impl Table {
         stripe / self.design.b() % self.design.k()
     }
 
-    /// Where a position of a stripe lies.
     pub(crate) fn seat(&self, stripe: u32, position: u32) -> Place
         requires position { position < self.now.k }
         requires fits { stripe / self.now.b * self.now.r + self.now.r ≤ 4294967295 }

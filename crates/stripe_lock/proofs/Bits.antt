@@ -75,9 +75,6 @@ removed_other owners owner i apart = same_bit (removed owners owner) owners i (r
 pub none_in : (i : ℕ) → is_in 0 i ≡ false
 none_in i = from_zero 0 i (bit_at-zero i)
 
-pub past_all : (owners owner : ℕ) → owners < 2 ^ 32 → 32 ≤ owner → is_in owners owner ≡ false
-past_all owners owner low past = from_zero owners owner (bit_at_above owners 32 owner low past)
-
 -- the set has no bit for the owner, or it is cleared
 pub removed_own_any : (owners owner : ℕ) → owners < 2 ^ 32 → is_in (removed owners owner) owner ≡ false
 removed_own_any owners owner low = elim (cases_lt owner 32) [

@@ -112,18 +112,6 @@ grows_by_new rows new at owner stripe mode h low up is none now new_is =
 
 -- ---- several stripes
 
-pub grows_none : (rows : List Row) (owner : ℕ) (mode : Mode) → IsAscending rows → Grows rows owner [] mode rows
-grows_none rows owner mode up = record {
-  each = λ s has. let within = has.1 in absurd (omega arith);
-  only = λ s none. refl;
-  others = λ o s apart. refl;
-  ascending = up;
-  held = λ held. held;
-  long = omega arith;
-  own = omega arith;
-  theirs = λ o apart. omega arith;
-}
-
 pub grows_more : (old middle new : List Row) (owner stripe : ℕ) (stripes : List ℕ) (mode : Mode) → Grows old owner stripes mode middle → Grows middle owner (stripe ∷ []) mode new → Grows old owner (stripes ++ stripe ∷ []) mode new
 grows_more old middle new owner stripe stripes mode first then' =
     let long = length-append stripes (stripe ∷ []) in

@@ -35,14 +35,12 @@ fn without(owners: u32, owner: u32) -> u32
 }
 
 impl Holder {
-    /// No owner.
     pub(crate) fn nobody() -> Holder
         ensures { result ≡ Holder.Sharers 0 }
     {
         Holder::Sharers(0)
     }
 
-    /// This owner and no other.
     pub(crate) fn only(owner: u32, mode: Mode) -> Holder
         ensures { result ≡ only owner mode }
     {
@@ -62,7 +60,6 @@ impl Holder {
         }
     }
 
-    /// Without this owner.
     pub(crate) fn without(self, owner: u32) -> Holder
         ensures { result ≡ left self owner }
     {
@@ -73,7 +70,6 @@ impl Holder {
         }
     }
 
-    /// Whether there is an owner.
     pub(crate) fn is_held(self) -> bool
         ensures { result ≡ is_held self }
     {

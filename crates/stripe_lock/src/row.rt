@@ -34,7 +34,6 @@ fn place(rows: &[Row], stripe: u32) -> usize
     low
 }
 
-// Whether the row at this place is the stripe's.
 #[tactic(auto, using(crate::proofs::Rows::row_by_test, crate::proofs::Rows::no_row))]
 fn has_row(rows: &[Row], at: usize, stripe: u32) -> bool
     ensures { IsTrue result ↔ HasRow rows.now stripe at }
@@ -42,7 +41,6 @@ fn has_row(rows: &[Row], at: usize, stripe: u32) -> bool
     at < rows.len() && rows[at].stripe == stripe
 }
 
-// Who holds a stripe.
 fn holder_of(rows: &[Row], stripe: u32) -> Holder
     requires { IsAscending rows.now }
     ensures { (owner : ℕ) → mode_in result owner ≡ mode_at rows.now owner stripe }

@@ -62,7 +62,6 @@ fn is_zero_lanes(bytes: &[u8], lanes: usize) -> bool
     true
 }
 
-// Whether each of a few bytes is 0.
 fn is_zero_rest(bytes: &[u8]) -> bool
     ensures { IsTrue result ↔ All (λ byte. byte ≡ 0) bytes.now }
 {

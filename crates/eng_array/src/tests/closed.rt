@@ -10,7 +10,6 @@ fn is_missing(rt: &impl Abort, device: usize) {
     same_at(rt, "there is device", device, false, true);
 }
 
-// The device of this number.
 fn device_of<L>(closed: &Closed<L, MemDisk>, device: usize) -> Option<&MemDisk> {
     match closed.devices.get(device) {
         Some(Some(disk)) => Some(disk),
@@ -18,7 +17,6 @@ fn device_of<L>(closed: &Closed<L, MemDisk>, device: usize) -> Option<&MemDisk> 
     }
 }
 
-// The replies to the client of this number.
 fn replies_of<L>(closed: &Closed<L, MemDisk>, client: usize) -> Option<&[Reply]> {
     match closed.replies.get(client) {
         Some(replies) => Some(replies.as_slice()),
@@ -26,7 +24,6 @@ fn replies_of<L>(closed: &Closed<L, MemDisk>, client: usize) -> Option<&[Reply]>
     }
 }
 
-// The replies to a client.
 pub(super) fn replied<L>(
     rt: &impl Abort,
     closed: &Closed<L, MemDisk>,
@@ -47,12 +44,10 @@ pub(super) fn history<L>(rt: &impl Abort, closed: &Closed<L, MemDisk>, wanted: &
     same(rt, closed.history.as_slice(), wanted);
 }
 
-// By which columns the array is lost, if it is.
 pub(super) fn lost<L>(rt: &impl Abort, closed: &Closed<L, MemDisk>, wanted: Option<Loss>) {
     same(rt, closed.lost, wanted);
 }
 
-// What each column is.
 pub(super) fn columns<L>(rt: &impl Abort, closed: &Closed<L, MemDisk>, wanted: &[Column]) {
     same(rt, closed.columns.as_slice(), wanted);
 }
@@ -70,7 +65,6 @@ fn call_of(told: Told) -> Call {
     }
 }
 
-// The calls of a device are these.
 fn are_calls(rt: &impl Abort, device: usize, kept: &[Call], calls: &[Told]) {
     same_at(rt, "calls of device", device, kept.len(), calls.len());
     for (call, told) in kept.iter().zip(calls) {
@@ -78,7 +72,6 @@ fn are_calls(rt: &impl Abort, device: usize, kept: &[Call], calls: &[Told]) {
     }
 }
 
-// The calls of a device.
 pub(super) fn has_calls<L>(
     rt: &impl Abort,
     closed: &Closed<L, MemDisk>,

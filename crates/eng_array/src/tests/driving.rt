@@ -15,7 +15,6 @@ use std::test::Fail;
 // The most events of a run.
 const TURNS: u32 = 10000;
 
-// Does the event.
 pub(super) fn turn<L: Layout, D: Disk>(core: &mut Core<L, D>, event: Event)
     requires steady { IsSteady L.Layout D.Disk core.old.array }
     requires can { CanDo L.Layout core.old.array event }
@@ -47,7 +46,6 @@ pub(super) fn drain<L: Layout, D: Disk>(core: &mut Core<L, D>)
     }
 }
 
-// Closes a core that is at rest.
 pub(super) fn rested<L: Layout + Drop, D: Disk + Drop>(
     core: Core<L, D>,
 ) -> Result<Closed<L, D>, Fail>

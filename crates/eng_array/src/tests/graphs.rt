@@ -68,7 +68,6 @@ fn by_graph(item: Item) -> Item {
     }
 }
 
-// What these items leave with this graph.
 fn ran_by(
     rt: &impl Abort,
     alloc: Global,

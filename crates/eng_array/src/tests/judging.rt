@@ -3,12 +3,10 @@
 use std::fmt::Debug;
 use std::process::Abort;
 
-/// What was found is what is wanted.
 pub(super) fn same<T: PartialEq + Debug + Drop>(rt: &impl Abort, found: T, wanted: T) {
     assert_eq!(rt; found, wanted);
 }
 
-/// What was found at the thing of this kind and number is what is wanted.
 pub(super) fn same_at<T: PartialEq + Debug + Drop>(
     rt: &impl Abort,
     kind: &str,

@@ -1,7 +1,10 @@
 //! Openings of small setups: what an opening asks is tested, and the test is proved.
 ghost use Rattle.std.specs.Prelude.{ℕ, ◌≡◌, ◌≤◌, ◌*◌, ◌+◌, length, IfOk, IsTrue, All};
+ghost use Rattle.blk_plain.specs.declared.op.Op.TheVariants as op;
+ghost use Rattle.blk_plain.specs.Plain.{spans_of, used_of};
 ghost use Rattle.eng_log.specs.Laid.{item_sectors};
 ghost use Rattle.eng_world.specs.Step.{MayBeAsked};
+ghost use Rattle.eng_plan.specs.Asked.{HasBlocks};
 ghost use Rattle.eng_state.specs.Beginning.{IsAsked};
 ghost use Rattle.eng_events.specs.Opened.{IsSetup, IsOpened, NamesGraph};
 ghost use Rattle.eng_array.specs.Fitting.{FitsTrace, FitsRebuild, FitsRebuilding};
@@ -10,7 +13,7 @@ ghost use Rattle.eng_array.specs.Steady.{IsSteady};
 
 use crate::{Core, CoreRoom, Item, Setup};
 use blk_disk::Disk;
-use blk_plain::Op;
+use blk_plain::{Op, Patches, are_apart};
 use eng_cols::Column;
 use graph_mean::Graph;
 use lay_core::Layout;
@@ -38,7 +41,6 @@ fn is_own<D: Disk>(column: Column, number: usize, devices: &[Option<D>], need: u
     }
 }
 
-// Whether each column is.
 fn are_own<D: Disk>(columns: &[Column], devices: &[Option<D>], need: u64) -> bool
     ensures { IsTrue result → AreOwn D.Disk devices.now need columns.now }
 {
@@ -48,6 +50,27 @@ fn are_own<D: Disk>(columns: &[Column], devices: &[Option<D>], need: u64) -> boo
         }
     }
     true
+}
+
+// Where each patch has a block each span has one.
+fn spans_have_blocks(patches: &Patches)
+    requires { All (λ p. 1 ≤ p.span.count) (used_of patches.now) }
+    ensures { All (λ s. 1 ≤ s.count) (spans_of patches.now) }
+{}
+
+// Whether each of the spans of a write has a block, and no two share one.
+fn are_sound(patches: &Patches) -> bool
+    ensures { IsTrue result → HasBlocks (op.Writes patches.now) }
+{
+    if patches.used == 0 || patches.used > 8 {
+        return false;
+    }
+    let used = &patches.list[..patches.used as usize];
+    if !used.iter().all(|p| p.span.count > 0) {
+        return false;
+    }
+    spans_have_blocks(patches);
+    are_apart(patches)
 }
 
 // Whether the operation may be asked, with a graph of the file if one is named.
@@ -61,6 +84,7 @@ fn may_run<L: Layout>(layout: &L, graphs: usize, op: Op, graph: Option<u32>) -> 
     }
     match op {
         Op::Write { span, .. } => 1 <= span.count,
+        Op::Writes { patches } => are_sound(&patches),
         Op::Read { span } => 1 <= span.count && span.count <= 1024,
         Op::Rebuild { .. } => graph.is_none(),
         Op::Sync { .. } => true,

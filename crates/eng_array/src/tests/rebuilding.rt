@@ -10,7 +10,6 @@ use lay_core::Layout;
 use std::alloc::Global;
 use std::test::Fail;
 
-// Whether there is such a column, and it is dead.
 fn is_dead(columns: &[Column], column: u32) -> bool
     ensures { IsTrue result → slice_get columns.now column ≡ Some Column.Dead }
 {

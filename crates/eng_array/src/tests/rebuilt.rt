@@ -58,7 +58,6 @@ fn first_done(core: &mut Core<Spared, MemDisk>) -> bool
     reaches(core, 16, BEGIN)
 }
 
-// What each column is.
 fn are(rt: &impl Abort, closed: &Closed<Spared, MemDisk>, first: Column, second: Column) {
     columns(
         rt,
@@ -72,7 +71,6 @@ fn are(rt: &impl Abort, closed: &Closed<Spared, MemDisk>, first: Column, second:
     );
 }
 
-// How many stripes are rebuilt.
 fn rebuilt(rt: &impl Abort, closed: &Closed<Spared, MemDisk>, wanted: u32) {
     same(rt, closed.rebuilt, wanted);
 }

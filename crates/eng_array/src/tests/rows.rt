@@ -1,7 +1,7 @@
 //! One client, and no device fails.
 use super::closed::{columns, handed, has_calls, history, holds, lost, replied};
 use super::judging::same;
-use super::{id, ran, read, sync, write, written};
+use super::{id, ran, read, sync, write, writes, written};
 use crate::{Column, Reply};
 use std::test::Fail;
 
@@ -29,6 +29,25 @@ fn what_was_written_is_read(rt: HostRuntime) -> Result<(), Fail> {
     holds(&rt, &closed, 0, 64, &[0xa5]);
     holds(&rt, &closed, 1, 64, &[]);
     holds(&rt, &closed, 2, 64, &[0xa5]);
+    Ok(())
+}
+
+// Block 0 is unit 0 of stripe 0, and block 3 is unit 1 of stripe 1: each write reads the other unit of its stripe, and one
+// commit lies before all four writes. Spans that touch 17 stripes together are refused.
+#[test]
+fn two_spans_are_one_operation(rt: HostRuntime) -> Result<(), Fail> {
+    let items = [
+        writes((0, 1, 0x11), (3, 1, 0x22)),
+        writes((0, 32, 0x33), (40, 1, 0x44)),
+        read(0, 4),
+    ];
+    let closed = ran(&rt, rt.alloc(), &[&[], &[], &[]], &[&items])?;
+    replied(&rt, &closed, 0, &[Reply::Done, Reply::Long, Reply::Data]);
+    history(&rt, &closed, &[id(0, 0), id(0, 2)]);
+    handed(&rt, &closed, &[0x11, 0, 0, 0x22]);
+    holds(&rt, &closed, 0, 64, &[0x11, 0x22]);
+    holds(&rt, &closed, 1, 64, &[0, 0x22]);
+    holds(&rt, &closed, 2, 64, &[0x11]);
     Ok(())
 }
 

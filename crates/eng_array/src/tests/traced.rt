@@ -83,7 +83,6 @@ fn goes_back(rt: &impl Abort, trace: &[Traced], id: OpId) {
     same(rt, trace.get(..5), Some(first.as_slice()));
 }
 
-// Whether the event is that a node of the operation ends well.
 fn ends_well(event: &Traced, operation: OpId) -> bool {
     match event {
         Traced::Good { id, .. } => *id == operation,
@@ -91,7 +90,6 @@ fn ends_well(event: &Traced, operation: OpId) -> bool {
     }
 }
 
-// So many nodes of the operation end well.
 fn end_well(rt: &impl Abort, trace: &[Traced], operation: OpId, nodes: usize) {
     let good = trace.iter().filter(|event| ends_well(*event, operation));
     same(rt, good.count(), nodes);

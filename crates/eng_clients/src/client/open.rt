@@ -8,6 +8,7 @@ use crate::client::Client;
 use crate::memory::Memory;
 use crate::stage::Stage;
 use blk_plain::limits;
+use buf_pool::Lease;
 use eng_cols::{Loss, Spot};
 use eng_one::Run;
 use eng_world::{Item, Reply};
@@ -59,7 +60,7 @@ impl Client {
             task,
             map,
             missing,
-            lease: None,
+            lease: Lease::empty(),
             spots,
             by: None,
             file: None,

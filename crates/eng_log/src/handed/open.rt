@@ -24,7 +24,7 @@ fn op_sectors(op: &Op) -> u32
 {
     match op {
         Op::Read { span } => span.count,
-        Op::Write { .. } | Op::Rebuild { .. } | Op::Sync { .. } => 0,
+        Op::Write { .. } | Op::Writes { .. } | Op::Rebuild { .. } | Op::Sync { .. } => 0,
     }
 }
 
@@ -38,7 +38,6 @@ fn item_sectors(item: &Item) -> u32
     }
 }
 
-// So many bytes, all zero.
 fn zero_bytes(alloc: Global, count: u32) -> Result<Vec<u8>, Memory>
     ensures { IfOk result (λ bytes. bytes.items ≡ replicate count 0) }
 {

@@ -32,7 +32,6 @@ impl<D> Model for DeviceRoom<D> {
     } };
 }
 
-// The slot of a device that is brought in, if there is one.
 fn slot_of<D>(device: Option<D>) -> Slot<D>
     ensures { seen_in result ≡ brought device }
 {
@@ -42,7 +41,6 @@ fn slot_of<D>(device: Option<D>) -> Slot<D>
     }
 }
 
-// What is at home in a slot.
 fn device_of<D: Drop>(slot: Slot<D>) -> Option<D>
     ensures { result ≡ at_home (seen_in slot) }
 {

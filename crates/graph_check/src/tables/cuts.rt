@@ -16,7 +16,6 @@ fn cut_place(stripe: u32, offset: u32) -> usize
     stripe as usize * 128 + offset as usize
 }
 
-// Notes an offset of a stripe, if the table has it.
 fn note_cut(stripe: u32, offset: u64, cuts: &mut [bool])
     requires { length cuts.old ≡ 2048 }
     ensures { (s o : ℕ) → s < 16 → o < 128
@@ -28,7 +27,6 @@ fn note_cut(stripe: u32, offset: u64, cuts: &mut [bool])
     }
 }
 
-// Notes both ends of a range of a stripe.
 fn note_ends(stripe: u32, from: u32, count: u32, cuts: &mut [bool])
     requires { length cuts.old ≡ 2048 }
     ensures { (s o : ℕ) → s < 16 → o < 128
@@ -40,7 +38,6 @@ fn note_ends(stripe: u32, from: u32, count: u32, cuts: &mut [bool])
     note_cut(stripe, from, cuts);
 }
 
-// Notes the ends of the task's parts.
 fn note_parts(task: &Task, cuts: &mut [bool])
     requires { length cuts.old ≡ 2048 }
     ensures { (s o : ℕ) → s < 16 → o < 128
@@ -52,7 +49,6 @@ fn note_parts(task: &Task, cuts: &mut [bool])
     }
 }
 
-// Notes the ends of the graph's buffers.
 fn note_bufs(graph: &Graph, cuts: &mut [bool])
     requires { length cuts.old ≡ 2048 }
     ensures { (s o : ℕ) → s < 16 → o < 128
@@ -71,7 +67,6 @@ fn lay_cuts(graph: &Graph, task: &Task, cuts: &mut [bool])
     requires { length cuts.old ≡ 2048 }
     ensures { IsCutTable graph.now.drawn task.now cuts.new }
 {
-    // A call of the task makes known that its numbers lie within the limits.
     let _width = task.width();
     fill_first(cuts, task.stripes() as usize * 128, false);
     note_parts(task, cuts);
@@ -95,7 +90,6 @@ fn count_of(task: &Task, cuts: &[bool], stripe: u32) -> u32
     ensures count { result ≡ noted_of cuts.now stripe task.now.unit_sectors }
     ensures most { result ≤ 128 }
 {
-    // A call of the task makes known that its numbers lie within the limits.
     let _width = task.width();
     let mut count = 0;
     for o in 0..task.unit_sectors() {
@@ -106,12 +100,10 @@ fn count_of(task: &Task, cuts: &[bool], stripe: u32) -> u32
     count
 }
 
-// The number of cover pieces of all stripes of the task.
 fn count_pieces(task: &Task, cuts: &[bool]) -> u32
     requires { length cuts.now ≡ 2048 }
     ensures { result ≡ noted_pieces task.now cuts.now }
 {
-    // A call of the task makes known that its numbers lie within the limits.
     let _width = task.width();
     let mut count = 0;
     for s in 0..task.stripes() {
@@ -126,7 +118,6 @@ pub(crate) fn find_pieces(graph: &Graph, task: &Task, cuts: &mut [bool]) -> u32
     ensures table { IsCutTable graph.now.drawn task.now cuts.new }
     ensures pieces { result ≡ pieces_of graph.now.drawn task.now }
 {
-    // A call of the task makes known that its numbers lie within the limits.
     let _width = task.width();
     lay_cuts(graph, task, cuts);
     count_pieces(task, cuts)

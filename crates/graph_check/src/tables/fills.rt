@@ -2,7 +2,6 @@
 
 ghost use Rattle.std.specs.Prelude.{◌≡◌, ℕ, ◌<◌, ◌≤◌, length, slice_index_or};
 
-/// Fills the first entries of a table.
 pub(crate) fn fill_first<T: Copy>(table: &mut [T], count: usize, value: T)
     requires { count ≤ length table.old }
     ensures { (k : ℕ) (other : T) → k < count → slice_index_or table.new k other ≡ value }

@@ -10,7 +10,6 @@ use graph_mean::Graph;
 // The nodes of a block.
 const BLOCK: u32 = 64;
 
-// The mask of one bit.
 fn bit(j: u32) -> u64
     requires { j < 64 }
     ensures { result ≡ 2 ^ j }

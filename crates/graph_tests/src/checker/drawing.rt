@@ -57,7 +57,6 @@ pub(super) fn buf_of(of: (u32, u32, u32, Option<u32>)) -> Buf {
     }
 }
 
-// The node that is named so.
 fn node_of(act: Act) -> Node {
     match act {
         Act::Rd(unit, buf) => Node::Rd { unit, buf },
@@ -75,7 +74,6 @@ pub(super) fn paper(alloc: Global) -> Result<Graph, Memory>
     Graph::with_room(alloc, 2050, 2050, 20000)
 }
 
-/// Appends a buffer.
 pub(super) fn add_buf(rt: &impl Abort, graph: &mut Graph, buf: Buf)
     requires { HasRoom graph.old }
     ensures { HasRoom graph.new }
@@ -106,7 +104,6 @@ pub(super) fn add_ante(rt: &impl Abort, graph: &mut Graph, ante: u32)
     graph.push_ante(ante);
 }
 
-/// Appends a node.
 pub(super) fn add_node(rt: &impl Abort, graph: &mut Graph, node: Node)
     requires { HasRoom graph.old }
     ensures { HasRoom graph.new }
@@ -133,7 +130,6 @@ fn add_edges(rt: &impl Abort, graph: &mut Graph, row: &Row)
     }
 }
 
-// Appends a return.
 fn add_ret(rt: &impl Abort, graph: &mut Graph, ret: Ret)
     requires { HasRoom graph.old }
     ensures { HasRoom graph.new }
@@ -170,7 +166,6 @@ pub(crate) fn is_within(kind: Kind, width: u32) -> bool
     }
 }
 
-/// Makes it the task of this kind on a span.
 pub(super) fn aim<L: Layout>(
     rt: &impl Abort,
     layout: &L,
@@ -187,7 +182,6 @@ pub(super) fn aim<L: Layout>(
     }
 }
 
-/// Draws the graph of a row and checks it.
 pub(super) fn see_row<L: Layout>(
     rt: &impl Abort,
     layout: &L,

@@ -35,31 +35,26 @@ fn see_counts(rt: &impl Abort, graph: &Graph, want: (u32, u32, u32)) {
     same(rt, (graph.nodes(), graph.bufs(), graph.rets()), want);
 }
 
-// A return is this one.
 fn see_ret(rt: &impl Abort, graph: &Graph, i: u32, ret: Ret) {
     assert!(rt; i < graph.rets());
     same(rt, graph.ret(i), ret);
 }
 
-// A node does this.
 fn see_kind(rt: &impl Abort, graph: &Graph, i: u32, node: Node) {
     assert!(rt; i < graph.nodes());
     same_at(rt, i, graph.node(i), node);
 }
 
-// It has these sources.
 fn see_sources(rt: &impl Abort, graph: &Graph, i: u32, sources: &[u32]) {
     assert!(rt; i < graph.nodes());
     same_at(rt, i, graph.sources(i), sources);
 }
 
-// It has these antecedents.
 fn see_antes(rt: &impl Abort, graph: &Graph, i: u32, antes: &[u32]) {
     assert!(rt; i < graph.nodes());
     same_at(rt, i, graph.antes(i), antes);
 }
 
-// A node is this one.
 fn see_node(rt: &impl Abort, graph: &Graph, i: u32, node: Node, sources: &[u32], antes: &[u32]) {
     see_kind(rt, graph, i, node);
     see_sources(rt, graph, i, sources);

@@ -63,7 +63,6 @@ struct Asked {
     target: bool,
 }
 
-// The graph of an operation.
 fn planned<L: Layout>(alloc: Global, layout: &L, asked: Asked) -> Result<Graph, Fail>
     requires unit { HasUnitBelow (L.shape layout.now).width asked.kind }
     requires gone { ForSome asked.gone (λ m. (m < (L.shape layout.now).width) × ((L.shape layout.now).checks ≡ 1)) }
@@ -92,7 +91,6 @@ fn can_miss(gone: Option<u8>, width: u32, checks: u32) -> bool
     }
 }
 
-// The graph of an operation, whose nodes are these.
 fn see_plan(
     rt: &impl Abort,
     alloc: Global,

@@ -8,7 +8,6 @@ use std::alloc::{AllocError, Global};
 use std::process::Abort;
 use std::test::Fail;
 
-// What a node does.
 fn work_text(alloc: Global, node: Node) -> Result<String, AllocError> {
     match node {
         Node::Rd { unit, buf } => format!(in alloc; "read {unit} {buf}"),
@@ -58,7 +57,6 @@ fn buf_text(alloc: Global, buf: Buf) -> Result<String, AllocError> {
     Ok(text)
 }
 
-/// The nodes are these.
 pub(super) fn see_nodes(
     rt: &impl Abort,
     alloc: Global,
@@ -76,7 +74,6 @@ pub(super) fn see_nodes(
     Ok(())
 }
 
-/// The buffers are these.
 pub(super) fn see_bufs(
     rt: &impl Abort,
     alloc: Global,

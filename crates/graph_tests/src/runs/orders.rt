@@ -31,7 +31,6 @@ pub(crate) fn do_pass(rt: &impl Abort, run: &mut Run, graph: &Graph, node: u32)
     same_at(rt, node, pass(run, graph, node), true);
 }
 
-/// Fires a node that is ready.
 pub(crate) fn do_fire(rt: &impl Abort, run: &mut Run, graph: &Graph, node: u32)
     requires { graph.now.drawn ≡ run.old.graph }
     ensures { run.new.graph ≡ run.old.graph }

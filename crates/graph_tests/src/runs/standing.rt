@@ -10,7 +10,6 @@ use graph_mean::{Graph, Node};
 use std::process::Abort;
 use std::test::Fail;
 
-// The nodes stand so.
 fn see_marks(rt: &impl Abort, run: &Run, graph: &Graph, want: &[Status])
     requires { graph.now.drawn ≡ run.now.graph }
 {
@@ -20,7 +19,6 @@ fn see_marks(rt: &impl Abort, run: &Run, graph: &Graph, want: &[Status])
     }
 }
 
-// The first two nodes stand so.
 fn see_two(rt: &impl Abort, run: &Run, graph: &Graph, first: Status, second: Status)
     requires { graph.now.drawn ≡ run.now.graph }
 {

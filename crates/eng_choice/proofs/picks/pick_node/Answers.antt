@@ -1,4 +1,4 @@
-use Rattle.std.proofs.Common.{◌≡◌, ◌<◌, ℕ, MatchOption, Option, Some, None, inl, inr, refl, subst, sym, arith}
+use Rattle.std.proofs.Common.{ℕ, MatchOption, Option, inl, inr, refl, subst, arith}
 use borrow.Author.Count.{below_more}
 use Rattle.eng_clients.specs.Desk.{desk_at}
 use Rattle.eng_state.specs.Can.{CanFire, CanSkip}

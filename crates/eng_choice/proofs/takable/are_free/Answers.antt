@@ -1,16 +1,20 @@
-use Rattle.eng_choice.proofs.FreeStripes.{free-where, listed}
-use Rattle.std.proofs.Common.{ap, ◌∙◌, ℕ}
-use Rattle.std.specs.List.{range_with_len}
+use Rattle.std.proofs.Common.{◌↔◌, subst, sym}
+use Rattle.std.specs.Prelude.{IsTrue}
+use Rattle.blk_plain.specs.declared.op.Op.{Op}
+use Rattle.eng_state.specs.Doing.{AreFree}
 use Rattle.eng_choice.proofs.takable.are_free.Goals as goal
 
-pub returns : goal.returns
-returns g c =
-    let core = c.args.array.now in
-    let law = g.met.L.Layout.is_layout core.layout in
-    let first = c.stripes_of-stripes.result.first in
-    let count = c.stripes_of-stripes.result.count in
-    let few = c.stripes_of-stripes.ensures.few in
-    let is = listed first count c.numbers_from-numbers.result c.numbers_from-numbers.ensures.long few c.numbers_from-numbers.ensures.each in
-    free-where (g.L.Layout.shape core.layout) law core.locks c.args.client c.args.op _ c.mode_by.result c.requires
-    (is ∙ (ap (λ (n : ℕ). range_with_len n count) c.stripes_of-stripes.ensures.first ∙ ap (range_with_len _) c.stripes_of-stripes.ensures.count))
-    c.mode_by.ensures c.can_take.result c.can_take.ensures.conflict
+pub returns-in-Write : goal.returns-in-Write
+returns-in-Write g c = subst (λ (o : Op). IsTrue c.is_span_free.result ↔ AreFree g.L.Layout c.args.array.now c.args.client o) (sym c.in-Write.is) c.is_span_free.ensures
+
+pub returns-in-Writes : goal.returns-in-Writes
+returns-in-Writes g c = subst (λ (o : Op). IsTrue c.are_spans_free.result ↔ AreFree g.L.Layout c.args.array.now c.args.client o) (sym c.in-Writes.is) c.are_spans_free.ensures
+
+pub returns-in-Read : goal.returns-in-Read
+returns-in-Read g c = subst (λ (o : Op). IsTrue c.is_span_free-in-Read.result ↔ AreFree g.L.Layout c.args.array.now c.args.client o) (sym c.in-Read.is) c.is_span_free-in-Read.ensures
+
+pub returns-in-Rebuild : goal.returns-in-Rebuild
+returns-in-Rebuild g c = subst (λ (o : Op). IsTrue c.is_stripe_free.result ↔ AreFree g.L.Layout c.args.array.now c.args.client o) (sym c.in-Rebuild.is) c.is_stripe_free.ensures
+
+pub returns-in-Sync : goal.returns-in-Sync
+returns-in-Sync g c = subst (λ (o : Op). IsTrue c.is_stripe_free-in-Sync.result ↔ AreFree g.L.Layout c.args.array.now c.args.client o) (sym c.in-Sync.is) c.is_stripe_free-in-Sync.ensures

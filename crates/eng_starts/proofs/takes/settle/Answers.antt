@@ -4,7 +4,9 @@ use Rattle.stripe_lock.specs.Table as table
 use Rattle.stripe_lock.specs.declared.mode.Mode.{Mode}
 use Rattle.eng_one.specs.Counts.{CanStart}
 use Rattle.graph_mean.specs.Graph.{Held}
-use Rattle.graph_lib.proofs.SpanRanges.{span-few}
+use Rattle.graph_lib.proofs.SpanRanges.{spans-few}
+use Rattle.eng_plan.proofs.Maps.{op-count}
+use Rattle.eng_world.specs.Planning.{span_count}
 use Rattle.eng_state.specs.declared.array.Array.{Array}
 use Rattle.eng_clients.specs.Desk.{Desk, desk_at, graph_of}
 use Rattle.eng_log.specs.Filled.{HasBuffers, Filled}
@@ -48,12 +50,12 @@ fill_buffers-requires-clause-buffers g c =
     let graphs = settling.graphs-3 old s1 s2 c.args.client c.requires.client c.lock.ensures.rest c.lend.ensures.now s3 c.start.ensures in
     let pool = settling.pool-3 old s1 s2 c.args.client c.requires.client c.lock.ensures.rest c.lend.ensures.now s3 c.start.ensures in
     let pool-1 = settling.pool-1 old s1 s2 c.args.client c.requires.client c.lock.ensures.rest c.lend.ensures.now in
-    let bufs = settling.planned-bufs y law old.graphs.items old.cols.states c.args.op c.args.file d c.requires.inside c.requires.planned c.requires.runs span-few in
+    let bufs = settling.planned-bufs y law old.graphs.items old.cols.states c.args.op c.args.file d c.requires.inside c.requires.planned c.requires.runs spans-few in
     let long = settling.planned-long y law old.graphs.items old.cols.states c.args.op c.args.file d c.requires.inside c.requires.planned c.requires.runs in
     let count : c.size-count.result ≡ lease_for y old.graphs.items c.args.op c.args.file =
     c.size-count.ensures
-    ∙ (ap (λ (s : Array g.row.L.Denot g.row.D.Denot). lease_by (g.L.Layout.shape s.layout) s.graphs.items (length (desk_at s.clients c.args.client).map.stripes) c.args.file) c.lock.ensures.rest
-    ∙ ap (λ (n : ℕ). lease_by y old.graphs.items n c.args.file) c.requires.planned.split.stripes_many) in
+    ∙ (ap (λ (s : Array g.row.L.Denot g.row.D.Denot). lease_by (g.L.Layout.shape s.layout) s.graphs.items (length (desk_at s.clients c.args.client).map.stripes) (span_count c.args.op) c.args.file) c.lock.ensures.rest
+    ∙ ap (λ (n : ℕ). lease_by y old.graphs.items n (span_count c.args.op) c.args.file) (op-count y (g.met.L.Layout.is_layout old.layout) c.args.op d.map c.requires.planned.split)) in
     let unit : s2.pool.unit ≡ 512 * y.unit_sectors = c.lend.ensures.leased.unit ∙ (ap (λ (p : held.PoolView). p.unit) pool-1 ∙ c.requires.unit) in
     let here : HasBuffers (graph_of old.graphs.items d) s2.pool l = record {
       lease = c.lend.ensures.leased.is_lease;
@@ -81,8 +83,9 @@ returns g c =
     let pool-1 = settling.pool-1 old s1 s2 c.args.client c.requires.client c.lock.ensures.rest c.lend.ensures.now in
     let count : c.size-count.result ≡ lease_for y old.graphs.items c.args.op c.args.file =
     c.size-count.ensures
-    ∙ (ap (λ (s : Array g.row.L.Denot g.row.D.Denot). lease_by (g.L.Layout.shape s.layout) s.graphs.items (length (desk_at s.clients c.args.client).map.stripes) c.args.file) c.lock.ensures.rest
-    ∙ ap (λ (n : ℕ). lease_by y old.graphs.items n c.args.file) c.requires.planned.split.stripes_many) in
+    ∙ (ap (λ (s : Array g.row.L.Denot g.row.D.Denot). lease_by (g.L.Layout.shape s.layout) s.graphs.items (length (desk_at s.clients c.args.client).map.stripes) (span_count c.args.op) c.args.file) c.lock.ensures.rest
+    ∙ ap (λ (n : ℕ). lease_by y old.graphs.items n (span_count c.args.op) c.args.file) (op-count y (g.met.L.Layout.is_layout old.layout) c.args.op d.map c.requires.planned.split)) in
+    let layout : s3.layout ≡ old.layout = ap (λ (a : Array g.row.L.Denot g.row.D.Denot). a.layout) c.start.ensures ∙ (ap (λ (a : Array g.row.L.Denot g.row.D.Denot). a.layout) c.lend.ensures.now ∙ ap (λ (a : Array g.row.L.Denot g.row.D.Denot). a.layout) c.lock.ensures.rest) in
     let locks = settling.locks-4 old s1 s2 c.args.client c.requires.client c.lock.ensures.rest c.lend.ensures.now s3 c.start.ensures s4 c.fill_buffers.ensures.rest in
     record {
       lease = l;
@@ -91,8 +94,22 @@ returns g c =
       leases = subst (λ (n : ℕ). held.Leases old.pool n l s2.pool) count (subst (λ (p : held.PoolView). held.Leases p c.size-count.result l s2.pool) pool-1 c.lend.ensures.leased);
       apart = subst (λ (p : held.PoolView). held.StandsApart p l s2.pool) pool-1 c.lend.ensures.apart;
       filled =
-          subst (λ (p : held.PoolView). Filled (graph_of old.graphs.items d) c.args.op l p s4.pool) pool
-          (subst (λ (gs : List Held). Filled (graph_of gs d) c.args.op l s3.pool s4.pool) graphs
-          (subst (λ (e : Desk). Filled (graph_of s3.graphs.items e) c.args.op e.lease s3.pool s4.pool) desk c.fill_buffers.ensures.filled));
+          subst (λ (p : held.PoolView). Filled y d.map.stripes (graph_of old.graphs.items d) c.args.op l p s4.pool) pool
+          (subst (λ (gs : List Held). Filled y d.map.stripes (graph_of gs d) c.args.op l s3.pool s4.pool) graphs
+          (subst (λ (e : Desk). Filled y e.map.stripes (graph_of s3.graphs.items e) c.args.op e.lease s3.pool s4.pool) desk
+          (subst (λ (t : g.row.L.Denot). Filled (g.L.Layout.shape t) (desk_at s3.clients c.args.client).map.stripes (graph_of s3.graphs.items (desk_at s3.clients c.args.client)) c.args.op (desk_at s3.clients c.args.client).lease s3.pool s4.pool) layout c.fill_buffers.ensures.filled)));
       now = settling.now-4 old s1 s2 c.args.client c.requires.client c.lock.ensures.rest c.lend.ensures.now s3 c.start.ensures s4 c.fill_buffers.ensures.rest;
     }
+
+pub lend-requires-clause-fits : goal.lend-requires-clause-fits
+lend-requires-clause-fits g c =
+    let old : Array g.row.L.Denot g.row.D.Denot = c.args.array.now in
+    let y = g.L.Layout.shape old.layout in
+    let d = desk_at old.clients c.args.client in
+    let count : c.size-count.result ≡ lease_for y old.graphs.items c.args.op c.args.file =
+    c.size-count.ensures
+    ∙ (ap (λ (s : Array g.row.L.Denot g.row.D.Denot). lease_by (g.L.Layout.shape s.layout) s.graphs.items (length (desk_at s.clients c.args.client).map.stripes) (span_count c.args.op) c.args.file) c.lock.ensures.rest
+    ∙ ap (λ (n : ℕ). lease_by y old.graphs.items n (span_count c.args.op) c.args.file) (op-count y (g.met.L.Layout.is_layout old.layout) c.args.op d.map c.requires.planned.split)) in
+    let pool = ap (λ (s : Array g.row.L.Denot g.row.D.Denot). length s.pool.free) c.lock.ensures.rest in
+    let fits = c.requires.fits in
+    omega (arith, count, pool, fits)

@@ -4,7 +4,7 @@ use Rattle.lay_core.specs.Layout.{Shape}
 use Rattle.lay_plain.specs.declared.fault.MakeFault.{MakeFault}
 use Rattle.lay_plain.specs.declared.level_five.Raid5.{Raid5}
 use Rattle.lay_plain.specs.LeftSymmetric.{left_symmetric}
-use Rattle.blk_plain.specs.declared.op.Op.TheVariants.{Write}
+use Rattle.blk_plain.specs.declared.op.Op.TheVariants.{Write, Writes}
 use Rattle.eng_world.specs.declared.item.Item.{Item}
 use Rattle.eng_world.specs.declared.item.Item.TheVariants as item
 use Rattle.eng_array.specs.Fitting.{row_events}

@@ -4,17 +4,13 @@ use Rattle.graph_mean.specs.Task.{IsMapOf, task_of, Aim}
 use Rattle.graph_lib.specs.Laws.{IsPlannable}
 use Rattle.eng_world.specs.Planning.{missing_for}
 use Rattle.eng_clients.specs.Desk.{Desk}
-use Rattle.eng_plan.specs.Asked.{span_of}
-use Rattle.eng_plan.proofs.Maps.{span-short, inside-map}
+use Rattle.eng_plan.specs.Asked.{spans_by}
+use Rattle.eng_plan.proofs.Maps.{inside-map, op-spans, spans-few, spans-eight}
 use Rattle.eng_plan.proofs.Lacking.{missing-each}
 use Rattle.eng_clients.proofs.client.Client.plan.Goals as goal
 
 pub miss-requires-clause-few : goal.miss-requires-clause-few
-miss-requires-clause-few g c =
-    let y = g.L.Layout.shape c.args.layout.now in
-    let short = span-short y (g.met.L.Layout.is_layout c.args.layout.now) c.args.asked.op c.requires.op in
-    let many = c.cut.ensures.split.stripes_many in
-    omega (arith, short, many)
+miss-requires-clause-few g c = c.cut.ensures.split.stripes_few
 
 pub aim-requires-clause-map : goal.aim-requires-clause-map
 aim-requires-clause-map g c =
@@ -38,6 +34,7 @@ pick-requires-clause-task g c =
     let law = g.met.L.Layout.is_layout c.args.layout.now in
     let same = ap (λ (d : Desk). d.map) c.miss.ensures in
     let task : c.aim.new.self.task ≡ task_of y c.kind_of.result c.miss.new.self.map = ap (λ (d : Desk). d.task) c.aim.ensures in
-    let short = span-short y law c.args.asked.op c.requires.op in
-    let many = c.cut.ensures.split.stripes_many in
-    subst (λ (t : Aim). IsPlannable t) (sym (task ∙ ap (task_of y c.kind_of.result) same)) (c.span_is_plannable.ensures.plannable y c.kind_of.result (span_of y c.args.asked.op) c.cut.new.self.map law c.cut.ensures.split (omega (arith, short, many)))
+    let op = c.args.asked.op in
+    let many = spans-few y law op in
+    let eight = spans-eight y law op c.requires.op.asked in
+    subst (λ (t : Aim). IsPlannable t) (sym (task ∙ ap (task_of y c.kind_of.result) same)) (c.spans_are_plannable.ensures.plannable y c.kind_of.result (spans_by y op) c.cut.new.self.map law (op-spans y law op c.cut.new.self.map c.cut.ensures.split.split) c.cut.ensures.split.stripes_few (omega (arith, many, eight)))
