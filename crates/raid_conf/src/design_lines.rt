@@ -38,7 +38,6 @@ pub(crate) fn listed_line(columns: u32, words: &mut Words) -> Result<Counts, u8>
     Ok(Counts { b, k, r, lambda })
 }
 
-// Appends the number that a word is.
 #[tactic(auto, unfolding(crate::specs::Sections::with_number))]
 fn push_number(line: u32, word: &[u8], numbers: &mut Numbers) -> Result<(), ConfFault>
     ensures { GivesIfRoom (λ _. numbers.new) result (at_line line (with_number numbers.old word.now)) }
@@ -104,7 +103,6 @@ fn tuple_from(
     push_tuple(line, k - 1, words, tuples)
 }
 
-// Appends the tuple of k numbers on a line.
 #[tactic(auto, unfolding(crate::specs::Sections::tuple_of))]
 fn tuple_line(line: u32, k: u32, words: &mut Words, tuples: &mut Numbers) -> Result<(), ConfFault>
     ensures { GivesIfRoom (λ _. tuples.new) result (at_line line (tuple_of k tuples.old (words_left words.old))) }
@@ -113,7 +111,6 @@ fn tuple_line(line: u32, k: u32, words: &mut Words, tuples: &mut Numbers) -> Res
     tuple_from(line, k, first, words, tuples)
 }
 
-// Appends the tuple on the next line.
 #[tactic(auto, unfolding(crate::specs::Format::next_tuple))]
 fn next_tuple(lines: &mut Lines, k: u32, tuples: &mut Numbers) -> Result<(), ConfFault>
     ensures { GivesIfRoom (λ _. (tuples.new, rest_of lines.new)) result (next_tuple k tuples.old (rest_of lines.old)) }

@@ -53,7 +53,6 @@ fn refusal(fault: DesignFault) -> Result<bool, ConfFault>
     }
 }
 
-// Whether it is a block design.
 fn is_design(alloc: Global, given: &Given) -> Result<bool, ConfFault>
     ensures { Judges result (is_design (blocks_of given.now)) }
 {
@@ -88,7 +87,6 @@ pub(crate) fn serves(alloc: Global, level: u8, given: &Given) -> Result<bool, Co
     is_design(alloc, given)
 }
 
-/// Whether a level stands on a block design.
 #[tactic(auto, unfolding(crate::specs::Levels::has_design))]
 pub(crate) fn has_design(level: u8) -> bool
     ensures { result ≡ has_design level }

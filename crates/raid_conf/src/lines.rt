@@ -15,7 +15,6 @@ pub(crate) struct Next<'a> {
     pub(crate) words: Words<'a>,
 }
 
-/// The next line, where one is left.
 #[tactic(auto, unfolding(crate::specs::Steps::line_if_any, crate::specs::Steps::rest_of, crate::specs::Steps::words_in))]
 pub(crate) fn line_if_any<'a>(lines: &mut Lines<'a>) -> Result<Option<Next<'a>>, At>
     ensures line { Gives (option_map (λ line. record { at = line.at; words = words_left line.words; rest = rest_of lines.new })) result (line_if_any (rest_of lines.old)) }

@@ -28,7 +28,6 @@ pub(crate) fn plain_of(level: u8) -> Plain
     }
 }
 
-// Such a layout.
 fn make_plain(plain: Plain, columns: u32, unit: u32, rows: u32) -> Result<AnyLayout, MakeFault>
     ensures made { IfOk result (λ layout. shape_in layout ≡ plain_shape plain columns unit rows) }
     ensures err { IfErr result (λ fault. IsMakeFault plain columns unit rows fault) }
@@ -67,7 +66,6 @@ fn table_fault(fault: TableFault) -> AnyFault
     }
 }
 
-// The layout of a level that stands on this design.
 #[tactic(auto, unfolding(crate::specs::Layouts::design_shape))]
 fn make_tables(
     alloc: Global,
@@ -102,7 +100,6 @@ fn design_fault(fault: DesignFault) -> AnyFault
     }
 }
 
-// The layout of a level that stands on what is given.
 fn make_given(
     alloc: Global,
     level: u8,

@@ -40,7 +40,6 @@ fn text_of(word: &[u8]) -> &str
     }
 }
 
-// A name that is none of these.
 #[tactic(auto, unfolding(crate::specs::Sections::new_name))]
 fn new_name<'a>(before: &Names, names: &Names, word: &'a [u8]) -> Result<&'a str, u8>
     requires { IsTrue (is_word word.now) }
@@ -54,14 +53,12 @@ fn new_name<'a>(before: &Names, names: &Names, word: &'a [u8]) -> Result<&'a str
     }
 }
 
-// Whether one of these is this name.
 fn has_either(before: &Names, names: &Names, name: &str) -> bool
     ensures { result ≡ has_name (before.now ++ names.now) name.now }
 {
     before.has(name) || names.has(name)
 }
 
-// What `absent` stands for.
 fn absent_as(role: Role) -> Result<&'static str, u8>
     ensures { Gives (λ name. name.now) result (absent_as role) }
 {
@@ -71,7 +68,6 @@ fn absent_as(role: Role) -> Result<&'static str, u8>
     }
 }
 
-// The name that a word is.
 #[tactic(auto, unfolding(crate::specs::Sections::name_in))]
 fn name_in<'a>(role: Role, before: &Names, names: &Names, word: &'a [u8]) -> Result<&'a str, u8>
     requires { IsTrue (is_word word.now) }
@@ -117,7 +113,6 @@ fn next_name<'a>(
     at_line(line.at, name_line(role, before, names, &mut line.words))
 }
 
-// Appends the name on the next line.
 #[tactic(auto, unfolding(crate::specs::Format::with_name))]
 fn push_name(
     alloc: Global,

@@ -56,7 +56,6 @@ impl Name {
 }
 
 impl Names {
-    /// No names.
     pub(crate) fn new(alloc: Global) -> Names
         ensures { result ≡ [] }
     {
@@ -65,7 +64,6 @@ impl Names {
         }
     }
 
-    /// Appends a name.
     pub(crate) fn push(&mut self, alloc: Global, text: &str) -> Result<(), ConfFault>
         requires { length self.old < 32 }
         ensures value { IfOk result (λ _. self.new ≡ self.old ++ text.now ∷ []) }
@@ -78,7 +76,6 @@ impl Names {
         }
     }
 
-    /// Whether one of them is this name.
     pub(crate) fn has(&self, name: &str) -> bool
         ensures { result ≡ has_name self.now name.now }
     {
@@ -102,7 +99,6 @@ impl Names {
     }
 }
 
-// Whether one of these is this name.
 #[tactic(auto, unfolding(crate::specs::Sections::has_name))]
 fn is_among(names: &[Name], name: &str) -> bool
     ensures { result ≡ has_name names.now name.now }

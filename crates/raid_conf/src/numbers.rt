@@ -20,7 +20,6 @@ impl Model for Numbers {
 }
 
 impl Numbers {
-    /// No numbers.
     pub(crate) fn new(alloc: Global) -> Numbers
         ensures { result ≡ [] }
     {
@@ -29,7 +28,6 @@ impl Numbers {
         }
     }
 
-    /// Appends a number.
     pub(crate) fn push(&mut self, n: u32) -> Result<(), ConfFault>
         ensures value { IfOk result (λ _. self.new ≡ self.old ++ n ∷ []) }
         ensures memory { IfErr result (λ fault. fault ≡ ConfFault.Memory) }

@@ -12,7 +12,6 @@ use crate::names::Names;
 use itoa::Buffer;
 use std::alloc::Global;
 
-// Appends a number.
 fn push_first(text: &mut Vec<u8>, number: u32) -> Result<(), Memory>
     ensures { OnOk result (text.new.items ≡ text.old.items ++ decimal number) }
 {
@@ -56,7 +55,6 @@ fn push_start(text: &mut Vec<u8>, name: &[u8]) -> Result<(), Memory>
     Ok(())
 }
 
-// Appends the array's line.
 fn push_array(text: &mut Vec<u8>, columns: u32, spares: u32) -> Result<(), Memory>
     ensures { OnOk result (text.new.items ≡ text.old.items ++ line_text (Number 1 ∷ Number columns ∷ Number spares ∷ [])) }
 {
@@ -67,7 +65,6 @@ fn push_array(text: &mut Vec<u8>, columns: u32, spares: u32) -> Result<(), Memor
     Ok(())
 }
 
-// The word that names a disk.
 fn disk_word(name: &str) -> &[u8]
     ensures { result.now ≡ disk_word name.now }
 {
@@ -78,7 +75,6 @@ fn disk_word(name: &str) -> &[u8]
     }
 }
 
-// Appends the line of a name.
 fn push_name(text: &mut Vec<u8>, name: &str) -> Result<(), Memory>
     ensures { OnOk result (text.new.items ≡ text.old.items ++ line_text (name_places name.now)) }
 {
@@ -87,7 +83,6 @@ fn push_name(text: &mut Vec<u8>, name: &str) -> Result<(), Memory>
     Ok(())
 }
 
-// Appends the lines of names.
 fn push_names(text: &mut Vec<u8>, names: &Names) -> Result<(), Memory>
     ensures { OnOk result (text.new.items ≡ text.old.items ++ lines_text (map name_places names.now)) }
 {
@@ -108,7 +103,6 @@ fn push_spares(text: &mut Vec<u8>, names: &Names) -> Result<(), Memory>
     push_names(text, names)
 }
 
-// Appends the layout's line.
 fn push_layout(text: &mut Vec<u8>, unit: u32, level: u8) -> Result<(), Memory>
     ensures { OnOk result (text.new.items ≡ text.old.items ++ line_text (layout_places unit level)) }
 {
@@ -131,7 +125,6 @@ fn push_tuple(text: &mut Vec<u8>, tuple: &[u32]) -> Result<(), Memory>
     Ok(())
 }
 
-// Appends the lines of b tuples of k numbers.
 fn push_tuples(text: &mut Vec<u8>, b: u32, k: u32, tuples: &[u32]) -> Result<(), Memory>
     requires some { 0 < k }
     requires all { length tuples.now ≡ b * k }
@@ -163,7 +156,6 @@ fn push_counts(
     Ok(())
 }
 
-// Appends the line of a cyclic design.
 fn push_cyclic(text: &mut Vec<u8>, v: u32, base: &[u32]) -> Result<(), Memory>
     ensures { OnOk result (text.new.items ≡ text.old.items ++ line_text (Literal (codes "cyclic") ∷ Number v ∷ Literal (codes ":") ∷ map Number base.now)) }
 {
@@ -175,7 +167,6 @@ fn push_cyclic(text: &mut Vec<u8>, v: u32, base: &[u32]) -> Result<(), Memory>
     Ok(())
 }
 
-// Appends the line of a complete design.
 fn push_complete(text: &mut Vec<u8>, v: u32, k: u32) -> Result<(), Memory>
     ensures { OnOk result (text.new.items ≡ text.old.items ++ line_text (Literal (codes "complete") ∷ Number v ∷ Number k ∷ [])) }
 {
@@ -221,7 +212,6 @@ fn push_given(text: &mut Vec<u8>, given: &Given) -> Result<(), Memory>
     }
 }
 
-// Appends the design that there is.
 fn push_design(text: &mut Vec<u8>, design: &Option<Given>) -> Result<(), Memory>
     requires { ForSome design.now (λ given. IsPrintable given) }
     ensures { OnOk result (text.new.items ≡ text.old.items ++ lines_text (design_places design.now)) }

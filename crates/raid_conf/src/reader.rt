@@ -44,7 +44,6 @@ fn read_array(lines: &mut Lines) -> Result<Sizes, At>
     at_line(line.at, array_line(&mut line.words))
 }
 
-// The names of the columns' disks.
 #[tactic(auto, unfolding(crate::specs::Format::disks_in))]
 fn read_disks(alloc: Global, lines: &mut Lines, columns: u32) -> Result<Names, ConfFault>
     requires { columns ≤ 32 }
@@ -121,7 +120,6 @@ fn read_listed(
     })
 }
 
-// The design that this word begins.
 #[tactic(auto, unfolding(crate::specs::Format::kind_in))]
 fn read_kind(
     alloc: Global,
@@ -148,7 +146,6 @@ fn read_kind(
     }
 }
 
-// The design of a level.
 #[tactic(auto, unfolding(crate::specs::Format::given_in))]
 fn read_given(alloc: Global, lines: &mut Lines, level: u8, columns: u32) -> Result<Given, ConfFault>
     ensures { GivesIfRoom (λ given. (given, rest_of lines.new)) result (given_in level columns (rest_of lines.old)) }
@@ -167,7 +164,6 @@ fn read_given(alloc: Global, lines: &mut Lines, level: u8, columns: u32) -> Resu
     }
 }
 
-// The design of a level that has one.
 #[tactic(auto, unfolding(crate::specs::Format::design_in))]
 fn read_design(
     alloc: Global,
@@ -214,7 +210,6 @@ fn read_tail(lines: &mut Lines) -> Result<Option<u32>, At>
     }
 }
 
-// What the lines say.
 #[tactic(auto, unfolding(crate::specs::Format::conf_in))]
 fn read_lines(alloc: Global, lines: &mut Lines) -> Result<Conf, ConfFault>
     ensures { GivesConf result (conf_in (rest_of lines.old)) }

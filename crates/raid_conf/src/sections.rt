@@ -84,7 +84,6 @@ pub(crate) fn queue_begins(words: &mut Words) -> Result<bool, u8>
     queue_or_debug(name, words)
 }
 
-// Whether there may be so many columns.
 fn may_be_columns(n: u32) -> bool
     ensures { result ≡ may_be_columns n }
 {
@@ -153,7 +152,6 @@ fn is_level(b: u8) -> bool
         || ((b == b'4' || b == b'5') || (b == b'C' || (b == b'T' || b == b'D')))
 }
 
-// Whether a level may have so many columns.
 #[tactic(auto, unfolding(crate::specs::Levels::allows))]
 fn allows(level: u8, columns: u32) -> bool
     ensures { result ≡ allows level columns }
@@ -161,7 +159,6 @@ fn allows(level: u8, columns: u32) -> bool
     (level == b'0' || 2 <= columns) && (level != b'1' || columns % 2 == 0)
 }
 
-// The level that a word is.
 #[tactic(auto, unfolding(crate::specs::Sections::level_in))]
 fn level_in(word: &[u8]) -> Result<u8, u8>
     ensures { result ≡ level_in word.now }

@@ -10,7 +10,6 @@ ghost use Rattle.raid_conf.specs.Steps.{after_number, after_word, at_end, next_n
 use crate::codes::{NUMBER, WORD};
 use raid_text::{Words, number};
 
-/// The next word.
 #[tactic(auto, unfolding(crate::specs::Steps::next_word))]
 pub(crate) fn next_word<'a>(words: &mut Words<'a>) -> Result<&'a [u8], u8>
     ensures value { Gives (λ word. (word.now, words_left words.new)) result (next_word (words_left words.old)) }
@@ -33,7 +32,6 @@ pub(crate) fn pass_word(words: &mut Words, wanted: &[u8], code: u8) -> Result<()
     if word == wanted { Ok(()) } else { Err(code) }
 }
 
-/// The number that a word is.
 #[tactic(auto, unfolding(crate::specs::Steps::number_in))]
 pub(crate) fn number_in(word: &[u8]) -> Result<u32, u8>
     ensures { result ≡ number_in word.now }
@@ -44,7 +42,6 @@ pub(crate) fn number_in(word: &[u8]) -> Result<u32, u8>
     }
 }
 
-/// The next word, which is a number.
 #[tactic(auto, unfolding(crate::specs::Steps::next_number))]
 pub(crate) fn next_number(words: &mut Words) -> Result<u32, u8>
     ensures { Gives (λ n. (n, words_left words.new)) result (next_number (words_left words.old)) }

@@ -52,7 +52,6 @@ fn degree_of(given: &Given) -> u32
     }
 }
 
-// How many tuples there are.
 fn tuples_of(given: &Given) -> u32
     requires { IsDesign (blocks_of given.now) }
     ensures { result ≡ (blocks_of given.now).b }
@@ -89,7 +88,6 @@ fn plain_rows(plain: Plain) -> u32
     }
 }
 
-// Its stripes.
 fn plain_stripes(plain: Plain, columns: u32) -> u32
     ensures { result ≡ plain_stripes plain columns }
 {

@@ -1,5 +1,5 @@
 -- Numbers and bytes of a label.
-use Rattle.std.proofs.Common.{◌≡◌, ◌∙◌, ap, ℕ, zero, suc, ◌+◌, ◌*◌, ◌<◌, ◌≤◌, ◌==◌, true, List, [], ◌∷◌, ◌++◌, take, length, get_or, replicate, refl, sym, arith, append_assoc, length-append}
+use Rattle.std.proofs.Common.{◌≡◌, ◌∙◌, ap, ℕ, zero, suc, ◌+◌, ◌*◌, ◌<◌, ◌≤◌, ◌==◌, true, List, [], ◌∷◌, ◌++◌, take, length, get_or, replicate, refl, sym, arith, append_assoc}
 use Rattle.std.specs.List.{list_all}
 use Rattle.std.specs.Int.{w32, to_le_bytes}
 use Rattle.std.proofs.lemmas.List.{take_all, length-replicate}
@@ -26,11 +26,6 @@ same_label {version_x = version_x} {version_y = version_y} {serial_x = serial_x}
     let step_12 : ℕ → Label = λ v. record { version = version_y; serial = serial_y; counter = counter_y; column = column_y; columns = columns_y; unit = unit_y; rows = rows_y; level = level_y; clean = clean_y; b = b_y; k = k_y; r = r_y; lambda = v; seats = seats_x } in
     let step_13 : List ℕ → Label = λ v. record { version = version_y; serial = serial_y; counter = counter_y; column = column_y; columns = columns_y; unit = unit_y; rows = rows_y; level = level_y; clean = clean_y; b = b_y; k = k_y; r = r_y; lambda = lambda_y; seats = v } in
     ap step_0 e0 ∙ (ap step_1 e1 ∙ (ap step_2 e2 ∙ (ap step_3 e3 ∙ (ap step_4 e4 ∙ (ap step_5 e5 ∙ (ap step_6 e6 ∙ (ap step_7 e7 ∙ (ap step_8 e8 ∙ (ap step_9 e9 ∙ (ap step_10 e10 ∙ (ap step_11 e11 ∙ (ap step_12 e12 ∙ (ap step_13 e13)))))))))))))
-
--- each number has four bytes
-pub length-bytes_of_words : (ns : List ℕ) → length (bytes_of_words ns) ≡ 4 * length ns
-length-bytes_of_words [] = refl
-length-bytes_of_words (n ∷ ns) = omega (arith, length-bytes_of_words ns, length-append (to_le_bytes w32 n) (bytes_of_words ns))
 
 -- one number more
 pub bytes_of_words-take : (ns : List ℕ) (i : ℕ) → i < length ns → bytes_of_words (take (i + 1) ns) ≡ bytes_of_words (take i ns) ++ to_le_bytes w32 (get_or ns i 0)

@@ -31,7 +31,6 @@ pub fn found_version(sector: &[u8]) -> u32
     }
 }
 
-// Whether the sector is well formed.
 #[tactic(auto, unfolding(crate::specs::Bytes::is_well_formed))]
 fn is_well_formed(sector: &[u8]) -> bool
     requires { length sector.now ≡ 512 }
@@ -48,7 +47,6 @@ fn has_zeros(sector: &[u8]) -> bool
     are_zeros(&sector[92..])
 }
 
-// Whether these bytes are zeros.
 fn are_zeros(bytes: &[u8]) -> bool
     ensures { result ≡ list_all (λ b. b == 0) bytes.now }
 {
@@ -75,7 +73,6 @@ fn word(sector: &[u8], at: usize) -> u32
     u32::from_le_bytes(bytes)
 }
 
-// The bytes of the seats.
 fn seats(sector: &[u8]) -> [u8; 32]
     requires { length sector.now ≡ 512 }
     ensures { result ≡ take 32 (drop 60 sector.now) }
@@ -85,7 +82,6 @@ fn seats(sector: &[u8]) -> [u8; 32]
     seats
 }
 
-// What the fields hold.
 #[tactic(auto, unfolding(crate::specs::Bytes::fields_of))]
 fn fields(sector: &[u8]) -> Label
     requires { length sector.now ≡ 512 }

@@ -1,25 +1,13 @@
 -- Items by client: what each has, and how many all have.
-use Rattle.std.proofs.Common.{◌≡◌, ◌≢◌, ◌∙◌, ℕ, zero, suc, ◌+◌, ◌<◌, ◌≤◌, ◌⊎◌, inl, inr, ⊎_elim, Bool, true, false, cond, List, [], ◌∷◌, ◌++◌, length, map, refl, sym, ap, subst, arith, All, add-one, zero-add}
-use Rattle.std.specs.Prelude.{filter, nat_eq, nat_le, sum_by}
+use Rattle.std.proofs.Common.{◌≡◌, ◌≢◌, ◌∙◌, ℕ, zero, suc, ◌+◌, ◌<◌, ◌≤◌, ◌⊎◌, inl, inr, ⊎_elim, Bool, true, false, cond, List, [], ◌∷◌, ◌++◌, length, refl, sym, ap, subst, arith, All, add-one, zero-add}
+use Rattle.std.specs.Prelude.{nat_eq, nat_le, sum_by}
 use Rattle.std.proofs.lemmas.Bool.{eqb-true, leb-false, leb-true}
 use Rattle.std.proofs.lemmas.Bool.Decides.{nat_tests}
 use Rattle.std.proofs.lemmas.List.Elements.{All-cons, All-head, All-nil, All-push, All-tail}
 use Rattle.std.proofs.lemmas.List.FromFn.{length-map-range_with_len, map-range_with_len_more, sum_by-map-range_with_len_more}
 use Rattle.std.proofs.lemmas.List.Sums.{sum_by-cons}
-use Rattle.raid_script.specs.declared.entry.Entry.{Entry}
-use Rattle.raid_script.specs.Asked.{AreFew, Asked, IsAsked, Request, asked_by, by_client, by_first, read_sectors, seen, seen_entry}
+use Rattle.raid_script.specs.Asked.{AreFew, Asked, IsAsked, Request, asked_by, by_client, by_first, read_sectors}
 use Rattle.raid_script.specs.Form.{AreRequests, IsRequest}
-
--- ---- what was read of one client
-
-pub client_items : (client : ℕ) (entries : List Entry) → map seen (map (λ e. e.item) (filter (λ e. nat_eq e.client client) entries)) ≡ asked_by (map seen_entry entries) client
-unfolding asked_by
-client_items client [] = refl
-client_items client (e ∷ es) = go (nat_eq e.client client) refl (client_items client es)
-  where
-    go : (b : Bool) → nat_eq e.client client ≡ b → map seen (map (λ x. x.item) (filter (λ x. nat_eq x.client client) es)) ≡ asked_by (map seen_entry es) client → map seen (map (λ x. x.item) (filter (λ x. nat_eq x.client client) (e ∷ es))) ≡ asked_by (map seen_entry (e ∷ es)) client
-    go true h others = rw h (ap (λ (xs : List Asked). seen e.item ∷ xs) others)
-    go false h others = rw h others
 
 -- ---- all clients
 

@@ -3,6 +3,11 @@ pub mod PlacesRead
 pub mod ScriptForm
 pub mod ScriptRead
 pub mod LinesInTurn
+pub mod RowsInTurn
+pub mod PatchesInTurn
+pub mod PatchesApart
+pub mod PatchesForm
+pub mod PatchesRead
 pub mod ByClient
 pub mod DrawnWords
 pub mod Refused

@@ -10,10 +10,12 @@ use Rattle.raid_text.specs.Text.{Text, Numbered, is_sound, lines_in, sound_words
 use Rattle.graph_text.specs.FormatSteps.{at_end, next_number, next_word, only_if}
 use Rattle.graph_text.specs.Format.{Named, at_line}
 use Rattle.graph_text.proofs.CanonicalSteps.{bind_ok, bytes_same, ok_same, only_ok, words_are}
-use Rattle.raid_script.specs.Asked.{Asked, Writes, Reads, Syncs, Fails, IsAsked, Request, by_client, read_sectors}
-use Rattle.raid_script.specs.Format.{fail_of, item_of, line_of, next_client, next_column, next_graph, next_of, next_pattern, next_span, read_of, request_of, requests_behind, requests_of, run_of, script_of, sync_of, use_of, write_of}
-use Rattle.raid_script.specs.Form.{Place, Literal, Number, Digits, FillsAll, HasForm, IsLineOf, IsRequest, asked_places, places, use_places}
+use Rattle.raid_script.specs.Asked.{Asked, Writes, WritesAll, Reads, Syncs, Fails, IsAsked, Request, by_client, read_sectors}
+use Rattle.raid_script.specs.Format.{all_patches_of, are_apart, fail_of, item_of, line_of, next_client, next_column, next_graph, next_of, next_pattern, next_span, read_of, request_of, requests_behind, requests_of, run_of, script_of, sync_of, use_of, write_of, writes_of}
+use Rattle.raid_script.specs.Form.{Place, Literal, Number, Digits, FillsAll, HasForm, IsLineOf, IsRequest, asked_places, patch_places, places, use_places}
 use Rattle.raid_script.specs.Laws.{ScriptIsOfTheForm}
+use Rattle.raid_script.proofs.PatchesApart.{test-apart}
+use Rattle.raid_script.proofs.PatchesForm.{all_patches_fill}
 use Rattle.raid_script.proofs.PlacesFilled.{append_fills, client_fills, column_fills, end_fills, graph_fills, number_fills, pattern_fills, span_fills}
 
 -- ---- one line
@@ -43,6 +45,18 @@ write_fills book columns graphs graph words asked known h =
       fills = λ front named. append_fills book (use_places graph) run front (codes "write" ∷ words) named (refl, read.fills (Digits bytes.0.0 ∷ []) behind);
     })
 
+writes_fills : (book : List Named) (columns graphs : ℕ) (graph : Option ℕ) (words : List Text) (asked : Asked) → ForSome graph (λ g. g < graphs) → writes_of graph words ≡ Ok asked → RunRead book columns graphs graph (codes "writes") words asked
+unfolding writes_of
+writes_fills book columns graphs graph words asked known h =
+    let patches = bind_ok (all_patches_of words) _ asked h in
+    let apart = bind_ok (only_if (are_apart patches.0) 9) _ asked patches.2 in
+    let read = all_patches_fill book words patches.0 patches.1 in
+    let run = Literal (codes "writes") ∷ patch_places patches.0 in
+    subst (λ (a : Asked). RunRead book columns graphs graph (codes "writes") words a) (ok_same (WritesAll patches.0 graph) asked apart.2) (record {
+      is = (record { some = read.some; few = read.few; each = read.each; apart = test-apart patches.0 (only_ok (are_apart patches.0) 9 apart.0 apart.1) }, known);
+      fills = λ front named. append_fills book (use_places graph) run front (codes "writes" ∷ words) named (refl, read.fills);
+    })
+
 read_fills : (book : List Named) (columns graphs : ℕ) (graph : Option ℕ) (words : List Text) (asked : Asked) → ForSome graph (λ g. g < graphs) → read_of graph words ≡ Ok asked → RunRead book columns graphs graph (codes "read") words asked
 unfolding read_of
 read_fills book columns graphs graph words asked known h =
@@ -63,9 +77,14 @@ run_fills book columns graphs graph kind words asked known h = writes (bytes_eq 
     reads true e r = rw (bytes_same kind (codes "read") e) (read_fills book columns graphs graph words asked known r)
     reads false e r = absurd (cc)
 
-    writes : (b : Bool) → bytes_eq kind (codes "write") ≡ b → cond b (write_of graph words) (cond (bytes_eq kind (codes "read")) (read_of graph words) (Err 1)) ≡ Ok asked → RunRead book columns graphs graph kind words asked
+    all : (b : Bool) → bytes_eq kind (codes "writes") ≡ b → cond b (writes_of graph words) (cond (bytes_eq kind (codes "read")) (read_of graph words) (Err 1)) ≡ Ok asked → RunRead book columns graphs graph kind words asked
+    all true e r = rw (bytes_same kind (codes "writes") e) (writes_fills book columns graphs graph words asked known r)
+    all false e r = reads (bytes_eq kind (codes "read")) refl r
+
+    writes : (b : Bool) → bytes_eq kind (codes "write") ≡ b
+        → cond b (write_of graph words) (cond (bytes_eq kind (codes "writes")) (writes_of graph words) (cond (bytes_eq kind (codes "read")) (read_of graph words) (Err 1))) ≡ Ok asked → RunRead book columns graphs graph kind words asked
     writes true e r = rw (bytes_same kind (codes "write") e) (write_fills book columns graphs graph words asked known r)
-    writes false e r = reads (bytes_eq kind (codes "read")) refl r
+    writes false e r = all (bytes_eq kind (codes "writes")) refl r
 
 -- what was read from an item's kind on
 abbrev ItemRead : List Named → ℕ → Text → List Text → Asked → Type 0

@@ -7,10 +7,11 @@ use Rattle.std.proofs.lemmas.List.Sums.{sum_by-cons}
 use Rattle.raid_text.specs.Text.{Text, Numbered, is_sound, lines_in, sound_words, words_of}
 use Rattle.graph_text.specs.FormatSteps.{next_word}
 use Rattle.graph_text.specs.Format.{Named}
-use Rattle.raid_script.specs.Asked.{Asked, Writes, Reads, Syncs, Fails, Other, IsAsked, Request, read_sectors}
+use Rattle.raid_script.specs.Asked.{Asked, Writes, WritesAll, Reads, Syncs, Fails, Other, IsAsked, Request, read_sectors}
 use Rattle.raid_script.specs.Format.{fail_of, item_of, line_of, next_of, read_of, request_of, requests_behind, run_of, script_of, sync_of, use_of, write_of}
-use Rattle.raid_script.specs.Form.{Literal, Number, Digits, Graph, FillsAll, HasForm, IsLineOf, IsRequest, asked_places, places}
+use Rattle.raid_script.specs.Form.{Literal, Number, Digits, Graph, FillsAll, HasForm, IsLineOf, IsRequest, asked_places, patch_places, places}
 use Rattle.raid_script.specs.Laws.{ScriptIsRead}
+use Rattle.raid_script.proofs.PatchesRead.{writes_read}
 use Rattle.raid_script.proofs.PlacesRead.{client_read, column_read, end_read, graph_read, number_read, pattern_read, span_read, word_read}
 
 write_read : (book : List Named) (graph : Option ℕ) (first count : ℕ) (bytes : List ℕ) (words : List Text) → 0 < count → FillsAll book (Number first ∷ Number count ∷ Digits bytes ∷ []) words → write_of graph words ≡ Ok (Writes first count bytes graph)
@@ -48,6 +49,10 @@ item_read book columns graphs (Writes first count bytes None) words is fills =
     let kind = word_read book (Literal (codes "write")) (Number first ∷ Number count ∷ Digits bytes ∷ []) words fills in
     let named : kind.0 ≡ codes "write" = kind.3 in
     (kind.0, kind.1, kind.2, rw (named, write_read book None first count bytes kind.1 is.1 kind.4) refl)
+item_read book columns graphs (WritesAll patches None) words is fills =
+    let kind = word_read book (Literal (codes "writes")) (patch_places patches) words fills in
+    let named : kind.0 ≡ codes "writes" = kind.3 in
+    (kind.0, kind.1, kind.2, rw (named, writes_read book None patches kind.1 is.0 kind.4) refl)
 item_read book columns graphs (Reads first count None) words is fills =
     let kind = word_read book (Literal (codes "read")) (Number first ∷ Number count ∷ []) words fills in
     let named : kind.0 ≡ codes "read" = kind.3 in
@@ -60,6 +65,14 @@ item_read book columns graphs (Writes first count bytes (Some graph)) words is f
     let kind = word_read book (Literal (codes "write")) (Number first ∷ Number count ∷ Digits bytes ∷ []) g.0 g.2 in
     let write : kind.0 ≡ codes "write" = kind.3 in
     (word.0, word.1, word.2, rw (named, g.1, kind.2, write, write_read book (Some graph) first count bytes kind.1 is.1 kind.4) refl)
+item_read book columns graphs (WritesAll patches (Some graph)) words is fills =
+    let run = Literal (codes "writes") ∷ patch_places patches in
+    let word = word_read book (Literal (codes "use")) (Graph graph ∷ run) words fills in
+    let named : word.0 ≡ codes "use" = word.3 in
+    let g = graph_read book graph run word.1 word.4 in
+    let kind = word_read book (Literal (codes "writes")) (patch_places patches) g.0 g.2 in
+    let write : kind.0 ≡ codes "writes" = kind.3 in
+    (word.0, word.1, word.2, rw (named, g.1, kind.2, write, writes_read book (Some graph) patches kind.1 is.0 kind.4) refl)
 item_read book columns graphs (Reads first count (Some graph)) words is fills =
     let run = Literal (codes "read") ∷ Number first ∷ Number count ∷ [] in
     let word = word_read book (Literal (codes "use")) (Graph graph ∷ run) words fills in

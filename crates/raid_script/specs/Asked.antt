@@ -1,17 +1,27 @@
 -- What a script asks for: its items as they are spoken of, each with its client, and in the order of the clients.
-use Rattle.std.specs.Prelude.{ℕ, ◌<◌, ◌≤◌, ◌^◌, List, Option, Some, None, length, map, filter, sum_by, nat_eq}
+use Rattle.std.specs.Prelude.{◌≡◌, ℕ, ◌<◌, ◌≤◌, ◌^◌, true, List, [], ◌∷◌, ◌++◌, Option, Some, None, if◌then◌else◌, length, map, filter, sum_by, nat_eq, nat_le, slice_index_or, slice_set, All, AllPairs}
 use Rattle.std.specs.List.{range_with_len}
 use Rattle.std.specs.Option.{ForSome}
+use Rattle.blk_plain.specs.declared.op.Span.{Span}
+use Rattle.blk_plain.specs.declared.op.Patch.{Patch}
+use Rattle.blk_plain.specs.declared.op.Patches.{Patches}
 use Rattle.blk_plain.specs.declared.op.Op.{Op}
-use Rattle.blk_plain.specs.declared.op.Op.TheVariants.{Write, Read, Rebuild, Sync}
+use Rattle.blk_plain.specs.declared.op.Op.TheVariants as op
+use Rattle.blk_plain.specs.Plain.{is_in, used_of}
 use Rattle.raid_text.specs.Pattern.{pattern_bytes}
 use Rattle.eng_world.specs.declared.item.Item.{Item}
 use Rattle.eng_world.specs.declared.item.Item.TheVariants.{Run, Fail}
 use Rattle.raid_script.specs.declared.entry.Entry.{Entry}
 
--- What an item asks for: the first block, how many, the bytes that are repeated, and the graph of the file, if one is named; a stripe; a column.
+-- a span of blocks, and the bytes that are repeated in each of them
+pub record AskedPatch : Type 0 where
+  pub span : Span
+  pub bytes : List ℕ
+
+-- What an item asks for: the first block, how many, the bytes that are repeated, and the graph of the file, if one is named; several spans; a stripe; a column.
 pub data Asked : Type 0 where
   Writes : ℕ → ℕ → List ℕ → Option ℕ → Asked
+  WritesAll : List AskedPatch → Option ℕ → Asked
   Reads : ℕ → ℕ → Option ℕ → Asked
   Syncs : ℕ → Asked
   Fails : ℕ → Asked
@@ -22,14 +32,22 @@ pub record Request : Type 0 where
   pub client : ℕ
   pub asked : Asked
 
--- ---- items, as what they ask for; no script asks for a rebuild, or for a sync by a graph of the file
+-- ---- items, as what they ask for; no script asks for a rebuild, for a sync by a graph of the file, or for more than eight spans
+
+abbrev pub seen_patch : Patch → AskedPatch
+seen_patch patch = record { span = patch.span; bytes = pattern_bytes patch.pattern }
+
+-- those in use
+abbrev pub seen_patches : Patches → List AskedPatch
+seen_patches patches = map seen_patch (used_of patches)
 
 abbrev pub seen_op : Op → Option ℕ → Asked
-seen_op (Write span pattern) graph = Writes span.first span.count (pattern_bytes pattern) graph
-seen_op (Read span) graph = Reads span.first span.count graph
-seen_op (Sync stripe) None = Syncs stripe
-seen_op (Sync stripe) (Some graph) = Other
-seen_op (Rebuild stripe) graph = Other
+seen_op (op.Write span pattern) graph = Writes span.first span.count (pattern_bytes pattern) graph
+seen_op (op.Writes patches) graph = if nat_le patches.used 8 then WritesAll (seen_patches patches) graph else Other
+seen_op (op.Read span) graph = Reads span.first span.count graph
+seen_op (op.Sync stripe) None = Syncs stripe
+seen_op (op.Sync stripe) (Some graph) = Other
+seen_op (op.Rebuild stripe) graph = Other
 
 abbrev pub seen : Item → Asked
 seen (Run op graph) = seen_op op graph
@@ -52,19 +70,40 @@ by_first n requests = map (asked_by requests) (range_with_len 0 n)
 abbrev pub by_client : List Request → List (List Asked)
 by_client requests = by_first 16 requests
 
+-- what each client asks for, with one item more behind those of its client
+abbrev pub with_request : List (List Asked) → Request → List (List Asked)
+with_request rows r = slice_set rows r.client (slice_index_or rows r.client [] ++ r.asked ∷ [])
+
 -- ---- limits
 
 -- how many sectors an item reads
 abbrev pub read_sectors : Asked → ℕ
 read_sectors (Writes first count bytes graph) = 0
+read_sectors (WritesAll patches graph) = 0
 read_sectors (Reads first count graph) = count
 read_sectors (Syncs stripe) = 0
 read_sectors (Fails column) = 0
 read_sectors Other = 0
 
--- an item that may stand in a script for an array of so many columns, beside so many graphs: a block at least, a column of the array, a graph of the file
+-- a block at least
+abbrev pub IsPatch : AskedPatch → Type 0
+IsPatch patch = (patch.span.first < 2 ^ 32) × (0 < patch.span.count)
+
+-- no block is in both spans
+abbrev pub ShareNone : AskedPatch → AskedPatch → Type 0
+ShareNone p q = (b : ℕ) → is_in p.span b ≡ true → is_in q.span b ≡ true → ⊥
+
+-- one to eight spans, no two of which share a block
+pub record ArePatches (patches : List AskedPatch) : Type 0 where
+  pub some : 1 ≤ length patches
+  pub few : length patches ≤ 8
+  pub each : All IsPatch patches
+  pub apart : AllPairs ShareNone patches
+
+-- an item that may stand in a script for an array of so many columns, beside so many graphs: a block at least in each span, a column of the array, a graph of the file
 abbrev pub IsAsked : ℕ → ℕ → Asked → Type 0
 IsAsked columns graphs (Writes first count bytes graph) = (first < 2 ^ 32) × (0 < count) × ForSome graph (λ g. g < graphs)
+IsAsked columns graphs (WritesAll patches graph) = ArePatches patches × ForSome graph (λ g. g < graphs)
 IsAsked columns graphs (Reads first count graph) = (first < 2 ^ 32) × (0 < count) × ForSome graph (λ g. g < graphs)
 IsAsked columns graphs (Syncs stripe) = Unit {0}
 IsAsked columns graphs (Fails column) = column < columns

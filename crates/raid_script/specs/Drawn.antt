@@ -8,7 +8,7 @@ use Rattle.eng_world.specs.Planning.{touches}
 use Rattle.rand_core.specs.Pcg32Seed.{pcg32_seed}
 use Rattle.rand_pcg.specs.Lcg.{Lcg, advance}
 use Rattle.rand_pcg.specs.Pcg.{multiplier_64, pcg32, pcg32_of_seed}
-use Rattle.raid_script.specs.Asked.{Asked, Writes, Reads, Syncs, Fails, Other, seen}
+use Rattle.raid_script.specs.Asked.{Asked, Writes, WritesAll, Reads, Syncs, Fails, Other, seen}
 
 -- ---- words: the generator is PCG-XSH-RR 64/32
 
@@ -86,6 +86,7 @@ pub record IsOwnSpan (wide blocks client first count : ℕ) : Type 0 where
 -- a write or a read, by the library's graph, of such blocks
 abbrev pub IsOwn : (wide blocks client : ℕ) → Asked → Type 0
 IsOwn wide blocks client (Writes first count bytes graph) = IsOwnSpan wide blocks client first count × (length bytes ≡ 1) × (graph ≡ None)
+IsOwn wide blocks client (WritesAll patches graph) = ⊥
 IsOwn wide blocks client (Reads first count graph) = IsOwnSpan wide blocks client first count × (graph ≡ None)
 IsOwn wide blocks client (Syncs stripe) = ⊥
 IsOwn wide blocks client (Fails column) = ⊥

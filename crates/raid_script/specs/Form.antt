@@ -3,7 +3,7 @@ use Rattle.std.specs.Prelude.{◌≡◌, ℕ, ◌<◌, ◌≤◌, List, [], ◌�
 use Rattle.raid_text.specs.Text.{Text, Numbered, number_of, sound_words}
 use Rattle.raid_text.specs.Pattern.{pattern_of}
 use Rattle.graph_text.specs.Format.{Named}
-use Rattle.raid_script.specs.Asked.{Asked, Writes, Reads, Syncs, Fails, Other, IsAsked, Request, read_sectors}
+use Rattle.raid_script.specs.Asked.{Asked, AskedPatch, Writes, WritesAll, Reads, Syncs, Fails, Other, IsAsked, Request, read_sectors}
 use Rattle.raid_script.specs.Format.{graph_of}
 
 -- what stands at a word's place: this word, a number, the digits of a pattern, or the name of a graph of the book
@@ -45,9 +45,15 @@ abbrev pub use_places : Option ℕ → List Place
 use_places None = []
 use_places (Some graph) = Literal (codes "use") ∷ Graph graph ∷ []
 
+-- FIRST, COUNT and PATTERN of each span
+abbrev pub patch_places : List AskedPatch → List Place
+patch_places [] = []
+patch_places (patch ∷ patches) = Number patch.span.first ∷ Number patch.span.count ∷ Digits patch.bytes ∷ patch_places patches
+
 -- the places behind the client
 abbrev pub asked_places : Asked → List Place
 asked_places (Writes first count bytes graph) = use_places graph ++ (Literal (codes "write") ∷ Number first ∷ Number count ∷ Digits bytes ∷ [])
+asked_places (WritesAll patches graph) = use_places graph ++ (Literal (codes "writes") ∷ patch_places patches)
 asked_places (Reads first count graph) = use_places graph ++ (Literal (codes "read") ∷ Number first ∷ Number count ∷ [])
 asked_places (Syncs stripe) = Literal (codes "sync") ∷ Number stripe ∷ []
 asked_places (Fails column) = Literal (codes "fail") ∷ Number column ∷ []

@@ -1,11 +1,12 @@
 -- Scripts: what a text asks for, or the first line that is refused and the code of its refusal.
-use Rattle.std.specs.Prelude.{ℕ, ◌+◌, ◌&&◌, not, List, [], ◌∷◌, Option, Some, None, Result, Ok, Err, if◌then◌else◌, nat_eq, nat_le, nat_lt, codes, position}
+use Rattle.std.specs.Prelude.{ℕ, zero, suc, ◌+◌, ◌&&◌, ◌||◌, not, Bool, true, List, [], ◌∷◌, Option, Some, None, Result, Ok, Err, if◌then◌else◌, nat_eq, nat_le, nat_lt, codes, position}
+use Rattle.std.specs.List.{list_all}
 use Rattle.std.specs.Str.{bytes_eq}
 use Rattle.raid_text.specs.Text.{Text, Numbered, is_sound, lines_in, words_of}
 use Rattle.raid_text.specs.Pattern.{pattern_of}
 use Rattle.graph_text.specs.FormatSteps.{◌>>=◌, at_end, next_number, next_word, only_if, or_code}
 use Rattle.graph_text.specs.Format.{At, Named, at_line}
-use Rattle.raid_script.specs.Asked.{Asked, Writes, Reads, Syncs, Fails, Request, by_client, read_sectors}
+use Rattle.raid_script.specs.Asked.{Asked, AskedPatch, Writes, WritesAll, Reads, Syncs, Fails, Request, by_client, read_sectors}
 
 -- ---- words
 
@@ -59,6 +60,47 @@ write_of graph words = do
   end ← at_end bytes.1
   Ok (Writes span.0 span.1 bytes.0 graph)
 
+-- FIRST COUNT PATTERN, and the words behind them
+unfoldable pub next_patch : List Text → Result (AskedPatch × List Text) ℕ
+next_patch words = do
+  span ← next_span words
+  bytes ← next_pattern span.2
+  Ok (record { span = record { first = span.0; count = span.1 }; bytes = bytes.0 }, bytes.1)
+
+-- as many of them as the line has, at most n; code 1 where it has more words
+unfoldable pub patches_of : ℕ → List Text → Result (List AskedPatch) ℕ
+patches_of zero words = do
+  end ← at_end words
+  Ok []
+patches_of (suc n) [] = Ok []
+patches_of (suc n) (word ∷ words) = do
+  patch ← next_patch (word ∷ words)
+  more ← patches_of n patch.1
+  Ok (patch.0 ∷ more)
+
+-- one of the two spans ends before the other begins
+abbrev pub are_two_apart : AskedPatch → AskedPatch → Bool
+are_two_apart p q = nat_le (p.span.first + p.span.count) q.span.first || nat_le (q.span.first + q.span.count) p.span.first
+
+-- of each two that is so
+abbrev pub are_apart : List AskedPatch → Bool
+are_apart [] = true
+are_apart (patch ∷ patches) = list_all (λ other. are_two_apart patch other) patches && are_apart patches
+
+-- FIRST COUNT PATTERN, one to eight times
+unfoldable pub all_patches_of : List Text → Result (List AskedPatch) ℕ
+all_patches_of words = do
+  first ← next_patch words
+  more ← patches_of 7 first.1
+  Ok (first.0 ∷ more)
+
+-- the same; code 9 where two of the spans share a block
+unfoldable pub writes_of : Option ℕ → List Text → Result Asked ℕ
+writes_of graph words = do
+  patches ← all_patches_of words
+  apart ← only_if (are_apart patches) 9
+  Ok (WritesAll patches graph)
+
 -- FIRST COUNT
 unfoldable pub read_of : Option ℕ → List Text → Result Asked ℕ
 read_of graph words = do
@@ -80,11 +122,12 @@ fail_of columns words = do
   end ← at_end column.1
   Ok (Fails column.0)
 
--- what stands behind `write` or `read`
+-- what stands behind `write`, `writes` or `read`
 unfoldable pub run_of : Option ℕ → Text → List Text → Result Asked ℕ
 run_of graph kind words =
     if bytes_eq kind (codes "write") then write_of graph words
-    else (if bytes_eq kind (codes "read") then read_of graph words else Err 1)
+    else (if bytes_eq kind (codes "writes") then writes_of graph words
+    else (if bytes_eq kind (codes "read") then read_of graph words else Err 1))
 
 -- NAME, and a write or a read behind it
 unfoldable pub use_of : List Named → List Text → Result Asked ℕ

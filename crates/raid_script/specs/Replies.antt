@@ -85,6 +85,7 @@ reply_line client index told =
 -- how many sectors an item is handed
 abbrev pub op_sectors : Op → ℕ
 op_sectors (op.Write span pattern) = 0
+op_sectors (op.Writes patches) = 0
 op_sectors (op.Read span) = span.count
 op_sectors (op.Rebuild stripe) = 0
 op_sectors (op.Sync stripe) = 0
@@ -105,6 +106,7 @@ item_bytes items bytes i count = take (512 * count) (drop (512 * row_sectors (ta
 -- the first block of an item's
 abbrev pub op_first : Op → ℕ
 op_first (op.Write span pattern) = 0
+op_first (op.Writes patches) = 0
 op_first (op.Read span) = span.first
 op_first (op.Rebuild stripe) = 0
 op_first (op.Sync stripe) = 0

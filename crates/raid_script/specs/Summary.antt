@@ -4,6 +4,7 @@ use Rattle.std.specs.List.{range_with_len}
 use Rattle.std.specs.declared.alloc.Global.{Global}
 use Rattle.blk_plain.specs.declared.op.Op.{Op}
 use Rattle.blk_plain.specs.declared.op.Op.TheVariants as op
+use Rattle.blk_plain.specs.Plain.{used_of}
 use Rattle.eng_world.specs.declared.item.Item.{Item}
 use Rattle.eng_world.specs.declared.item.Item.TheVariants as item
 use Rattle.eng_world.specs.declared.item.Reply.{Reply}
@@ -22,6 +23,7 @@ written_line written read sum = line (codes "written " ∷ decimal written ∷ c
 -- how many sectors an item writes
 abbrev pub op_writes : Op → ℕ
 op_writes (op.Write span pattern) = span.count
+op_writes (op.Writes patches) = sum_by (λ p. p.span.count) (used_of patches)
 op_writes (op.Read span) = 0
 op_writes (op.Rebuild stripe) = 0
 op_writes (op.Sync stripe) = 0

@@ -19,7 +19,6 @@ fn push_numbers(line: &mut Line, numbers: &[u32])
     }
 }
 
-// The name of a cause.
 fn name_of(cause: Refusal) -> &'static [u8]
     ensures value { result.now ≡ cause_name cause }
     ensures short { length result.now ≤ 3 }

@@ -20,3 +20,6 @@ pub const GRAPH: u8 = 6;
 
 /// One item more, or more sectors read, than there may be.
 pub const LIMIT: u8 = 7;
+
+/// Two spans of the line that share a block.
+pub const SHARED: u8 = 9;

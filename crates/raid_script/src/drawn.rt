@@ -16,7 +16,6 @@ use std::alloc::{AllocError, Global};
 /// The most blocks of an item.
 const LONGEST: u64 = 8;
 
-// The generator of a number.
 #[tactic(auto, unfolding(crate::specs::Drawn::seeded))]
 pub(crate) fn words_of(seed: u64) -> Lcg64Xsh32
     ensures { result ≡ seeded seed }
@@ -24,7 +23,6 @@ pub(crate) fn words_of(seed: u64) -> Lcg64Xsh32
     Lcg64Xsh32::seed_from_u64(seed)
 }
 
-// The next word.
 #[tactic(auto, unfolding(crate::specs::Drawn::after, crate::specs::Drawn::first_word))]
 pub(crate) fn next(words: &mut Lcg64Xsh32) -> u32
     ensures value { result ≡ word_of 0 words.old }
@@ -33,7 +31,6 @@ pub(crate) fn next(words: &mut Lcg64Xsh32) -> u32
     words.next_word()
 }
 
-// The pattern of one byte.
 fn one_byte(byte: u8) -> Pattern
     ensures { pattern_bytes result ≡ byte ∷ [] }
 {
@@ -80,7 +77,6 @@ fn item_from(client: u32, wide: u64, words: &mut Lcg64Xsh32) -> Item
     item_by(client, wide, a, p, q)
 }
 
-// So many items of a client.
 fn row_from(
     alloc: Global,
     client: u32,

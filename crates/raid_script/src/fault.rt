@@ -19,7 +19,8 @@ pub enum ScriptFault {
     /// 5. the column isn't below the number of columns;
     /// 6. no graph of the file has this name, or no file was given;
     /// 7. the 65,537th item, or the item by which the COUNTs of all reads pass 262,144, judged once
-    ///    the line is read whole.
+    ///    the line is read whole;
+    /// 9. two spans of the line share a block, judged once the line is read whole, and before code 7.
     #[error("line {line} of the script is refused by code {code}")]
     At { line: u32, code: u8 },
     /// There was no memory for the items.

@@ -12,7 +12,6 @@ use raid_bay::Sink;
 /// The client whose operations are the array's own.
 const OWN: u32 = limits::CLIENTS;
 
-// The line of an operation in the history.
 #[tactic(auto, unfolding(crate::specs::History::commit_line))]
 fn set_commit(line: &mut Line, id: OpId)
     ensures { line.new ≡ commit_line id }

@@ -2,13 +2,14 @@
 ghost use Rattle.raid_text.specs.Seen.{words_left};
 ghost use Rattle.graph_text.specs.Answers.{Gives};
 ghost use Rattle.raid_script.specs.Asked.{seen};
-ghost use Rattle.raid_script.specs.Format.{fail_of, item_of, read_of, run_of, sync_of, use_of, write_of};
+ghost use Rattle.raid_script.specs.Format.{fail_of, item_of, read_of, run_of, sync_of, use_of, write_of, writes_of};
 
-use crate::codes::WORD;
+use crate::codes::{SHARED, WORD};
+use crate::patches::patches_in;
 use crate::words::{
     next_column, next_graph, next_number, next_pattern, next_span, next_word, pass_end,
 };
-use blk_plain::Op;
+use blk_plain::{Op, are_apart};
 use eng_world::Item;
 use graph_text::Book;
 use raid_text::Words;
@@ -23,6 +24,21 @@ fn write_in(graph: Option<u32>, words: &mut Words) -> Result<Item, u8>
     pass_end(words)?;
     Ok(Item::Run {
         op: Op::Write { span, pattern },
+        graph,
+    })
+}
+
+// FIRST COUNT PATTERN, one to eight times.
+#[tactic(auto, unfolding(crate::specs::Format::writes_of))]
+fn writes_in(graph: Option<u32>, words: &mut Words) -> Result<Item, u8>
+    ensures { Gives seen result (writes_of graph (words_left words.old)) }
+{
+    let patches = patches_in(words)?;
+    if !are_apart(&patches) {
+        return Err(SHARED);
+    }
+    Ok(Item::Run {
+        op: Op::Writes { patches },
         graph,
     })
 }
@@ -63,13 +79,15 @@ fn fail_in(columns: u32, words: &mut Words) -> Result<Item, u8>
     Ok(Item::Fail { column })
 }
 
-// What stands behind `write` or `read`.
+// What stands behind `write`, `writes` or `read`.
 #[tactic(auto, unfolding(crate::specs::Format::run_of))]
 fn run_in(graph: Option<u32>, kind: &[u8], words: &mut Words) -> Result<Item, u8>
     ensures { Gives seen result (run_of graph kind.now (words_left words.old)) }
 {
     if kind == b"write".as_slice() {
         write_in(graph, words)
+    } else if kind == b"writes".as_slice() {
+        writes_in(graph, words)
     } else if kind == b"read".as_slice() {
         read_in(graph, words)
     } else {

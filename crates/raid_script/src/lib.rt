@@ -4,8 +4,10 @@
 //!
 //! - `C write FIRST COUNT PATTERN`: writes COUNT blocks from block FIRST on, each filled with the
 //!   pattern; `C read FIRST COUNT`: reads them. Both by the library's graph;
-//! - `C use NAME write FIRST COUNT PATTERN` and `C use NAME read FIRST COUNT`: the same by the graph
-//!   of the file that has this name;
+//! - `C writes FIRST COUNT PATTERN ..`: one to eight such writes as one operation. No two of its
+//!   spans share a block;
+//! - `C use NAME write ..`, `C use NAME writes ..` and `C use NAME read ..`: the same by the graph of
+//!   the file that has this name;
 //! - `C sync STRIPE`: makes a stripe's check unit from its data units;
 //! - `C fail COLUMN`: the operator fails a column.
 //!
@@ -28,6 +30,7 @@ mod kinds;
 mod laws;
 mod lines;
 mod memory;
+mod patches;
 mod reader;
 mod repetition;
 mod replies;

@@ -14,10 +14,10 @@ use eng_world::Item;
 use graph_text::Book;
 use raid_text::{Line, Words};
 
-// A client and its item.
 #[tactic(auto, unfolding(crate::specs::Format::request_of))]
 fn entry_in(book: &Book, columns: u32, words: &mut Words) -> Result<Entry, u8>
-    ensures { Gives seen_entry result (request_of book.now columns (words_left words.old)) }
+    ensures value { Gives seen_entry result (request_of book.now columns (words_left words.old)) }
+    ensures client { IfOk result (λ e. e.client < 16) }
 {
     let client = next_client(words)?;
     let kind = next_word(words)?;
@@ -25,10 +25,10 @@ fn entry_in(book: &Book, columns: u32, words: &mut Words) -> Result<Entry, u8>
     Ok(Entry { client, item })
 }
 
-// The item of a line.
 #[tactic(auto, unfolding(crate::specs::Format::line_of))]
 fn read_line(book: &Book, columns: u32, line: &Line) -> Result<Entry, u8>
-    ensures { Gives seen_entry result (line_of book.now columns (seen_line line.now)) }
+    ensures value { Gives seen_entry result (line_of book.now columns (seen_line line.now)) }
+    ensures client { IfOk result (λ e. e.client < 16) }
 {
     if !line.sound() {
         return Err(WORD);
@@ -61,6 +61,7 @@ pub fn next_entry(
 ) -> Result<Entry, u8>
     requires { sectors ≤ 262144 }
     ensures value { Gives seen_entry result (next_of book.now columns items sectors (seen_line line.now)) }
+    ensures client { IfOk result (λ e. e.client < 16) }
     ensures few { IfOk result (λ e. items < 65536) }
     ensures bound { IfOk result (λ e. sectors + read_sectors (seen e.item) ≤ 262144) }
 {

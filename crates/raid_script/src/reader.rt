@@ -1,46 +1,15 @@
 //! The reader of a whole script.
-ghost use Rattle.std.specs.Prelude.{◌≤◌, length, map, All, IfOk};
+ghost use Rattle.std.specs.Prelude.{◌≤◌, length, All, IfOk};
 ghost use Rattle.raid_script.specs.Answers.{GivesScript};
-ghost use Rattle.raid_script.specs.Asked.{AreFew, IsAsked, seen_entry};
-ghost use Rattle.raid_script.specs.Format.{requests_of, script_of};
+ghost use Rattle.raid_script.specs.Asked.{AreFew, IsAsked};
+ghost use Rattle.raid_script.specs.Format.{script_of};
 
-use crate::entry::Entry;
 use crate::fault::ScriptFault;
 use crate::lines::{next_entry, read_sectors};
-use crate::script::{Script, by_client};
+use crate::script::Script;
 use graph_text::Book;
 use raid_text::Lines;
 use std::alloc::Global;
-
-// The items of a text, in the order of its lines.
-fn read_entries(
-    alloc: Global,
-    text: &[u8],
-    book: &Book,
-    columns: u32,
-) -> Result<Vec<Entry>, ScriptFault>
-    requires { length text.now ≤ 16777216 }
-    ensures { GivesScript (λ v. map seen_entry v.items) result (requests_of book.now columns text.now) }
-{
-    let mut entries = Vec::new(alloc);
-    let mut sectors = 0;
-    let mut lines = Lines::new(text);
-    while let Some(line) = lines.next() {
-        match next_entry(book, columns, entries.len(), sectors, &line) {
-            Ok(entry) => {
-                sectors += read_sectors(&entry.item);
-                entries.push(entry)?;
-            }
-            Err(code) => {
-                return Err(ScriptFault::At {
-                    line: line.at(),
-                    code,
-                });
-            }
-        }
-    }
-    Ok(entries)
-}
 
 /// What a text asks for of an array of so many columns, beside the graphs of a book, which has none
 /// where no file was given.
@@ -57,10 +26,28 @@ pub fn read_script(
     requires { length text.now ≤ 16777216 }
     ensures value { GivesScript (λ s. s) result (script_of book.now columns text.now) }
 
-    // Each item has a block at least, a column of the array, a graph of the book.
+    // Each item has a block at least, a column of the array, a graph of the book; and no two spans of one share a block.
     ensures asked { IfOk result (λ s. All (All (IsAsked columns (length book.now))) s) }
     ensures few { IfOk result (λ s. AreFew s) }
 {
-    let entries = read_entries(alloc, text, book, columns)?;
-    Ok(by_client(alloc, &entries)?)
+    let mut script = Script::empty(alloc)?;
+    let mut items = 0;
+    let mut sectors = 0;
+    let mut lines = Lines::new(text);
+    while let Some(line) = lines.next() {
+        match next_entry(book, columns, items, sectors, &line) {
+            Ok(entry) => {
+                items += 1;
+                sectors += read_sectors(&entry.item);
+                script.push(entry)?;
+            }
+            Err(code) => {
+                return Err(ScriptFault::At {
+                    line: line.at(),
+                    code,
+                });
+            }
+        }
+    }
+    Ok(script)
 }

@@ -21,7 +21,7 @@ fn op_sectors(op: &Op) -> u32
 {
     match op {
         Op::Read { span } => span.count,
-        Op::Write { .. } | Op::Rebuild { .. } | Op::Sync { .. } => 0,
+        Op::Write { .. } | Op::Writes { .. } | Op::Rebuild { .. } | Op::Sync { .. } => 0,
     }
 }
 
@@ -41,11 +41,10 @@ fn op_first(op: &Op) -> u64
 {
     match op {
         Op::Read { span } => span.first,
-        Op::Write { .. } | Op::Rebuild { .. } | Op::Sync { .. } => 0,
+        Op::Write { .. } | Op::Writes { .. } | Op::Rebuild { .. } | Op::Sync { .. } => 0,
     }
 }
 
-// The first block that an item reads.
 fn item_first(item: &Item) -> u64
     ensures { result ≡ item_first item.now }
 {

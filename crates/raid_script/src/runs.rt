@@ -27,7 +27,6 @@ pub fn run_length(sectors: &[[u8; 512]]) -> usize
     sectors.len()
 }
 
-// The line of a run.
 #[tactic(auto, unfolding(crate::specs::Blocks::block_line))]
 fn set_block(line: &mut Line, first: u128, count: usize, sector: &[u8; 512])
     ensures { line.new ≡ block_line first count sector.now }

@@ -1,6 +1,6 @@
 //! The items of a script, by client.
-ghost use Rattle.std.specs.Prelude.{◌≡◌, map, filter, nat_eq, IfOk};
-ghost use Rattle.raid_script.specs.Asked.{by_client, seen, seen_entry};
+ghost use Rattle.std.specs.Prelude.{◌≡◌, ◌<◌, [], length, map, IfOk, OnOk};
+ghost use Rattle.raid_script.specs.Asked.{by_client, seen, seen_entry, with_request};
 
 use crate::entry::Entry;
 use blk_plain::limits;
@@ -24,32 +24,30 @@ impl Model for Script {
 }
 
 impl Script {
+    /// Sixteen clients, none of which has an item.
+    pub(crate) fn empty(alloc: Global) -> Result<Script, AllocError>
+        ensures { IfOk result (λ s. s ≡ by_client []) }
+    {
+        let mut clients = Vec::with_capacity(alloc, limits::CLIENTS as usize)?;
+        for _ in 0..limits::CLIENTS {
+            clients.push(Vec::new(alloc))?;
+        }
+        Ok(Script { clients })
+    }
+
+    /// Puts an item behind those of its client.
+    pub(crate) fn push(&mut self, entry: Entry) -> Result<(), AllocError>
+        requires { entry.client < length self.old }
+        ensures { OnOk result (self.new ≡ with_request self.old (seen_entry entry)) }
+    {
+        self.clients[entry.client as usize].push(entry.item)?;
+        Ok(())
+    }
+
     /// The items of each client, by its number. It takes no memory.
     pub fn clients(self) -> Vec<Vec<Item>>
         ensures { map (λ items. map seen items.items) result.items ≡ self }
     {
         self.clients
     }
-}
-
-// The items of one client.
-fn items_of(alloc: Global, entries: &[Entry], client: u32) -> Result<Vec<Item>, AllocError>
-    ensures { IfOk result (λ v. v.items ≡ map (λ e. e.item) (filter (λ e. nat_eq e.client client) entries.now)) }
-{
-    entries
-        .iter()
-        .filter(|e| e.client == client)
-        .map(|e| e.item)
-        .collect(alloc)
-}
-
-/// The items of each client, from those of all lines.
-pub fn by_client(alloc: Global, entries: &[Entry]) -> Result<Script, AllocError>
-    ensures { IfOk result (λ s. s ≡ by_client (map seen_entry entries.now)) }
-{
-    let mut clients = Vec::with_capacity(alloc, limits::CLIENTS as usize)?;
-    for client in 0..limits::CLIENTS {
-        clients.push(items_of(alloc, entries, client)?)?;
-    }
-    Ok(Script { clients })
 }

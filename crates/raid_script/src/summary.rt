@@ -11,7 +11,6 @@ use eng_world::{Item, Reply};
 use put_line::Line;
 use raid_bay::Sink;
 
-// The line of the clients and their items.
 #[tactic(auto, unfolding(crate::specs::Summary::sweep_line))]
 fn set_sweep(line: &mut Line, clients: usize, operations: u128)
     ensures { line.new ≡ sweep_line clients operations }
@@ -24,7 +23,6 @@ fn set_sweep(line: &mut Line, clients: usize, operations: u128)
     line.push(b"\n");
 }
 
-// The line of the sectors and the sum.
 #[tactic(auto, unfolding(crate::specs::Summary::written_line))]
 fn set_written(line: &mut Line, written: u128, read: usize, sum: u128)
     ensures { line.new ≡ written_line written read sum }

@@ -1,25 +1,54 @@
 //! What is summed up of a run: its items, the sectors that they write and read, the bytes replied.
 ghost use Rattle.std.specs.Prelude.{◌≡◌, ◌≤◌, ◌*◌, length, sum_by};
+ghost use Rattle.blk_plain.specs.Plain.{used_of};
 ghost use Rattle.raid_script.specs.Replies.{row_sectors, StandFor};
 ghost use Rattle.raid_script.specs.Summary.{op_writes, item_writes, row_writes, byte_sum, data_sum, row_sum, all_sum};
 
 use crate::replies::item_sectors;
-use blk_plain::{Op, SECTOR};
+use blk_plain::{Op, Patch, Patches, SECTOR};
 use eng_world::{Item, Reply};
 
+fn patches_in_use(patches: &Patches) -> &[Patch]
+    ensures value { result.now ≡ used_of patches.now }
+    ensures few { length result.now ≤ 8 }
+{
+    let used = usize::from(patches.used);
+    if used < patches.list.len() {
+        &patches.list[..used]
+    } else {
+        &patches.list
+    }
+}
+
+// How many sectors their spans have.
+fn sum_patches(patches: &[Patch]) -> u64
+    requires { length patches.now ≤ 8 }
+    ensures value { result ≡ sum_by (λ p. p.span.count) patches.now }
+    ensures small { result ≤ 34359738360 }
+{
+    let mut total = 0;
+    for patch in patches {
+        total += u64::from(patch.span.count);
+    }
+    total
+}
+
 // How many sectors an operation writes.
-fn op_writes(op: &Op) -> u32
-    ensures { result ≡ op_writes op.now }
+fn op_writes(op: &Op) -> u64
+    ensures value { result ≡ op_writes op.now }
+    ensures small { result ≤ 34359738360 }
 {
     match op {
-        Op::Write { span, .. } => span.count,
+        Op::Write { span, .. } => u64::from(span.count),
+        Op::Writes { patches } => sum_patches(patches_in_use(patches)),
         Op::Read { .. } | Op::Rebuild { .. } | Op::Sync { .. } => 0,
     }
 }
 
 // How many sectors an item writes.
-fn item_writes(item: &Item) -> u32
-    ensures { result ≡ item_writes item.now }
+fn item_writes(item: &Item) -> u64
+    ensures value { result ≡ item_writes item.now }
+    ensures small { result ≤ 34359738360 }
 {
     match item {
         Item::Run { op, .. } => op_writes(op),
@@ -30,7 +59,7 @@ fn item_writes(item: &Item) -> u32
 // How many sectors a client's items write.
 fn row_writes(items: &[Item]) -> u128
     ensures value { result ≡ row_writes items.now }
-    ensures small { result ≤ 4294967295 * length items.now }
+    ensures small { result ≤ 34359738360 * length items.now }
 {
     let mut total: u128 = 0;
     for item in items {
@@ -63,7 +92,6 @@ pub fn count_written(clients: &[Vec<Item>]) -> u128
     total
 }
 
-// The sum of bytes.
 fn sum_bytes(bytes: &[u8]) -> u128
     ensures value { result ≡ byte_sum bytes.now }
     ensures small { result ≤ 255 * length bytes.now }

@@ -25,7 +25,6 @@ fn set_id(line: &mut Line, word: &[u8], id: OpId)
     line.push(b"\n");
 }
 
-// The line of a node's event.
 #[tactic(auto, unfolding(crate::specs::Trace::node_line))]
 fn set_node(line: &mut Line, word: &[u8], id: OpId, node: u32)
     requires { length word.now ≤ 6 }
@@ -42,7 +41,6 @@ fn set_node(line: &mut Line, word: &[u8], id: OpId, node: u32)
     line.push(b"\n");
 }
 
-// The line of a column's event.
 #[tactic(auto, unfolding(crate::specs::Trace::column_line))]
 fn set_column(line: &mut Line, word: &[u8], column: u32)
     requires { length word.now ≤ 6 }
@@ -55,7 +53,6 @@ fn set_column(line: &mut Line, word: &[u8], column: u32)
     line.push(b"\n");
 }
 
-// The line of a rebuild onto a device.
 #[tactic(auto, unfolding(crate::specs::Trace::fill_line))]
 fn set_fill(line: &mut Line, column: u32, device: u32)
     ensures { line.new ≡ fill_line column device }
@@ -68,7 +65,6 @@ fn set_fill(line: &mut Line, column: u32, device: u32)
     line.push(b"\n");
 }
 
-// The line of an event.
 fn set_event(line: &mut Line, event: Traced)
     ensures { line.new ≡ event_line event }
 {

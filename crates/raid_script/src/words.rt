@@ -1,11 +1,11 @@
 //! What a line has next, read word by word.
 //!
 //! Each step answers the code by which the line is refused where it has something else there.
-ghost use Rattle.std.specs.Prelude.{◌≡◌};
+ghost use Rattle.std.specs.Prelude.{◌≡◌, ◌<◌, ◌≤◌, ◌∷◌, IfOk};
 ghost use Rattle.raid_text.specs.Pattern.{pattern_bytes};
 ghost use Rattle.raid_text.specs.Seen.{words_left};
 ghost use Rattle.graph_text.specs.Answers.{Gives};
-ghost use Rattle.graph_text.specs.FormatSteps.{at_end, next_number, next_word};
+ghost use Rattle.graph_text.specs.FormatSteps.{at_end, next_number, next_word, number_in};
 ghost use Rattle.raid_script.specs.Format.{next_client, next_column, next_graph, next_pattern, next_span};
 
 use crate::codes::{CLIENT, COLUMN, GRAPH, NUMBER, PATTERN, WORD};
@@ -24,17 +24,25 @@ pub fn next_word<'a>(words: &mut Words<'a>) -> Result<&'a [u8], u8>
     }
 }
 
-/// The next word, which is a number.
-#[tactic(auto, unfolding(graph_text::specs::FormatSteps::next_number, graph_text::specs::FormatSteps::number_in))]
-pub fn next_number(words: &mut Words) -> Result<u32, u8>
-    ensures { Gives (λ n. (n, words_left words.new)) result (next_number (words_left words.old)) }
+// The number that a word is.
+#[tactic(auto, unfolding(graph_text::specs::FormatSteps::number_in))]
+fn number_in(word: &[u8]) -> Result<u32, u8>
+    ensures { result ≡ number_in word.now }
 {
-    let Some(word) = words.next() else {
-        return Err(WORD);
-    };
     match number(word) {
         Some(n) => Ok(n),
         None => Err(NUMBER),
+    }
+}
+
+/// The next word, which is a number.
+#[tactic(auto, unfolding(graph_text::specs::FormatSteps::next_number))]
+pub fn next_number(words: &mut Words) -> Result<u32, u8>
+    ensures { Gives (λ n. (n, words_left words.new)) result (next_number (words_left words.old)) }
+{
+    match words.next() {
+        Some(word) => number_in(word),
+        None => Err(WORD),
     }
 }
 
@@ -52,7 +60,8 @@ pub fn pass_end(words: &mut Words) -> Result<(), u8>
 /// C, a client.
 #[tactic(auto, unfolding(crate::specs::Format::next_client))]
 pub fn next_client(words: &mut Words) -> Result<u32, u8>
-    ensures { Gives (λ n. (n, words_left words.new)) result (next_client (words_left words.old)) }
+    ensures value { Gives (λ n. (n, words_left words.new)) result (next_client (words_left words.old)) }
+    ensures small { IfOk result (λ n. n < 16) }
 {
     let client = next_number(words)?;
     if client < limits::CLIENTS {
@@ -62,12 +71,13 @@ pub fn next_client(words: &mut Words) -> Result<u32, u8>
     }
 }
 
-/// FIRST and COUNT, which isn't 0.
-#[tactic(auto, unfolding(crate::specs::Format::next_span))]
-pub fn next_span(words: &mut Words) -> Result<Span, u8>
-    ensures { Gives (λ span. (span.first, span.count, words_left words.new)) result (next_span (words_left words.old)) }
+/// FIRST, which is this word, and COUNT, which isn't 0.
+#[tactic(auto, unfolding(crate::specs::Format::next_span, graph_text::specs::FormatSteps::next_number))]
+pub fn span_from(word: &[u8], words: &mut Words) -> Result<Span, u8>
+    ensures value { Gives (λ span. (span.first, span.count, words_left words.new)) result (next_span (word.now ∷ words_left words.old)) }
+    ensures some { IfOk result (λ span. 1 ≤ span.count) }
 {
-    let first = next_number(words)?;
+    let first = number_in(word)?;
     let count = next_number(words)?;
     if count == 0 {
         return Err(NUMBER);
@@ -76,6 +86,17 @@ pub fn next_span(words: &mut Words) -> Result<Span, u8>
         first: u64::from(first),
         count,
     })
+}
+
+/// FIRST and COUNT, which isn't 0.
+#[tactic(auto, unfolding(crate::specs::Format::next_span, graph_text::specs::FormatSteps::next_number))]
+pub fn next_span(words: &mut Words) -> Result<Span, u8>
+    ensures { Gives (λ span. (span.first, span.count, words_left words.new)) result (next_span (words_left words.old)) }
+{
+    match words.next() {
+        Some(word) => span_from(word, words),
+        None => Err(WORD),
+    }
 }
 
 /// PATTERN.

@@ -53,7 +53,6 @@ fn is_blank(b: u8) -> bool
     b == b' ' || b == b'\t'
 }
 
-// Whether a byte may stand in a word.
 fn is_word_byte(b: u8) -> bool
     ensures { result ≡ is_word_byte b }
 {

@@ -29,6 +29,7 @@ use Rattle.top_bound.specs.Laws.{asked_of}
 use Rattle.top_bound.proofs.Counted.{what-fits, what-fits-rebuilt}
 use Rattle.top_bound.specs.Traced.{AreScriptAndBook}
 use Rattle.top_bound.proofs.Limits.{few-have-room, graphs-fit}
+use Rattle.top_bound.proofs.Patched.{asked-few, has-blocks}
 use Rattle.std.proofs.lemmas.List.{length-append}
 use Rattle.lay_core.specs.Layout.{blocks_in}
 use Rattle.eng_cols.specs.Lost.{NotLost}
@@ -63,6 +64,10 @@ named graphs (Some g) o h = h g refl
 
 may_run : (y : Shape) (columns graphs : ℕ) (i : Item) → columns ≡ y.columns → IsAsked columns graphs (seen i) → begin.IsAsked y i × MayBeAsked y i × NamesGraph graphs i
 may_run y columns graphs (item.Run (op.Write span pattern) g) same h = (h.1, tt, named graphs g (op.Write span pattern) h.2)
+may_run y columns graphs (item.Run (op.Writes patches) g) same h =
+    let few = asked-few columns graphs patches g h in
+    let blocks = has-blocks patches few.0 few.1 in
+    (blocks, blocks.0, named graphs g (op.Writes patches) few.2)
 may_run y columns graphs (item.Run (op.Read span) g) same h = (h.1, tt, named graphs g (op.Read span) h.2)
 may_run y columns graphs (item.Run (op.Sync stripe) None) same h = (tt, tt, tt)
 may_run y columns graphs (item.Run (op.Sync stripe) (Some g)) same h = absurd h

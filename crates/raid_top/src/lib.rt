@@ -12,6 +12,7 @@ mod came;
 mod changing;
 mod doing;
 mod order;
+mod paging;
 mod performing;
 mod printing;
 mod rebuilt;

@@ -142,7 +142,6 @@ fn say<'a, D>(
     }
 }
 
-// The one front.
 fn only_front(mut fronts: Vec<Front>) -> Front
     requires { length fronts.items ≡ 1 }
     ensures { fronts.items ≡ result ∷ [] }

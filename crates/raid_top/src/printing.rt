@@ -133,7 +133,6 @@ fn put_opened<K: Sink>(
     put_status(status, out)
 }
 
-// Prints the label of a device, and the status.
 fn put_front<K: Sink>(front: &Front, status: &Status, out: &mut K) -> Result<(), Failed>
     ensures output { K.tells → Puts (is_ok result) (K.output out.old) (label_text front.now ++ status_text status.now) (K.output out.new) }
     ensures later { K.faults out.old ≤ K.faults out.new }
@@ -143,7 +142,6 @@ fn put_front<K: Sink>(front: &Front, status: &Status, out: &mut K) -> Result<(),
     put_status(status, out)
 }
 
-// Prints a text, and the status.
 fn put_text<K: Sink>(text: &[u8], status: &Status, out: &mut K) -> Result<(), Failed>
     ensures output { K.tells → Puts (is_ok result) (K.output out.old) (text.now ++ status_text status.now) (K.output out.new) }
     ensures later { K.faults out.old ≤ K.faults out.new }
@@ -164,7 +162,6 @@ fn status_of_act(act: Done) -> Status
     }
 }
 
-// And where it may be.
 fn status_of_done(act: Done, lost: Option<Loss>) -> Status
     ensures { result ≡ status_of_done act lost }
 {
@@ -174,7 +171,6 @@ fn status_of_done(act: Done, lost: Option<Loss>) -> Status
     }
 }
 
-/// The status of what came of a command.
 pub(crate) fn status_of(came: &Came) -> Status
     ensures { result ≡ status_came came.now }
 {
@@ -185,7 +181,6 @@ pub(crate) fn status_of(came: &Came) -> Status
     }
 }
 
-/// Prints what came of a command.
 pub(crate) fn put_ended<K: Sink>(
     ended: &Ended<'_>,
     status: &Status,

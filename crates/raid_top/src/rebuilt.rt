@@ -25,7 +25,6 @@ fn push_place(line: &mut Line, device: Option<u32>)
     }
 }
 
-// How it ended.
 #[tactic(auto, unfolding(crate::specs::Rebuilt::end_text))]
 fn push_end(line: &mut Line, done: Option<u32>)
     requires { length line.old ≤ 200 }
@@ -41,7 +40,6 @@ fn push_end(line: &mut Line, done: Option<u32>)
     }
 }
 
-// The line of a rebuild.
 #[tactic(auto, unfolding(crate::specs::Rebuilt::rebuild_line))]
 fn set_rebuilt(line: &mut Line, told: Told)
     ensures { line.new ≡ rebuild_line told }

@@ -28,7 +28,6 @@ pub(crate) struct Served<D> {
     pub devices: Vec<Option<D>>,
 }
 
-// The status of what isn't served.
 fn status_of(fault: ServeFault) -> Status
     ensures { fault ≡ ServeFault.Memory → result ≡ Status.Memory }
 {
@@ -75,7 +74,6 @@ fn came_of(outcome: Outcome) -> Came
     }
 }
 
-// Serves them over an array with labels.
 fn run_with_labels<L: Layout + Drop + Send, D: Disk + Drop + Send, R: Threads + Wait + Sync>(
     rt: &R,
     alloc: Global,

@@ -74,7 +74,7 @@ pub(crate) fn work_of<D>(
     }
 }
 
-/// With how many workers beside the caller clients are served.
+/// With how many workers clients are served, the caller among them; 0 where it does all.
 pub(crate) fn workers_of(action: Action<'_>) -> u32
     requires { AreNumbersInRange (action_seen action) }
     ensures { result ≤ 16 }

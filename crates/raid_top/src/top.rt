@@ -5,8 +5,10 @@ ghost use Rattle.top_bay.specs.Told.{Told};
 ghost use Rattle.raid_top.specs.Ends.{Answers, EndsWell, IsRight};
 
 use crate::act::act;
-use crate::printing::{put_ended, status_of};
+use crate::paging::Telling;
+use crate::printing::status_of;
 use blk_disk::Failed;
+use put_line::{page_room, put_by_pages};
 use raid_bay::{Bay, Name, Sink};
 use std::alloc::Global;
 use std::sync::Wait;
@@ -26,6 +28,8 @@ fn answer_of(status: Status, printed: Result<(), Failed>) -> Status
 
 /// Does all that the program does: what the words ask for is run on the array of the configuration, and what came of it is
 /// printed. The answer is the status, or `SinkFault` where the output could not be printed whole.
+///
+/// What came of the words is printed by pages, for which room is taken first; where there is none, line by line.
 ///
 /// Memory that is wanted behind the opening of the core is wanted before any device is written. On every path each device
 /// that was taken is put back.
@@ -59,10 +63,15 @@ where
     ensures bay_later { B.faults bay.old ≤ B.faults bay.new }
     ensures sink_later { K.faults out.old ≤ K.faults out.new }
 {
+    let room = page_room(alloc).ok();
     match act(rt, alloc, words, bay) {
         Ok(ended) => {
             let status = status_of(&ended.came);
-            let printed = put_ended(&ended, &status, out);
+            let told = Telling {
+                ended: &ended,
+                status: &status,
+            };
+            let printed = put_by_pages(&told, room, out);
             answer_of(status, printed)
         }
         Err(refusal) => {

@@ -8,7 +8,6 @@ use Rattle.eng_cols.specs.declared.spot.Loss.{Loss}
 use Rattle.eng_cols.specs.Cols.{ColumnState}
 use Rattle.eng_cols.specs.Deaths.{Dies}
 use Rattle.raid_label.specs.declared.label.Label.{Label}
-use Rattle.raid_label.specs.Bytes.{IsHeld}
 use Rattle.top_close.specs.Ended.{IsLossBy, states_of}
 use Rattle.top_close.specs.Settled.{AreSettled}
 use Rattle.top_close.proofs.DyingLaws.{columns_die, lost_no_less}
@@ -42,13 +41,6 @@ clean_lost (Some loss) clean h = refl
 pub clean_none : (lost : Option Loss) → clean_in_end lost 0 ≡ 0
 clean_none None = refl
 clean_none (Some loss) = refl
-
--- a label of a round can be held
-pub held_round : (label next : Label) (clean : ℕ) → clean ≤ 1 → next ≡ with_round label next.counter clean next.seats → IsHeld label → IsHeld next
-held_round label next clean few is h = record {
-  version = ap (λ (l : Label). l.version) is ∙ h.version;
-  clean = omega (arith, few, ap (λ (l : Label). l.clean) is);
-}
 
 module _ {D : Type 0} (g : Ghosts D) where
   -- the rounds began with some columns, lost or not

@@ -26,7 +26,6 @@ fn is_live(column: Column) -> bool
     }
 }
 
-// How many columns are live.
 fn count_live(columns: &[Column]) -> u32
     requires { length columns.now ≤ 32 }
     ensures { result ≡ live_count columns.now }

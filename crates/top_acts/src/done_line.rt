@@ -9,7 +9,6 @@ use blk_disk::Failed;
 use put_line::Line;
 use raid_bay::Sink;
 
-// The line of words and a number.
 #[tactic(auto, unfolding(crate::specs::Done::number_line))]
 fn set_number(line: &mut Line, words: &[u8], number: u64)
     requires short { length words.now ≤ 20 }
@@ -21,7 +20,6 @@ fn set_number(line: &mut Line, words: &[u8], number: u64)
     line.push(b"\n");
 }
 
-// Puts words and a number behind them.
 fn put_number<K: Sink>(words: &[u8], number: u64, out: &mut K) -> Result<(), Failed>
     requires short { length words.now ≤ 20 }
     ensures output { K.tells → Puts (is_ok result)

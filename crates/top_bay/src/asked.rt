@@ -43,7 +43,6 @@ pub struct Taken<'a, D> {
     pub devices: Vec<Option<D>>,
 }
 
-// The name of the file of graphs.
 fn graphs_name<'a>(action: Action<'a>) -> Option<&'a str>
     ensures { text_of result ≡ graphs_name (action_seen action.entry) }
 {
@@ -53,7 +52,6 @@ fn graphs_name<'a>(action: Action<'a>) -> Option<&'a str>
     }
 }
 
-// The name of the script.
 fn script_name<'a>(action: Action<'a>) -> Option<&'a str>
     ensures { text_of result ≡ script_name (action_seen action.entry) }
 {
@@ -63,7 +61,6 @@ fn script_name<'a>(action: Action<'a>) -> Option<&'a str>
     }
 }
 
-// Reads words and texts.
 #[tactic(auto, unfolding(crate::specs::Asked::texts_in))]
 fn read_texts<'a, B: Bay>(
     alloc: Global,

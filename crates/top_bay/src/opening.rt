@@ -20,7 +20,6 @@ use std::alloc::Global;
 use top_status::Status;
 use top_words::{Command, WordsFault, read_words};
 
-/// The command that the words are.
 #[tactic(auto, unfolding(crate::specs::Asked::command_in))]
 pub(crate) fn open_words<'a>(alloc: Global, words: &'a [Name]) -> Result<Command<'a>, Status>
     ensures answer { AnswersAs command_seen result (command_in words.entry.now) }
@@ -35,7 +34,6 @@ pub(crate) fn open_words<'a>(alloc: Global, words: &'a [Name]) -> Result<Command
     }
 }
 
-/// The configuration of that name.
 #[tactic(auto, unfolding(crate::specs::Asked::conf_in))]
 pub(crate) fn open_conf<B: Bay>(alloc: Global, name: &str, bay: &mut B) -> Result<Conf, Status>
     ensures answer { B.tells → AnswersAs (λ conf. conf) result (conf_in (B.text_of bay.old) name.now) }
@@ -56,7 +54,6 @@ pub(crate) fn open_conf<B: Bay>(alloc: Global, name: &str, bay: &mut B) -> Resul
     }
 }
 
-// No graphs.
 fn no_graphs(alloc: Global) -> Result<Book, Status>
     ensures none { IfOk result (λ book. book ≡ []) }
     ensures graphs { IfOk result AreGraphs }

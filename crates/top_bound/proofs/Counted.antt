@@ -1,12 +1,14 @@
 -- The sum by which a trace is judged, and the one that a core counts.
-use Rattle.std.proofs.Common.{◌≡◌, ◌∙◌, ℕ, suc, ◌+◌, ◌*◌, ◌≤◌, inl, inr, List, [], ◌∷◌, length, map, take, refl, sym, ap, subst, arith}
-use Rattle.std.specs.Prelude.{Option, Some, None, Vec, slice_get, slice_index_or, sum_by, option_map, All}
+use Rattle.std.proofs.Common.{◌≡◌, ◌∙◌, ℕ, suc, ◌+◌, ◌*◌, ◌≤◌, Bool, true, false, inl, inr, List, [], ◌∷◌, length, map, take, refl, sym, ap, subst, arith}
+use Rattle.std.specs.Prelude.{if◌then◌else◌, nat_le, Option, Some, None, Vec, slice_get, slice_index_or, sum_by, option_map, All}
 use Rattle.std.specs.declared.alloc.Global.{Global}
 use Rattle.std.proofs.lemmas.Bool.{cases_lt}
 use Rattle.std.proofs.lemmas.List.{take_all, get_or_past}
 use Rattle.std.proofs.lemmas.List.Sums.{sum_by-cons}
 use Rattle.std.proofs.lemmas.Option.{slice_get-get_or, slice_get-map, slice_get_past}
-use Rattle.blk_plain.specs.declared.op.Op.TheVariants.{Write, Read, Rebuild, Sync}
+use Rattle.blk_plain.specs.declared.op.Op.TheVariants.{Write, Writes, Read, Rebuild, Sync}
+use Rattle.blk_plain.specs.declared.op.Patches.{Patches}
+use Rattle.blk_plain.specs.Plain.{used_of}
 use Rattle.lay_core.specs.Layout.{Shape}
 use Rattle.lay_core.specs.declared.layout.Layout.{Ghosts as LayoutGhosts}
 use Rattle.graph_mean.specs.Graph.{Held, View}
@@ -16,13 +18,15 @@ use Rattle.eng_world.specs.declared.item.Item.TheVariants.{Run, Fail}
 use Rattle.eng_parts.specs.declared.setup.Setup.{Setup}
 use Rattle.eng_plan.specs.Asked.{no_graph}
 use Rattle.eng_array.specs.Fitting as core
+use Rattle.eng_array.specs.Serving.{most_for}
 use Rattle.eng_array.proofs.CountedEvents.{counted-fits, counted-rebuilds}
-use Rattle.raid_script.specs.Asked.{Asked, IsAsked, seen}
-use Rattle.top_bound.specs.Bound.{span_nodes, nodes_in, graph_nodes, item_nodes, item_bound, row_sum, rebuilds_sum, trace_sum}
+use Rattle.raid_script.specs.Asked.{Asked, IsAsked, Other, WritesAll, seen, seen_patches}
+use Rattle.top_bound.specs.Bound.{span_nodes, spans_nodes, nodes_in, graph_nodes, item_nodes, item_bound, row_sum, rebuilds_sum, trace_sum}
 use Rattle.top_bound.specs.Laws.{asked_of}
 use Rattle.top_bound.specs.Traced.{AreScriptAndBook, WhatFitsARebuild, WhatFitsHasRoom}
 use Rattle.top_bound.proofs.Below.{below-zero, below-all, below-clients}
 use Rattle.top_bound.proofs.Limits.{sum-map}
+use Rattle.top_bound.proofs.Patched.{spans-seen}
 
 -- ## Sums that agree where a list is of a kind
 
@@ -60,11 +64,20 @@ file-nodes book graphs same n =
     held-nodes graphs n
     ∙ (ap nodes-of (ap (λ (gs : List View). slice_get gs n) same ∙ slice_get-map (λ (g : Named). g.graph) book n) ∙ named-in (slice_get book n))
 
+-- of a write of several spans
+writes-counted : (y : Shape) (book : List Named) (graphs : List Held) (columns : ℕ) (patches : Patches) (file : Option ℕ) → map (λ g. g.drawn) graphs ≡ map (λ g. g.graph) book
+    → (few : Bool) → IsAsked columns (length book) (if few then WritesAll (seen_patches patches) file else Other) → most_for y graphs (Writes patches) file ≡ item_nodes y book (if few then WritesAll (seen_patches patches) file else Other)
+unfolding spans_nodes
+writes-counted y book graphs columns patches None same true asked = ap (spans_nodes y) (sym (spans-seen (used_of patches)))
+writes-counted y book graphs columns patches (Some n) same true asked = file-nodes book graphs same n
+writes-counted y book graphs columns patches file same false asked = absurd asked
+
 -- the most nodes of a script's item
 item-counted : (y : Shape) (book : List Named) (graphs : List Held) (columns : ℕ) → map (λ g. g.drawn) graphs ≡ map (λ g. g.graph) book
     → (i : Item) → IsAsked columns (length book) (seen i) → core.most_in y graphs (Some i) ≡ item_nodes y book (seen i)
 unfolding span_nodes
 item-counted y book graphs columns same (Run (Write span pattern) None) asked = refl
+item-counted y book graphs columns same (Run (Writes patches) file) asked = writes-counted y book graphs columns patches file same (nat_le patches.used 8) asked
 item-counted y book graphs columns same (Run (Write span pattern) (Some n)) asked = file-nodes book graphs same n
 item-counted y book graphs columns same (Run (Read span) None) asked = refl
 item-counted y book graphs columns same (Run (Read span) (Some n)) asked = file-nodes book graphs same n

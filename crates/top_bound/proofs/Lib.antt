@@ -1,3 +1,4 @@
 pub mod Below
+pub mod Patched
 pub mod Limits
 pub mod Counted

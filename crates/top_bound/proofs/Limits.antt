@@ -1,12 +1,13 @@
 -- A script within its limits is one that a core has room for, and graphs that were read fit its pool.
 use Rattle.std.proofs.Common.{◌≡◌, ◌∙◌, ℕ, ◌+◌, ◌<◌, ◌≤◌, inl, inr, List, [], ◌∷◌, length, map, take, get_or, refl, sym, ap, subst, arith}
-use Rattle.std.specs.Prelude.{Option, Some, None, Vec, slice_get, slice_index_or, sum_by, option_map}
+use Rattle.std.specs.Prelude.{Bool, true, false, if◌then◌else◌, nat_le, Option, Some, None, Vec, slice_get, slice_index_or, sum_by, option_map}
 use Rattle.std.specs.declared.alloc.Global.{Global}
 use Rattle.std.proofs.lemmas.Bool.{cases_lt}
 use Rattle.std.proofs.lemmas.List.{take_all, get_or_past, length-map}
 use Rattle.std.proofs.lemmas.Option.{slice_get-get_or, slice_get-map, slice_get_cases}
 use Rattle.std.proofs.lemmas.List.Sums.{sum_by-cons}
-use Rattle.blk_plain.specs.declared.op.Op.TheVariants.{Write, Read, Rebuild, Sync}
+use Rattle.blk_plain.specs.declared.op.Op.TheVariants.{Write, Writes, Read, Rebuild, Sync}
+use Rattle.blk_plain.specs.declared.op.Patches.{Patches}
 use Rattle.graph_mean.specs.Graph.{Held, View}
 use Rattle.graph_text.specs.Format.{Named}
 use Rattle.graph_text.specs.FormatForm.{AreGraphs, IsWritable}
@@ -15,7 +16,7 @@ use Rattle.eng_world.specs.declared.item.Item.TheVariants.{Run, Fail}
 use Rattle.eng_plan.specs.Asked.{no_graph}
 use Rattle.eng_log.specs.Given.{items_at}
 use Rattle.eng_log.specs.Laid as laid
-use Rattle.raid_script.specs.Asked.{Asked, AreFew, seen, read_sectors}
+use Rattle.raid_script.specs.Asked.{Asked, AreFew, Other, WritesAll, seen, seen_patches, read_sectors}
 use Rattle.raid_script.specs.Replies as replies
 use Rattle.top_bound.specs.Laws.{asked_of, HasRoomFor}
 use Rattle.top_bound.proofs.Below.{below-all, below-clients, below-same}
@@ -37,9 +38,14 @@ sum-map {X} f g (x ∷ xs) =
 
 -- ## Sectors
 
+none-read : (patches : Patches) (file : Option ℕ) (few : Bool) → read_sectors (if few then WritesAll (seen_patches patches) file else Other) ≡ 0
+none-read patches file true = refl
+none-read patches file false = refl
+
 -- how many sectors an item reads, as a script, a printer and a core say it
 item-read : (i : Item) → read_sectors (seen i) ≡ laid.item_sectors i
 item-read (Run (Write span pattern) file) = refl
+item-read (Run (Writes patches) file) = none-read patches file (nat_le patches.used 8)
 item-read (Run (Read span) file) = refl
 item-read (Run (Rebuild stripe) None) = refl
 item-read (Run (Rebuild stripe) (Some g)) = refl
@@ -49,6 +55,7 @@ item-read (Fail column) = refl
 
 item-printed : (i : Item) → replies.item_sectors i ≡ laid.item_sectors i
 item-printed (Run (Write span pattern) file) = refl
+item-printed (Run (Writes patches) file) = refl
 item-printed (Run (Read span) file) = refl
 item-printed (Run (Rebuild stripe) file) = refl
 item-printed (Run (Sync stripe) file) = refl

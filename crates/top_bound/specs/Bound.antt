@@ -1,16 +1,26 @@
 -- How many events a trace may come to: a bound for each item, and the sum of these.
-use Rattle.std.specs.Prelude.{ℕ, ◌+◌, ◌*◌, List, length, Option, Some, None, if◌then◌else◌, nat_lt, slice_get, sum_by}
+use Rattle.std.specs.Prelude.{ℕ, ◌+◌, ◌*◌, List, length, map, Option, Some, None, if◌then◌else◌, nat_lt, slice_get, sum_by}
+use Rattle.std.specs.List.{list_any}
 use Rattle.blk_plain.specs.declared.op.Span.{Span}
+use Rattle.blk_plain.specs.Plain.{is_in_some}
 use Rattle.lay_core.specs.Layout.{Shape, data_units, blocks_in}
-use Rattle.lay_core.specs.Touched.{stripe_count}
+use Rattle.lay_core.specs.Touched.{stripe_count, stripes_among}
 use Rattle.graph_text.specs.Format.{Named}
-use Rattle.raid_script.specs.Asked.{Asked, Writes, Reads, Syncs, Fails, Other}
+use Rattle.raid_script.specs.Asked.{Asked, AskedPatch, IsAsked, Writes, WritesAll, Reads, Syncs, Fails, Other}
+
+-- an item that may stand in a script
+abbrev pub MayBeAsked : Asked → Type 0
+MayBeAsked a = (columns : ℕ) × (graphs : ℕ) × IsAsked columns graphs a
 
 -- ---- nodes
 
 -- the library's graph of a write or read of a span: none where a block of it is past the end, and else 2d + 1 nodes for each stripe that it touches and for two more, and two
 unfoldable pub span_nodes : Shape → Span → ℕ
 span_nodes y span = if nat_lt (blocks_in y) (span.first + span.count) then 0 else (2 * data_units y + 1) * (stripe_count y span + 2) + 2
+
+-- and of a write of several spans: none where a block of one of them is past the end, and else 2d + 1 nodes for each stripe that they touch together and for two more for each span, and two
+unfoldable pub spans_nodes : Shape → List Span → ℕ
+spans_nodes y spans = if list_any (λ s. nat_lt (blocks_in y) (s.first + s.count)) spans then 0 else (2 * data_units y + 1) * (stripes_among y (is_in_some spans) + 2 * length spans) + 2
 
 -- the graph of the file of this number, if there is one
 abbrev pub nodes_in : Option Named → ℕ
@@ -25,9 +35,15 @@ abbrev pub run_nodes : Shape → List Named → Span → Option ℕ → ℕ
 run_nodes y book span None = span_nodes y span
 run_nodes y book span (Some n) = graph_nodes book n
 
+-- the graph of a write of several spans
+abbrev pub patches_nodes : Shape → List Named → List AskedPatch → Option ℕ → ℕ
+patches_nodes y book patches None = spans_nodes y (map (λ p. p.span) patches)
+patches_nodes y book patches (Some n) = graph_nodes book n
+
 -- an item's graph: that of a sync, or of a rebuild, which no script asks for, has a node for each unit of a stripe, and three
 abbrev pub item_nodes : Shape → List Named → Asked → ℕ
 item_nodes y book (Writes first count bytes graph) = run_nodes y book (record { first = first; count = count }) graph
+item_nodes y book (WritesAll patches graph) = patches_nodes y book patches graph
 item_nodes y book (Reads first count graph) = run_nodes y book (record { first = first; count = count }) graph
 item_nodes y book (Syncs stripe) = y.width + 3
 item_nodes y book (Fails column) = 0

@@ -1,26 +1,25 @@
 //! How many events the items of a script may come to.
-ghost use Rattle.std.specs.Prelude.{◌≡◌, ◌≤◌, ◌<◌, ◌+◌, ◌-◌, ◌*◌, length, map, nat_le, nat_lt};
+ghost use Rattle.std.specs.Prelude.{◌≡◌, ◌≤◌, ◌<◌, ◌+◌, ◌-◌, ◌*◌, length, map, nat_le, nat_lt, All};
+ghost use Rattle.blk_plain.specs.Plain.{AreSound, spans_of};
 ghost use Rattle.lay_core.specs.Layout.{data_units, blocks_in};
 ghost use Rattle.lay_core.specs.Touched.{stripe_count};
-ghost use Rattle.raid_script.specs.Asked.{seen};
-ghost use Rattle.top_bound.specs.Bound.{span_nodes, graph_nodes, run_nodes, item_nodes, item_bound, row_sum, rebuilds_sum, trace_sum};
+ghost use Rattle.raid_script.specs.Asked.{seen, seen_patches};
+ghost use Rattle.top_bound.specs.Bound.{MayBeAsked, span_nodes, spans_nodes, graph_nodes, run_nodes, patches_nodes, item_nodes, item_bound, row_sum, rebuilds_sum, trace_sum};
 
-use blk_plain::{Op, Span, limits};
+use blk_plain::{Op, Patches, Span, limits};
 use eng_world::Item;
 use graph_text::Book;
-use lay_core::{Layout, blocks};
+use lay_core::{Layout, blocks, count_all, some_passes_end};
 
 // The most events of items that a trace has room for.
 const EVENTS: u128 = limits::EVENTS as u128;
 
-// Whether a block of a span is past the end of so many.
 fn passes_end(blocks: u64, span: Span) -> bool
     ensures { result ≡ nat_lt blocks (span.first + span.count) }
 {
     span.first > blocks || u64::from(span.count) > blocks - span.first
 }
 
-// How many stripes a span touches.
 fn count_stripes<L: Layout>(layout: &L, span: Span) -> u64
     requires { span.first + span.count ≤ blocks_in (L.shape layout.now) }
     ensures value { result ≡ stripe_count (L.shape layout.now) span }
@@ -46,7 +45,32 @@ fn span_nodes<L: Layout>(layout: &L, span: Span) -> u64
     (2 * units + 1) * (count_stripes(layout, span) + 2) + 2
 }
 
-// The nodes of the graph of a number, if there is one.
+// How many spans are in use.
+fn count_spans(patches: &Patches) -> u32
+    requires { patches.now.used ≤ 8 }
+    ensures value { result ≡ length (spans_of patches.now) }
+    ensures few { result ≤ 8 }
+{
+    let used = &patches.list[..patches.used as usize];
+    used.len() as u32
+}
+
+#[tactic(auto, unfolding(crate::specs::Bound::spans_nodes))]
+fn spans_nodes<L: Layout>(layout: &L, patches: &Patches) -> u64
+    requires sound { AreSound patches.now }
+    requires some { All (λ s. 1 ≤ s.count) (spans_of patches.now) }
+    ensures value { result ≡ spans_nodes (L.shape layout.now) (spans_of patches.now) }
+    ensures small { result ≤ 300000000000 }
+{
+    if some_passes_end(blocks(layout), patches) {
+        0
+    } else {
+        let units = u64::from(layout.width() - layout.checks());
+        let stripes = u64::from(count_all(layout, patches));
+        (2 * units + 1) * (stripes + 2 * u64::from(count_spans(patches))) + 2
+    }
+}
+
 fn graph_nodes(book: &Book, n: u32) -> u32
     ensures { result ≡ graph_nodes book.now n }
 {
@@ -68,21 +92,34 @@ fn run_nodes<L: Layout>(layout: &L, book: &Book, span: Span, graph: Option<u32>)
     }
 }
 
-// The most nodes of an item's graph.
-fn item_nodes<L: Layout>(layout: &L, book: &Book, item: Item) -> u64
-    ensures value { result ≡ item_nodes (L.shape layout.now) book.now (seen item) }
+fn patches_nodes<L: Layout>(layout: &L, book: &Book, patches: &Patches, graph: Option<u32>) -> u64
+    requires sound { AreSound patches.now }
+    requires some { All (λ s. 1 ≤ s.count) (spans_of patches.now) }
+    ensures value { result ≡ patches_nodes (L.shape layout.now) book.now (seen_patches patches.now) graph }
+    ensures small { result ≤ 300000000000 }
+{
+    match graph {
+        None => spans_nodes(layout, patches),
+        Some(n) => u64::from(graph_nodes(book, n)),
+    }
+}
+
+fn item_nodes<L: Layout>(layout: &L, book: &Book, item: &Item) -> u64
+    requires { MayBeAsked (seen item.now) }
+    ensures value { result ≡ item_nodes (L.shape layout.now) book.now (seen item.now) }
     ensures small { result ≤ 300000000000 }
 {
     match item {
         Item::Fail { .. } => 0,
         Item::Run { op, graph } => match op {
-            Op::Write { span, .. } | Op::Read { span } => run_nodes(layout, book, span, graph),
+            Op::Write { span, .. } => run_nodes(layout, book, *span, *graph),
+            Op::Writes { patches } => patches_nodes(layout, book, patches, *graph),
+            Op::Read { span } => run_nodes(layout, book, *span, *graph),
             Op::Sync { .. } | Op::Rebuild { .. } => u64::from(layout.width()) + 3,
         },
     }
 }
 
-// The most events of an item.
 fn item_bound(devices: u32, nodes: u64) -> u64
     requires devices { devices ≤ 40 }
     requires nodes { nodes ≤ 300000000000 }
@@ -94,22 +131,23 @@ fn item_bound(devices: u32, nodes: u64) -> u64
 
 // The most events of a client's items.
 fn row_sum<L: Layout>(layout: &L, book: &Book, devices: u32, items: &[Item]) -> u128
-    requires { devices ≤ 40 }
+    requires devices { devices ≤ 40 }
+    requires asked { All MayBeAsked (map seen items.now) }
     ensures value { result ≡ row_sum (L.shape layout.now) book.now devices (map seen items.now) }
     ensures small { result ≤ 70368744177664 * length items.now }
 {
     let mut total: u128 = 0;
     for item in items {
-        total += u128::from(item_bound(devices, item_nodes(layout, book, *item)));
+        total += u128::from(item_bound(devices, item_nodes(layout, book, item)));
     }
     total
 }
 
-// The most events of all items.
 #[tactic(auto, unfolding(crate::specs::Bound::trace_sum))]
 fn trace_sum<L: Layout>(layout: &L, book: &Book, devices: u32, clients: &[Vec<Item>]) -> u128
     requires few { length clients.now ≤ 17 }
     requires devices { devices ≤ 40 }
+    requires asked { All (λ items. All MayBeAsked (map seen items.items)) clients.now }
     ensures value { result ≡ trace_sum (L.shape layout.now) book.now devices (map (λ items. map seen items.items) clients.now) }
     ensures small { result ≤ 41538374868278621028243970633760768 }
 {
@@ -120,7 +158,6 @@ fn trace_sum<L: Layout>(layout: &L, book: &Book, devices: u32, clients: &[Vec<It
     total
 }
 
-// The most events of so many rebuilds.
 fn rebuilds_sum<L: Layout>(layout: &L, devices: u32, rebuilds: u32) -> u128
     requires { devices ≤ 40 }
     ensures value { result ≡ rebuilds_sum (L.shape layout.now) devices rebuilds }
@@ -133,11 +170,11 @@ fn rebuilds_sum<L: Layout>(layout: &L, devices: u32, rebuilds: u32) -> u128
 /// them, may come to: whether the sum of (2 N + 4) (1 + `devices`) over all items and rebuilds is at
 /// most 1,048,576.
 ///
-/// N bounds the nodes of the item's graph: (2 d + 1) (s + 2) + 2 for a write or read by the
-/// library's graph whose span touches s stripes of d data units, none of its blocks past the end;
-/// the nodes of the graph of the file, where one is named; k + 3 for a sync or a rebuild, k being the
-/// units of a stripe; and 0 for the rest. `devices` counts columns and spares; each may fail in the
-/// run, and have an operation planned anew.
+/// N bounds the nodes of the item's graph: (2 d + 1) (s + 2 r) + 2 for a write or read by the
+/// library's graph whose r spans, one but for a write of several, touch s stripes of d data units
+/// together, none of their blocks past the end; the nodes of the graph of the file, where one is
+/// named; k + 3 for a sync or a rebuild, k being the units of a stripe; and 0 for the rest.
+/// `devices` counts columns and spares; each may fail in the run, and have an operation planned anew.
 pub fn trace_fits<L: Layout>(
     layout: &L,
     book: &Book,
@@ -147,6 +184,7 @@ pub fn trace_fits<L: Layout>(
 ) -> bool
     requires few { length clients.now ≤ 17 }
     requires devices { devices ≤ 40 }
+    requires asked { All (λ items. All MayBeAsked (map seen items.items)) clients.now }
     ensures { result ≡ nat_le (trace_sum (L.shape layout.now) book.now devices
         (map (λ items. map seen items.items) clients.now) + rebuilds_sum (L.shape layout.now) devices rebuilds) 1048576 }
 {

@@ -21,7 +21,6 @@ fn settle_disk<D: Disk>(disk: &mut D) -> bool
     }
 }
 
-// The same of one device of these, which is there.
 fn settle_device<D: Disk>(devices: &mut [Option<D>], device: u32) -> bool
     requires within { device < length devices.old }
     requires there { IsSome (device_at devices.old device) }

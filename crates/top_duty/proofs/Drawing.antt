@@ -4,7 +4,7 @@ use Rattle.std.specs.Option.{ForSome}
 use Rattle.std.proofs.Common.{arith}
 use Rattle.std.proofs.lemmas.List.Sums.{sum_by-le}
 use Rattle.std.proofs.lemmas.Option.{slice_get-get_or}
-use Rattle.raid_script.specs.Asked.{Asked, Writes, Reads, Syncs, Fails, Other, AreFew, IsAsked, read_sectors}
+use Rattle.raid_script.specs.Asked.{Asked, Writes, WritesAll, Reads, Syncs, Fails, Other, AreFew, IsAsked, read_sectors}
 use Rattle.raid_script.specs.Drawn.{AreApart, IsOwn}
 use Rattle.top_words.specs.Asked.{Action, Io, Sweep, Show, Init, Check, Rewrite, Print, Fail, ShowLabel, Label, Rebuild}
 use Rattle.top_duty.specs.Duty.{clients_by}
@@ -12,6 +12,7 @@ use Rattle.top_duty.specs.Views.{drawn_by}
 
 own_sectors : (wide blocks client : ℕ) (a : Asked) → IsOwn wide blocks client a → read_sectors a ≤ 8
 own_sectors wide blocks client (Writes first count bytes graph) own = omega arith
+own_sectors wide blocks client (WritesAll patches graph) own = absurd own
 own_sectors wide blocks client (Reads first count graph) own = own.0.few
 own_sectors wide blocks client (Syncs stripe) own = absurd own
 own_sectors wide blocks client (Fails column) own = absurd own
@@ -22,6 +23,7 @@ no_graph graphs graph e = λ g h. cc (e, h)
 
 own_asked : (wide blocks client columns graphs : ℕ) (a : Asked) → blocks ≤ 2 ^ 32 → IsOwn wide blocks client a → IsAsked columns graphs a
 own_asked wide blocks client columns graphs (Writes first count bytes graph) most own = (omega (arith, most, own.0.some, own.0.ends, own.0.within), own.0.some, no_graph graphs graph own.2)
+own_asked wide blocks client columns graphs (WritesAll patches graph) most own = absurd own
 own_asked wide blocks client columns graphs (Reads first count graph) most own = (omega (arith, most, own.0.some, own.0.ends, own.0.within), own.0.some, no_graph graphs graph own.1)
 own_asked wide blocks client columns graphs (Syncs stripe) most own = absurd own
 own_asked wide blocks client columns graphs (Fails column) most own = absurd own

@@ -1,8 +1,6 @@
 -- By what an array is lost of which a column is made dead.
-use Rattle.std.specs.Prelude.{◌≡◌, ◌<◌, ℕ, zero, suc, List, [], ◌∷◌, length, map, Option, Some, None, MatchOption, slice_set}
-use Rattle.std.specs.Option.{ForSome}
-use Rattle.std.proofs.Common.{refl, sym, ap, subst, ◌∙◌}
-use Rattle.std.proofs.lemmas.List.{length-map}
+use Rattle.std.specs.Prelude.{◌≡◌, ◌<◌, ℕ, zero, suc, List, [], ◌∷◌, map, Option, Some, None, MatchOption, slice_set}
+use Rattle.std.proofs.Common.{refl, ap, subst, ◌∙◌}
 use Rattle.lay_core.specs.Layout.{Shape}
 use Rattle.eng_cols.specs.declared.column.Column.{Column}
 use Rattle.eng_cols.specs.declared.column.Column.TheVariants as column
@@ -21,10 +19,6 @@ set_dead n (x ∷ columns) (suc c) = ap (λ (l : List ColumnState). state_set n 
 killed_dead : (n : ℕ) (dead : Option ℕ) (columns : List Column) → with_killed dead (map (state_set n) columns) ≡ map (state_set n) (with_dead dead columns)
 killed_dead n None columns = refl
 killed_dead n (Some c) columns = set_dead n columns c
-
--- it is there
-pub dead_there : (n : ℕ) (dead : Option ℕ) (columns : List Column) (states : List ColumnState) → states ≡ map (state_set n) columns → ForSome dead (λ c. c < length columns) → ForSome dead (λ c. c < length states)
-dead_there n dead columns states same h = subst (λ (m : ℕ). ForSome dead (λ c. c < m)) (sym (ap (λ (l : List ColumnState). length l) same ∙ length-map columns (state_set n))) h
 
 -- what is found of the columns as they are set
 pub loss_found : (y : Shape) (dead : Option ℕ) (columns : List Column) (states : List ColumnState) (loss : Option Loss) → states ≡ with_killed dead (map (state_set y.stripes) columns)

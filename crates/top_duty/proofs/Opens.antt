@@ -123,16 +123,3 @@ array_names conf (Fail name) is e = names_count conf is
 array_names conf (ShowLabel name) is e = cc e
 array_names conf (Label serial) is e = names_count conf is
 array_names conf (Rebuild in_place name beside workers) is e = names_count conf is
-
-pub shown_names : (conf : Conf) (action : Action) → IsConf conf → kind_of action ≡ kind.Shown → length (names_by conf action) ≡ conf.columns + conf.spares
-shown_names conf Show is e = names_count conf is
-shown_names conf (Io beside workers) is e = cc e
-shown_names conf (Sweep seed clients ops workers) is e = cc e
-shown_names conf Init is e = cc e
-shown_names conf Check is e = cc e
-shown_names conf Rewrite is e = cc e
-shown_names conf Print is e = cc e
-shown_names conf (Fail name) is e = cc e
-shown_names conf (ShowLabel name) is e = cc e
-shown_names conf (Label serial) is e = cc e
-shown_names conf (Rebuild in_place name beside workers) is e = cc e

@@ -1,36 +1,20 @@
 -- Devices that were looked at are at home again.
-use Rattle.std.specs.Prelude.{◌≡◌, ◌<◌, ◌≤◌, ◌↔◌, ℕ, zero, suc, Bool, true, false, List, [], ◌∷◌, ◌++◌, length, take, drop, Option, Some, None, IsSome, slice_get}
+use Rattle.std.specs.Prelude.{◌≡◌, ◌<◌, ◌≤◌, ◌↔◌, ℕ, zero, suc, List, [], ◌∷◌, ◌++◌, length, take, drop, Option, Some, None, IsSome, slice_get}
 use Rattle.std.proofs.Common.{arith, refl, sym, ap, subst, ◌∙◌, ⊎_elim, append-nil}
 use Rattle.std.proofs.lemmas.Bool.{cases_lt}
 use Rattle.std.proofs.lemmas.List.{drop_all, take_all}
 use Rattle.std.proofs.lemmas.Option.{slice_get_past}
 use Rattle.blk_disk.specs.Devices.{AreNamed, Changes, StaysIf, at_home, device_at}
 use Rattle.blk_disk.specs.declared.disk.Disk.{Ghosts}
-use Rattle.blk_disk.proofs.DeviceLaws.{changes-refl, stays-refl}
+use Rattle.blk_disk.proofs.DeviceLaws.{stays-refl}
 use Rattle.raid_text.specs.Text.{Text}
 use Rattle.top_bay.specs.Lent.{AreBack, AreOut, IsLent}
 use Rattle.top_bay.proofs.Homes.{at_home-named, device_at-past}
 use Rattle.top_bay.proofs.Meant.{by_meant}
-use Rattle.top_open.specs.declared.fronts.Front.{Front}
-use Rattle.top_duty.specs.Opening.{unread}
-use Rattle.top_duty.specs.Taken.{Reads}
 
 -- a slice that is written back over a list as long
 pub written_back : {X : Type 0} (n : ℕ) (xs ys : List X) → length ys ≡ n → length xs ≡ n → take n (xs ++ drop (length xs) ys) ≡ xs
 written_back n xs ys one other = ap (λ l. take n (xs ++ l)) (drop_all (length xs) ys (omega (arith, one, other))) ∙ (ap (take n) (append-nil xs) ∙ take_all n xs (omega (arith, other)))
-
--- no sector has changed of devices that were looked at, and there is a front of each
-pub reads_stay : {D : Type 0} (g : Ghosts D) (reads : Bool) (old new : List (Option D)) (fronts : List Front) → Reads g reads old new fronts → Changes g (λ _ _. ⊥) old new
-reads_stay g true old new fronts h = h.2
-reads_stay g false old new fronts h = subst (λ l. Changes g (λ _ _. ⊥) old l) (sym h.0) (changes-refl g (λ _ _. ⊥) old)
-
-length-unread : (n : ℕ) → length (unread n) ≡ n
-length-unread zero = refl
-length-unread (suc n) = ap suc (length-unread n)
-
-pub reads_count : {D : Type 0} (g : Ghosts D) (reads : Bool) (old new : List (Option D)) (fronts : List Front) → Reads g reads old new fronts → length fronts ≡ length old
-reads_count g true old new fronts h = h.0.count
-reads_count g false old new fronts h = ap (λ (l : List Front). length l) h.1 ∙ length-unread (length old)
 
 -- a device is there where it was
 there_still : {D : Type 0} (g : Ghosts D) (may : ℕ → Type 0) (x z : Option D) (P : Type 0) → StaysIf g may x z → (IsSome x ↔ P) → (IsSome z ↔ P)

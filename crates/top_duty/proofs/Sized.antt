@@ -17,7 +17,7 @@ use Rattle.top_duty.specs.declared.duty.Duty as declared_duty
 use Rattle.top_duty.specs.Duty.{Duty, IsWanted, WantsMemory, duty_by, duty_in}
 use Rattle.top_duty.specs.Opening.{reads_fronts, sizes_in, sizes_of}
 use Rattle.top_duty.specs.Taken.{Reads, RefusedFor, RefusedOver, WasRead}
-use Rattle.top_duty.specs.Views.{IsDutyOver, IsRefusal, RefusedHere, duty_seen}
+use Rattle.top_duty.specs.Views.{IsDutyOver, RefusedHere, duty_seen}
 use Rattle.top_duty.proofs.Wanting.{duty_wanted, wanted_err}
 
 -- the sizes of the devices are those of the names
@@ -122,21 +122,3 @@ pub refused_over : {D : Type 0} (g : Ghosts D) (k : Asked) (old new : List (Opti
     → RefusedHere (duty_by k (sizes_of g.size new) fronts) r → RefusedOver g k old new r
 refused_over g k old new fronts r read (inl h) = inr (record { fronts = fronts; read = read; wanted = h })
 refused_over g k old new fronts r read (inr memory) = inl memory
-
--- a refusal of this kind is one whether the bay failed or not
-pub any_kind : (rose : Type 0) (s : Status) → IsRefusal ⊥ s → IsRefusal rose s
-any_kind rose status.BayFault h = absurd h
-any_kind rose status.Memory h = tt
-any_kind rose status.Ok h = absurd h
-any_kind rose (status.Usage i) h = tt
-any_kind rose (status.Conf l c) h = tt
-any_kind rose (status.Script l c) h = tt
-any_kind rose (status.GraphText l c) h = tt
-any_kind rose (status.NoFile n) h = tt
-any_kind rose status.SinkFault h = absurd h
-any_kind rose (status.Lost f s t) h = tt
-any_kind rose (status.Label f s t u) h = tt
-any_kind rose (status.Small f s t) h = tt
-any_kind rose (status.NotInSync n) h = absurd h
-any_kind rose status.NoSpare h = tt
-any_kind rose (status.LongText n) h = tt

@@ -27,7 +27,7 @@ use Rattle.top_duty.specs.declared.kind.Kind.TheVariants as kind
 use Rattle.top_duty.specs.Duty.{Admitted, Duty, OnArray, Shows, OneLabel, PrintConf, IsWanted, LossIs, WantsMemory, admitted_with, beside_dead, clients_by, columns_of, duty_by, duty_for, is_past, is_past_bound, is_short, judged_states, layout_of, lost_by, rebuilds_by, rebuilds_of, traces, with_dead}
 use Rattle.top_duty.specs.Opening.{kind_of, needs_of, opened_by, status_of}
 use Rattle.top_duty.specs.Start.{start_in}
-use Rattle.top_duty.specs.Views.{IsDutyOver, IsReady, IsRefusal, MayBeDone, RefusedAfter, RefusedHere, RefusedIf, dead_beside, duty_seen}
+use Rattle.top_duty.specs.Views.{IsDutyOver, IsReady, MayBeDone, RefusedAfter, RefusedHere, RefusedIf, dead_beside, duty_seen}
 use Rattle.top_duty.proofs.Counting.{rebuilds_dead, rebuilds_none}
 
 ok_same : (r : Result Duty Refused) (a b : Admitted) → r ≡ Ok (OnArray a) → r ≡ Ok (OnArray b) → a ≡ b
@@ -162,23 +162,6 @@ if_same y z k columns cols opened others start r one two three h =
     (subst (λ (l : List Column). RefusedIf y k cols (rebuilds_by y l start) start r) three
     (subst (λ (l : List Column). RefusedIf y k l (rebuilds_by y opened start) start r) two h))
 
-pub kind_after : (a : Admitted) (s : Status) → RefusedAfter a s → IsRefusal ⊥ s
-kind_after a (status.Lost first second stripe) h = tt
-kind_after a (status.Script line code) h = tt
-kind_after a status.Memory h = tt
-kind_after a status.Ok h = absurd h
-kind_after a (status.Usage i) h = absurd h
-kind_after a (status.Conf l c) h = absurd h
-kind_after a (status.GraphText l c) h = absurd h
-kind_after a status.BayFault h = absurd h
-kind_after a (status.NoFile n) h = absurd h
-kind_after a status.SinkFault h = absurd h
-kind_after a (status.Label a1 b c d) h = absurd h
-kind_after a (status.Small a1 b c) h = absurd h
-kind_after a (status.NotInSync n) h = absurd h
-kind_after a status.NoSpare h = tt
-kind_after a (status.LongText n) h = absurd h
-
 -- ## By how the array was opened
 
 pub array_is : (k : Asked) (sizes : List ℕ) (fronts : List Front) (o : Opened) (start : Option Start) → opened_by k sizes fronts ≡ Ok o → start ≡ start_in k o sizes fronts
@@ -195,11 +178,6 @@ pub refused_showing : (k : Asked) (sizes : List ℕ) (fronts : List Front) (f : 
     → RefusedHere (duty_for kind.Shown k sizes fronts) (only (status_of f))
 refused_showing k sizes fronts f (inl memory) = inr (ap (λ (x : OpenFault). only (status_of x)) memory)
 refused_showing k sizes fronts f (inr e) = inl (inl (wanted_err (duty_for kind.Shown k sizes fronts) (only (status_of f)) (rw e refl)))
-
-pub kind_fault : (f : OpenFault) → IsRefusal ⊥ (status_of f)
-kind_fault (fault.Label a b c d) = tt
-kind_fault (fault.Small a b c) = tt
-kind_fault fault.Memory = tt
 
 -- ## By what is made of the array
 

@@ -23,7 +23,6 @@ pub(crate) fn judge_for<L: Layout>(alloc: Global, layout: &L) -> Result<Cols, St
     }
 }
 
-// Makes the column dead, if there is one.
 fn kill_if(judge: &mut Cols, column: Option<u32>)
     requires { ForSome column (λ c. c < length judge.old.states) }
     ensures { judge.new ≡ record judge.old { states = with_killed column judge.old.states } }

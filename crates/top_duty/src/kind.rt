@@ -18,7 +18,6 @@ pub enum Kind {
     Conf,
 }
 
-/// What the action makes of it.
 pub(crate) fn kind_of(action: Action<'_>) -> Kind
     ensures { result ≡ kind_of (action_seen action.entry) }
 {

@@ -49,7 +49,6 @@ fn needs_for(action: Action<'_>, comp: Option<u32>) -> Needs
     }
 }
 
-/// What is asked of the opening.
 pub(crate) fn needs_of(asked: &Asked<'_>) -> Needs
     ensures { result ≡ needs_of (asked_seen asked.now) }
 {

@@ -8,6 +8,7 @@ ghost use Rattle.top_duty.specs.Views.{OpensSo};
 
 use crate::needs::needs_of;
 use crate::plan::{plan_of, present_of, size_at};
+use blk_disk::DATA_SECTOR;
 use eng_cols::Column;
 use std::alloc::Global;
 use top_bay::Asked;
@@ -63,7 +64,7 @@ fn as_opened(opened: Opened, excused: Option<u32>, sizes: &[u64], unit: u32) -> 
         columns,
         newest,
     } = opened;
-    let needs = 64 + u64::from(rows) * u64::from(unit);
+    let needs = DATA_SECTOR + u64::from(rows) * u64::from(unit);
     Opened {
         rows,
         seats,
@@ -93,7 +94,6 @@ pub(crate) fn open(
     }
 }
 
-/// The status of a fault.
 pub(crate) fn status_of(fault: OpenFault) -> Status
     ensures { result ≡ status_of fault }
 {

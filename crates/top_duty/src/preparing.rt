@@ -125,7 +125,6 @@ fn make(
     }
 }
 
-// The columns, of which this one is made dead.
 fn with_dead(mut columns: Vec<Column>, dead: Option<u32>) -> Vec<Column>
     requires { ForSome dead (λ c. c < length columns.items) }
     ensures { result.items ≡ with_dead dead columns.items }
@@ -150,7 +149,6 @@ fn refuse(alloc: Global, columns: Vec<Column>, dead: Option<u32>, status: Status
     }
 }
 
-// Opens an array, and makes it ready.
 fn make_ready(
     alloc: Global,
     asked: &Asked<'_>,
@@ -189,7 +187,6 @@ fn make_ready(
     }
 }
 
-// Opens an array that is shown.
 fn make_shown(
     alloc: Global,
     asked: &Asked<'_>,

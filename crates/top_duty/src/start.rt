@@ -10,6 +10,7 @@ ghost use Rattle.top_words.specs.Views.{action_seen};
 ghost use Rattle.top_duty.specs.Start.{free_spare, has_failed, has_places, is_free, is_on, rebuild_of, rebuilds, start_in};
 
 use crate::plan::size_at;
+use blk_disk::DATA_SECTOR;
 use eng_array::Start;
 use eng_cols::Column;
 use raid_conf::Conf;
@@ -17,7 +18,6 @@ use top_bay::Asked;
 use top_open::{Front, Opened};
 use top_words::Action;
 
-// Whether the column has this device.
 fn is_on(device: u32, column: &Column) -> bool
     ensures { result ≡ is_on device column.now }
 {
@@ -27,7 +27,6 @@ fn is_on(device: u32, column: &Column) -> bool
     }
 }
 
-// Whether the device is in a seat.
 fn is_seated(seats: &[Column], device: u32) -> bool
     ensures { result ≡ list_any (is_on device) seats.now }
 {
@@ -57,7 +56,7 @@ fn free_spare(conf: &Conf, opened: &Opened, sizes: &[u64], fronts: &[Front]) -> 
     requires { IsConf conf.now }
     ensures { result ≡ free_spare conf.now (opened_seen opened.now) sizes.now fronts.now }
 {
-    let needs = 64 + u64::from(opened.rows) * u64::from(conf.unit);
+    let needs = DATA_SECTOR + u64::from(opened.rows) * u64::from(conf.unit);
     for spare in 0..conf.spares {
         let device = conf.columns + spare;
         if is_free(needs, sizes, fronts, &opened.seats, device) {
@@ -67,7 +66,6 @@ fn free_spare(conf: &Conf, opened: &Opened, sizes: &[u64], fronts: &[Front]) -> 
     None
 }
 
-// Whether this column is spread.
 fn is_spread(column: &Column) -> bool
     ensures { result ≡ is_set_spread column.now }
 {
@@ -77,7 +75,6 @@ fn is_spread(column: &Column) -> bool
     }
 }
 
-// Whether one of them is.
 fn any_spread(columns: &[Column]) -> bool
     ensures { result ≡ list_any is_set_spread columns.now }
 {

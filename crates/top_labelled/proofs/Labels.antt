@@ -27,11 +27,6 @@ use Rattle.top_labelled.proofs.Lists.{pairs-append, in-use-or-not}
 as-round : (newest l : Label) (counter clean : ℕ) (seats : List ℕ) → l ≡ with_round newest counter clean seats → l ≡ with_round newest l.counter l.clean l.seats
 as-round newest l counter clean seats is = subst (λ (m : Label). m ≡ with_round newest m.counter m.clean m.seats) (sym is) refl
 
--- a column of which another is known
-live-same : (columns after : List Column) (c d : ℕ) → ((slice_get after c ≡ slice_get columns c) ⊎ (slice_get after c ≡ Some column.Dead)) → IsLiveOn columns c d → (IsLiveOn after c d → ⊥) → slice_get after c ≡ Some column.Dead
-live-same columns after c d (inl same) live not = absurd (not (same ∙ live))
-live-same columns after c d (inr dead) live not = dead
-
 same-device : (o : Option Column) (d e : ℕ) → o ≡ Some (column.Live d) → o ≡ Some (column.Live e) → d ≡ e
 same-device o d e one two = let z : Some (column.Live d) ≡ Some (column.Live e) = sym one ∙ two in cc
 

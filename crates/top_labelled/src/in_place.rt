@@ -4,7 +4,6 @@ ghost use Rattle.top_labelled.specs.Begun.{is_in_place, lives_on};
 
 use eng_array::{Column, Start};
 
-// Whether the column is live on this device.
 fn lives_on(column: Option<Column>, device: u32) -> bool
     ensures { result ≡ lives_on column device }
 {

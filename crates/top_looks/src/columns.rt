@@ -11,7 +11,6 @@ use put_line::Line;
 use raid_bay::Sink;
 use raid_conf::Names;
 
-// The name of a disk, or that it is absent.
 fn disk_word(name: &str) -> &[u8]
     ensures { result.now ≡ disk_word name.now }
 {
@@ -50,7 +49,6 @@ fn push_state(line: &mut Line, columns: u32, column: Option<Column>)
     }
 }
 
-// The line of column c of so many.
 #[tactic(auto, unfolding(crate::specs::Show::column_line))]
 fn set_column(line: &mut Line, columns: u32, c: u32, name: &[u8], column: Option<Column>)
     requires { length name.now ≤ 255 }
@@ -66,7 +64,6 @@ fn set_column(line: &mut Line, columns: u32, c: u32, name: &[u8], column: Option
     line.push(b"\n");
 }
 
-// Puts the line of a column.
 #[tactic(auto, using(crate::proofs::ShortNames::disk_words_are_short))]
 fn put_column<K: Sink>(disks: &Names, columns: &[Column], c: u32, out: &mut K) -> Result<(), Failed>
     requires names { All IsDiskName disks.now }

@@ -11,7 +11,6 @@ use raid_bay::Sink;
 use raid_label::{Label, read_label};
 use top_open::Front;
 
-// The line of a label's numbers.
 fn set_numbers(line: &mut Line, numbers: &[u32])
     requires { length numbers.now ≤ 9 }
     ensures { line.new ≡ numbers_line numbers.now }
@@ -25,7 +24,6 @@ fn set_numbers(line: &mut Line, numbers: &[u32])
     line.push(b"\n");
 }
 
-// Puts the line of a label.
 fn put_held<K: Sink>(label: &Label, out: &mut K) -> Result<(), Failed>
     ensures output { K.tells → Puts (is_ok result)
         (K.output out.old) (label_line label.now) (K.output out.new) }
@@ -48,7 +46,6 @@ fn put_held<K: Sink>(label: &Label, out: &mut K) -> Result<(), Failed>
     line.put(out)
 }
 
-// Puts the line of what a sector holds.
 fn put_sector<K: Sink>(bytes: &[u8], out: &mut K) -> Result<(), Failed>
     requires { length bytes.now ≡ 512 }
     ensures output { K.tells → Puts (is_ok result)

@@ -14,7 +14,6 @@ use raid_conf::Conf;
 use raid_label::Label;
 use top_open::{Front, Opened};
 
-// The line of the parity.
 fn parity_line(newest: &Option<Label>) -> &'static [u8]
     ensures { result.now ≡ parity_line newest.now }
 {

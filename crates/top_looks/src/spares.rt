@@ -7,14 +7,13 @@ ghost use Rattle.raid_conf.specs.Form.{IsConf};
 ghost use Rattle.top_open.specs.Opening.{opened_seen};
 ghost use Rattle.top_looks.specs.Show.{is_seat_of, is_small, is_unread_in, spare_line, spare_state, spare_text, spares_text};
 
-use blk_disk::Failed;
+use blk_disk::{DATA_SECTOR, Failed};
 use eng_cols::Column;
 use put_line::Line;
 use raid_bay::Sink;
 use raid_conf::Conf;
 use top_open::{Front, Opened};
 
-// Whether the column has this device.
 fn is_seat_of(device: u32, seat: Column) -> bool
     ensures { result ≡ is_seat_of device seat }
 {
@@ -44,10 +43,9 @@ fn is_small(sizes: &[u64], rows: u32, unit: u32, device: u32) -> bool
     ensures { result ≡ is_small sizes.now rows unit device }
 {
     let has = sizes.get(device as usize).copied().unwrap_or(0);
-    has < 64 + u64::from(rows) * u64::from(unit)
+    has < DATA_SECTOR + u64::from(rows) * u64::from(unit)
 }
 
-// How a spare stands that is this device.
 #[tactic(auto, unfolding(crate::specs::Show::spare_state))]
 fn spare_state(
     unit: u32,
@@ -71,7 +69,6 @@ fn spare_state(
     }
 }
 
-// The line of spare j.
 #[tactic(auto, unfolding(crate::specs::Show::spare_line))]
 fn set_spare(line: &mut Line, j: u32, name: &[u8], state: &[u8])
     requires name { length name.now ≤ 255 }
@@ -88,7 +85,6 @@ fn set_spare(line: &mut Line, j: u32, name: &[u8], state: &[u8])
     line.push(b"\n");
 }
 
-// Puts the line of a spare.
 #[tactic(auto, using(crate::proofs::ShortNames::names_are_short))]
 fn put_spare<K: Sink>(
     conf: &Conf,
@@ -112,7 +108,6 @@ fn put_spare<K: Sink>(
     line.put(out)
 }
 
-/// Prints the lines of the spares.
 pub(crate) fn put_spares<K: Sink>(
     conf: &Conf,
     opened: &Opened,

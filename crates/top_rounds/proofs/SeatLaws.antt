@@ -1,7 +1,7 @@
 -- The seats of columns, one after the other.
 use Rattle.std.proofs.Common.{◌≡◌, ◌∙◌, ℕ, suc, ◌+◌, ◌-◌, ◌<◌, List, [], ◌∷◌, ◌++◌, length, get_or, take, map, sym, ap, arith, append_assoc}
 use Rattle.std.specs.Prelude.{replicate, set}
-use Rattle.std.proofs.lemmas.List.{length-map, length-take-le, map-append, set_at, take_all, take_more}
+use Rattle.std.proofs.lemmas.List.{length-map, length-take-le, map-append, set_at, take_more}
 use Rattle.eng_cols.specs.declared.column.Column.{Column}
 
 -- so far each column has its number, and all places behind have 0
@@ -17,9 +17,3 @@ seats_more f columns seats i x d within small is so_far =
     ∙ set_at (map f (take i columns)) 0 (replicate (32 - (i + 1)) 0) x i count
     ∙ sym (append_assoc (map f (take i columns)) (x ∷ []) (replicate (32 - (i + 1)) 0))
     ∙ ap (λ (l : List ℕ). l ++ replicate (32 - (i + 1)) 0) (sym front)
-
-pub seats_all : (f : Column → ℕ) (columns : List Column) (seats : List ℕ) (i : ℕ) → i ≡ length columns → seats ≡ map f (take i columns) ++ replicate (32 - i) 0 → seats ≡ map f columns ++ replicate (32 - length columns) 0
-seats_all f columns seats i end so_far =
-    so_far
-    ∙ ap (λ (n : ℕ). map f (take i columns) ++ replicate (32 - n) 0) end
-    ∙ ap (λ (l : List Column). map f l ++ replicate (32 - length columns) 0) (take_all i columns (omega (arith, end)))

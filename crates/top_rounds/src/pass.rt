@@ -29,7 +29,6 @@ fn write_disk<D: Disk>(disk: &mut D, label: &Label) -> bool
     }
 }
 
-// The same of one device of these, which is there.
 fn write_device<D: Disk>(devices: &mut [Option<D>], device: u32, label: &Label) -> bool
     requires within { device < length devices.old }
     requires there { IsSome (device_at devices.old device) }

@@ -28,7 +28,6 @@ fn loss_of<L: Layout>(layout: &L, columns: &[Column], judge: &mut Cols) -> Optio
     judge.lost(layout)
 }
 
-// Whether an array is lost that has these columns.
 fn is_lost<L: Layout>(layout: &L, columns: &[Column], judge: &mut Cols) -> bool
     requires columns { IsSettable (L.shape layout.now) columns.now }
     requires judge { IsFor (L.shape layout.now) judge.old }

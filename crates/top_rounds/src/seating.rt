@@ -4,7 +4,6 @@ ghost use Rattle.top_rounds.specs.Labels.{IsNumbered, device_seat, seat_of, seat
 
 use eng_cols::Column;
 
-// The seat of a device, of so many columns.
 fn device_seat(columns: usize, device: u32) -> u8
     requires columns { columns ≤ 32 }
     requires device { device < columns + 8 }
@@ -18,7 +17,6 @@ fn device_seat(columns: usize, device: u32) -> u8
     }
 }
 
-// The seat of a column, of so many.
 fn seat(columns: usize, column: Column) -> u8
     requires columns { columns ≤ 32 }
     requires numbered { IsNumbered columns column }

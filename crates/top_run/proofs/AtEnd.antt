@@ -33,7 +33,7 @@ loss-at-end y now (Some loss) (Some other) columns is why h =
     let z : Some other ≡ Some loss = h in
     let same : loss ≡ other = cc in
     inl (is ∙ sym h, subst (λ l. WasLostBy y now l) same why)
-loss-at-end y now None None columns is why h = h
+loss-at-end y now None None columns is why h = (is, h)
 loss-at-end y now None (Some loss) columns is why h = inr (is, h)
 
 module _ {L D : Type 0} (lay : LayoutGhosts L) (disk : DiskGhosts D) (setup : Setup L D) (how : Option Start) (closed : Closed L D) (given : IsSetup lay disk setup) (s : served.IsServed lay disk setup how closed) (v : Service) (back : List (Option D)) (e : EndsSo lay closed disk v back) where

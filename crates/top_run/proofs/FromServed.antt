@@ -82,6 +82,7 @@ before-same a b same c = below-same (laid.row_sectors a) (laid.row_sectors b) c 
 
 item-alike : (i : Item) → told.item_sectors i ≡ laid.item_sectors i
 item-alike (item.Run (op.Write span pattern) file) = refl
+item-alike (item.Run (op.Writes patches) file) = refl
 item-alike (item.Run (op.Read span) file) = refl
 item-alike (item.Run (op.Rebuild stripe) file) = refl
 item-alike (item.Run (op.Sync stripe) file) = refl
@@ -184,27 +185,20 @@ module _ {L D : Type 0} (lay : LayoutGhosts L) (disk : DiskGhosts D) (setup : Se
       ∙ (ap (λ n. get_or closed.sectors.items n 0) place
       ∙ sym (item-byte closed.sectors.items (told.items_at closed.clients.items c) (512 * told.sectors_before closed.clients.items c) i (told.item_sectors (slice_index_or (told.items_at closed.clients.items c) i told.no_item)) (512 * b + k) (omega (arith, within, kb)))))
 
-  pub tells-from : Tells disk a setup.devices.items service s.events s.now
-  tells-from = record {
-    asked = asked-same closed.clients.items setup.clients.items s.tells.clients s.tells.items;
-    few = s.tells.few;
-    items = λ c other. told-items c ∙ sym (s.rests.items c other);
-    rows = s.tells.rows ∙ sym s.tells.clients;
-    replies = λ c other. replies-alike (slice_get closed.replies.items c) ∙ s.tells.replies c other;
-    history = s.tells.history;
-    trace = s.tells.trace ∙ trace-alike setup.trace s.events;
-    handed = byte-from;
-  }
+  replies-told : (c : ℕ) → c ≢ 16 → told.replies_at service.replies c ≡ (s.now.clients c).replies
+  replies-told c other = replies-alike (slice_get closed.replies.items c) ∙ s.tells.replies c other
 
-  -- ## What a printer asks
+  items-told : (c : ℕ) → c ≢ 16 → told.items_at service.clients c ≡ (s.now.clients c).items
+  items-told c other = told-items c ∙ sym (s.rests.items c other)
 
+  -- each item has its reply, and each block that is read its sector
   pub stands-from : told.StandFor service.clients service.replies service.sectors
   stands-from = record {
     clients_answered = let e = s.tells.rows in let f = s.tells.clients in omega (arith, e, f);
     items_answered = λ c lt.
         let most = s.tells.few in
         let other = not-last c (omega (arith, lt, most)) in
-        ap (λ (l : List Reply). length l) (tells-from.replies c other) ∙ (s.rests.replied c ∙ ap (λ (l : List Item). length l) (sym (tells-from.items c other)));
+        ap (λ (l : List Reply). length l) (replies-told c other) ∙ (s.rests.replied c ∙ ap (λ (l : List Item). length l) (sym (items-told c other)));
     enough =
         let count = s.tells.clients in
         let all : take 16 closed.clients.items ≡ closed.clients.items = take_all 16 closed.clients.items (omega (arith, few, count)) in
@@ -212,4 +206,17 @@ module _ {L D : Type 0} (lay : LayoutGhosts L) (disk : DiskGhosts D) (setup : Se
         let whole : told.sectors_before closed.clients.items 16 ≡ sum_by (λ (row : Vec Item Global). told.row_sectors row.items) closed.clients.items = ap (λ (l : List (Vec Item Global)). sum_by (λ (row : Vec Item Global). told.row_sectors row.items) l) all in
         let room = s.hands.enough in
         omega (arith, alike, whole, room);
+  }
+
+  pub tells-from : Tells disk a setup.devices.items service s.events s.now
+  tells-from = record {
+    asked = asked-same closed.clients.items setup.clients.items s.tells.clients s.tells.items;
+    few = s.tells.few;
+    items = items-told;
+    rows = s.tells.rows ∙ sym s.tells.clients;
+    replies = replies-told;
+    history = s.tells.history;
+    trace = s.tells.trace ∙ trace-alike setup.trace s.events;
+    stands = stands-from;
+    handed = byte-from;
   }

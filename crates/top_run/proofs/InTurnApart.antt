@@ -4,11 +4,10 @@ use Rattle.std.specs.Prelude.{Vec, slice_get}
 use Rattle.std.specs.declared.alloc.Global.{Global}
 use Rattle.std.proofs.lemmas.Option.{slice_get-map, slice_get_within, slice_get_cases, get_or_from_slice_get}
 use Rattle.blk_plain.specs.declared.op.Op.{Op}
-use Rattle.blk_plain.specs.declared.op.Op.TheVariants.{Write, Read, Rebuild, Sync}
+use Rattle.blk_plain.specs.declared.op.Op.TheVariants.{Write, Writes, Read, Rebuild, Sync}
 use Rattle.blk_disk.specs.declared.disk.Disk.{Ghosts}
 use Rattle.lay_core.specs.Layout.{blocks_in}
 use Rattle.eng_cols.specs.declared.spot.Loss.{Loss}
-use Rattle.eng_cols.specs.Lost.{NotLost}
 use Rattle.eng_world.specs.declared.item.Item.{Item}
 use Rattle.eng_world.specs.declared.item.Item.TheVariants as item
 use Rattle.eng_world.specs.declared.item.Reply.{Reply}
@@ -21,19 +20,17 @@ use Rattle.raid_script.specs.Asked.{seen}
 use Rattle.raid_script.specs.Drawn.{AreApart, IsOwn}
 use Rattle.raid_script.specs.Replies.{items_in, items_at}
 use Rattle.raid_script.proofs.OwnItems.{own_items}
-use Rattle.top_close.proofs.DyingLaws.{columns_die, lost_no_less}
-use Rattle.top_close.proofs.ClosingLaws.{closing_lost}
 use Rattle.top_sweep.specs.Apart.{Touches, IsApart, id_of}
 use Rattle.top_run.specs.Work.{Work, Service}
 use Rattle.top_run.specs.Ran.{IsLossAtEnd, Runs}
 use Rattle.top_run.specs.InTurn.{plain_reply}
 use Rattle.top_run.proofs.InTurnAlone.{items-all}
 use Rattle.top_run.proofs.InTurnOps.{EachRuns, AllRun, own_of, row_asks, ops-at, item-of}
-use Rattle.top_run.proofs.InTurnLost.{never-lost}
 use Rattle.top_run.proofs.InTurnReplies.{replied-so, commits-so}
 
 touched : (o : Op) (b : ℕ) → Touches o b → touches o b ≡ true
 touched (Write span pattern) b h = h
+touched (Writes patches) b h = h
 touched (Read span) b h = h
 touched (Rebuild stripe) b h = absurd h
 touched (Sync stripe) b h = absurd h
@@ -41,16 +38,8 @@ touched (Sync stripe) b h = absurd h
 module _ {D : Type 0} (g : Ghosts D) (a : Work) (taken : List (Option D)) (s : Service) (back : List (Option D)) (r : Runs g a taken s back) (alone : a.start ≡ None) (count ops wide blocks : ℕ) (apart : AreApart count ops wide blocks a.clients) (within : blocks ≤ blocks_in a.layout) (none : s.ending.lost ≡ None) where
   -- ## The array isn't lost
 
-  not-at-end : NotLost a.layout (states_of a.layout s.ending.columns)
-  not-at-end = subst (λ (l : Option Loss). IsLossAtEnd a.layout r.now (states_of a.layout s.ending.columns) l) none r.ends.lost
-
-  not-now : NotLost a.layout r.now.columns
-  not-now =
-      closing_lost a.layout r.now.columns r.ends.kept r.ends.closes
-      (lost_no_less a.layout (states_of a.layout r.ends.kept) (states_of a.layout s.ending.columns) (columns_die _ a.layout r.ends.kept s.ending.columns r.ends.dies) not-at-end)
-
   no-loss : r.now.lost ≡ None
-  no-loss = never-lost a.layout r.graphs r.start r.events r.now r.opens.opening r.rests.run not-now
+  no-loss = (subst (λ (l : Option Loss). IsLossAtEnd a.layout r.now (states_of a.layout s.ending.columns) l) none r.ends.lost).0
 
   -- ## Items
 

@@ -2,7 +2,7 @@
 use Rattle.std.proofs.Common.{◌≡◌, ◌∙◌, ap, sym, refl, subst, ℕ, ◌+◌, ◌<◌, ◌≤◌, List, length, min, take, Option, Some, None, arith}
 use Rattle.std.specs.Prelude.{slice_get}
 use Rattle.blk_plain.specs.declared.op.Op.{Op}
-use Rattle.blk_plain.specs.declared.op.Op.TheVariants.{Write, Read, Rebuild, Sync}
+use Rattle.blk_plain.specs.declared.op.Op.TheVariants.{Write, Writes, Read, Rebuild, Sync}
 use Rattle.blk_plain.specs.Plain.{IsInRange}
 use Rattle.blk_disk.specs.declared.disk.Disk.{Ghosts}
 use Rattle.blk_disk.specs.Devices.{contents_of}
@@ -24,10 +24,12 @@ use Rattle.top_run.proofs.InTurnApart as apart
 use Rattle.top_run.proofs.InTurnMeans as means
 use Rattle.top_run.proofs.InTurnSummary as sums
 use Rattle.top_run.proofs.InTurnOps.{all-in-turn, item-of, turn_of}
+use Rattle.top_run.proofs.InTurnReplies.{own-one}
 use Rattle.top_run.proofs.InTurnSame.{SameBelow, AreWithin, agrees-on, decode-same, replies-on, within-each, within-turn}
 
 own-within : (wide blocks client n : ℕ) → blocks ≤ n → (o : Op) → IsOwn wide blocks client (asks o) → IsInRange n o
 own-within wide blocks client n le (Write span pattern) own = let e = own.0.ends in let w = own.0.within in omega (arith, e, w, le)
+own-within wide blocks client n le (Writes patches) own = absurd (own-one wide blocks client patches own)
 own-within wide blocks client n le (Read span) own = let e = own.0.ends in let w = own.0.within in omega (arith, e, w, le)
 own-within wide blocks client n le (Rebuild stripe) own = absurd own
 own-within wide blocks client n le (Sync stripe) own = absurd own

@@ -1,9 +1,11 @@
 -- What is replied to operations that are in range and short, of an array that isn't lost.
-use Rattle.std.proofs.Common.{◌≡◌, ◌∙◌, ap, sym, refl, subst, ℕ, zero, suc, ◌+◌, ◌-◌, ◌*◌, ◌/◌, ◌<◌, ◌≤◌, List, Some, None, arith}
+use Rattle.std.proofs.Common.{◌≡◌, ◌∙◌, ap, sym, refl, subst, ℕ, zero, suc, ◌+◌, ◌-◌, ◌*◌, ◌/◌, ◌<◌, ◌≤◌, Bool, true, false, if◌then◌else◌, List, Some, None, arith}
+use Rattle.std.specs.Prelude.{nat_le}
 use Rattle.std.proofs.Math.Nat.{div-lt_iff_lt-mul, mul-le-mul}
 use Rattle.blk_plain.specs.declared.op.Op.{Op}
-use Rattle.blk_plain.specs.declared.op.Op.TheVariants.{Write, Read, Rebuild, Sync}
+use Rattle.blk_plain.specs.declared.op.Op.TheVariants.{Write, Writes, Read, Rebuild, Sync}
 use Rattle.blk_plain.specs.declared.op.OpId.{OpId}
+use Rattle.blk_plain.specs.declared.op.Patches.{Patches}
 use Rattle.blk_plain.specs.declared.op.Span.{Span}
 use Rattle.lay_core.specs.Layout.{Shape, blocks_in, data_units, stripe_of}
 use Rattle.lay_core.specs.Touched.{PassesEnd, stripe_count}
@@ -16,6 +18,7 @@ use Rattle.eng_world.specs.World.{World, IsRead}
 use Rattle.eng_world.specs.Planning.{Graphs, IsOut, IsLong}
 use Rattle.eng_world.specs.Legal.{ReplyOf, HasCommitted}
 use Rattle.eng_world.specs.Causes.{IsCause, ItemAt, HaveCauses}
+use Rattle.raid_script.specs.Asked.{Other, WritesAll, seen_patches}
 use Rattle.raid_script.specs.Drawn.{IsOwn, IsOwnSpan}
 use Rattle.top_run.specs.InTurn.{plain_reply, asks}
 
@@ -45,6 +48,14 @@ few-stripes u d x m some any =
     let two = quotient d (x / u) m any in
     omega (arith, one, two)
 
+-- an item of a client's own blocks isn't a write of several spans
+pub own-one : (wide blocks client : ℕ) (patches : Patches) → IsOwn wide blocks client (asks (Writes patches)) → ⊥
+own-one wide blocks client patches own = go (nat_le patches.used 8) own
+  where
+    go : (few : Bool) → IsOwn wide blocks client (if few then WritesAll (seen_patches patches) None else Other) → ⊥
+    go true h = h
+    go false h = h
+
 module _ (y : Shape) (wide blocks client : ℕ) (within : blocks ≤ blocks_in y) where
   span-in : (span : Span) → IsOwnSpan wide blocks client span.first span.count → PassesEnd y span → ⊥
   span-in span own out = let e = own.ends in let w = own.within in omega (arith, e, w, out, within)
@@ -61,12 +72,14 @@ module _ (y : Shape) (wide blocks client : ℕ) (within : blocks ≤ blocks_in y
 
   not-out : (o : Op) → IsOwn wide blocks client (asks o) → IsOut y o → ⊥
   not-out (Write span pattern) own out = span-in span own.0 out
+  not-out (Writes patches) own out = absurd (own-one wide blocks client patches own)
   not-out (Read span) own out = span-in span own.0 out
   not-out (Rebuild stripe) own out = absurd own
   not-out (Sync stripe) own out = absurd own
 
   not-long : (o : Op) → IsOwn wide blocks client (asks o) → IsLong y o → ⊥
   not-long (Write span pattern) own long = span-short span own.0 long
+  not-long (Writes patches) own long = absurd (own-one wide blocks client patches own)
   not-long (Read span) own long = span-short span own.0 long
   not-long (Rebuild stripe) own long = absurd own
   not-long (Sync stripe) own long = absurd own
@@ -75,12 +88,14 @@ module _ (y : Shape) (wide blocks client : ℕ) (within : blocks ≤ blocks_in y
 
 done-is : (o : Op) → (IsRead (Some o) → ⊥) → reply.Done ≡ plain_reply o
 done-is (Write span pattern) other = refl
+done-is (Writes patches) other = refl
 done-is (Read span) other = absurd (other tt)
 done-is (Rebuild stripe) other = refl
 done-is (Sync stripe) other = refl
 
 pub commits-so : (o : Op) → HasCommitted (plain_reply o)
 commits-so (Write span pattern) = tt
+commits-so (Writes patches) = tt
 commits-so (Read span) = tt
 commits-so (Rebuild stripe) = tt
 commits-so (Sync stripe) = tt

@@ -3,7 +3,7 @@ use Rattle.std.proofs.Common.{◌≡◌, ◌∙◌, refl, ℕ, zero, suc, ◌+�
 use Rattle.std.specs.Prelude.{slice_get, if◌then◌else◌, ◌==◌}
 use Rattle.std.proofs.lemmas.Nat.{mul-add-lt}
 use Rattle.blk_plain.specs.declared.op.Op.{Op}
-use Rattle.blk_plain.specs.declared.op.Op.TheVariants.{Write, Read, Rebuild, Sync}
+use Rattle.blk_plain.specs.declared.op.Op.TheVariants.{Write, Writes, Read, Rebuild, Sync}
 use Rattle.blk_plain.specs.Plain.{IsInRange}
 use Rattle.lay_core.specs.Layout.{Shape, Blocks, blocks_in, block_of, data_units, stripe_of, unit_of, offset_of}
 use Rattle.eng_cols.specs.declared.spot.Spot.{Spot}
@@ -80,6 +80,7 @@ within-turn n own (suc many) each = within-both n (in_turn own many) (own many) 
 
 one-reply : (n : ℕ) (one other : Blocks) → SameBelow n one other → (o : Op) → IsInRange n o → reply_sum one o ≡ reply_sum other o
 one-reply n one other same (Write span pattern) within = refl
+one-reply n one other same (Writes patches) within = refl
 one-reply n one other same (Read span) within = blocks-sum-same one other span (λ j k jl kl. same (span.first + j) k (omega (arith, jl, within)) kl)
 one-reply n one other same (Rebuild stripe) within = refl
 one-reply n one other same (Sync stripe) within = refl

@@ -4,7 +4,7 @@ use Rattle.std.specs.Prelude.{slice_get, slice_index_or, sum_by}
 use Rattle.std.proofs.lemmas.List.{length-map, length-take}
 use Rattle.std.proofs.lemmas.Option.{slice_get_within, get_or_from_slice_get}
 use Rattle.blk_plain.specs.declared.op.Op.{Op}
-use Rattle.blk_plain.specs.declared.op.Op.TheVariants.{Write, Read, Rebuild, Sync}
+use Rattle.blk_plain.specs.declared.op.Op.TheVariants.{Write, Writes, Read, Rebuild, Sync}
 use Rattle.blk_plain.specs.declared.op.Span.{Span}
 use Rattle.blk_disk.specs.declared.disk.Disk.{Ghosts}
 use Rattle.lay_core.specs.Layout.{Blocks, blocks_in}
@@ -71,6 +71,7 @@ module _ {D : Type 0} (g : Ghosts D) (a : Work) (taken : List (Option D)) (s : S
 
     replied-sum : (c i : ℕ) (o : Op) → c < length s.clients → slice_get (own c) i ≡ Some o → data_sum (plain_reply o) (bytes c i) ≡ reply_sum (held c i) o
     replied-sum c i (Write span pattern) less there = refl
+    replied-sum c i (Writes patches) less there = refl
     replied-sum c i (Read span) less there = read-sum (bytes c i) span (held c i) (bytes-few c i span there) (byte-told c i span less there)
     replied-sum c i (Rebuild stripe) less there = refl
     replied-sum c i (Sync stripe) less there = refl

@@ -12,7 +12,6 @@ pub mod Rebuilt
 pub mod All
 mod InTurnOps
 mod InTurnSums
-mod InTurnLost
 mod InTurnReplies
 mod InTurnAlone
 mod InTurnApart

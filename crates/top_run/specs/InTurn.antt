@@ -2,7 +2,7 @@
 use Rattle.std.specs.Prelude.{◌≡◌, ◌<◌, ◌+◌, ℕ, List, [], ◌∷◌, ◌++◌, length, Option, Some, None, map, flat_map, take, slice_get, slice_index_or, sum_by}
 use Rattle.std.specs.List.{range_with_len}
 use Rattle.blk_plain.specs.declared.op.Op.{Op}
-use Rattle.blk_plain.specs.declared.op.Op.TheVariants.{Write, Read, Rebuild, Sync}
+use Rattle.blk_plain.specs.declared.op.Op.TheVariants.{Write, Writes, Read, Rebuild, Sync}
 use Rattle.blk_plain.specs.declared.op.Span.{Span}
 use Rattle.blk_disk.specs.declared.disk.Disk.{Ghosts}
 use Rattle.blk_disk.specs.Devices.{contents_of}
@@ -41,6 +41,7 @@ HasOp clients turn c i op = (i < length (slice_index_or clients c [])) × (slice
 -- what it replies
 abbrev pub plain_reply : Op → Reply
 plain_reply (Write span pattern) = Done
+plain_reply (Writes patches) = Done
 plain_reply (Read span) = Data
 plain_reply (Rebuild stripe) = Done
 plain_reply (Sync stripe) = Done
@@ -52,6 +53,7 @@ block_sum blocks b = sum_by (λ k. blocks b k) (range_with_len 0 512)
 -- of those that it replies to an operation: those of a read's blocks
 abbrev pub reply_sum : Blocks → Op → ℕ
 reply_sum blocks (Write span pattern) = 0
+reply_sum blocks (Writes patches) = 0
 reply_sum blocks (Read span) = sum_by (λ j. block_sum blocks (span.first + j)) (range_with_len 0 span.count)
 reply_sum blocks (Rebuild stripe) = 0
 reply_sum blocks (Sync stripe) = 0

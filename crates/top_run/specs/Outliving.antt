@@ -42,6 +42,7 @@ IsRebuiltIn a c = (start : Start) × (a.start ≡ Some start) × (column_of star
 -- the reply to an operation that is done
 abbrev pub done_reply : Op → Reply
 done_reply (op.Write span pattern) = reply.Done
+done_reply (op.Writes patches) = reply.Done
 done_reply (op.Read span) = reply.Data
 done_reply (op.Rebuild stripe) = reply.Done
 done_reply (op.Sync stripe) = reply.Done

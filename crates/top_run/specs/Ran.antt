@@ -33,7 +33,7 @@ use Rattle.eng_state.specs.Shows.{AreTold}
 use Rattle.eng_array.specs.Starts.{column_of}
 use Rattle.eng_array.specs.declared.start.Start.{Start}
 use Rattle.raid_script.specs.Asked.{seen}
-use Rattle.raid_script.specs.Replies.{item_bytes, item_sectors, items_at, no_item, replies_at, sectors_before}
+use Rattle.raid_script.specs.Replies.{StandFor, item_bytes, item_sectors, items_at, no_item, replies_at, sectors_before}
 use Rattle.top_serve.specs.Setups.{with_rebuilt, with_start}
 use Rattle.top_serve.specs.Caused.{RestsOn, WentBadOn, WasLostBy}
 use Rattle.top_serve.specs.Served.{BeginsBy, IsRebuiltBy, IsUnbuilt}
@@ -63,9 +63,9 @@ pub record WasFailed (now : World) (c : ℕ) : Type 0 where
   pub asked : ItemAt now id (item.Fail c)
   pub replied : ReplyOf now id reply.Okay
 
--- what the array was lost by in the run, by columns that have only died since, and else by its columns in the end; if it was
+-- what the array was lost by in the run, by columns that have only died since, and else by its columns in the end; if it was lost in either
 abbrev pub IsLossAtEnd : Shape → World → List ColumnState → Option Loss → Type 0
-IsLossAtEnd y now cols None = NotLost y cols
+IsLossAtEnd y now cols None = (now.lost ≡ None) × NotLost y cols
 IsLossAtEnd y now cols (Some loss) = ((now.lost ≡ Some loss) × WasLostBy y now loss) ⊎ ((now.lost ≡ None) × IsLost y cols loss)
 
 -- the columns as the array is opened: each stripe of a spread one is done
@@ -102,7 +102,7 @@ module _ {D : Type 0} (g : Ghosts D) (a : Work) (taken : List (Option D)) where
       pub replied : AllReplied now
       pub out : now.out ≡ 0
 
-    -- What is told of it: the items that were asked of at most sixteen clients, the replies, the history and the events, and what reads hand out, where devices tell what they hold. Of client 16, which rebuilds, neither items nor replies are told.
+    -- What is told of it: the items that were asked of at most sixteen clients, a reply to each, the history and the events, and what reads hand out, a sector for each block that they ask, which are their blocks where devices tell what they hold. Of client 16, which rebuilds, neither items nor replies are told.
     pub record Tells (events : List Traced) (now : World) : Type 0 where
       pub asked : map (λ items. map seen items.items) s.clients ≡ a.clients
       pub few : length s.clients ≤ 16
@@ -111,6 +111,7 @@ module _ {D : Type 0} (g : Ghosts D) (a : Work) (taken : List (Option D)) where
       pub replies : (c : ℕ) → c ≢ 16 → replies_at s.replies c ≡ (now.clients c).replies
       pub history : s.history ≡ now.history
       pub trace : s.trace ≡ trace_of a.trace events
+      pub stands : StandFor s.clients s.replies s.sectors
       pub handed : g.tells → (c i b k : ℕ) → slice_get (now.clients c).replies i ≡ Some reply.Data → b < item_sectors (slice_index_or (items_at s.clients c) i no_item) → k < 512 → (now.clients c).handed i b k ≡ told_byte s c i b k
 
     module _ (back : List (Option D)) where

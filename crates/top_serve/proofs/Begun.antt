@@ -30,9 +30,6 @@ push-get (a ∷ l) x = push-get l x
 pub reply-still : (old new : World) → Continues old new → (id : OpId) (r : Reply) → ReplyOf old id r → ReplyOf new id r
 reply-still old new go id r h = let more = go.replies id.client in ap (λ (l : List Reply). slice_get l id.index) more.1 ∙ front-get (old.clients id.client).replies more.0 id.index r h
 
-pub failed-still : (old new : World) → Continues old new → (c : ℕ) → WasFailed old c → WasFailed new c
-failed-still old new go c w = record { id = w.id; asked = item-still old new go w.id (item.Fail c) w.asked; replied = reply-still old new go w.id reply.Okay w.replied }
-
 -- a column's failure leaves replies as they are, or adds to them
 column-replied : (y : Shape) (k : ℕ) (old new : World) → FailsColumn y k old new → (id : OpId) (r : Reply) → ReplyOf old id r → ReplyOf new id r
 column-replied y k old new f id r h = by f.after

@@ -103,6 +103,7 @@ module _ (y : Shape) (graphs : Graphs) (c : ℕ) (Holds : Option ColumnState →
 
   holds-after : (o : Op) (r : Running) (old new : World) → ColumnsAfter y o r old new → HoldsIn old.columns → HoldsIn new.columns
   holds-after (op.Write span pattern) r old new h keep = holds-same old.columns new.columns h.0 keep
+  holds-after (op.Writes patches) r old new h keep = holds-same old.columns new.columns h.0 keep
   holds-after (op.Read span) r old new h keep = holds-same old.columns new.columns h.0 keep
   holds-after (op.Sync stripe) r old new h keep = holds-same old.columns new.columns h.0 keep
   holds-after (op.Rebuild stripe) r old new (inl h) keep = holds-ended stripe h.0 old.columns new.columns h.4 keep

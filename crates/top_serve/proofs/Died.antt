@@ -85,6 +85,7 @@ module _ (y : Shape) where
 
   after-has : (o : Op) (r : Running) (old new : World) → ColumnsAfter y o r old new → (c d : ℕ) → HasDevice old.columns c d → HasStill new c d
   after-has (op.Write span pattern) r old new h c d has = stay old new h.0 c d has
+  after-has (op.Writes patches) r old new h c d has = stay old new h.0 c d has
   after-has (op.Read span) r old new h c d has = stay old new h.0 c d has
   after-has (op.Sync stripe) r old new h c d has = stay old new h.0 c d has
   after-has (op.Rebuild stripe) r old new (inl h) c d has = inl (ended-has stripe h.0 old.columns new.columns h.4 c d has)

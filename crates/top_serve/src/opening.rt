@@ -61,7 +61,6 @@ pub(crate) fn opened_in<L: Layout + Drop, D: Disk + Drop>(
     }
 }
 
-// The loss by which a core isn't opened.
 fn loss_of(fault: OpenFault) -> Loss
     ensures { fault ≡ OpenFault.Lost result.first result.second result.stripe }
 {

@@ -18,7 +18,6 @@ fn is_dead(column: Column) -> bool
     }
 }
 
-// The line of a dead column.
 #[tactic(auto, unfolding(crate::specs::Dead::dead_line))]
 fn set_dead(line: &mut Line, column: usize)
     ensures { line.new ≡ dead_line column }

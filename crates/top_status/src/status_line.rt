@@ -9,7 +9,6 @@ use blk_disk::Failed;
 use put_line::Line;
 use raid_bay::Sink;
 
-// The line of a word and numbers.
 fn set_numbers(line: &mut Line, word: &[u8], numbers: &[u64])
     requires short { length word.now ≤ 20 }
     requires few { length numbers.now ≤ 4 }
@@ -25,7 +24,6 @@ fn set_numbers(line: &mut Line, word: &[u8], numbers: &[u64])
     line.push(b"\n");
 }
 
-// Puts the line of a word and numbers.
 fn put_numbers<K: Sink>(word: &[u8], numbers: &[u64], out: &mut K) -> Result<(), Failed>
     requires short { length word.now ≤ 20 }
     requires few { length numbers.now ≤ 4 }

@@ -11,7 +11,7 @@ use Rattle.blk_plain.specs.declared.op.Op.TheVariants.{Read}
 use Rattle.blk_plain.specs.declared.op.OpId.{OpId}
 use Rattle.blk_plain.specs.declared.op.Span.{Span}
 use Rattle.lay_core.specs.Layout.{Blocks}
-use Rattle.lay_core.specs.Touched.{is_in}
+use Rattle.blk_plain.specs.Plain.{is_in}
 use Rattle.eng_world.specs.declared.item.Reply.TheVariants.{Data}
 use Rattle.eng_world.specs.Plain.{replay}
 use Rattle.eng_world.specs.World.{World, op_at}

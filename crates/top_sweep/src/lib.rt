@@ -9,7 +9,7 @@ ghost use Rattle.blk_plain.specs.declared.op.Op.{Op};
 ghost use Rattle.blk_plain.specs.declared.op.OpId.{OpId};
 ghost use Rattle.blk_plain.specs.declared.op.Span.{Span};
 ghost use Rattle.lay_core.specs.Layout.{Blocks};
-ghost use Rattle.lay_core.specs.Touched.{is_in};
+ghost use Rattle.blk_plain.specs.Plain.{is_in};
 ghost use Rattle.eng_world.specs.declared.item.Reply.TheVariants.{Data};
 ghost use Rattle.eng_world.specs.Plain.{replay};
 ghost use Rattle.eng_world.specs.World.{World};

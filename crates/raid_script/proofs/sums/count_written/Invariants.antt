@@ -9,5 +9,5 @@ use Rattle.raid_script.proofs.sums.count_written.Given as goal
 abbrev pub invariant-loop-row : goal.invariant-loop-row
 invariant-loop-row l = record {
   sum : l.total ≡ sum_by (λ (row : Vec Item Global). row_writes row.items) (take l.row-index l.clients);
-  small : l.total ≤ 79228162514264337593543950336 * l.row-index;
+  small : l.total ≤ 633825300114114700748351602688 * l.row-index;
 }

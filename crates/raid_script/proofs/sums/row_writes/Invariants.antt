@@ -7,5 +7,5 @@ use Rattle.raid_script.proofs.sums.row_writes.Given as goal
 abbrev pub invariant-loop-item : goal.invariant-loop-item
 invariant-loop-item l = record {
   sum : l.total ≡ sum_by item_writes (take l.item-index l.items);
-  small : l.total ≤ 4294967295 * l.item-index;
+  small : l.total ≤ 34359738360 * l.item-index;
 }

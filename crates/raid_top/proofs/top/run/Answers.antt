@@ -18,7 +18,7 @@ returns-in-Ok-clause-answer g c =
       status = ending;
       text = outcome_text outcome;
       ends = record { outcome = outcome; status = c.status_of-status.ensures ∙ status_same (action_seen e.action) e.conf e.came; text = refl; acts = acts_of _ _ _ (action_seen e.action) e.conf e.came c.in-Ok.ensures.acted };
-      printed = printed_of K.tells (Rose (K.faults c.args.out.now) (K.faults c.put_ended-printed.new.out)) ending c.answer_of.result (outcome_text outcome) (K.output c.args.out.now) (K.output c.put_ended-printed.new.out) c.put_ended-printed.result c.answer_of.ensures.ok c.answer_of.ensures.err c.put_ended-printed.ensures.output c.put_ended-printed.ensures.cause;
+      printed = printed_of K.tells (Rose (K.faults c.args.out.now) (K.faults c.put_by_pages-printed.new.out)) ending c.answer_of.result (outcome_text outcome) (K.output c.args.out.now) (K.output c.put_by_pages-printed.new.out) c.put_by_pages-printed.result c.answer_of.ensures.ok c.answer_of.ensures.err c.put_by_pages-printed.ensures.output c.put_by_pages-printed.ensures.cause;
     }
 
 pub returns-in-Err-clause-answer : goal.returns-in-Err-clause-answer

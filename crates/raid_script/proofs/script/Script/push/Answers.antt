@@ -1,0 +1,23 @@
+use Rattle.std.proofs.Common.{◌≡◌, ◌∙◌, List, [], ◌∷◌, ◌++◌, length, map, get_or, set, sym, ap, arith}
+use Rattle.std.specs.Prelude.{Vec}
+use Rattle.std.specs.declared.alloc.Global.{Global}
+use Rattle.std.proofs.lemmas.List.{map_push, map-set, get_or-map, length-map}
+use Rattle.eng_world.specs.declared.item.Item.{Item}
+use Rattle.raid_script.specs.Asked.{Asked, seen}
+use Rattle.raid_script.proofs.script.Script.push.Goals as goal
+
+pub returns : goal.returns
+returns c =
+    let rows = c.self.inside.clients.items in
+    let k = c.args.entry.client in
+    let old = c.index_mut.result.now in
+    let new = c.push.new.self in
+    let f = λ (row : Vec Item Global). map seen row.items in
+    let same : map f rows ≡ c.args.self.now = c.self.view_is in
+    let at : old ≡ get_or rows k old = c.index_mut.ensures.value in
+    let one : f new ≡ f old ++ seen c.args.entry.item ∷ [] = ap (λ (xs : List Item). map seen xs) c.in_ok-push.ensures.items ∙ map_push seen old.items c.args.entry.item in
+    let many = length-map rows f in
+    let below = ap (λ (x : List (List Asked)). length x) same in
+    let row : get_or (map f rows) k [] ≡ f old = get_or-map f rows k old [] (let r = c.requires in omega (arith, r, many, below)) ∙ ap f (sym at) in
+    map-set f rows k new ∙ (ap (λ (x : List Asked). set (map f rows) k x) (one ∙ ap (λ (x : List Asked). x ++ seen c.args.entry.item ∷ []) (sym row))
+    ∙ ap (λ (x : List (List Asked)). set x k (get_or x k [] ++ seen c.args.entry.item ∷ [])) same)
