@@ -15,7 +15,6 @@ fn sectors_of<B: Bay>(alloc: Global, bay: &mut B, name: &str) -> Result<u64, Tak
     Ok(sectors)
 }
 
-// Whether the text of that name is this one.
 fn is_text<B: Bay>(
     alloc: Global,
     bay: &mut B,

@@ -3,7 +3,6 @@ use crate::judging::same;
 use blk_plain::*;
 use std::test::Fail;
 
-// A pattern of two bytes.
 fn two_bytes(first: u8, second: u8) -> Pattern {
     let mut bytes = [0; 32];
     bytes[0] = first;

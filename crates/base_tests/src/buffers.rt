@@ -1,6 +1,6 @@
 //! A pool of a few small buffers.
 use crate::judging::same;
-use buf_pool::{Full, Pool};
+use buf_pool::{Full, Lease, Pool};
 use std::test::Fail;
 
 #[test]
@@ -14,6 +14,20 @@ fn a_lease_is_full_until_buffers_come_back(rt: HostRuntime) -> Result<(), Fail> 
     let one = pool.lease(1)?;
     same(&rt, pool.free(), 1);
     pool.give_back(one);
+    Ok(())
+}
+
+#[test]
+fn a_lease_is_filled_where_it_is_kept(rt: HostRuntime) -> Result<(), Fail> {
+    let mut pool = Pool::open(rt.alloc(), 3, 1)?;
+    let mut lease = Lease::empty();
+    pool.lease_into(2, &mut lease)?;
+    same(&rt, pool.free(), 1);
+    pool.return_from(&lease);
+    same(&rt, pool.free(), 3);
+    pool.lease_into(3, &mut lease)?;
+    same(&rt, pool.free(), 0);
+    same(&rt, pool.lease(1).err(), Some(Full));
     Ok(())
 }
 

@@ -13,7 +13,6 @@ fn three_sectors(alloc: Global, fails: u32) -> Result<MemDisk, Fail> {
     Ok(MemDisk::new(alloc, bytes, numbers, 8)?)
 }
 
-// How many of the bytes are this one.
 fn count_of(byte: u8, bytes: &[u8]) -> usize {
     bytes.iter().filter(|one| **one == byte).count()
 }

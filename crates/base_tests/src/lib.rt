@@ -20,6 +20,8 @@ mod labels;
 #[cfg(test)]
 mod locks;
 #[cfg(test)]
+mod spans;
+#[cfg(test)]
 mod sums;
 #[cfg(test)]
 mod words;

@@ -44,7 +44,6 @@ fn add_words(out: &mut String, line: &Line) -> Result<(), AllocError> {
     Ok(())
 }
 
-// The text is listed so.
 fn is_listed(rt: &impl Abort, alloc: Global, text: &[u8], want: &str) -> Result<(), Fail> {
     assert!(rt; text.len() < 100);
     same(rt, listing(alloc, text)?.as_str(), want);

@@ -6,7 +6,6 @@ ghost use Rattle.eng_one.specs.Counts.{CanStart};
 use blk_plain::limits;
 use graph_mean::{Graph, Node};
 
-// Appends a node.
 fn add(graph: &mut Graph, node: Node)
     requires { length graph.old.drawn.nodes < graph.old.node_room }
     ensures nodes { length graph.new.drawn.nodes ≡ length graph.old.drawn.nodes + 1 }
@@ -27,7 +26,6 @@ fn follow(graph: &mut Graph, node: u32)
     graph.push_ante(node);
 }
 
-// Appends so many reads.
 fn add_reads(graph: &mut Graph, count: u32)
     requires { length graph.old.drawn.nodes + count ≤ graph.old.node_room }
     ensures nodes { length graph.new.drawn.nodes ≡ length graph.old.drawn.nodes + count }
@@ -65,14 +63,12 @@ pub(crate) fn draw(graph: &mut Graph, reads: u32)
     follow(graph, reads);
 }
 
-// Whether all numbers are below this one.
 fn are_below(numbers: &[u32], bound: u32) -> bool
     ensures { IsTrue result → All (λ a. a < bound) numbers.now }
 {
     numbers.iter().all(|number| *number < bound)
 }
 
-// Whether a graph can be run.
 pub(crate) fn can_start(graph: &Graph) -> bool
     ensures { IsTrue result → CanStart graph.now.drawn }
 {

@@ -24,7 +24,6 @@ fn step(run: &mut Run, graph: &Graph) -> bool
     }
 }
 
-// Runs the graph from its start to its end.
 fn run_once(run: &mut Run, graph: &Graph)
     requires { CanStart graph.now.drawn }
 {
@@ -36,7 +35,6 @@ fn run_once(run: &mut Run, graph: &Graph)
     }
 }
 
-// Runs it so often.
 fn run_often(run: &mut Run, graph: &Graph, times: u32)
     requires { CanStart graph.now.drawn }
 {

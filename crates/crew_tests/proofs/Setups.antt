@@ -34,6 +34,7 @@ small-at P xs n x all is = subst (λ a. P a) (get_or_from_slice_get xs n x x is)
 
 asked-op : (y : Shape) (o : Op) → IsSmallOp o → IsAsked y (item.Run o None) × MayBeAsked y (item.Run o None)
 asked-op y (op.Write span pattern) s = (s, tt)
+asked-op y (op.Writes patches) s = (s, s.0)
 asked-op y (op.Read span) s = (s.0, tt)
 asked-op y (op.Rebuild stripe) s = absurd s
 asked-op y (op.Sync stripe) s = absurd s

@@ -48,6 +48,7 @@ small-at P xs n x all is = subst (λ a. P a) (get_or_from_slice_get xs n x x is)
 
 few-in-op : (o : Op) → IsSmallOp o → item_sectors (item.Run o None) ≤ 4
 few-in-op (op.Write span pattern) s = omega arith
+few-in-op (op.Writes patches) s = omega arith
 few-in-op (op.Read span) s = s.1
 few-in-op (op.Rebuild stripe) s = absurd s
 few-in-op (op.Sync stripe) s = absurd s
@@ -85,6 +86,7 @@ module _ (given : List (Vec Item Global)) (small : All AreSmall given) where
 
   asked-op : (y : Shape) (o : Op) → IsSmallOp o → IsAsked y (item.Run o None) × MayBeAsked y (item.Run o None)
   asked-op y (op.Write span pattern) s = (s, tt)
+  asked-op y (op.Writes patches) s = (s, s.0)
   asked-op y (op.Read span) s = (s.0, tt)
   asked-op y (op.Rebuild stripe) s = absurd s
   asked-op y (op.Sync stripe) s = absurd s

@@ -7,13 +7,15 @@ use Rattle.blk_disk.specs.declared.disk.Disk.{Ghosts as DiskGhosts}
 use Rattle.lay_core.specs.declared.layout.Layout.{Ghosts as LayoutGhosts}
 use Rattle.eng_world.specs.declared.item.Item.{Item}
 use Rattle.eng_world.specs.declared.item.Item.TheVariants as item
+use Rattle.eng_plan.specs.Asked.{HasBlocks}
 use Rattle.eng_state.specs.declared.array.Array.{Array}
 use Rattle.eng_events.specs.Opened.{NoneOut}
 use Rattle.eng_array.specs.Steady.{IsSteady}
 
--- a write of some blocks, or a read of one to four
+-- a write of some blocks, of one span or of several, or a read of one to four
 abbrev pub IsSmallOp : Op → Type 0
 IsSmallOp (op.Write span pattern) = 1 ≤ span.count
+IsSmallOp (op.Writes patches) = HasBlocks (op.Writes patches)
 IsSmallOp (op.Read span) = (1 ≤ span.count) × (span.count ≤ 4)
 IsSmallOp (op.Rebuild stripe) = ⊥
 IsSmallOp (op.Sync stripe) = ⊥

@@ -58,7 +58,6 @@ pub(crate) fn judged<L: Layout>(alloc: Global, layout: &L, columns: &[Column]) -
     }
 }
 
-/// The write of one block.
 pub(crate) fn write(block: u64, byte: u8) -> Item
     ensures { IsSmall result }
 {
@@ -76,7 +75,6 @@ pub(crate) fn write(block: u64, byte: u8) -> Item
     }
 }
 
-/// The read of so many blocks.
 pub(crate) fn read(block: u64, count: u32) -> Item
     requires some { 1 ≤ count }
     requires few { count ≤ 4 }

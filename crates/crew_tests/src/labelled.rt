@@ -30,14 +30,12 @@ fn clients(alloc: Global) -> Result<Vec<Vec<Item>>, AllocError>
     Ok(vec![in alloc; items]?)
 }
 
-// No client.
 fn nobody(alloc: Global) -> Vec<Vec<Item>>
     ensures { (length result.items ≡ 0) × All AreSmall result.items }
 {
     Vec::new(alloc)
 }
 
-// Whether byte `at` of the device is this one.
 fn has(device: Option<&Option<MemDisk>>, at: usize, byte: u8) -> bool {
     match device {
         Some(Some(disk)) => disk.bytes().get(at).copied() == Some(byte),

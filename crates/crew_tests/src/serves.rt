@@ -27,7 +27,6 @@ fn clients(alloc: Global) -> Result<Vec<Vec<Item>>, AllocError>
     Ok(vec![in alloc; first, second]?)
 }
 
-// The byte that the sector begins with.
 fn begins(bytes: &[u8], sector: usize) -> Option<u8>
     requires { sector ≤ 128 }
 {

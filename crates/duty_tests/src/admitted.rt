@@ -140,7 +140,6 @@ fn marked_bay(
     bay_with(alloc, disks_of(alloc, marks, sectors)?, CONF, reads)
 }
 
-// The words as names.
 fn names(alloc: Global, words: &[&str]) -> Result<Vec<Name>, Fail> {
     let mut names = Vec::new(alloc);
     for word in words {
@@ -180,7 +179,6 @@ fn make(alloc: Global, bay: &mut MemBay<MemDisk>, words: &[Name]) -> Result<Made
     }
 }
 
-// The words are admitted.
 fn accepted(alloc: Global, bay: &mut MemBay<MemDisk>, words: &[&str]) -> Result<Made, Fail> {
     let words = names(alloc, words)?;
     match make(alloc, bay, &words) {
@@ -189,7 +187,6 @@ fn accepted(alloc: Global, bay: &mut MemBay<MemDisk>, words: &[&str]) -> Result<
     }
 }
 
-// The array that is to be worked on.
 fn array_of(duty: Duty) -> Result<Ready, Fail> {
     match duty {
         Duty::OnArray(ready) => Ok(ready),
@@ -205,7 +202,6 @@ fn number_of(alloc: Global, bay: &mut MemBay<MemDisk>, words: &[Name]) -> u8 {
     }
 }
 
-// All disks are at home.
 fn all_at_home(rt: &impl Abort, bay: &MemBay<MemDisk>) {
     for name in ["d0", "d1", "d2"] {
         same_at(rt, name, bay.disk(name).is_some(), true);
@@ -258,7 +254,6 @@ fn refusals_come_in_order(rt: HostRuntime) -> Result<(), Fail> {
     Ok(())
 }
 
-// The words of this action.
 fn words_of(alloc: Global, action: &[&str]) -> Result<Vec<Name>, Fail> {
     let mut words = names(alloc, &["conf"])?;
     for word in action {
@@ -267,7 +262,6 @@ fn words_of(alloc: Global, action: &[&str]) -> Result<Vec<Name>, Fail> {
     Ok(words)
 }
 
-// What is printed of a refusal.
 fn text_of(alloc: Global, refusal: &Refusal) -> Result<Vec<u8>, Fail> {
     let mut out = MemSink::new(alloc, 1000, Vec::new(alloc))?;
     match put_refusal(refusal, &mut out) {

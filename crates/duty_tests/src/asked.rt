@@ -20,7 +20,6 @@ fn disk(alloc: Global, name: &str) -> Result<(Name, MemDisk), Fail> {
     Ok((Name::new(alloc, name)?, disk))
 }
 
-// A text.
 fn text(alloc: Global, name: &str, text: &str) -> Result<(Name, Vec<u8>), Fail> {
     Ok((Name::new(alloc, name)?, text.as_bytes().to_vec(alloc)?))
 }
@@ -63,7 +62,6 @@ fn bay_of(alloc: Global, fails: &[u32]) -> Result<MemBay<MemDisk>, Fail> {
     Ok(MemBay::new(alloc, texts, disks, fails.to_vec(alloc)?))
 }
 
-// The words as names.
 fn names(alloc: Global, words: &[&str]) -> Result<Vec<Name>, Fail> {
     let mut names = Vec::new(alloc);
     for word in words {
@@ -129,7 +127,6 @@ fn numbers(status: &Status) -> (u8, u32, u32) {
     }
 }
 
-// All devices are at home.
 fn all_at_home(rt: &impl Abort, bay: &MemBay<MemDisk>) {
     for name in ["d0", "d2", "s0"] {
         same_at(rt, name, bay.disk(name).is_some(), true);

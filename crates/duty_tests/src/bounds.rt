@@ -1,4 +1,9 @@
 //! Which scripts a trace has room for, counted by hand.
+ghost use Rattle.std.specs.Prelude.{◌<◌, ◌^◌, All, IsTrue, map};
+ghost use Rattle.std.specs.Option.{ForSome};
+ghost use Rattle.raid_script.specs.Asked.{IsAsked, seen};
+ghost use Rattle.top_bound.specs.Bound.{MayBeAsked};
+
 use crate::judging::{holds, same};
 use blk_disk::MemDisk;
 use blk_plain::{Op, Pattern, Span};
@@ -39,6 +44,54 @@ const SYNC: Item = Item::Run {
 
 const FAIL: Item = Item::Fail { column: 4 };
 
+// Whether the graph, where one is named, is the first of a file.
+fn is_first(graph: Option<u32>) -> bool
+    ensures { IsTrue result → ForSome graph (λ g. g < 1) }
+{
+    match graph {
+        None => true,
+        Some(number) => number < 1,
+    }
+}
+
+// Whether the span has a block, and begins at one that a script can name.
+fn is_named(span: Span) -> bool
+    ensures { IsTrue result → (span.first < 2 ^ 32) × (0 < span.count) }
+{
+    span.first <= 0xffff_ffff && span.count > 0
+}
+
+// Whether a script for five columns and a graph may hold the item; a write of several spans isn't
+// among those that are counted here.
+fn is_asked(item: Item) -> bool
+    ensures { IsTrue result → IsAsked 5 1 (seen item) }
+{
+    match item {
+        Item::Fail { column } => column < 5,
+        Item::Run { op, graph } => match op {
+            Op::Write { span, .. } => is_named(span) && is_first(graph),
+            Op::Read { span } => is_named(span) && is_first(graph),
+            Op::Sync { .. } => match graph {
+                None => true,
+                Some(_) => false,
+            },
+            Op::Writes { .. } | Op::Rebuild { .. } => false,
+        },
+    }
+}
+
+// Whether a script may hold each of the items.
+fn are_asked(items: &[Item]) -> bool
+    ensures { IsTrue result → All MayBeAsked (map seen items.now) }
+{
+    for item in items {
+        if !is_asked(*item) {
+            return false;
+        }
+    }
+    true
+}
+
 // Whether so many of an item fit, and so many failures and these items beside them: over five
 // columns at level 5 with units of 32 sectors, which is 8,192 blocks, 128 a stripe.
 fn fits(
@@ -57,6 +110,9 @@ fn fits(
     }
     for _i in 0..failures {
         row.push(FAIL)?;
+    }
+    if !are_asked(&row) {
+        panic!(rt; "a script may not hold an item");
     }
     Ok(trace_fits(&layout, &book, 5, &[row], 0))
 }

@@ -3,12 +3,10 @@
 use std::fmt::Debug;
 use std::process::Abort;
 
-/// What was found is what is wanted.
 pub(crate) fn same<T: PartialEq + Debug + Drop>(rt: &impl Abort, found: T, wanted: T) {
     assert_eq!(rt; found, wanted);
 }
 
-/// What was found in this row is what is wanted.
 pub(crate) fn same_at<R: Debug + Drop, T: PartialEq + Debug + Drop>(
     rt: &impl Abort,
     row: R,
@@ -18,7 +16,6 @@ pub(crate) fn same_at<R: Debug + Drop, T: PartialEq + Debug + Drop>(
     assert_eq!(rt; found, wanted, "{row:?}");
 }
 
-/// It is so.
 pub(crate) fn holds(rt: &impl Abort, so: bool) {
     assert!(rt; so);
 }

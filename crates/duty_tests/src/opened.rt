@@ -30,7 +30,6 @@ const NEEDS: Needs = Needs {
     writes: true,
 };
 
-// the front of a device that is labelled so
 fn labelled(serial: u32, counter: u32, column: u32) -> Front {
     let label = Label {
         version: 1,

@@ -24,7 +24,6 @@ const PLAIN: &[u8] = b"START array\n1 3 0\nSTART disks\nd0\nd1\nd2\nSTART layout
 const LARGE: &[u8] =
     b"# five disks\nSTART array\n5 01\nSTART disks\nd0\n d1\nd2\nd3\nd4\nSTART spare\ns0 # one spare\nSTART layout\n32 1 1 5\nSTART queue\nfifo 100\nSTART debug\nany\n";
 
-// The configuration that a text is.
 fn conf(alloc: Global, text: &[u8]) -> Result<Conf, Fail>
     ensures { IfOk result (λ conf. IsConf conf) }
 {
@@ -125,7 +124,6 @@ const COLUMNS: [Column; 4] = [
 // The sizes of its devices.
 const SIZES: [u64; 10] = [128, 0, 128, 128, 128, 127, 128, 127, 128, 1];
 
-// Their fronts.
 fn fronts() -> [Front; 10] {
     [
         Front::Away,
@@ -147,7 +145,6 @@ fn puts(alloc: Global, opened: &Opened, out: &mut MemSink) -> Result<bool, Fail>
     Ok(put_show(&conf, opened, &SIZES, &fronts(), out).is_ok())
 }
 
-// That is what is printed.
 fn shows(rt: &impl Abort, alloc: Global, opened: &Opened, wanted: &[u8]) -> Result<(), Fail> {
     let mut out = MemSink::new(alloc, 1000, Vec::new(alloc))?;
     holds(rt, puts(alloc, opened, &mut out)?);
@@ -175,7 +172,6 @@ fn breaks_at(rt: &impl Abort, alloc: Global, opened: &Opened, k: u32) -> Result<
     Ok(())
 }
 
-// Each line is one call.
 #[test]
 fn a_line_is_one_call(rt: HostRuntime) -> Result<(), Fail> {
     let opened = with_labels(rt.alloc())?;

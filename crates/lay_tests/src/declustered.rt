@@ -147,7 +147,6 @@ fn spare_places_are_behind_check_units(rt: HostRuntime) {
     has(&rt, &layout, (7, 2, 1), (147, 63, 147));
 }
 
-// Whether a stripe has a unit on a column.
 fn lies_on<L: Layout>(layout: &L, stripe: u32, column: u32) -> bool {
     for unit in 0..layout.width() {
         if place_of(layout, stripe, unit).is_some_and(|place| place.column == column) {

@@ -4,7 +4,6 @@ use lay_design::{Design, DesignFault};
 use std::alloc::Global;
 use std::process::Abort;
 
-// A list of numbers.
 fn list_of(alloc: Global, numbers: &[u32]) -> Option<Vec<u32>> {
     let mut list = Vec::new(alloc);
     for number in numbers {
@@ -13,7 +12,6 @@ fn list_of(alloc: Global, numbers: &[u32]) -> Option<Vec<u32>> {
     Some(list)
 }
 
-// The objects of a design, tuple by tuple.
 fn objects_of(alloc: Global, design: &Design) -> Option<Vec<u32>> {
     let mut list = Vec::new(alloc);
     for tuple in 0..design.b() {
@@ -100,7 +98,6 @@ fn a_base_tuple_that_makes_no_design_is_refused(rt: HostRuntime) {
     );
 }
 
-// What is refused of these numbers and tuples.
 fn fault_of(alloc: Global, numbers: [u32; 5], tuples: &[u32]) -> Option<DesignFault> {
     let list = list_of(alloc, tuples)?;
     let [b, v, k, r, lambda] = numbers;

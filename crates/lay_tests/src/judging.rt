@@ -3,12 +3,10 @@
 use std::fmt::Debug;
 use std::process::Abort;
 
-/// What was found is what is wanted.
 pub(crate) fn same<T: PartialEq + Debug + Drop>(rt: &impl Abort, found: T, wanted: T) {
     assert_eq!(rt; found, wanted);
 }
 
-/// What was found in this row is what is wanted.
 pub(crate) fn same_at<R: Debug + Drop, T: PartialEq + Debug + Drop>(
     rt: &impl Abort,
     row: R,

@@ -10,7 +10,7 @@ use lay_plain::{MakeFault, Raid5};
 use std::process::Abort;
 use std::test::Fail;
 
-fn make(rt: &impl Abort, columns: u32, unit_sectors: u32, rows: u32) -> Raid5 {
+pub(crate) fn make(rt: &impl Abort, columns: u32, unit_sectors: u32, rows: u32) -> Raid5 {
     Raid5::new(columns, unit_sectors, rows).expect(rt, "a layout")
 }
 
@@ -149,7 +149,7 @@ fn blocks_go_through_a_unit_then_a_stripe(rt: HostRuntime) {
     }
 }
 
-fn part(stripe: u32, unit: u32, from: u32, count: u32) -> Part {
+pub(crate) fn part(stripe: u32, unit: u32, from: u32, count: u32) -> Part {
     Part {
         stripe,
         unit,
@@ -158,12 +158,11 @@ fn part(stripe: u32, unit: u32, from: u32, count: u32) -> Part {
     }
 }
 
-fn has_parts(rt: &impl Abort, map: &StripeMap, stripes: &[u32], parts: &[Part]) {
+pub(crate) fn has_parts(rt: &impl Abort, map: &StripeMap, stripes: &[u32], parts: &[Part]) {
     same(rt, map.stripes(), stripes);
     same(rt, map.parts(), parts);
 }
 
-// The span has these stripes and parts.
 fn splits<L: Layout>(
     rt: &impl Abort,
     layout: &L,
@@ -218,7 +217,7 @@ fn fault_of<L: Layout>(layout: &L, map: &mut StripeMap, span: Span) -> Option<Sp
     split(layout, span, map).err()
 }
 
-fn is_empty(map: &StripeMap) -> bool {
+pub(crate) fn is_empty(map: &StripeMap) -> bool {
     map.stripes().is_empty() && map.parts().is_empty()
 }
 

@@ -10,6 +10,8 @@ mod declustered;
 #[cfg(test)]
 mod designs;
 #[cfg(test)]
+mod joint;
+#[cfg(test)]
 mod judging;
 #[cfg(test)]
 mod levels;

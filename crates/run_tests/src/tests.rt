@@ -16,6 +16,7 @@ mod levels;
 mod rebuilds;
 mod refused;
 mod rows;
+mod several;
 
 const CONF: &str = "START array\n1 3 0\nSTART disks\nd0\nd1\nd2\nSTART layout\n1 1 1 5\n";
 
@@ -71,13 +72,11 @@ const PLAIN: Session = Session {
     steps: &[],
 };
 
-// A component of so many zeros.
 fn zeros(alloc: Global, sectors: u16, fails: Vec<u32>) -> Result<MemDisk, Fail> {
     let bytes = vec![in alloc; 0; SECTOR * usize::from(sectors)]?;
     Ok(MemDisk::new(alloc, bytes, fails, 100)?)
 }
 
-// Which of its calls fail.
 fn fails_of(alloc: Global, name: &str, fails: &[(&str, u32)]) -> Result<Vec<u32>, Fail> {
     let mut calls = Vec::new(alloc);
     for (other, call) in fails {
@@ -88,12 +87,10 @@ fn fails_of(alloc: Global, name: &str, fails: &[(&str, u32)]) -> Result<Vec<u32>
     Ok(calls)
 }
 
-// A text and its name.
 fn text(alloc: Global, name: &str, text: &str) -> Result<(Name, Vec<u8>), Fail> {
     Ok((Name::new(alloc, name)?, text.as_bytes().to_vec(alloc)?))
 }
 
-// The bay of a session.
 fn bay_of(alloc: Global, session: &Session) -> Result<MemBay<MemDisk>, Fail> {
     let texts = vec![in alloc;
         text(alloc, "r5", session.conf)?,
@@ -111,7 +108,6 @@ fn bay_of(alloc: Global, session: &Session) -> Result<MemBay<MemDisk>, Fail> {
     Ok(MemBay::new(alloc, texts, disks, faults))
 }
 
-// The words as names.
 fn names_of(alloc: Global, words: &str) -> Result<Vec<Name>, Fail> {
     let mut names = Vec::new(alloc);
     for word in words.split_whitespace() {
@@ -133,7 +129,6 @@ fn answer<D: Disk + Drop + Send, R: Threads + Wait + Sync>(
     Ok((status.number(), out.bytes().to_vec(alloc)?))
 }
 
-// Whether all bytes are this one.
 fn is_filled(bytes: &[u8], byte: u8) -> bool {
     for other in bytes {
         if *other != byte {
@@ -155,7 +150,6 @@ fn sector_line(alloc: Global, number: usize, sector: &[u8]) -> Result<String, Fa
     }
 }
 
-// What a component holds.
 fn held_by(alloc: Global, disk: &MemDisk) -> Result<String, Fail> {
     let mut lines = String::new(alloc);
     for (number, sector) in disk.bytes().chunks(SECTOR).enumerate() {
@@ -165,7 +159,6 @@ fn held_by(alloc: Global, disk: &MemDisk) -> Result<String, Fail> {
     Ok(lines)
 }
 
-// The line of a call.
 fn call_line(alloc: Global, call: &Call) -> Result<String, Fail> {
     let (first, count) = (call.first, call.count);
     let end = if call.good { "" } else { " bad" };
@@ -178,7 +171,6 @@ fn call_line(alloc: Global, call: &Call) -> Result<String, Fail> {
     }
 }
 
-// The calls that a component has had.
 fn calls_of(alloc: Global, disk: &MemDisk) -> Result<String, Fail> {
     let mut lines = String::new(alloc);
     for call in disk.calls() {
@@ -207,7 +199,6 @@ fn replace(
     Ok(())
 }
 
-// The component of this name.
 fn found<'a>(bay: &'a MemBay<MemDisk>, name: &str) -> Result<&'a MemDisk, Fail> {
     match bay.disk(name) {
         Some(disk) => Ok(disk),
@@ -233,7 +224,6 @@ fn copy(alloc: Global, bay: &mut MemBay<MemDisk>, from: &str, to: &str) -> Resul
     replace(alloc, bay, to, bytes)
 }
 
-// One sector of it filled with a byte.
 fn spoil(
     alloc: Global,
     bay: &mut MemBay<MemDisk>,

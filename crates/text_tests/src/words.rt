@@ -6,7 +6,6 @@ use std::process::Abort;
 use std::test::Fail;
 use top_words::{Action, Command, WordsFault, read_words};
 
-// the names of these words
 fn names(alloc: Global, words: &[&str]) -> Result<Vec<Name>, Fail> {
     let mut names = Vec::new(alloc);
     for word in words {
@@ -83,7 +82,6 @@ fn letters_that_are_refused(rt: HostRuntime) -> Result<(), Fail> {
     see(&rt, rt.alloc(), &rows)
 }
 
-// the command that the words are
 fn command<'a>(alloc: Global, words: &'a [Name]) -> Result<Command<'a>, Fail> {
     match read_words(alloc, words) {
         Ok(command) => Ok(command),
@@ -181,7 +179,6 @@ fn see_io(rt: &impl Abort, action: Action<'_>) -> Result<(), Fail> {
     Ok(())
 }
 
-// A sweep runs.
 fn see_sweep(action: Action<'_>) -> Result<(), Fail> {
     let Action::Sweep {
         seed: 7,

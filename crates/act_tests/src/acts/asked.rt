@@ -120,7 +120,6 @@ fn device(alloc: Global, byte: u8, fails: u32) -> Result<Option<MemDisk>, Fail> 
     Ok(Some(MemDisk::new(alloc, bytes, fails, 100)?))
 }
 
-// By what an array is lost that has these columns.
 fn loss_of<L: Layout>(layout: &L, columns: &[Column], judge: &mut Cols) -> Option<Loss>
     requires columns { IsSettable (L.shape layout.now) columns.now }
     requires judge { IsFor (L.shape layout.now) judge.old }
@@ -271,7 +270,6 @@ pub(crate) fn rows_on(device: &Option<MemDisk>) -> Option<[u8; 3]> {
     Some([bytes[64 * SECTOR], bytes[65 * SECTOR], bytes[66 * SECTOR]])
 }
 
-/// Which columns are dead.
 pub(crate) fn dead(ending: &Ending) -> [bool; 3] {
     let mut dead = [false; 3];
     for c in 0..3 {

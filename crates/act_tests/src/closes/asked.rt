@@ -55,7 +55,6 @@ fn fits_at<D: Disk>(columns: &[Column], devices: &[Option<D>], c: usize) -> bool
     }
 }
 
-// Whether each column is so.
 fn fit<D: Disk>(columns: &[Column], devices: &[Option<D>]) -> bool
     ensures have { IsTrue result → HaveDevices columns.now devices.now }
     ensures filling { IsTrue result → count_by is_set_filling columns.now ≡ 0 }

@@ -39,7 +39,6 @@ fn target_of<L: Layout>(cols: &Cols, layout: &L, stripe: u32, unit: u32) -> Opti
     }
 }
 
-// What was found is what is wanted of the unit.
 fn is_found(rt: &impl Abort, found: Option<Spot>, want: Option<Spot>, stripe: u32, unit: u32) {
     same_at(rt, (unit, stripe), found, want);
 }
@@ -110,7 +109,6 @@ pub(crate) fn lacks<L: Layout>(rt: &impl Abort, cols: &Cols, layout: &L, stripe:
     );
 }
 
-/// The column is that one.
 pub(crate) fn column_is(rt: &impl Abort, cols: &Cols, column: u32, want: Column)
     requires { column < length cols.now.states }
 {
@@ -147,7 +145,6 @@ fn end_of<L: Layout>(cols: &mut Cols, layout: &L, stripe: u32, unit: u32) -> boo
     true
 }
 
-/// The rebuild of a unit ends.
 pub(crate) fn ends<L: Layout>(rt: &impl Abort, cols: &mut Cols, layout: &L, stripe: u32, unit: u32)
     requires { IsFor (L.shape layout.now) cols.old }
     ensures { IsFor (L.shape layout.now) cols.new }

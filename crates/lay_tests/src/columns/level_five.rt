@@ -69,7 +69,6 @@ fn stripe_0_ends(rt: &impl Abort, cols: &mut Cols)
     wait(rt, cols, &Rotated, &[(3, 1, (1, 3, 3))]);
 }
 
-// Then the rebuilds of the others end.
 fn the_others_end(rt: &impl Abort, cols: &mut Cols)
     requires { IsFor rotated cols.old }
     ensures { IsFor rotated cols.new }

@@ -26,7 +26,6 @@ fn by(first: u32, second: u32, stripe: u32) -> Option<Loss> {
     })
 }
 
-// What is lost by these columns is this.
 fn lose<L: Layout>(
     rt: &impl Abort,
     cols: &mut Cols,

@@ -7,7 +7,6 @@ use std::alloc::Global;
 use std::process::Abort;
 use std::test::Fail;
 
-// Prints what a text says.
 fn print(rt: &impl Abort, alloc: Global, text: &[u8], out: &mut Vec<u8>) -> Result<(), Fail> {
     let conf = read(rt, alloc, text);
     print_conf(alloc, &conf, out)?;

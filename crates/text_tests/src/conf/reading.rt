@@ -11,13 +11,11 @@ use std::test::Fail;
 const SPARE: &[u8] =
     b"START array\n1 5 1\nSTART disks\nd0\nd1\nd2\nd3\nd4\nSTART spare\ns0\nSTART layout\n32 1 1 5\nSTART queue\nfifo 100\n";
 
-// The name in a place is this one.
 fn see_name(rt: &impl Abort, names: &Names, i: u32, wanted: &str) {
     assert!(rt; i < names.len());
     same(rt, names.get(i), wanted);
 }
 
-// The names in their order.
 fn see(rt: &impl Abort, names: &Names, wanted: &[&str]) {
     assert!(rt; names.len() as usize == wanted.len());
     for (i, name) in wanted.iter().enumerate() {

@@ -29,13 +29,11 @@ fn see_names(rt: &impl Abort, book: &Book, rows: &[(&[u8], Option<u32>)]) {
     }
 }
 
-// A node does this.
 fn see_work(rt: &impl Abort, graph: &Graph, i: u32, node: Node) {
     assert!(rt; i < graph.nodes());
     same_at(rt, i, graph.node(i), node);
 }
 
-// A node's sources are these.
 fn see_sources(rt: &impl Abort, graph: &Graph, i: u32, sources: &[u32]) {
     assert!(rt; i < graph.nodes());
     same_at(rt, i, graph.sources(i), sources);
@@ -47,7 +45,6 @@ fn see_antes(rt: &impl Abort, graph: &Graph, i: u32, antes: &[u32]) {
     same_at(rt, i, graph.antes(i), antes);
 }
 
-// A node is this one.
 fn see_node(rt: &impl Abort, graph: &Graph, i: u32, node: Node, sources: &[u32], antes: &[u32]) {
     see_work(rt, graph, i, node);
     see_sources(rt, graph, i, sources);
@@ -66,7 +63,6 @@ fn see_buf(rt: &impl Abort, graph: &Graph, i: u32, new_of: Option<u32>) {
     same_at(rt, i, graph.buf(i), wanted);
 }
 
-// The graph is the large write.
 fn see_large(rt: &impl Abort, graph: &Graph) {
     same(rt, (graph.nodes(), graph.bufs(), graph.rets()), (6, 3, 0));
     see_buf(rt, graph, 0, Some(0));
@@ -350,7 +346,6 @@ fn cut(rt: &impl Abort, alloc: Global, lines: usize, bytes: usize) -> (u32, u8) 
     refusal(rt, alloc, &LARGE[..end - bytes])
 }
 
-// The last line is cut.
 fn see_last_cut(rt: &impl Abort, alloc: Global) {
     same(rt, behind(LARGE, 11), LARGE.len());
     for (bytes, at) in [(1, (0, 0)), (2, (11, 1)), (4, (11, 6))] {

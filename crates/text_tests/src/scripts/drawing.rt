@@ -29,13 +29,11 @@ fn write(first: u64, count: u32, byte: u8) -> Item {
     }
 }
 
-// The items of a client are these.
 fn see(rt: &impl Abort, clients: &[Vec<Item>], client: usize, items: &[Item]) {
     assert!(rt; client < clients.len());
     same_at(rt, client, clients[client].as_slice(), items);
 }
 
-// The items of each client that are drawn.
 fn drawn(
     rt: &impl Abort,
     alloc: Global,

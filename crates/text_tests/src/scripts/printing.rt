@@ -131,7 +131,6 @@ fn prints_the_history_without_client_16(rt: HostRuntime) -> Result<(), Fail> {
     Ok(())
 }
 
-// Each kind of event.
 fn events() -> [Traced; 11] {
     [
         Traced::Fill {
@@ -173,7 +172,6 @@ fn prints_each_kind_of_event(rt: HostRuntime) -> Result<(), Fail> {
     Ok(())
 }
 
-// Each cause of a refusal, and its words.
 fn causes() -> [(Refusal, &'static str); 14] {
     [
         (Refusal::Large, "G14"),
@@ -212,13 +210,11 @@ fn causes() -> [(Refusal, &'static str); 14] {
     ]
 }
 
-// A reply is printed in these words.
 fn see_words(rt: &impl Abort, alloc: Global, reply: Reply, words: &str) -> Result<(), Fail> {
     let line = joined(alloc, &[b"reply 0.0 ", words.as_bytes(), b"\n"])?;
     see_reply(rt, alloc, reply, &line)
 }
 
-// Each cause is printed in its words.
 fn see_causes(rt: &impl Abort, alloc: Global) -> Result<(), Fail> {
     for (cause, words) in &causes() {
         let words = format!(in alloc; "refused {words}")?;

@@ -1,7 +1,7 @@
 //! Scripts that are read.
 use crate::graphs;
-use crate::judging::{same, same_at};
-use blk_plain::{Op, Pattern, Span};
+use crate::judging::{holds, same, same_at};
+use blk_plain::{Op, Patch, Patches, Pattern, Span};
 use eng_world::Item;
 use graph_text::{Book, read_graphs};
 use raid_script::{Memory, ScriptFault, generate, read_script};
@@ -38,7 +38,6 @@ fn write(first: u64, count: u32, pattern: Pattern, graph: Option<u32>) -> Item {
     }
 }
 
-// The items of a client are these.
 fn see(rt: &impl Abort, clients: &[Vec<Item>], client: usize, items: &[Item]) {
     assert!(rt; client < clients.len());
     same_at(rt, client, clients[client].as_slice(), items);
@@ -89,6 +88,73 @@ fn each_kind_of_line_is_read(rt: HostRuntime) -> Result<(), Fail> {
         &[write(most, u32::MAX, pattern(0, None), Some(0))],
     );
     see(&rt, &clients, 15, &[read(2, 1, None)]);
+    Ok(())
+}
+
+// What a write of several spans writes, and by which graph.
+fn written(item: &Item) -> Option<(Patches, Option<u32>)> {
+    match item {
+        Item::Run {
+            op: Op::Writes { patches },
+            graph,
+        } => Some((*patches, *graph)),
+        Item::Run { .. } | Item::Fail { .. } => None,
+    }
+}
+
+// These patches are in use.
+fn see_patches(rt: &impl Abort, patches: &Patches, wanted: &[Patch]) {
+    assert!(rt; wanted.len() <= 8);
+    same(rt, usize::from(patches.used), wanted.len());
+    for i in 0..wanted.len() {
+        same_at(rt, i, patches.list[i], wanted[i]);
+    }
+}
+
+// A client's one item writes these spans.
+fn see_spans(
+    rt: &impl Abort,
+    clients: &[Vec<Item>],
+    client: usize,
+    graph: Option<u32>,
+    wanted: &[Patch],
+) {
+    assert!(rt; client < clients.len());
+    assert!(rt; clients[client].len() == 1);
+    match written(&clients[client][0]) {
+        Some((patches, by)) => {
+            same(rt, by, graph);
+            see_patches(rt, &patches, wanted);
+        }
+        None => holds(rt, false),
+    }
+}
+
+fn patch(first: u64, count: u32, pattern: Pattern) -> Patch {
+    let span = Span { first, count };
+    Patch { span, pattern }
+}
+
+// Two spans; eight that touch each other, in descending order; and one alone.
+const SPANS: &[u8] =
+    b"0 writes 0 1 11 3 1 22\n1 writes 7 1 07 6 1 06 5 1 05 4 1 04 3 1 03 2 1 02 1 1 01 0 1 00\n2 use g writes 4294967295 4294967295 a5F0 # alone\n";
+
+#[test]
+fn a_write_of_up_to_eight_spans_is_read(rt: HostRuntime) -> Result<(), Fail> {
+    let book = graphs::read(&rt, rt.alloc(), b"graph g\nend\n");
+    let clients = items(&rt, rt.alloc(), SPANS, &book, 5);
+    let two = [
+        patch(0, 1, pattern(0x11, None)),
+        patch(3, 1, pattern(0x22, None)),
+    ];
+    see_spans(&rt, &clients, 0, None, &two);
+    let mut eight = [patch(0, 1, pattern(0, None)); 8];
+    for i in 0..8u8 {
+        eight[usize::from(i)] = patch(u64::from(7 - i), 1, pattern(7 - i, None));
+    }
+    see_spans(&rt, &clients, 1, None, &eight);
+    let most = patch(u64::from(u32::MAX), u32::MAX, pattern(0xa5, Some(0xf0)));
+    see_spans(&rt, &clients, 2, Some(0), &[most]);
     Ok(())
 }
 

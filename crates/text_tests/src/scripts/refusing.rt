@@ -32,7 +32,7 @@ fn see(rt: &impl Abort, alloc: Global, rows: &[(&[u8], u8)]) {
 
 // Lines that have not the words of their kind.
 fn see_kinds(rt: &impl Abort, alloc: Global) {
-    let rows: [(&[u8], u8); 20] = [
+    let rows: [(&[u8], u8); 26] = [
         (b"0", 1),
         (b"0 erase 0 1", 1),
         (b"0 Read 0 1", 1),
@@ -41,6 +41,15 @@ fn see_kinds(rt: &impl Abort, alloc: Global) {
         (b"0 read 0 1 2", 1),
         (b"0 write 0 1", 1),
         (b"0 write 0 1 aa bb", 1),
+        (b"0 writes", 1),
+        (b"0 writes 0 1", 1),
+        (b"0 writes 0 1 aa 3", 1),
+        (b"0 writes 0 1 aa 3 1", 1),
+        (b"0 use g writes 0 1 aa 3 1", 1),
+        (
+            b"0 writes 0 1 00 1 1 00 2 1 00 3 1 00 4 1 00 5 1 00 6 1 00 7 1 00 8 1 00",
+            1,
+        ),
         (b"0 sync", 1),
         (b"0 sync 0 0", 1),
         (b"0 fail", 1),
@@ -59,7 +68,7 @@ fn see_kinds(rt: &impl Abort, alloc: Global) {
 
 // Lines with a word out of its range.
 fn see_ranges(rt: &impl Abort, alloc: Global) {
-    let rows: [(&[u8], u8); 21] = [
+    let rows: [(&[u8], u8); 29] = [
         (b"x read 0 1", 2),
         (b"-1 read 0 1", 2),
         (b"0 read x 1", 2),
@@ -67,6 +76,9 @@ fn see_ranges(rt: &impl Abort, alloc: Global) {
         (b"0 read 0 x", 2),
         (b"0 read 0 0", 2),
         (b"0 write 0 0 a5", 2),
+        (b"0 writes x 1 aa", 2),
+        (b"0 writes 0 1 aa 3 0 bb", 2),
+        (b"0 use g writes 0 1 aa x", 2),
         (b"0 use g read 0 00", 2),
         (b"0 sync x", 2),
         (b"0 fail x", 2),
@@ -76,11 +88,16 @@ fn see_ranges(rt: &impl Abort, alloc: Global) {
         (b"0 write 0 1 0g", 4),
         (b"0 write 0 1 abcdef", 4),
         (b"0 use g write 0 1 5", 4),
+        (b"0 writes 0 1 a", 4),
+        (b"0 writes 0 1 aa 3 1 abcdef", 4),
         (b"0 fail 5", 5),
         (b"0 use h read 0 1", 6),
         (b"0 use G read 0 1", 6),
         (b"0 use gg write 0 1 00", 6),
         (b"0 read 0 262145", 7),
+        (b"0 writes 0 2 11 1 1 22", 9),
+        (b"0 use g writes 1 1 22 0 2 11", 9),
+        (b"0 writes 3 1 00 0 1 11 7 9 22 3 1 33", 9),
     ];
     see(rt, alloc, &rows);
 }
@@ -93,7 +110,7 @@ fn each_code_has_its_lines(rt: HostRuntime) {
 
 #[test]
 fn of_two_faults_the_first_word_is_judged_first(rt: HostRuntime) {
-    let rows: [(&[u8], u8); 26] = [
+    let rows: [(&[u8], u8); 33] = [
         // a byte that no word has, before all words
         (b"16 read 0 0 \x01", 1),
         (b"x \x01", 1),
@@ -116,6 +133,16 @@ fn of_two_faults_the_first_word_is_judged_first(rt: HostRuntime) {
         (b"0 read 0 0 0", 2),
         // PATTERN
         (b"0 write 0 1 0g bb", 4),
+        // the words of all spans, before it is judged whether they share a block
+        (b"0 writes 0 2 11 1 1", 1),
+        (b"0 writes 0 2 11 1 1 22 x", 2),
+        (b"0 writes 0 2 11 1 0 22", 2),
+        (b"0 writes 0 2 11 1 1 0g", 4),
+        (b"16 writes 0 2 11 1 1 22", 3),
+        (
+            b"0 writes 0 2 00 1 1 00 2 1 00 3 1 00 4 1 00 5 1 00 6 1 00 7 1 00 8",
+            1,
+        ),
         // COLUMN
         (b"0 fail 5 6", 5),
         (b"0 fail x 6", 2),
@@ -124,6 +151,7 @@ fn of_two_faults_the_first_word_is_judged_first(rt: HostRuntime) {
         (b"0 use h erase", 6),
         (b"0 use h read 0 0", 6),
         (b"0 use h write 0 1 0g", 6),
+        (b"0 use h writes 0 2 11 1 1 22", 6),
         (b"0 use g erase 0 0", 1),
         // the limits, behind the whole line
         (b"0 read 0 262145 1", 1),
@@ -146,6 +174,7 @@ fn of_two_lines_the_first_is_refused(rt: HostRuntime) {
         ),
         (b"0 read 0 262144\n1 read 0 1 x\n", 2, 1),
         (b"0 read 0 262144\n1 sync 0\n", 0, 0),
+        (b"0 writes 0 2 11 2 1 22\n0 writes 0 2 11 1 1 22", 2, 9),
     ] {
         same(&rt, refusal(&rt, rt.alloc(), text, &book), (line, code));
     }
@@ -168,6 +197,8 @@ fn there_are_at_most_65536_items(rt: HostRuntime) -> Result<(), Fail> {
         (b"".as_slice(), 0, 0),
         (b"1 sync 0", 65_537, 7),
         (b"16 sync 0", 65_537, 3),
+        (b"1 writes 0 2 11 1 1 22", 65_537, 9),
+        (b"1 writes 0 1 11 1 1 22", 65_537, 7),
     ] {
         let text = many_lines(rt.alloc(), 65_536, last)?;
         same(&rt, refusal(&rt, rt.alloc(), &text, &book), (line, code));
