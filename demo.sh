@@ -5,6 +5,7 @@ top=$(cd "$(dirname "$0")" && pwd)
 program=$top/crates/raidctl/out/raidctl
 
 folder=$(mktemp -d "${TMPDIR:-/tmp}/raidctl.XXXXXX")
+trap 'rm -rf "$folder"' EXIT
 cd "$folder"
 printf '0 write 0 1 a5\n0 read 0 1\n' > script
 
@@ -18,6 +19,10 @@ array() {
 
 # rt builds a program as it runs it, here on an array of its own.
 build() {
+    if ! command -v rt > /dev/null; then
+        echo "raidctl isn't built yet, and there is no rt on the path: the Rattle kit proves and builds it (README.md)." >&2
+        exit 1
+    fi
     echo "raidctl isn't built yet. It is proved first, crate by crate, which takes about an hour."
     array "$folder/"
     # Each line of the check that names a function names its crate too: show each crate once.
@@ -33,7 +38,7 @@ build() {
 [ -x "$program" ] || build
 array ''
 
-echo "in $folder:"
+echo "in a folder of its own, which is removed again:"
 echo '$ raidctl conf --io script'
 "$program" conf --io script
 

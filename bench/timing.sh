@@ -1,7 +1,7 @@
 # What the measurements share, sourced by them: the program, a folder of their own, arrays, and times. Each time is the least
 # of its rounds.
 top=$(cd "$(dirname "${BASH_SOURCE[0]}")/.." && pwd)
-program=$top/crates/raidctl/out/raidctl
+program=${PROGRAM:-$top/crates/raidctl/out/raidctl}
 [ -x "$program" ] || "$top/demo.sh" > /dev/null
 
 folder=$(mktemp -d "${TMPDIR:-/tmp}/raidctl.XXXXXX")

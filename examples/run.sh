@@ -1,7 +1,8 @@
 #!/usr/bin/env bash
 # Runs each example in a folder of its own, on images of zeros that it makes, and compares what is printed with what is
 # wanted. An example has the words of a call (args, one a line) or several calls (session), the texts that they name, the
-# images with their sectors, and the output.
+# images with their sectors, and the output. Then it makes the pictures of docs/pictures from examples, compares them too,
+# and walks through docs/ADMIN.md.
 set -eu
 here=$(cd "$(dirname "$0")" && pwd)
 top=$(dirname "$here")
@@ -12,6 +13,18 @@ program=$top/crates/raidctl/out/raidctl
 raidctl() {
     echo "\$ raidctl $*"
     "$program" "$@" || echo "exit $?"
+}
+
+# Counts whether what was made is what is wanted, and tells it: a name, what is wanted, what was made.
+compare() {
+    if cmp -s "$2" "$3"; then
+        passed=$((passed + 1))
+        echo "$1: as wanted"
+    else
+        failed=$((failed + 1))
+        echo "$1: not as wanted:"
+        diff "$2" "$3" || true
+    fi
 }
 
 folder=$(mktemp -d "${TMPDIR:-/tmp}/raidctl.XXXXXX")
@@ -31,14 +44,32 @@ for example in "$here"/*/; do
         mapfile -t words < args
         "$program" "${words[@]}" > printed || true
     fi
-    if cmp -s printed output; then
-        passed=$((passed + 1))
-        echo "$name: as wanted"
-    else
-        failed=$((failed + 1))
-        echo "$name: not as wanted:"
-        diff output printed || true
-    fi
+    compare "$name" output printed
 done
+
+# A picture: its name, and the words that make it.
+picture() {
+    local name=$1
+    shift
+    "$@" > "$folder/$name.svg" || true
+    compare "$name.svg" "$top/docs/pictures/$name.svg" "$folder/$name.svg"
+}
+
+if command -v python3 > /dev/null; then
+    picture declustered "$top/tools/layout-picture" "$here/declustered/conf"
+    picture spare_places "$top/tools/layout-picture" "$here/spare_places/conf"
+    picture large "$top/tools/graph-picture" "$here/own_graphs/graphs" large --of "$here/own_graphs/conf" 0
+    picture eager "$top/tools/graph-picture" "$here/own_graphs/graphs" eager --of "$here/own_graphs/conf" 0
+    cd "$folder/traced"
+    picture trace "$top/tools/trace-picture" conf --io script < printed
+else
+    echo "there is no python3: the pictures aren't made"
+fi
+
+if "$here/admin_walk.sh"; then
+    passed=$((passed + 1))
+else
+    failed=$((failed + 1))
+fi
 echo "$passed passed, $failed failed"
 [ "$failed" = 0 ]
