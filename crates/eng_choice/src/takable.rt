@@ -138,15 +138,15 @@ fn fits<L: Layout, D: Disk>(array: &Array<L, D>, op: &Op, file: Option<u32>) -> 
 fn can_take_op<L: Layout, D: Disk>(
     array: &Array<L, D>,
     client: u32,
-    op: Op,
+    op: &Op,
     file: Option<u32>,
 ) -> bool
     requires not_lost { array.now.lost ≡ None }
     requires waits { (desk_at array.now.clients client).stage ≡ stage.Waits }
-    requires serves { Serves array.now.graphs.items (L.shape array.now.layout) (desk_at array.now.clients client) op file }
+    requires serves { Serves array.now.graphs.items (L.shape array.now.layout) (desk_at array.now.clients client) op.now file }
     ensures { IsTrue result ↔ CanTake L.Layout array.now client }
 {
-    are_free(array, client, &op) && fits(array, &op, file)
+    are_free(array, client, op) && fits(array, op, file)
 }
 
 // Whether the client's operation can be taken, where it waits.
@@ -161,7 +161,7 @@ fn can_take_item<L: Layout, D: Disk>(array: &Array<L, D>, client: u32) -> bool
         unreachable!()
     };
     match item {
-        Item::Run { op, graph } => can_take_op(array, client, op, graph),
+        Item::Run { op, graph } => can_take_op(array, client, op, *graph),
         Item::Fail { .. } => unreachable!(),
     }
 }

@@ -1,5 +1,5 @@
 //! What a client does as its operation is taken, planned anew or given up.
-ghost use Rattle.std.specs.Prelude.{◌≡◌, ◌<◌, ◌≤◌, ℕ, Some, None, length};
+ghost use Rattle.std.specs.Prelude.{◌≡◌, ◌<◌, ◌≤◌, ℕ, Some, None, length, option_map};
 ghost use Rattle.buf_pool.specs.Pool.{IsLease, AllHome, Leases, StandsApart, Returns, KeepsOthers};
 ghost use Rattle.eng_one.specs.Counts.{CanStart};
 ghost use Rattle.eng_clients.specs.Desk.{graph_of, item_at, with_started, with_lease};
@@ -17,10 +17,10 @@ use lay_core::Layout;
 
 impl Client {
     /// The item that it serves now or next.
-    pub fn item(&self) -> Option<Item>
-        ensures { result ≡ item_at self.now }
+    pub fn item(&self) -> Option<&Item>
+        ensures { option_map (λ i. i.now) result ≡ item_at self.now }
     {
-        self.items.get(self.replies.len()).copied()
+        self.items.get(self.replies.len())
     }
 
     /// The device by which its operation was abandoned.

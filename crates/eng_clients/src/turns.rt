@@ -1,5 +1,5 @@
 //! The clients, as one of them is planned for, runs or is replied.
-ghost use Rattle.std.specs.Prelude.{◌≡◌, ◌<◌, ◌≤◌, ℕ, Some, None, OnOk, IfErr, length, slice_set};
+ghost use Rattle.std.specs.Prelude.{◌≡◌, ◌<◌, ◌≤◌, ℕ, Some, None, OnOk, IfErr, length, option_map, slice_set};
 ghost use Rattle.eng_cols.specs.Cols.{IsFor};
 ghost use Rattle.eng_cols.specs.Lost.{NotLost};
 ghost use Rattle.buf_pool.specs.Pool.{IsLease, AllHome, Leases, StandsApart, Returns, KeepsOthers};
@@ -22,9 +22,9 @@ use lay_core::Layout;
 
 impl Clients {
     /// The item that the client serves now or next.
-    pub fn item(&self, client: u32) -> Option<Item>
+    pub fn item(&self, client: u32) -> Option<&Item>
         requires { client < length self.now }
-        ensures { result ≡ item_at (desk_at self.now client) }
+        ensures { option_map (λ i. i.now) result ≡ item_at (desk_at self.now client) }
     {
         self.list[client as usize].item()
     }

@@ -88,7 +88,10 @@ fn terminator_ends<L: Layout, D: Disk>(
         unreachable!()
     };
     match item {
-        Item::Run { op, .. } => operation_ends(array, client, node, sources, op),
+        Item::Run { op, .. } => {
+            let op = *op;
+            operation_ends(array, client, node, sources, op);
+        }
         Item::Fail { .. } => unreachable!(),
     }
 }

@@ -106,7 +106,7 @@ fn read_span<L: Layout, D: Disk>(array: &Array<L, D>, client: u32) -> Span
                 op: Op::Read { span },
                 ..
             },
-        ) => span,
+        ) => *span,
         Some(_) | None => unreachable!(),
     }
 }

@@ -1,6 +1,6 @@
 -- The front of a buffer, what a device tells of a call on it, and sums that grow by a source.
 use Rattle.std.proofs.Common.{◌≡◌, ℕ, ◌+◌, ◌*◌, ◌<◌, ◌≤◌, ◌-◌, ◌/◌, List, [], ◌∷◌, ◌++◌, length, take, drop, get_or, bit_xor, arith, sym, ap, ◌∙◌, Bool}
-use Rattle.std.specs.Prelude.{min}
+use Rattle.std.specs.Prelude.{min, slice_index, true, if◌then◌else◌}
 use Rattle.std.proofs.lemmas.List.{drop-append-le, take-append-le, length-drop, drop-take, take-take, take_more}
 use Rattle.std.specs.Int.Bits.{xor_assoc, xor_zero_l, xor_zero_r}
 use Rattle.blk_disk.specs.Disk.{sector_at, call_of}
@@ -32,3 +32,10 @@ sum_push (x ∷ ss) s k = ap (bit_xor (byte_at x k)) (sum_push ss s k) ∙ sym (
 -- one more source
 pub sum_more : (ss : List Source) (i k : ℕ) (s : Source) → i < length ss → s ≡ get_or ss i s → sum_at (take (i + 1) ss) k ≡ bit_xor (sum_at (take i ss) k) (byte_at s k)
 sum_more ss i k s h is = ap (λ (l : List Source). sum_at l k) (take_more ss i s h ∙ ap (λ (x : Source). take i ss ++ x ∷ []) (sym is)) ∙ sum_push (take i ss) s k
+
+-- the first source alone
+pub sum_first : (ss : List Source) (s : Source) (k : ℕ) → 0 < length ss → s ≡ get_or ss 0 s → s.counts ≡ true → sum_at (take 1 ss) k ≡ slice_index s.buffer k
+sum_first [] s k some is counts = absurd (omega (arith, some))
+sum_first (x ∷ ss) s k some is counts =
+    let same : byte_at x k ≡ byte_at s k = ap (λ (a : Source). byte_at a k) (sym is) in
+    xor_zero_r (byte_at x k) ∙ (same ∙ ap (λ (b : Bool). if b then slice_index s.buffer k else 0) counts)

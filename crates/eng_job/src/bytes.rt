@@ -1,5 +1,5 @@
 //! The fronts of buffers.
-ghost use Rattle.std.specs.Prelude.{◌≡◌, ◌≤◌, ◌<◌, ◌*◌, ◌↔◌, ℕ, IsTrue, All, drop, length, slice_index, bit_xor};
+ghost use Rattle.std.specs.Prelude.{◌≡◌, ◌≤◌, ◌<◌, ◌*◌, ◌↔◌, ℕ, IsTrue, All, drop, take, length, slice_index, bit_xor};
 ghost use Rattle.eng_job.specs.Performed.{byte_at, sum_at, AreLong};
 
 use crate::job::Source;
@@ -51,6 +51,33 @@ pub(crate) fn are_long(from: &[Source], count: u32) -> bool
     from.iter().all(|source| is_long(source, count))
 }
 
+// Makes the first bytes those of the source.
+fn copy_front(to: &mut [u8], from: &[u8], count: u32)
+    requires to { 512 * count ≤ length to.old }
+    requires from { 512 * count ≤ length from.now }
+    ensures same { (k : ℕ) → k < 512 * count → slice_index to.new k ≡ slice_index from.now k }
+    ensures rest { drop (512 * count) to.new ≡ drop (512 * count) to.old }
+{
+    let bytes = SECTOR * count as usize;
+    to[..bytes].copy_from_slice(&from[..bytes]);
+}
+
+// Makes the first bytes those of the first source, if there is one and it counts, and else 0. How many sources that is.
+fn begin_front(to: &mut [u8], from: &[Source], count: u32) -> usize
+    requires to { 512 * count ≤ length to.old }
+    requires from { AreLong count from.now }
+    ensures within { result ≤ length from.now }
+    ensures sum { (k : ℕ) → k < 512 * count → slice_index to.new k ≡ sum_at (take result from.now) k }
+    ensures rest { drop (512 * count) to.new ≡ drop (512 * count) to.old }
+{
+    if !from.is_empty() && from[0].counts {
+        copy_front(to, from[0].buffer.bytes(), count);
+        return 1;
+    }
+    clear_front(to, count);
+    0
+}
+
 /// Makes the first bytes the sum of those of the sources that count.
 pub(crate) fn sum_front(to: &mut [u8], from: &[Source], count: u32)
     requires to { 512 * count ≤ length to.old }
@@ -58,8 +85,8 @@ pub(crate) fn sum_front(to: &mut [u8], from: &[Source], count: u32)
     ensures sum { (k : ℕ) → k < 512 * count → slice_index to.new k ≡ sum_at from.now k }
     ensures rest { drop (512 * count) to.new ≡ drop (512 * count) to.old }
 {
-    clear_front(to, count);
-    for i in 0..from.len() {
+    let begun = begin_front(to, from, count);
+    for i in begun..from.len() {
         add_source(to, &from[i], count);
     }
 }

@@ -22,6 +22,9 @@ pub(crate) fn written(pattern: &Pattern) -> [u8; SECTOR]
     ensures bytes { (k : ℕ) → k < 512 → slice_index result k ≡ filled pattern.now k }
     ensures sector { result ≡ sector_of pattern.now }
 {
+    if pattern.len == 1 {
+        return [pattern.bytes[0]; SECTOR];
+    }
     let mut sector = [0; SECTOR];
     fill_sector(&mut sector, pattern);
     sector

@@ -87,7 +87,10 @@ fn back_item<L: Layout, D: Disk>(array: &mut Array<L, D>, client: u32)
         unreachable!()
     };
     match item {
-        Item::Run { op, graph } => back_op(array, client, op, graph),
+        Item::Run { op, graph } => {
+            let (op, graph) = (*op, *graph);
+            back_op(array, client, op, graph);
+        }
         Item::Fail { .. } => unreachable!(),
     }
 }

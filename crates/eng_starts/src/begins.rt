@@ -67,16 +67,16 @@ fn judge_spans<L: Layout, D: Disk>(array: &Array<L, D>, patches: &Patches) -> Re
 }
 
 // Whether an operation is refused as it begins.
-fn judge_op<L: Layout, D: Disk>(array: &Array<L, D>, op: Op) -> Result<(), Reply>
-    requires { HasBlocks op }
-    ensures { MatchResult result (λ u. IsFine (L.shape array.now.layout) op) (IsRefusal (L.shape array.now.layout) op) }
+fn judge_op<L: Layout, D: Disk>(array: &Array<L, D>, op: &Op) -> Result<(), Reply>
+    requires { HasBlocks op.now }
+    ensures { MatchResult result (λ u. IsFine (L.shape array.now.layout) op.now) (IsRefusal (L.shape array.now.layout) op.now) }
 {
     match op {
-        Op::Write { span, .. } => judge_span(array, span),
-        Op::Writes { patches } => judge_spans(array, &patches),
-        Op::Read { span } => judge_span(array, span),
-        Op::Rebuild { stripe } => judge_stripe(array, stripe),
-        Op::Sync { stripe } => judge_stripe(array, stripe),
+        Op::Write { span, .. } => judge_span(array, *span),
+        Op::Writes { patches } => judge_spans(array, patches),
+        Op::Read { span } => judge_span(array, *span),
+        Op::Rebuild { stripe } => judge_stripe(array, *stripe),
+        Op::Sync { stripe } => judge_stripe(array, *stripe),
     }
 }
 
@@ -96,14 +96,13 @@ fn reply_at_once<L: Layout, D: Disk>(array: &mut Array<L, D>, client: u32, reply
     array.reply(client, reply);
 }
 
-fn begin_run<L: Layout, D: Disk>(array: &mut Array<L, D>, client: u32, op: Op, graph: Option<u32>)
+// The client waits with its operation, or it is replied, as that is judged.
+fn begin_run<L: Layout, D: Disk>(array: &mut Array<L, D>, client: u32, judged: Result<(), Reply>)
     requires client { client < length array.old.clients }
     requires left { length (desk_at array.old.clients client).replies < length (desk_at array.old.clients client).items }
-    requires asked { HasBlocks op }
-    ensures { BegunAs L.Layout (item.Run op graph) array.old client array.new }
+    ensures { MatchResult judged (λ u. array.new ≡ waiting array.old client) (λ reply. array.new ≡ replied array.old client reply) }
 {
-    let _ = graph;
-    match judge_op(array, op) {
+    match judged {
         Ok(()) => wait(array, client),
         Err(reply) => reply_at_once(array, client, reply),
     }
@@ -132,8 +131,14 @@ fn begin_item<L: Layout, D: Disk>(array: &mut Array<L, D>, client: u32)
     ensures { (i : Item) × (item_at (desk_at array.old.clients client) ≡ Some i) × BegunAs L.Layout i array.old client array.new }
 {
     match array.clients.next_item(client) {
-        Item::Run { op, graph } => begin_run(array, client, op, graph),
-        Item::Fail { column } => begin_fail(array, client, column),
+        Item::Run { op, .. } => {
+            let judged = judge_op(array, op);
+            begin_run(array, client, judged);
+        }
+        Item::Fail { column } => {
+            let column = *column;
+            begin_fail(array, client, column);
+        }
     }
 }
 

@@ -205,7 +205,10 @@ fn take_item<L: Layout, D: Disk>(array: &mut Array<L, D>, client: u32)
         unreachable!()
     };
     match item {
-        Item::Run { op, graph } => take_op(array, client, op, graph),
+        Item::Run { op, graph } => {
+            let (op, graph) = (*op, *graph);
+            take_op(array, client, op, graph);
+        }
         Item::Fail { .. } => unreachable!(),
     }
 }

@@ -56,10 +56,10 @@ impl Client {
     }
 
     /// The item that it serves now or next.
-    pub fn next_item(&self) -> Item
+    pub fn next_item(&self) -> &Item
         requires { length self.now.replies < length self.now.items }
-        ensures { item_at self.now ≡ Some result }
+        ensures { item_at self.now ≡ Some result.now }
     {
-        self.items[self.replies.len()]
+        &self.items[self.replies.len()]
     }
 }

@@ -54,10 +54,10 @@ impl Clients {
     }
 
     /// The item that the client serves now or next.
-    pub fn next_item(&self, client: u32) -> Item
+    pub fn next_item(&self, client: u32) -> &Item
         requires client { client < length self.now }
         requires left { length (desk_at self.now client).replies < length (desk_at self.now client).items }
-        ensures { item_at (desk_at self.now client) ≡ Some result }
+        ensures { item_at (desk_at self.now client) ≡ Some result.now }
     {
         self.list[client as usize].next_item()
     }
