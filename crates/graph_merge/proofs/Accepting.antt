@@ -4,12 +4,10 @@ use Rattle.std.proofs.lemmas.Bool.{cases_lt}
 use Rattle.graph_mean.specs.Graph.{View}
 use Rattle.graph_mean.specs.Task.{Aim, Missing}
 use Rattle.graph_mean.specs.Atomic.{Atomic}
-use Rattle.graph_mean.specs.Refusals.{IsLarge}
 use Rattle.graph_mean.specs.Refused.{IsFree}
 use Rattle.graph_mean.specs.Ordered.{IsOrdered, HasValues, Accepted}
 use Rattle.graph_mean.proofs.Free.{accepted-free}
 use Rattle.graph_mean.proofs.Sound.{accepted-atomic}
-use Rattle.graph_merge.specs.Form.{IsTooLarge}
 use Rattle.graph_merge.specs.Joined.{Half, IsMarkedHalf, IsJoined, place, joined, commit_place, end_place, first_offsets, second_offsets}
 use Rattle.graph_merge.specs.Tasks.{IsInOrder, IsPair, followed, missing_followed}
 use Rattle.graph_merge.proofs.Carry.{Side}
@@ -18,7 +16,7 @@ use Rattle.graph_merge.proofs.Uniting.{joins}
 use Rattle.graph_merge.proofs.Tasks.{first_side, second_side}
 use Rattle.graph_merge.proofs.Returning.{joins_rets}
 use Rattle.graph_merge.proofs.Valued.{values}
-use Rattle.graph_merge.proofs.Small.{small}
+use Rattle.graph_merge.proofs.Small.{joined_within, not_large}
 
 -- the commit and the terminator are those of the half
 by_ends : (h : Half) (t : Aim) (m : Missing) → IsMarkedHalf h → IsInOrder h.graph t m → IsOrdered h.graph t m h.ends.commit h.ends.end
@@ -67,15 +65,10 @@ module _ (a b out : View) (shift : ℕ) (t u : Aim) (m k : Missing) (j : IsJoine
       let all = half_values j.first j.second shift j.first_marked j.second_marked t u m k pair fa fb va vb in
       subst (λ (g : View). Accepted g (followed t u) (missing_followed t m k)) (sym j.is) (commit_place j.first j.second, end_place j.first j.second, whole, all)
 
-  not_large : IsLarge out → ⊥
-  not_large large =
-      let fits : ¬ (IsTooLarge j.first.graph j.second.graph) = subst (λ (g : View). ¬ (IsTooLarge g j.second.graph)) (sym j.of_first) (subst (λ (g : View). ¬ (IsTooLarge a g)) (sym j.of_second) j.small) in
-      small j.first j.second shift j.first_marked j.second_marked fits (subst IsLarge j.is large)
-
   pub free : Accepted a t m → Accepted b u k → IsFree out (followed t u) (missing_followed t m k)
   free oka okb =
       let ok = accepted oka okb in
-      accepted-free out (followed t u) (missing_followed t m k) ok.0 ok.1 ok.2 ok.3 not_large
+      accepted-free out (followed t u) (missing_followed t m k) ok.0 ok.1 ok.2 ok.3 (not_large out (joined_within a b out shift j))
 
   pub atomic : Accepted a t m → Accepted b u k → Atomic out (followed t u) (missing_followed t m k)
   atomic oka okb = accepted-atomic out (followed t u) (missing_followed t m k) (accepted oka okb)

@@ -20,3 +20,4 @@ pub mod Small
 pub mod Accepting
 pub mod Parts
 pub mod Spans
+pub mod Unique

@@ -1,5 +1,5 @@
 -- The returns of the joined graph are those of both halves.
-use Rattle.std.proofs.Common.{◌≡◌, ◌⊎◌, ◌∙◌, inl, inr, ℕ, ◌+◌, ◌-◌, ◌<◌, ◌++◌, length, map, get_or, ap, arith, length-append}
+use Rattle.std.proofs.Common.{◌≡◌, ◌∙◌, inl, inr, ℕ, ◌+◌, ◌-◌, ◌<◌, ◌++◌, length, map, get_or, ap, arith, length-append}
 use Rattle.std.proofs.lemmas.Bool.{cases_lt}
 use Rattle.std.proofs.lemmas.List.{get_or_append_left, get_or-append_right, get_or-map, length-map}
 use Rattle.graph_mean.specs.declared.graph.Ret.{Ret}
@@ -17,7 +17,7 @@ module _ (a b : Half) (shift : ℕ) where
   second_count : length (map (moved_ret (length a.graph.bufs)) b.graph.rets) ≡ length b.graph.rets
   second_count = length-map b.graph.rets (moved_ret (length a.graph.bufs))
 
-  ret_count : length (joined a b shift).rets ≡ length a.graph.rets + length b.graph.rets
+  pub ret_count : length (joined a b shift).rets ≡ length a.graph.rets + length b.graph.rets
   unfolding joined
   ret_count =
       let l = first_count in

@@ -1,20 +1,20 @@
 -- A joined graph is no larger than an operation may have it.
-use Rattle.std.proofs.Common.{◌≡◌, ◌⊎◌, inl, inr, ℕ, ◌+◌, ◌<◌, ◌≤◌, List, [], ◌∷◌, ◌++◌, length, map, arith, length-append}
+use Rattle.std.proofs.Common.{◌≡◌, inl, inr, ℕ, ◌+◌, ◌≤◌, List, [], ◌∷◌, ◌++◌, length, map, sym, subst, arith, length-append}
 use Rattle.std.specs.List.{sum_by}
-use Rattle.std.proofs.lemmas.Bool.{cases_lt}
 use Rattle.std.proofs.lemmas.List.{length-map}
 use Rattle.std.proofs.lemmas.List.Sums.{sum_by-append}
 use Rattle.graph_mean.specs.declared.graph.Node.{Node}
 use Rattle.graph_mean.specs.declared.graph.Node.TheVariants.{Cmt, Trm}
-use Rattle.graph_mean.specs.Graph.{Vertex, vertex_at, edges_at, edge_count}
+use Rattle.graph_mean.specs.Graph.{View, Vertex, vertex_at, edges_at, edge_count}
 use Rattle.graph_mean.specs.Refusals.{IsLarge}
 use Rattle.graph_merge.specs.declared.half.Offsets.{Offsets}
 use Rattle.graph_merge.specs.declared.half.Group.TheVariants.{Early, Rest}
-use Rattle.graph_merge.specs.Form.{IsTooLarge}
-use Rattle.graph_merge.specs.Joined.{Half, IsMarkedHalf, group_of, node_of, place, joint, joined, first_offsets, second_offsets}
-use Rattle.graph_merge.proofs.Totals.{moved_edges, group_edges, total_nodes}
+use Rattle.graph_merge.specs.Form.{IsInLimits, IsTooLarge}
+use Rattle.graph_merge.specs.Joined.{Half, IsJoined, IsMarkedHalf, group_of, node_of, place, joint, joined, first_offsets, second_offsets}
+use Rattle.graph_merge.proofs.Totals.{moved_edges, group_edges, total_nodes, nodes_few, bufs_few, rets_few, edges_few}
 use Rattle.graph_merge.proofs.JoinedNodes.{node_count}
 use Rattle.graph_merge.proofs.Standing.{buf_count}
+use Rattle.graph_merge.proofs.Returning.{ret_count}
 
 node_edges : (h : Half) (o : Offsets) (up n : ℕ) → edges_at (node_of h o up n) ≡ edges_at (vertex_at h.graph n)
 unfolding node_of
@@ -57,11 +57,26 @@ module _ (a b : Half) (shift : ℕ) (ma : IsMarkedHalf a) (mb : IsMarkedHalf b) 
       let two = total_nodes b.graph b.ends b.late mb.formed mb.late in
       omega arith
 
-  pub small : ¬ (IsTooLarge a.graph b.graph) → ¬ (IsLarge (joined a b shift))
-  small fits large = elim large [
-    | inl n ↦ let all = nodes in fits (inl (omega arith))
-    | inr more ↦ elim more [
-      | inl n ↦ let all = buf_count a b shift ma mb in fits (inr (inl (omega arith)))
-      | inr n ↦ let all = edges in fits (inr (inr (inr (omega arith))))
-    ]
+  pub within : ¬ (IsTooLarge a.graph b.graph) → IsInLimits (joined a b shift)
+  within fits = record {
+    nodes = let all = nodes in let few = nodes_few a.graph b.graph fits in omega arith;
+    bufs = let all = buf_count a b shift ma mb in let few = bufs_few a.graph b.graph fits in omega arith;
+    rets = let all = ret_count a b shift in let few = rets_few a.graph b.graph fits in omega arith;
+    edges = let all = edges in let few = edges_few a.graph b.graph fits in omega arith;
+  }
+
+-- the checker finds such a graph no larger than it may be
+pub not_large : (g : View) → IsInLimits g → ¬ (IsLarge g)
+not_large g within large = elim large [
+  | inl n ↦ let few = within.nodes in absurd (omega arith)
+  | inr more ↦ elim more [
+    | inl n ↦ let few = within.bufs in absurd (omega arith)
+    | inr n ↦ let few = within.edges in absurd (omega arith)
   ]
+]
+
+-- of two graphs and a shift
+pub joined_within : (a b out : View) (shift : ℕ) → IsJoined a b shift out → IsInLimits out
+joined_within a b out shift j =
+    let fits : ¬ (IsTooLarge j.first.graph j.second.graph) = subst (λ (g : View). ¬ (IsTooLarge g j.second.graph)) (sym j.of_first) (subst (λ (g : View). ¬ (IsTooLarge a g)) (sym j.of_second) j.small) in
+    subst IsInLimits (sym j.is) (within j.first j.second shift j.first_marked j.second_marked fits)

@@ -1,21 +1,20 @@
 -- Two spans, of which the one ends in a stripe below that in which the other begins, are split one after the other.
-use Rattle.std.proofs.Common.{◌≡◌, ◌⊎◌, ◌∙◌, inl, inr, ℕ, zero, suc, ◌+◌, ◌-◌, ◌<◌, ◌≤◌, ◌/◌, ◌&&◌, ◌||◌, nat_le, nat_lt, Bool, true, false, List, [], ◌∷◌, ◌++◌, if◌then◌else◌, Option, None, length, map, get_or, refl, sym, ap, subst, arith, length-append}
+use Rattle.std.proofs.Common.{◌≡◌, ◌⊎◌, ◌∙◌, inl, inr, ℕ, ◌+◌, ◌-◌, ◌<◌, ◌≤◌, ◌/◌, ◌||◌, nat_le, nat_lt, Bool, true, false, List, [], ◌∷◌, ◌++◌, Option, None, length, map, get_or, refl, sym, ap, subst, arith, length-append}
 use Rattle.std.specs.Prelude.{All, AllPairs, Contains, ◌↔◌}
-use Rattle.std.specs.List.{list_any}
 use Rattle.std.specs.List.Sorted.{IsStrictlyIncreasing}
-use Rattle.std.proofs.lemmas.Bool.{cases_Bool, cases_eq, cases_lt, true≢false, and_parts, or_cases, or_left, or_right, leb-true, ltb-true, lt-ltb, le-ltb, cond-true, cond-false}
-use Rattle.std.proofs.lemmas.List.{get_or_append_left, get_or-append_right, get_or-map, get_or_default, length-map}
+use Rattle.std.proofs.lemmas.Bool.{cases_Bool, cases_lt, true≢false, and_parts, or_left, or_right, leb-true, ltb-true, lt-ltb, le-ltb, cond-true, cond-false}
+use Rattle.std.proofs.lemmas.List.{get_or_append_left, get_or-append_right, get_or-map, length-map}
 use Rattle.std.proofs.lemmas.List.Elements.{All-append, All-contains, Contains-append_left, Contains-append_right, Contains-append_cases, Contains-get_or}
 use Rattle.std.proofs.lemmas.List.Kept.{AllPairs-from_increasing}
 use Rattle.blk_plain.specs.declared.op.Span.{Span}
 use Rattle.blk_plain.specs.Plain.{is_in, is_in_some}
 use Rattle.lay_core.specs.declared.place.Part.{Part}
 use Rattle.lay_core.specs.Layout.{Shape, IsLayout, data_units, block_of, stripe_of}
-use Rattle.lay_core.specs.Touched.{Touched, IsPart, IsBefore, IsSplit, IsSpanSplit, IsJointSplit, HasBlock, is_touched, stripe_count}
+use Rattle.lay_core.specs.Touched.{Touched, IsPart, IsBefore, IsSplit, IsSpanSplit, IsJointSplit, HasBlock, is_touched}
 use Rattle.lay_core.proofs.Numbering.{stripe_of-block_of}
 use Rattle.lay_core.proofs.Quotients.{div-le-div}
 use Rattle.graph_mean.specs.declared.task.Kind.{Kind}
-use Rattle.graph_mean.specs.Task.{Aim, Missing, task_of, missing_of}
+use Rattle.graph_mean.specs.Task.{Aim, task_of, missing_of}
 use Rattle.graph_merge.specs.Tasks.{AreInTurn, followed, map_followed, missing_followed, moved_part}
 use Rattle.graph_merge.proofs.Tasks.{touched_first, touched_second}
 use Rattle.graph_merge.proofs.Parts.{same_numbers, same_parts, HaveSome, AreSame, touched_in}

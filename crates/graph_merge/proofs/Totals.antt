@@ -191,6 +191,12 @@ nodes_few a b small = elim (cases_lt 2050 (length a.nodes + length b.nodes)) [ i
 pub edges_few : (a b : View) → ¬ (IsTooLarge a b) → edge_count a + edge_count b ≤ 16384
 edges_few a b small = elim (cases_lt 16384 (edge_count a + edge_count b)) [ inl many ↦ absurd (small (inr (inr (inr many)))) | inr few ↦ few ]
 
+pub bufs_few : (a b : View) → ¬ (IsTooLarge a b) → length a.bufs + length b.bufs ≤ 2048
+bufs_few a b small = elim (cases_lt 2048 (length a.bufs + length b.bufs)) [ inl many ↦ absurd (small (inr (inl many))) | inr few ↦ few ]
+
+pub rets_few : (a b : View) → ¬ (IsTooLarge a b) → length a.rets + length b.rets ≤ 2048
+rets_few a b small = elim (cases_lt 2048 (length a.rets + length b.rets)) [ inl many ↦ absurd (small (inr (inr (inl many)))) | inr few ↦ few ]
+
 -- a graph of nothing
 pub blank_nodes : (h : Held) → h.drawn ≡ blank → length h.drawn.nodes ≡ 0
 blank_nodes h e = ap (λ (g : View). length g.nodes) e

@@ -1,7 +1,6 @@
 -- What is due, left and returned in a half's stripes is the same in the joined graph.
-use Rattle.std.proofs.Common.{◌≡◌, ◌∙◌, inl, inr, ℕ, ◌+◌, ◌-◌, ◌<◌, ◌==◌, ◌&&◌, nat_lt, Bool, true, false, if◌then◌else◌, is_some, Option, length, refl, sym, ap, subst, arith}
+use Rattle.std.proofs.Common.{◌≡◌, ◌∙◌, ℕ, ◌+◌, ◌<◌, ◌==◌, ◌&&◌, nat_lt, Bool, true, if◌then◌else◌, is_some, Option, length, refl, sym, ap, subst, arith}
 use Rattle.graph_mean.specs.declared.graph.Node.{Node}
-use Rattle.graph_mean.specs.declared.graph.Node.TheVariants.{Rd, Wr, Xor, Cmt, Trm}
 use Rattle.graph_mean.specs.declared.graph.Ret.{Ret}
 use Rattle.graph_mean.specs.declared.task.Kind.{Kind}
 use Rattle.lay_core.specs.Sums.{xor_below}

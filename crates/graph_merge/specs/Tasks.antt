@@ -1,12 +1,12 @@
 -- One task followed by another: the task for which a joined graph is accepted.
-use Rattle.std.specs.Prelude.{◌≡◌, ℕ, ◌+◌, ◌-◌, ◌<◌, ◌≤◌, List, ◌++◌, length, map, nat_lt, if◌then◌else◌}
+use Rattle.std.specs.Prelude.{◌≡◌, ℕ, ◌+◌, ◌-◌, ◌<◌, ◌≤◌, ◌++◌, length, map, nat_lt, if◌then◌else◌}
 use Rattle.blk_plain.specs.declared.op.Span.{Span}
 use Rattle.lay_core.specs.declared.place.Part.{Part}
 use Rattle.lay_core.specs.Layout.{Shape, stripe_of}
 use Rattle.lay_core.specs.Touched.{Touched}
 use Rattle.graph_mean.specs.Graph.{View}
 use Rattle.graph_mean.specs.Task.{Aim, Missing, IsTask}
-use Rattle.graph_mean.specs.Ordered.{IsOrdered}
+use Rattle.graph_mean.specs.Ordered.{Accepted, IsOrdered}
 
 -- a part of another stripe
 abbrev pub moved_part : ℕ → Part → Part
@@ -36,6 +36,12 @@ pub record IsPair (t u : Aim) (shift : ℕ) : Type 0 where
 -- the graph is in order for the task: no cause of refusal holds but of size, of returns and of values
 abbrev pub IsInOrder : View → Aim → Missing → Type 0
 IsInOrder g t missing = (c : ℕ) × (e : ℕ) × IsOrdered g t missing c e
+
+-- out is accepted for two tasks, the one followed by the other, wherever a is accepted for the one and b for the other
+abbrev pub IsAcceptedForBoth : View → View → ℕ → View → Type 0
+IsAcceptedForBoth a b shift out =
+    (t u : Aim) (m k : Missing)
+    → IsPair t u shift → Accepted a t m → Accepted b u k → Accepted out (followed t u) (missing_followed t m k)
 
 -- ## Two spans
 

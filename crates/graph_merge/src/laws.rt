@@ -9,8 +9,20 @@ ghost use Rattle.graph_mean.specs.Task.{Aim, Missing, missing_of, task_of};
 ghost use Rattle.graph_mean.specs.Atomic.{Atomic};
 ghost use Rattle.graph_mean.specs.Ordered.{Accepted};
 ghost use Rattle.graph_mean.specs.Refused.{IsFree};
+ghost use Rattle.graph_merge.specs.Form.{IsInLimits};
 ghost use Rattle.graph_merge.specs.Joined.{IsJoined};
 ghost use Rattle.graph_merge.specs.Tasks.{AreInTurn, IsInOrder, IsPair, followed, map_followed, missing_followed};
+
+/// Two graphs and a shift have one joined graph at most.
+pub fn joined_is_unique()
+    ensures { (a b : View) (shift : ℕ) (out other : View)
+        → IsJoined a b shift out → IsJoined a b shift other → out ≡ other }
+{}
+
+/// A joined graph is no larger than an operation may have it, whether or not it is accepted.
+pub fn joined_is_small()
+    ensures { (a b out : View) (shift : ℕ) → IsJoined a b shift out → IsInLimits out }
+{}
 
 /// Where two graphs are in order for tasks of one kind and shape, and the shift is the number of the first one's
 /// stripes, the joined graph is in order for the two tasks together.

@@ -12,4 +12,6 @@ mod sizes;
 
 pub use fault::MergeFault;
 pub use joining::merge;
-pub use laws::{joined_is_accepted, joined_is_in_order, spans_in_turn_follow};
+pub use laws::{
+    joined_is_accepted, joined_is_in_order, joined_is_small, joined_is_unique, spans_in_turn_follow,
+};
