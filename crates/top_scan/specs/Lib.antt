@@ -1,0 +1,5 @@
+pub mod List
+pub mod Looks
+pub mod Scanned
+pub mod Lines
+pub mod Places

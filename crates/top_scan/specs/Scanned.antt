@@ -1,0 +1,39 @@
+-- What a scan finds, or how it is refused.
+use Rattle.std.specs.Prelude.{◌≡◌, ◌≤◌, List, length, map, Option, None, Result, Ok}
+use Rattle.raid_assemble.specs.Sets.{IsGrouping}
+use Rattle.raid_assemble.specs.declared.sets.Set.{Set}
+use Rattle.raid_assemble.specs.declared.sets.Standing.{Standing}
+use Rattle.raid_label.specs.Bytes.{label_in}
+use Rattle.raid_label.specs.declared.label.Label.{Label}
+use Rattle.raid_text.specs.Text.{Text}
+use Rattle.top_fetch.specs.Fetched.{there_are, or_status}
+use Rattle.top_open.specs.declared.fronts.Front.{Front}
+use Rattle.top_open.specs.declared.fronts.Front.TheVariants.{Away, Unread, Held}
+use Rattle.top_scan.specs.List.{list_of}
+use Rattle.top_status.specs.Refusals.{Refused, ◌then◌, text_in}
+use Rattle.top_status.specs.declared.status.Status.TheVariants as status
+
+-- the label that a component has: none where it has no sector, where that couldn't be read, and
+-- where it isn't well formed
+abbrev pub label_of : Front → Option Label
+label_of Away = None
+label_of Unread = None
+label_of (Held bytes) = label_in bytes
+
+-- the names of the list of this name
+unfoldable pub list_in : (Text → Option Text) → Text → Result (List Text) Refused
+list_in texts list =
+    text_in texts list then λ text. or_status (λ at. status.Conf at.line at.code) (list_of text)
+
+-- those whose devices are all at home
+unfoldable pub names_in : {D : Type 0} → (Text → Option Text) → (Text → Option D) → Text
+    → Result (List Text) Refused
+names_in texts home list =
+    list_in texts list then λ names. there_are home names then λ there. Ok names
+
+-- There is a front for each name, at most 1,024; and these are the sets of their labels.
+pub record IsComplete (names : List Text) (fronts : List Front) (sets : List Set)
+    (places : List Standing) : Type 0 where
+  pub count : length fronts ≡ length names
+  pub few : length names ≤ 1024
+  pub grouping : IsGrouping (map label_of fronts) sets places

@@ -1,0 +1,4 @@
+pub mod LinesInTurn
+pub mod RequestsInTurn
+pub mod NumberText
+pub mod WorkloadInTurn

@@ -1,0 +1,6 @@
+pub mod Asked
+pub mod Format
+pub mod Answers
+pub mod Views
+pub mod Lines
+pub mod Simulated
