@@ -6,11 +6,12 @@ use Rattle.blk_disk.specs.Devices.{AreNamed, Changes}
 use Rattle.raid_text.specs.Text.{Text}
 use Rattle.top_bay.specs.Asked.{Asked, names_for}
 use Rattle.top_bay.specs.Lent.{AreBack, AreOut}
-use Rattle.top_bay.specs.Told.{Told}
+use Rattle.top_fetch.specs.Told.{Told}
 use Rattle.top_open.specs.declared.fronts.Front.{Front}
 use Rattle.top_status.specs.declared.status.Status.TheVariants as status
 use Rattle.top_status.specs.Refusals.{Refused}
-use Rattle.top_words.specs.Asked.{command_of}
+use Rattle.top_words.specs.Asked.{Command}
+use Rattle.top_words.specs.Judged.{OnArray}
 use Rattle.top_duty.specs.declared.duty.Duty.{Duty as DeclaredDuty}
 use Rattle.top_duty.specs.declared.duty.Duty.TheVariants as declared
 use Rattle.top_duty.specs.Duty.{Duty, IsWanted, asked_of, duty_in}
@@ -18,9 +19,9 @@ use Rattle.top_duty.specs.Opening.{reads_fronts}
 use Rattle.top_duty.specs.Taken.{DevicesAreTaken, Reads, RefusedFor, WasRead}
 use Rattle.top_duty.specs.Views as views
 use Rattle.top_duty.specs.Views.{duty_seen}
-use Rattle.raid_top.specs.Ends.{Acted}
+use Rattle.raid_top.specs.Acted.{Acted}
 use Rattle.raid_top.specs.Outcome.{Outcome}
-use Rattle.raid_top.specs.Refused.{CallIsRefused}
+use Rattle.raid_top.specs.Refused.{IsRefusedOf}
 use Rattle.raid_top.specs.Served.{IsPerformed, IsMemory}
 use Rattle.raid_top.proofs.Backs.{back_are_named, home_as_it_was, others_same}
 use Rattle.raid_top.proofs.Reading.{reads_still}
@@ -29,13 +30,13 @@ use Rattle.raid_top.proofs.Wanted.{asked_is, is_made}
 -- ## The call
 
 -- `mid` is what is at home while the devices are out, and `first` says that the bay's count of faults had risen by then
-module _ {D : Type 0} (g : Ghosts D) (b : Told D) (words : List Text) (mid : Text → Option D) (first : Type 0) (k : Asked) (duty : Duty) (fronts : List Front) (old : List (Option D))
-    (same : asked_of duty ≡ k) (command : command_of words ≡ Ok k.command) (wanted : b.tells → IsWanted (duty_in g.size b words fronts) (Ok duty))
+module _ {D : Type 0} (g : Ghosts D) (b : Told D) (command : Command) (mid : Text → Option D) (first : Type 0) (k : Asked) (duty : Duty) (fronts : List Front) (old : List (Option D))
+    (same : asked_of duty ≡ k) (command_is : k.command ≡ command) (wanted : b.tells → IsWanted (duty_in g.size b command fronts) (Ok duty))
     (taken : DevicesAreTaken g (record { tells = b.tells; rose = first; texts = b.texts; home = b.home; after = mid }) k old fronts) where
   still : Changes g (λ _ _. ⊥) taken.taken old
   still = reads_still g taken.taken old old fronts (reads_fronts k.command.action) taken.read
 
-  pub acted_of : (o : Outcome) → length old ≡ length (names_for k) → IsPerformed g b.tells mid b.after (names_for k) duty fronts old o → Acted g b words o
+  pub acted_of : (o : Outcome) → length old ≡ length (names_for k) → IsPerformed g b.tells mid b.after (names_for k) duty fronts old o → Acted g b command o
   acted_of o many d =
       record {
         duty = duty;
@@ -43,7 +44,7 @@ module _ {D : Type 0} (g : Ghosts D) (b : Told D) (words : List Text) (mid : Tex
         taken = taken.taken;
         old = old;
         back = d.back;
-        words_are = subst (λ (x : Asked). command_of words ≡ Ok x.command) (sym same) command;
+        command_is = ap (λ (x : Asked). x.command) same ∙ command_is;
         asked = wanted;
         read = subst (λ (x : Asked). Reads g (reads_fronts x.command.action) taken.taken old fronts) (sym same) taken.read;
         before = λ t. subst (λ (x : Asked). AreNamed b.home (names_for x) taken.taken) (sym same) (taken.named t);
@@ -54,15 +55,15 @@ module _ {D : Type 0} (g : Ghosts D) (b : Told D) (words : List Text) (mid : Tex
       }
 
   -- why it was refused
-  for_memory : (r : Refused) → b.tells → AreBack mid b.after (names_for k) old → length old ≡ length (names_for k) → (is_out : Text → Type 0) → AreOut is_out (names_for k) old → IsMemory duty r → RefusedFor g b words r
+  for_memory : (r : Refused) → b.tells → AreBack mid b.after (names_for k) old → length old ≡ length (names_for k) → (is_out : Text → Type 0) → AreOut is_out (names_for k) old → IsMemory duty r → RefusedFor g b command r
   for_memory r t back many is_out out (inl plain) = inr (inr (inl plain))
   for_memory r t back many is_out out (inr at) =
-      let made = is_made (duty_in g.size b words fronts) duty (wanted t) in
+      let made = is_made (duty_in g.size b command fronts) duty (wanted t) in
       inr (inr (inr (record {
         fronts = fronts;
         wanted = (at.0, made.is ∙ ap (λ (d : Duty). Ok d) at.1, at.2);
         read = λ x asks.
-            let one : k ≡ x = sym same ∙ asked_is g.size b words fronts x duty asks made.is in
+            let one : k ≡ x = sym same ∙ asked_is g.size b command fronts x duty asks made.is in
             subst (λ (z : Asked). WasRead g b z fronts) one (record {
               taken = taken.taken;
               back = old;
@@ -76,10 +77,10 @@ module _ {D : Type 0} (g : Ghosts D) (b : Told D) (words : List Text) (mid : Tex
   memory_kind r (inl plain) = ap (λ (x : Refused). x.status) plain
   memory_kind r (inr at) = ap (λ (x : Refused). x.status) at.2
 
-  pub refused_of : (r : Refused) (is_out : Text → Type 0) → length old ≡ length (names_for k) → AreOut is_out (names_for k) old → IsMemory duty r → (b.tells → AreBack mid b.after (names_for k) old) → CallIsRefused g b words r
+  pub refused_of : (r : Refused) (is_out : Text → Type 0) → length old ≡ length (names_for k) → AreOut is_out (names_for k) old → IsMemory duty r → (b.tells → AreBack mid b.after (names_for k) old) → IsRefusedOf g b (OnArray command) r
   refused_of r is_out many out memory back = record {
     kind = subst (λ (s : _). views.IsRefusal b.rose s) (sym (memory_kind r memory)) tt;
-    usage = λ i e. absurd (let z : ⊥ = cc (e, command) in z);
+    told = λ topic. topic;
     cause = λ t. for_memory r t (back t) many is_out out memory;
     same = λ t. home_as_it_was g b.home mid b.after is_out (names_for k) taken.taken old (taken.named t) (taken.others t) still out (back t);
   }

@@ -53,7 +53,7 @@ others_same home mid after names many back count lent put n away =
 
 -- ## Devices that were looked at alone
 
-stays_as_it_is : {D : Type 0} (g : Ghosts D) (x : Option D) → StaysIf g (λ _. ⊥) x x
+pub stays_as_it_is : {D : Type 0} (g : Ghosts D) (x : Option D) → StaysIf g (λ _. ⊥) x x
 stays_as_it_is g None = tt
 stays_as_it_is g (Some x) = stays-refl g (λ _. ⊥) x
 

@@ -1,66 +1,128 @@
 -- A call by which all that is asked for is right ends well, or for want of memory.
-use Rattle.std.specs.Prelude.{◌≡◌, ℕ, List}
+use Rattle.std.specs.Prelude.{◌≡◌, ℕ, List, Result, Ok}
 use Rattle.std.proofs.Common.{inl, inr, sym, ap, subst, ◌∙◌}
 use Rattle.blk_disk.specs.Devices.{AreNamed}
 use Rattle.blk_disk.specs.declared.disk.Disk.{Ghosts}
 use Rattle.raid_text.specs.Text.{Text}
 use Rattle.top_bay.specs.Asked.{Asked, names_for}
-use Rattle.top_bay.specs.Told.{Told}
+use Rattle.top_fetch.specs.Told.{Told}
 use Rattle.top_status.specs.declared.status.Status.{Status}
 use Rattle.top_status.specs.declared.status.Status.TheVariants as status
 use Rattle.top_status.specs.Refusals.{Refused}
 use Rattle.top_duty.specs.Duty.{Duty, asked_of, duty_in}
 use Rattle.top_duty.specs.Opening.{reads_fronts}
 use Rattle.top_duty.specs.Taken.{RefusedAt, RefusedFor}
+use Rattle.top_words.specs.Asked.{Command}
+use Rattle.top_words.specs.Judged.{Invocation, Tell, OnArray, Scan, Simulate, invocation_of}
 use Rattle.blk_disk.proofs.DeviceLaws.{changes-refl}
-use Rattle.raid_top.specs.Ends.{Acted, Acts, Answers, EndsWell, IsRight, MayRead, SurvivesCall}
-use Rattle.raid_top.specs.Outcome.{Outcome, Ran, Did, Looked, Refuses, status_of}
+use Rattle.raid_top.specs.Acted.{Acted, CommandEndsWell, IsRightCommand, MayRead, SurvivesCall}
+use Rattle.raid_top.specs.Calls.{CallOutcome, OfArray, OfScan, OfSimulation, OfTopic, Refuses, call_status}
+use Rattle.raid_top.specs.Ends.{Acts, Answers, EndsWell, Followed, Follows, IsRight, IsRightFor}
+use Rattle.raid_top.specs.Outcome.{Outcome, status_of}
+use Rattle.raid_top.specs.Refused.{IsRefusedAs, RefusedBy}
 use Rattle.raid_top.proofs.Frames.{AnySector, due_moves}
 use Rattle.raid_top.proofs.Reading.{may_read, reads_still}
 use Rattle.raid_top.proofs.Wanted.{asked_is, due_or_refused, is_made, is_named, one_duty}
 use Rattle.raid_top.proofs.Well.{due_well}
 
-module _ {D : Type 0} (g : Ghosts D) (b : Told D) (words : List Text) (told : b.tells) (right : IsRight g b words) (sound : b.rose → ⊥) where
-  acted_well : (o : Outcome) → Acted g b words o → EndsWell words (status_of o)
+module _ {D : Type 0} (g : Ghosts D) (b : Told D) (command : Command) (told : b.tells) (right : IsRightCommand g b command) (sound : b.rose → ⊥) where
+  acted_well : (o : Outcome) → Acted g b command o → CommandEndsWell command (status_of o)
   acted_well o acted =
-      let made = is_made (duty_in g.size b words acted.fronts) acted.duty (acted.asked told) in
-      let same : asked_of acted.duty ≡ right.asked = asked_is g.size b words acted.fronts right.asked acted.duty right.asks made.is in
+      let made = is_made (duty_in g.size b command acted.fronts) acted.duty (acted.asked told) in
+      let same : asked_of acted.duty ≡ right.asked = asked_is g.size b command acted.fronts right.asked acted.duty right.asks made.is in
       let before = subst (λ (k : Asked). AreNamed b.home (names_for k) acted.taken) same (acted.before told) in
       let after = subst (λ (k : Asked). AreNamed b.after (names_for k) acted.back) same (acted.after told) in
       let moves = due_moves g acted.duty acted.fronts acted.old acted.back o acted.does in
       let read = subst (λ (k : Asked). MayRead g (reads_fronts k.command.action) acted.taken acted.back acted.fronts) same
       (may_read g acted.taken acted.old acted.back acted.fronts (reads_fronts (asked_of acted.duty).command.action) moves acted.read) in
       let due = right.due acted.taken acted.back acted.fronts before after read in
-      let one : due.duty ≡ acted.duty = one_duty (duty_in g.size b words acted.fronts) due.duty acted.duty due.wanted (acted.asked told) in
+      let one : due.duty ≡ acted.duty = one_duty (duty_in g.size b command acted.fronts) due.duty acted.duty due.wanted (acted.asked told) in
       let survives = subst (λ (d : Duty). SurvivesCall g d acted.taken acted.back) one due.survives in
-      due_well g words acted.duty acted.fronts acted.taken acted.old acted.back o
+      due_well g command acted.duty acted.fronts acted.taken acted.old acted.back o
       (reads_still g acted.taken acted.old acted.back acted.fronts (reads_fronts (asked_of acted.duty).command.action) acted.read)
-      survives acted.words_are (is_named g.size b words acted.fronts acted.duty made.is) acted.does
+      survives acted.command_is (is_named g.size b command acted.fronts acted.duty made.is) acted.does
 
-  for_memory : (r : Refused) → r.status ≡ status.Memory → EndsWell words r.status
-  for_memory r e = subst (λ (s : Status). EndsWell words s) (sym e) tt
-
-  refused_at : (r : Refused) → RefusedAt g b words r → ⊥
+  refused_at : (r : Refused) → RefusedAt g b command r → ⊥
   refused_at r at =
       let was = at.read right.asked right.asks in
       let due = right.due was.taken was.back at.fronts was.before was.after
       (may_read g was.taken was.back was.back at.fronts (reads_fronts right.asked.command.action) (changes-refl g AnySector was.back) was.read) in
-      due_or_refused (duty_in g.size b words at.fronts) due.duty r due.wanted at.wanted
+      due_or_refused (duty_in g.size b command at.fronts) due.duty r due.wanted at.wanted
 
-  refused : (r : Refused) → RefusedFor g b words r → EndsWell words r.status
-  refused r (inl at) = absurd (refused_at r at)
-  refused r (inr (inl bay)) = absurd (sound bay.1)
-  refused r (inr (inr (inl memory))) = for_memory r (ap (λ (x : Refused). x.status) memory)
-  refused r (inr (inr (inr at))) = for_memory r (ap (λ (x : Refused). x.status) at.wanted.2)
+  command_refused : (r : Refused) → RefusedFor g b command r → r.status ≡ status.Memory
+  command_refused r (inl at) = absurd (refused_at r at)
+  command_refused r (inr (inl bay)) = absurd (sound bay.1)
+  command_refused r (inr (inr (inl memory))) = ap (λ (x : Refused). x.status) memory
+  command_refused r (inr (inr (inr at))) = ap (λ (x : Refused). x.status) at.wanted.2
 
-  ended : (o : Outcome) → Acts g b words o → EndsWell words (status_of o)
-  ended (Ran action s) acted = acted_well (Ran action s) acted
-  ended (Did act e) acted = acted_well (Did act e) acted
-  ended (Looked text) acted = acted_well (Looked text) acted
-  ended (Refuses r) is = refused r (is.cause told)
+-- where what is wanted isn't refused, it is memory that was wanted
+wanted_refused : {A : Type 0} (rose : Type 0) (wanted : Result A Refused) (x : A) (r : Refused) → (rose → ⊥) → wanted ≡ Ok x → IsRefusedAs rose wanted r → r.status ≡ status.Memory
+wanted_refused rose wanted x r sound ok (inl refused) = absurd (let z : ⊥ = cc (ok, refused) in z)
+wanted_refused rose wanted x r sound ok (inr (inl bay)) = absurd (sound bay.1)
+wanted_refused rose wanted x r sound ok (inr (inr memory)) = ap (λ (y : Refused). y.status) memory
 
-  pub complete_of : (sink_tells sink_rose : Type 0) (answer : Status) (old new : List ℕ) → Answers g b words sink_tells sink_rose answer old new → (sink_rose → ⊥) → EndsWell words answer
-  complete_of sink_tells sink_rose answer old new a quiet = elim a.printed [
-    | inl whole ↦ subst (λ (s : Status). EndsWell words s) (sym (whole.0 ∙ a.ends.status)) (ended a.ends.outcome a.ends.acts)
-    | inr cut ↦ absurd (quiet cut.1)
-  ]
+module _ {D : Type 0} (g : Ghosts D) (b : Told D) (words : List Text) (told : b.tells) (sound : b.rose → ⊥) where
+  -- a command that ends well is a call that does
+  of_command : (command : Command) (s : Status) → invocation_of words ≡ Ok (OnArray command) → CommandEndsWell command s → EndsWell words s
+  of_command command status.Ok e h = tt
+  of_command command status.Memory e h = tt
+  of_command command (status.NotInSync n) e h = (command, e, h)
+  of_command command (status.Usage i) e h = absurd h
+  of_command command (status.Conf l c) e h = absurd h
+  of_command command (status.Script l c) e h = absurd h
+  of_command command (status.GraphText l c) e h = absurd h
+  of_command command status.BayFault e h = absurd h
+  of_command command (status.NoFile n) e h = absurd h
+  of_command command status.SinkFault e h = absurd h
+  of_command command (status.Lost f s t) e h = absurd h
+  of_command command (status.Label f s t u) e h = absurd h
+  of_command command (status.Small f s t) e h = absurd h
+  of_command command status.NoSpare e h = absurd h
+  of_command command (status.LongText n) e h = absurd h
+
+  follows_well : (i : Invocation) (o : CallOutcome) → invocation_of words ≡ Ok i → IsRightFor g b i → Follows g b i o → EndsWell words (call_status o)
+  follows_well (Tell topic) (OfTopic text) e right h = tt
+  follows_well (Tell topic) (OfArray o) e right h = absurd h
+  follows_well (Tell topic) (OfScan text) e right h = absurd h
+  follows_well (Tell topic) (OfSimulation text) e right h = absurd h
+  follows_well (Tell topic) (Refuses r) e right h = absurd h
+  follows_well (OnArray command) (OfArray o) e right h = of_command command (status_of o) e (acted_well g b command told right sound o h)
+  follows_well (OnArray command) (OfTopic text) e right h = absurd h
+  follows_well (OnArray command) (OfScan text) e right h = absurd h
+  follows_well (OnArray command) (OfSimulation text) e right h = absurd h
+  follows_well (OnArray command) (Refuses r) e right h = absurd h
+  follows_well (Scan list) (OfScan text) e right h = tt
+  follows_well (Scan list) (OfTopic text) e right h = absurd h
+  follows_well (Scan list) (OfArray o) e right h = absurd h
+  follows_well (Scan list) (OfSimulation text) e right h = absurd h
+  follows_well (Scan list) (Refuses r) e right h = absurd h
+  follows_well (Simulate name order) (OfSimulation text) e right h = tt
+  follows_well (Simulate name order) (OfTopic text) e right h = absurd h
+  follows_well (Simulate name order) (OfArray o) e right h = absurd h
+  follows_well (Simulate name order) (OfScan text) e right h = absurd h
+  follows_well (Simulate name order) (Refuses r) e right h = absurd h
+
+  refused_well : (i : Invocation) (r : Refused) → IsRightFor g b i → RefusedBy g b i r → r.status ≡ status.Memory
+  refused_well (Tell topic) r right h = absurd h
+  refused_well (OnArray command) r right h = command_refused g b command told right sound r h
+  refused_well (Scan list) r right h = wanted_refused b.rose _ right.0 r sound right.1 h
+  refused_well (Simulate name order) r right h = wanted_refused b.rose _ right.0 r sound right.1 h
+
+  module _ (right : IsRight g b words) where
+    followed : (o : CallOutcome) → Followed g b words o → EndsWell words (call_status o)
+    followed o f =
+        let same : right.invocation ≡ f.invocation = (let both : ◌≡◌ {A = Result Invocation ℕ} (Ok right.invocation) (Ok f.invocation) = sym right.words_are ∙ f.words_are in cc both) in
+        follows_well f.invocation o f.words_are (subst (λ (i : Invocation). IsRightFor g b i) same right.right) f.follows
+
+    ended : (o : CallOutcome) → Acts g b words o → EndsWell words (call_status o)
+    ended (OfArray o) acts = followed (OfArray o) acts
+    ended (OfScan text) acts = followed (OfScan text) acts
+    ended (OfSimulation text) acts = followed (OfSimulation text) acts
+    ended (OfTopic text) acts = followed (OfTopic text) acts
+    ended (Refuses r) is = subst (λ (s : Status). EndsWell words s) (sym (refused_well right.invocation r right.right (is.cause told right.invocation right.words_are))) tt
+
+    pub complete_of : (sink_tells sink_rose : Type 0) (answer : Status) (old new : List ℕ) → Answers g b words sink_tells sink_rose answer old new → (sink_rose → ⊥) → EndsWell words answer
+    complete_of sink_tells sink_rose answer old new a quiet = elim a.printed [
+      | inl whole ↦ subst (λ (s : Status). EndsWell words s) (sym (whole.0 ∙ a.ends.status)) (ended a.ends.outcome a.ends.acts)
+      | inr cut ↦ absurd (quiet cut.1)
+    ]

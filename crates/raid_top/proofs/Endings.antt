@@ -8,11 +8,16 @@ use Rattle.top_status.specs.declared.status.Status.{Status}
 use Rattle.top_status.specs.declared.status.Status.TheVariants as status
 use Rattle.raid_conf.specs.declared.conf.Conf.{Conf}
 use Rattle.raid_text.specs.Text.{Text}
-use Rattle.top_bay.specs.Told.{Told}
+use Rattle.top_fetch.specs.Told.{Told}
 use Rattle.top_words.specs.Asked.{Action}
 use Rattle.raid_top.specs.declared.came.Came.{Came}
 use Rattle.raid_top.specs.declared.came.Came.TheVariants as came
-use Rattle.raid_top.specs.Ends.{Acted, Acts, Printed}
+use Rattle.raid_top.specs.Calls.{call_status}
+use Rattle.raid_top.specs.Ends.{Acts, Followed, Printed}
+use Rattle.raid_top.specs.Finished.{finished_seen, status_finished}
+use Rattle.raid_top.specs.declared.finished.Finished.{Finished}
+use Rattle.raid_top.specs.declared.finished.Finished.TheVariants as finished
+use Rattle.top_words.specs.Views.{action_seen}
 use Rattle.raid_top.specs.Outcome.{status_of}
 use Rattle.raid_top.specs.Views.{outcome_seen, status_came}
 
@@ -28,10 +33,16 @@ status_same action conf (came.Shows opened sizes fronts) = refl
 status_same action conf (came.ShowsLabel front) = refl
 status_same action conf (came.Prints text) = refl
 
+-- the same of a call
+pub finished_status : (f : Finished) → status_finished f ≡ call_status (finished_seen f)
+finished_status (finished.OfArray ended) = status_same (action_seen ended.action) ended.conf ended.came
+finished_status (finished.OfScan scanned) = refl
+finished_status (finished.OfSimulation simulated) = refl
+finished_status (finished.OfTopic topic) = refl
+
 -- what came wasn't refused
-pub acts_of : {D : Type 0} (g : Ghosts D) (b : Told D) (words : List Text) (action : Action) (conf : Conf) (c : Came) → Acted g b words (outcome_seen action conf c) → Acts g b words (outcome_seen action conf c)
-acts_of g b words action conf (came.Ran service) h = h
-acts_of g b words action conf (came.Did act ending) h = h
-acts_of g b words action conf (came.Shows opened sizes fronts) h = h
-acts_of g b words action conf (came.ShowsLabel front) h = h
-acts_of g b words action conf (came.Prints text) h = h
+pub acts_of : {D : Type 0} (g : Ghosts D) (b : Told D) (words : List Text) (f : Finished) → Followed g b words (finished_seen f) → Acts g b words (finished_seen f)
+acts_of g b words (finished.OfArray ended) h = h
+acts_of g b words (finished.OfScan scanned) h = h
+acts_of g b words (finished.OfSimulation simulated) h = h
+acts_of g b words (finished.OfTopic topic) h = h

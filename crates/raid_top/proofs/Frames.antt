@@ -20,7 +20,7 @@ use Rattle.raid_top.specs.declared.array.Order.{Order}
 use Rattle.raid_top.specs.declared.array.Order.TheVariants as order
 use Rattle.raid_top.specs.Arrays.{DoesOrder, Renews}
 use Rattle.raid_top.specs.Does.{Does, DoesArray, DoesIt, DoesRun, Says, SaysLabel, order_of}
-use Rattle.raid_top.specs.Outcome.{Outcome, Ran, Did, Looked, Refuses}
+use Rattle.raid_top.specs.Outcome.{Outcome, Ran, Did, Looked}
 
 -- any sector may have changed
 abbrev pub AnySector : ℕ → ℕ → Type 0
@@ -56,7 +56,6 @@ module _ {D : Type 0} (g : Ghosts D) where
     it_moves (Some it) (Did act e) h = order_moves _ _ old back act e it h
     it_moves (Some it) (Ran action s) h = absurd h
     it_moves (Some it) (Looked text) h = absurd h
-    it_moves (Some it) (Refuses r) h = absurd h
     it_moves None o h = absurd h
 
     pub run_moves : (newest : Option Label) (o : Outcome) → DoesRun g a failed old back newest o → Moves old back
@@ -65,7 +64,6 @@ module _ {D : Type 0} (g : Ghosts D) where
     run_moves (Some l) (Ran action s) h = moved _ old back h.1.ran.leaves.frame
     run_moves (Some l) (Did act e) h = moved _ old back h.1.frame
     run_moves newest (Looked text) h = absurd h
-    run_moves newest (Refuses r) h = absurd h
 
     array_moves : (action : Action) (o : Outcome) → DoesArray g a failed old back action o → Moves old back
     array_moves (Io beside workers) o h = run_moves a.opened.newest o h
@@ -84,7 +82,6 @@ module _ {D : Type 0} (g : Ghosts D) where
   saying_moves old back said (Looked text) h = subst (λ (ds : List (Option D)). Moves old ds) (sym h.1) (changes-refl g AnySector old)
   saying_moves old back said (Ran action s) h = absurd h
   saying_moves old back said (Did act e) h = absurd h
-  saying_moves old back said (Refuses r) h = absurd h
 
   label_moves : (old back : List (Option D)) (fronts : List Front) (o : Outcome) → SaysLabel g old back fronts o → Moves old back
   label_moves old back [] o h = absurd h

@@ -14,3 +14,5 @@ mod Orders
 mod Runs
 mod Keeping
 mod Acting
+mod Refusing
+mod Following

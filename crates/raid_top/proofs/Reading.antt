@@ -9,7 +9,7 @@ use Rattle.top_open.specs.Fronts.{IsFront}
 use Rattle.top_open.specs.declared.fronts.Front.{Front}
 use Rattle.top_open.specs.declared.fronts.Front.TheVariants.{Away, Unread, Held}
 use Rattle.top_duty.specs.Taken.{Reads}
-use Rattle.raid_top.specs.Ends.{MayRead}
+use Rattle.raid_top.specs.Acted.{MayRead}
 use Rattle.raid_top.proofs.Frames.{AnySector, Moves}
 
 -- no sector changes

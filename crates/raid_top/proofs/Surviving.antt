@@ -15,7 +15,6 @@ use Rattle.eng_cols.proofs.DeathLaws.{dies-more, dies-refl, dies-set, dies-then}
 use Rattle.eng_cols.proofs.Losing.{lost-excludes}
 use Rattle.raid_label.specs.declared.label.Label.{Label}
 use Rattle.raid_recon.specs.Array.{Failed}
-use Rattle.raid_text.specs.Text.{Text}
 use Rattle.top_close.specs.Ended.{IsLossBy, states_of}
 use Rattle.top_close.specs.Settled.{IsLiveOn}
 use Rattle.top_acts.specs.declared.done.Done.{Done}
@@ -30,12 +29,12 @@ use Rattle.top_rounds.specs.Rounds.{HaveRounds}
 use Rattle.top_rounds.proofs.PassLaws.{live_before}
 use Rattle.top_status.specs.declared.status.Status.{Status}
 use Rattle.top_status.specs.declared.status.Status.TheVariants as status
-use Rattle.top_words.specs.Asked.{Command, Check, command_of}
+use Rattle.top_words.specs.Asked.{Command, Check}
 use Rattle.top_duty.specs.Duty.{Admitted, columns_of, layout_of, states_in}
 use Rattle.top_duty.specs.Opening.{needs_of}
 use Rattle.top_run.specs.Work.{Ending}
 use Rattle.raid_top.specs.Arrays.{Renews}
-use Rattle.raid_top.specs.Ends.{EndsWell, MayEndDead}
+use Rattle.raid_top.specs.Acted.{CommandEndsWell, MayEndDead}
 use Rattle.raid_top.specs.Outcome.{status_of_act, status_of_done}
 use Rattle.raid_top.proofs.Reading.{NoSector, rises_late}
 
@@ -115,20 +114,20 @@ module _ {D : Type 0} (g : Ghosts D) (a : Admitted) (taken old back : List (Opti
 
 -- ## How it ends
 
-module _ (words : List Text) where
+module _ (command : Command) where
   -- stripes were tested
-  pub check_well : (command : Command) (lost : Option Loss) (act : Done) (n : ℕ) → command_of words ≡ Ok command → command.action ≡ Check → lost ≡ None → act ≡ unless_lost lost (done.Check n) → EndsWell words (status_of_done act lost)
-  check_well command lost act n is check none told =
-      subst (λ (l : Option Loss). EndsWell words (status_of_done act l)) (sym none)
-      (subst (λ (x : Done). EndsWell words (status_of_act x)) (sym (told ∙ ap (λ (l : Option Loss). unless_lost l (done.Check n)) none)) (of n))
+  pub check_well : (lost : Option Loss) (act : Done) (n : ℕ) → command.action ≡ Check → lost ≡ None → act ≡ unless_lost lost (done.Check n) → CommandEndsWell command (status_of_done act lost)
+  check_well lost act n check none told =
+      subst (λ (l : Option Loss). CommandEndsWell command (status_of_done act l)) (sym none)
+      (subst (λ (x : Done). CommandEndsWell command (status_of_act x)) (sym (told ∙ ap (λ (l : Option Loss). unless_lost l (done.Check n)) none)) (of n))
     where
-      of : (k : ℕ) → EndsWell words (status_of_act (done.Check k))
+      of : (k : ℕ) → CommandEndsWell command (status_of_act (done.Check k))
       of zero = tt
-      of (suc k) = (command, is, check)
+      of (suc k) = check
 
   -- or something else was done, of which the status is ok
-  pub done_well : (lost : Option Loss) (act is : Done) → status_of_act is ≡ status.Ok → lost ≡ None → act ≡ unless_lost lost is → EndsWell words (status_of_done act lost)
+  pub done_well : (lost : Option Loss) (act is : Done) → status_of_act is ≡ status.Ok → lost ≡ None → act ≡ unless_lost lost is → CommandEndsWell command (status_of_done act lost)
   done_well lost act is ok none told =
-      subst (λ (l : Option Loss). EndsWell words (status_of_done act l)) (sym none)
-      (subst (λ (x : Done). EndsWell words (status_of_act x)) (sym (told ∙ ap (λ (l : Option Loss). unless_lost l is) none))
-      (subst (λ (s : Status). EndsWell words s) (sym ok) tt))
+      subst (λ (l : Option Loss). CommandEndsWell command (status_of_done act l)) (sym none)
+      (subst (λ (x : Done). CommandEndsWell command (status_of_act x)) (sym (told ∙ ap (λ (l : Option Loss). unless_lost l is) none))
+      (subst (λ (s : Status). CommandEndsWell command s) (sym ok) tt))

@@ -9,17 +9,17 @@ use Rattle.eng_cols.proofs.Losing.{lost-excludes}
 use Rattle.raid_conf.specs.declared.conf.Conf.{Conf}
 use Rattle.raid_text.specs.Text.{Text}
 use Rattle.top_bay.specs.Asked.{Asked, asked_in, names_for}
-use Rattle.top_bay.specs.Told.{Told}
+use Rattle.top_fetch.specs.Told.{Told}
 use Rattle.top_open.specs.Opening.{Opened}
 use Rattle.top_open.specs.declared.fronts.Front.{Front}
 use Rattle.top_status.specs.declared.status.Status.TheVariants as status
 use Rattle.top_status.specs.Refusals.{Refused, ◌then◌, only}
-use Rattle.top_words.specs.Asked.{Action, Io, Sweep, Show, Init, Check, Rewrite, Print, Fail, ShowLabel, Label as Labels, Rebuild}
+use Rattle.top_words.specs.Asked.{Action, Command, Io, Sweep, Show, Init, Check, Rewrite, Print, Fail, ShowLabel, Label as Labels, Rebuild}
 use Rattle.top_duty.specs.Duty.{Admitted, Duty, OnArray, Shows, OneLabel, PrintConf, IsWanted, LossIs, admitted_with, asked_of, beside_dead, duty_by, duty_for, duty_in, is_past_bound, is_short, judged, judged_states, layout_of, unless_lost, unless_past, unless_short}
 use Rattle.top_duty.specs.Opening.{kind_of, needs_for, needs_of, opened_by, sizes_in}
 use Rattle.top_duty.specs.Start.{free_spare, has_places, onto_spare, rebuild_if, start_by, start_in}
-use Rattle.top_duty.specs.declared.kind.Kind.{Kind}
-use Rattle.top_duty.specs.declared.kind.Kind.TheVariants as kind
+use Rattle.top_words.specs.declared.profile.Kind.{Kind}
+use Rattle.top_words.specs.declared.profile.Kind.TheVariants as kind
 
 -- an array that something is done to isn't lost by the columns as the action makes them, there is somewhere to rebuild a column to that is to be, and its trace has room
 abbrev pub IsKept : Duty → Type 0
@@ -108,27 +108,20 @@ opened_asked : (k : Asked) (f : Opened → Duty) (r : Result Opened Refused) (d 
 opened_asked k f (Ok o) d each e = let same : f o ≡ d = cc e in sym (ap asked_of same) ∙ each o
 opened_asked k f (Err r) d each e = cc e
 
-duty_asked : (action : Action) (k : Asked) (sizes : List ℕ) (fronts : List Front) (d : Duty) → duty_for (kind_of action) k sizes fronts ≡ Ok d → asked_of d ≡ k
-duty_asked (Io beside workers) k sizes fronts d e = opened_asked k (λ o. OnArray (admitted_with k o (start_in k o sizes fronts))) (opened_by k sizes fronts) d (λ o. refl) e
-duty_asked (Sweep seed clients ops workers) k sizes fronts d e = opened_asked k (λ o. OnArray (admitted_with k o (start_in k o sizes fronts))) (opened_by k sizes fronts) d (λ o. refl) e
-duty_asked Init k sizes fronts d e = opened_asked k (λ o. OnArray (admitted_with k o (start_in k o sizes fronts))) (opened_by k sizes fronts) d (λ o. refl) e
-duty_asked Check k sizes fronts d e = opened_asked k (λ o. OnArray (admitted_with k o (start_in k o sizes fronts))) (opened_by k sizes fronts) d (λ o. refl) e
-duty_asked Rewrite k sizes fronts d e = opened_asked k (λ o. OnArray (admitted_with k o (start_in k o sizes fronts))) (opened_by k sizes fronts) d (λ o. refl) e
-duty_asked (Fail comp) k sizes fronts d e = opened_asked k (λ o. OnArray (admitted_with k o (start_in k o sizes fronts))) (opened_by k sizes fronts) d (λ o. refl) e
-duty_asked (Labels serial) k sizes fronts d e = opened_asked k (λ o. OnArray (admitted_with k o (start_in k o sizes fronts))) (opened_by k sizes fronts) d (λ o. refl) e
-duty_asked (Rebuild in_place comp beside workers) k sizes fronts d e = opened_asked k (λ o. OnArray (admitted_with k o (start_in k o sizes fronts))) (opened_by k sizes fronts) d (λ o. refl) e
-duty_asked Show k sizes fronts d e = opened_asked k (λ o. Shows k o) (opened_by k sizes fronts) d (λ o. refl) e
-duty_asked (ShowLabel comp) k sizes fronts d e = let same : OneLabel k ≡ d = cc e in sym (ap asked_of same)
-duty_asked Print k sizes fronts d e = let same : PrintConf k ≡ d = cc e in sym (ap asked_of same)
+duty_asked : (kd : Kind) (k : Asked) (sizes : List ℕ) (fronts : List Front) (d : Duty) → duty_for kd k sizes fronts ≡ Ok d → asked_of d ≡ k
+duty_asked kind.Array k sizes fronts d e = opened_asked k (λ o. OnArray (admitted_with k o (start_in k o sizes fronts))) (opened_by k sizes fronts) d (λ o. refl) e
+duty_asked kind.Shown k sizes fronts d e = opened_asked k (λ o. Shows k o) (opened_by k sizes fronts) d (λ o. refl) e
+duty_asked kind.Label k sizes fronts d e = let same : OneLabel k ≡ d = cc e in sym (ap asked_of same)
+duty_asked kind.Conf k sizes fronts d e = let same : PrintConf k ≡ d = cc e in sym (ap asked_of same)
 
 by_asked : (k : Asked) (sizes : List ℕ) (fronts : List Front) (d : Duty) → duty_by k sizes fronts ≡ Ok d → asked_of d ≡ k
 unfolding duty_by
-by_asked k sizes fronts d e = duty_asked k.command.action k sizes fronts d e
+by_asked k sizes fronts d e = duty_asked (kind_of k.command.action) k sizes fronts d e
 
 -- a duty is of what was asked
-pub asked_is : {D : Type 0} (size : D → ℕ) (b : Told D) (words : List Text) (fronts : List Front) (k : Asked) (d : Duty) → asked_in b words ≡ Ok k → duty_in size b words fronts ≡ Ok d → asked_of d ≡ k
+pub asked_is : {D : Type 0} (size : D → ℕ) (b : Told D) (command : Command) (fronts : List Front) (k : Asked) (d : Duty) → asked_in b command ≡ Ok k → duty_in size b command fronts ≡ Ok d → asked_of d ≡ k
 unfolding duty_in
-asked_is size b words fronts k d asks e =
+asked_is size b command fronts k d asks e =
     by_asked k (sizes_in size b.home (names_for k)) fronts d
     (subst (λ (r : Result Asked Refused). (r then λ x. duty_by x (sizes_in size b.home (names_for x)) fronts) ≡ Ok d) asks e)
 
@@ -188,12 +181,12 @@ asked_named : (r : Result Asked Refused) (sizes : Asked → List ℕ) (fronts : 
 asked_named (Ok k) sizes fronts d e = by_named k (sizes k) fronts d e
 asked_named (Err r) sizes fronts d e = cc e
 
-pub is_named : {D : Type 0} (size : D → ℕ) (b : Told D) (words : List Text) (fronts : List Front) (d : Duty) → duty_in size b words fronts ≡ Ok d → IsNamed d
+pub is_named : {D : Type 0} (size : D → ℕ) (b : Told D) (command : Command) (fronts : List Front) (d : Duty) → duty_in size b command fronts ≡ Ok d → IsNamed d
 unfolding duty_in
-is_named size b words fronts d e = asked_named (asked_in b words) (λ k. sizes_in size b.home (names_for k)) fronts d e
+is_named size b command fronts d e = asked_named (asked_in b command) (λ k. sizes_in size b.home (names_for k)) fronts d e
 
--- it goes by words, texts, devices at home and fronts alone
-pub duty_same : {D : Type 0} (size : D → ℕ) (tells rose now_rose : Type 0) (texts : Text → Option Text) (home after now_after : Text → Option D) (words : List Text) (fronts : List Front)
-    → duty_in size (record { tells = tells; rose = rose; texts = texts; home = home; after = after }) words fronts ≡ duty_in size (record { tells = tells; rose = now_rose; texts = texts; home = home; after = now_after }) words fronts
+-- it goes by the command, texts, devices at home and fronts alone
+pub duty_same : {D : Type 0} (size : D → ℕ) (tells rose now_rose : Type 0) (texts : Text → Option Text) (home after now_after : Text → Option D) (command : Command) (fronts : List Front)
+    → duty_in size (record { tells = tells; rose = rose; texts = texts; home = home; after = after }) command fronts ≡ duty_in size (record { tells = tells; rose = now_rose; texts = texts; home = home; after = now_after }) command fronts
 unfolding duty_in asked_in
-duty_same size tells rose now_rose texts home after now_after words fronts = refl
+duty_same size tells rose now_rose texts home after now_after command fronts = refl

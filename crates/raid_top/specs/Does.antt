@@ -8,7 +8,9 @@ use Rattle.raid_conf.specs.Form.{conf_text}
 use Rattle.raid_label.specs.declared.label.Label.{Label}
 use Rattle.top_acts.specs.declared.done.Done.TheVariants as done
 use Rattle.top_open.specs.declared.fronts.Front.{Front}
-use Rattle.top_words.specs.Asked.{Action, Io, Sweep, Rebuild}
+use Rattle.top_words.specs.Asked.{Action, Sweep, profile_of}
+use Rattle.top_words.specs.declared.profile.Deed.{Deed}
+use Rattle.top_words.specs.declared.profile.Deed.TheVariants as deed
 use Rattle.top_duty.specs.Duty.{Admitted, Duty, OnArray, Shows, OneLabel, PrintConf, columns_of, layout_of, states_in}
 use Rattle.top_duty.specs.Opening.{sizes_of}
 use Rattle.top_duty.specs.Start.{has_failed}
@@ -23,7 +25,7 @@ use Rattle.top_looks.specs.Labels.{label_text}
 use Rattle.top_looks.specs.Show.{show_text}
 use Rattle.raid_top.specs.Arrays.{DoesOrder}
 use Rattle.raid_top.specs.Orders.{order_by}
-use Rattle.raid_top.specs.Outcome.{Outcome, Ran, Did, Looked, Refuses}
+use Rattle.raid_top.specs.Outcome.{Outcome, Ran, Did, Looked}
 use Rattle.raid_top.specs.Works.{work_of}
 use Rattle.raid_top.specs.declared.array.Order.{Order}
 
@@ -54,7 +56,6 @@ module _ {D : Type 0} (g : Ghosts D) where
     DoesRun (Some newest) (Ran action s) = (action ≡ a.asked.command.action) × RunsLabelled newest s
     DoesRun (Some newest) (Did act e) = (act ≡ done.Nothing) × IsLostBefore g (work_of a) newest old e back
     DoesRun newest (Looked text) = ⊥
-    DoesRun newest (Refuses r) = ⊥
 
     -- something was done without a core
     abbrev pub DoesIt : Option Order → Outcome → Type 0
@@ -64,11 +65,13 @@ module _ {D : Type 0} (g : Ghosts D) where
     abbrev pub order_of : Action → Option Order
     order_of action = order_by action a.asked.comp a.opened.newest a.asked.conf a.opened.rows
 
+    -- the one or the other, by the deed
+    abbrev pub DoesDeed : Deed → Option Order → Outcome → Type 0
+    DoesDeed deed.Serves order o = DoesRun a.opened.newest o
+    DoesDeed _ order o = DoesIt order o
+
     abbrev pub DoesArray : Action → Outcome → Type 0
-    DoesArray (Io beside workers) o = DoesRun a.opened.newest o
-    DoesArray (Sweep seed clients ops workers) o = DoesRun a.opened.newest o
-    DoesArray (Rebuild in_place comp beside workers) o = DoesRun a.opened.newest o
-    DoesArray action o = DoesIt (order_of action) o
+    DoesArray action o = DoesDeed (profile_of action).deed (order_of action) o
 
   -- something is said, and no device was called
   abbrev pub Says : (old back : List (Option D)) → List ℕ → Outcome → Type 0

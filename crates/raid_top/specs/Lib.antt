@@ -6,5 +6,8 @@ pub mod Works
 pub mod Does
 pub mod Views
 pub mod Served
+pub mod Acted
+pub mod Calls
+pub mod Finished
 pub mod Refused
 pub mod Ends

@@ -4,7 +4,9 @@ use Rattle.raid_conf.specs.declared.conf.Conf.{Conf}
 use Rattle.raid_label.specs.declared.label.Label.{Label}
 use Rattle.top_acts.specs.declared.sweeping.Renewal.TheVariants as renewal
 use Rattle.top_duty.specs.Opening.{plan_of}
-use Rattle.top_words.specs.Asked.{Action, Io, Sweep, Show, Init, Check, Rewrite, Print, Fail, ShowLabel, Label as Labels, Rebuild}
+use Rattle.top_words.specs.Asked.{Action, profile_of}
+use Rattle.top_words.specs.declared.profile.Deed.{Deed}
+use Rattle.top_words.specs.declared.profile.Deed.TheVariants as deed
 use Rattle.raid_top.specs.declared.array.Order.{Order}
 use Rattle.raid_top.specs.declared.array.Order.TheVariants as order
 
@@ -33,16 +35,17 @@ kill_of None newest = None
 kill_of (Some c) None = None
 kill_of (Some c) (Some l) = Some (order.Kill c l)
 
--- what is to be done, by the action, the column that it names, the newest label, and the rows of the configuration; None where it isn't such an action
+-- what is to be done, by the deed, the column that is named, the newest label, and the rows of the
+-- configuration; None where clients are served, or the array is only looked at
+abbrev pub order_for : Deed → Option ℕ → Option Label → Conf → ℕ → Option Order
+order_for deed.Looks comp newest conf rows = None
+order_for deed.Serves comp newest conf rows = None
+order_for deed.Checks comp newest conf rows = Some order.Check
+order_for deed.Inits comp newest conf rows = Some (order.Renew renewal.Init newest)
+order_for deed.Rewrites comp newest conf rows = Some (order.Renew renewal.Rewrite newest)
+order_for deed.Kills comp newest conf rows = kill_of comp newest
+order_for (deed.Labels serial) comp newest conf rows =
+    Some (order.Label (first_label conf rows serial))
+
 abbrev pub order_by : Action → Option ℕ → Option Label → Conf → ℕ → Option Order
-order_by Init comp newest conf rows = Some (order.Renew renewal.Init newest)
-order_by Rewrite comp newest conf rows = Some (order.Renew renewal.Rewrite newest)
-order_by Check comp newest conf rows = Some order.Check
-order_by (Fail name) comp newest conf rows = kill_of comp newest
-order_by (Labels serial) comp newest conf rows = Some (order.Label (first_label conf rows serial))
-order_by (Io beside workers) comp newest conf rows = None
-order_by (Sweep seed clients ops workers) comp newest conf rows = None
-order_by Show comp newest conf rows = None
-order_by Print comp newest conf rows = None
-order_by (ShowLabel name) comp newest conf rows = None
-order_by (Rebuild in_place name beside workers) comp newest conf rows = None
+order_by action comp newest conf rows = order_for (profile_of action).deed comp newest conf rows

@@ -1,4 +1,4 @@
--- How a call of the program ends, and what it prints.
+-- What comes of an action on an array, and what is printed of it.
 use Rattle.std.specs.Prelude.{ℕ, zero, suc, List, [], ◌++◌, Option, Some, None}
 use Rattle.eng_cols.specs.declared.spot.Loss.{Loss}
 use Rattle.raid_script.specs.Replies.{replies_text}
@@ -8,20 +8,20 @@ use Rattle.raid_script.specs.Summary.{summary_text}
 use Rattle.top_status.specs.declared.status.Status.{Status}
 use Rattle.top_status.specs.declared.status.Status.TheVariants as status
 use Rattle.top_status.specs.Status.{ending_text, status_of_loss, status_text}
-use Rattle.top_status.specs.Refusals.{Refused, refusal_text}
 use Rattle.top_acts.specs.declared.done.Done.{Done}
 use Rattle.top_acts.specs.declared.done.Done.TheVariants as done
 use Rattle.top_acts.specs.Done.{done_text}
 use Rattle.top_run.specs.Work.{Ending, Service}
-use Rattle.top_words.specs.Asked.{Action, Sweep}
+use Rattle.top_words.specs.Asked.{Action, profile_of}
+use Rattle.top_words.specs.declared.profile.Drawing.{Drawing}
 use Rattle.raid_top.specs.Rebuilt.{rebuild_text}
 
--- A script was run, or items that were drawn; or something was done to the array without a core, or it was lost before the core was opened; or it was looked at, and this is what is said of it; or nothing was done.
+-- A script was run, or items that were drawn; or something was done to the array without a core, or
+-- it was lost before the core was opened; or it was looked at, and this is what is said of it.
 pub data Outcome : Type 0 where
   Ran : (action : Action) (s : Service) → Outcome
   Did : (act : Done) (e : Ending) → Outcome
   Looked : (text : List ℕ) → Outcome
-  Refuses : (r : Refused) → Outcome
 
 -- how it ends where the array isn't lost: well, but for stripes that were found not to be in sync
 abbrev pub status_of_act : Done → Status
@@ -42,7 +42,6 @@ abbrev pub status_of : Outcome → Status
 status_of (Ran action s) = status_of_loss s.ending.lost
 status_of (Did act e) = status_of_done act e.lost
 status_of (Looked text) = status.Ok
-status_of (Refuses r) = r.status
 
 -- what is told of a script: replies, history, and the trace where it is kept
 abbrev pub script_text : Service → List ℕ
@@ -53,10 +52,14 @@ abbrev pub sweep_text : Service → Option Loss → List ℕ
 sweep_text s None = summary_text s.clients s.replies s.sectors
 sweep_text s (Some loss) = []
 
--- what is told of a run, but for its end: of a script, and behind that of a rebuild, if there was one
+-- what is told of a run, but for its end: where clients were drawn, their sums; else of a script,
+-- and behind that of a rebuild, if there was one
+abbrev pub run_text : Option Drawing → Service → List ℕ
+run_text None s = script_text s ++ rebuild_text s.line
+run_text (Some drawing) s = sweep_text s s.ending.lost
+
 abbrev pub service_text : Action → Service → List ℕ
-service_text (Sweep seed clients ops workers) s = sweep_text s s.ending.lost
-service_text action s = script_text s ++ rebuild_text s.line
+service_text action s = run_text (profile_of action).drawn s
 
 -- all that is printed of a run: what it tells, the columns that are dead in the end, and the status
 abbrev pub ran_text : Action → Service → List ℕ
@@ -71,4 +74,3 @@ abbrev pub outcome_text : Outcome → List ℕ
 outcome_text (Ran action s) = ran_text action s
 outcome_text (Did act e) = did_text act e
 outcome_text (Looked text) = text ++ status_text status.Ok
-outcome_text (Refuses r) = refusal_text r

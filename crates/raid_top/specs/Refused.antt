@@ -1,18 +1,51 @@
 -- A call that was refused: no sector has changed.
-use Rattle.std.specs.Prelude.{◌≡◌, ◌⊎◌, ℕ, List, Err}
+use Rattle.std.specs.Prelude.{◌≡◌, ◌⊎◌, ℕ, List, Result, Ok, Err}
 use Rattle.blk_disk.specs.Devices.{StaysIf}
 use Rattle.blk_disk.specs.declared.disk.Disk.{Ghosts}
 use Rattle.raid_text.specs.Text.{Text}
-use Rattle.top_bay.specs.Told.{Told}
+use Rattle.top_fetch.specs.Told.{Told}
 use Rattle.top_status.specs.declared.status.Status.TheVariants as status
 use Rattle.top_status.specs.Refusals.{Refused, only}
-use Rattle.top_words.specs.Asked.{command_of}
 use Rattle.top_duty.specs.Taken.{RefusedFor}
 use Rattle.top_duty.specs.Views.{IsRefusal}
+use Rattle.top_scan.specs.Scanned.{names_in}
+use Rattle.top_sim.specs.Simulated.{workload_in}
+use Rattle.top_words.specs.declared.invocation.Topic.{Topic}
+use Rattle.top_words.specs.Judged.{Invocation, Tell, OnArray, Scan, Simulate, invocation_of}
 
--- The call was refused so: for what words, texts, names, sizes and first sectors call for, or for want of memory, or for a fault of the bay; the words by themselves where the bay tells nothing; a fault of the bay only where its count rose. Each device is at home again, and no sector has changed.
-pub record CallIsRefused {D : Type 0} (g : Ghosts D) (b : Told D) (words : List Text) (r : Refused) : Type 0 where
-  pub kind : IsRefusal b.rose r.status
-  pub usage : (i : ℕ) → command_of words ≡ Err i → (r ≡ only (status.Usage i)) ⊎ (r ≡ only status.Memory)
-  pub cause : b.tells → RefusedFor g b words r
-  pub same : b.tells → (n : Text) → StaysIf g (λ _. ⊥) (b.home n) (b.after n)
+-- this is the refusal that is wanted; or the bay's count of faults rose; or memory was wanted
+abbrev pub IsRefusedAs : {A : Type 0} → Type 0 → Result A Refused → Refused → Type 0
+IsRefusedAs rose wanted r = (wanted ≡ Err r) ⊎ (((r ≡ only status.BayFault) × rose) ⊎ (r ≡ only status.Memory))
+
+-- one of the program's own texts is asked for
+abbrev pub IsTopic : Invocation → Type 0
+IsTopic (Tell topic) = Unit {0}
+IsTopic invocation = ⊥
+
+module _ {D : Type 0} (g : Ghosts D) (b : Told D) where
+  -- why what was asked for is refused; none of the program's own texts is
+  abbrev pub RefusedBy : Invocation → Refused → Type 0
+  RefusedBy (Tell topic) r = ⊥
+  RefusedBy (OnArray command) r = RefusedFor g b command r
+  RefusedBy (Scan list) r = IsRefusedAs b.rose (names_in b.texts b.home list) r
+  RefusedBy (Simulate name order) r = IsRefusedAs b.rose (workload_in b.texts name) r
+
+  -- It is refused so: for what texts, names, sizes and first sectors call for, or for want of
+  -- memory, or for a fault of the bay, only where its count rose. Each device is at home again, and
+  -- no sector has changed.
+  pub record IsRefusedOf (invocation : Invocation) (r : Refused) : Type 0 where
+    pub kind : IsRefusal b.rose r.status
+    pub told : IsTopic invocation → ⊥
+    pub cause : b.tells → RefusedBy invocation r
+    pub same : b.tells → (n : Text) → StaysIf g (λ _. ⊥) (b.home n) (b.after n)
+
+  -- The call was refused so: the words by themselves where they ask for nothing; else what they ask
+  -- for. None of the program's own texts is refused.
+  pub record CallIsRefused (words : List Text) (r : Refused) : Type 0 where
+    pub kind : IsRefusal b.rose r.status
+    pub usage : (i : ℕ) → invocation_of words ≡ Err i
+        → (r ≡ only (status.Usage i)) ⊎ (r ≡ only status.Memory)
+    pub told : (topic : Topic) → invocation_of words ≡ Ok (Tell topic) → ⊥
+    pub cause : b.tells → (invocation : Invocation) → invocation_of words ≡ Ok invocation
+        → RefusedBy invocation r
+    pub same : b.tells → (n : Text) → StaysIf g (λ _. ⊥) (b.home n) (b.after n)

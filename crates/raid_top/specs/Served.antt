@@ -25,7 +25,9 @@ use Rattle.top_duty.specs.Duty.{Admitted, Duty, OnArray, beside_dead}
 use Rattle.top_open.specs.declared.fronts.Front.{Front}
 use Rattle.top_status.specs.Refusals.{Refused, only}
 use Rattle.top_status.specs.declared.status.Status.TheVariants as status
-use Rattle.top_words.specs.Asked.{Action, Io, Sweep, Rebuild}
+use Rattle.top_words.specs.Asked.{Action, profile_of}
+use Rattle.top_words.specs.declared.profile.Deed.{Deed}
+use Rattle.top_words.specs.declared.profile.Deed.TheVariants as deed
 use Rattle.raid_top.specs.Arrays.{DoesOrder, ending_seen}
 use Rattle.raid_top.specs.Does.{Does}
 use Rattle.raid_top.specs.Outcome.{Outcome}
@@ -85,8 +87,9 @@ abbrev pub IsMemory : Duty → Refused → Type 0
 IsMemory duty r = (r ≡ only status.Memory) ⊎ ((a : Admitted) × (duty ≡ OnArray a) × (r ≡ beside_dead a status.Memory))
 
 -- clients are served
+abbrev pub IsService : Deed → Type 0
+IsService deed.Serves = Unit {0}
+IsService _ = ⊥
+
 abbrev pub IsRun : Action → Type 0
-IsRun (Io beside workers) = Unit {0}
-IsRun (Sweep seed clients ops workers) = Unit {0}
-IsRun (Rebuild in_place comp beside workers) = Unit {0}
-IsRun _ = ⊥
+IsRun action = IsService (profile_of action).deed

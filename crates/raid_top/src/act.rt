@@ -1,29 +1,32 @@
-//! What comes of the words.
+//! What comes of a command.
 ghost use Rattle.std.specs.Prelude.{◌≡◌, ◌≤◌, length, vec_len, IfOk, IfErr, OnErr};
 ghost use Rattle.blk_disk.specs.Disk.{Rose};
 ghost use Rattle.raid_conf.specs.Form.{IsConf};
 ghost use Rattle.top_bay.specs.Asked.{names_for};
 ghost use Rattle.top_bay.specs.Lent.{AreBack, AreOut};
-ghost use Rattle.top_bay.specs.Told.{Told};
+ghost use Rattle.top_fetch.specs.Told.{Told};
 ghost use Rattle.top_bay.specs.Views.{asked_seen};
 ghost use Rattle.top_duty.specs.Admitted.{IsAdmitted};
 ghost use Rattle.top_duty.specs.Views.{duty_seen};
-ghost use Rattle.top_words.specs.Views.{action_seen};
-ghost use Rattle.raid_top.specs.Ends.{Acted};
-ghost use Rattle.raid_top.specs.Refused.{CallIsRefused};
+ghost use Rattle.top_words.specs.Asked.{AreNumbersInRange};
+ghost use Rattle.top_words.specs.Judged.{OnArray};
+ghost use Rattle.top_words.specs.Views.{action_seen, command_seen};
+ghost use Rattle.raid_top.specs.Acted.{Acted};
+ghost use Rattle.raid_top.specs.Refused.{IsRefusedOf};
 ghost use Rattle.raid_top.specs.Served.{IsPerformed, IsMemory};
 ghost use Rattle.raid_top.specs.Views.{CanBePrinted, outcome_seen};
 
 use crate::came::Ended;
 use crate::performing::{Performed, perform};
 use crate::running::Served;
-use raid_bay::{Bay, Name};
+use raid_bay::Bay;
 use std::alloc::Global;
 use std::sync::Wait;
 use std::thread::Threads;
 use top_bay::put_all;
 use top_duty::{Admitted, admit};
 use top_status::Refusal;
+use top_words::Command;
 
 // Does what is due, and puts the devices back.
 fn end<'a, B: Bay, R: Threads + Wait + Sync>(
@@ -61,15 +64,16 @@ where
     }
 }
 
-/// Does what the words ask for, and puts the devices back.
+/// Does what a command asks for, and puts the devices back.
 pub(crate) fn act<'a, B: Bay, R: Threads + Wait + Sync>(
     rt: &R,
     alloc: Global,
-    words: &'a [Name],
+    command: Command<'a>,
     bay: &mut B,
 ) -> Result<Ended<'a>, Refusal>
 where
     B::D: Send + Drop,
+    requires { AreNumbersInRange (action_seen command.action) }
     ensures acted { IfOk result (λ e. Acted B.D.Disk
         (record {
           tells = B.tells;
@@ -77,20 +81,20 @@ where
           texts = B.text_of bay.old;
           home = B.home bay.old;
           after = B.home bay.new;
-        }) words.entry.now (outcome_seen (action_seen e.action) e.conf e.came)) }
+        }) (command_seen command.entry) (outcome_seen (action_seen e.action) e.conf e.came)) }
     ensures printed { IfOk result (λ e. CanBePrinted e.came) }
     ensures conf { IfOk result (λ e. IsConf e.conf) }
-    ensures refused { IfErr result (CallIsRefused B.D.Disk
+    ensures refused { IfErr result (IsRefusedOf B.D.Disk
         (record {
           tells = B.tells;
           rose = Rose (B.faults bay.old) (B.faults bay.new);
           texts = B.text_of bay.old;
           home = B.home bay.old;
           after = B.home bay.new;
-        }) words.entry.now) }
+        }) (OnArray (command_seen command.entry))) }
     ensures later { B.faults bay.old ≤ B.faults bay.new }
 {
-    match admit(alloc, words, bay) {
+    match admit(alloc, command, bay) {
         Ok(admitted) => end(rt, alloc, admitted, bay),
         Err(refusal) => Err(refusal),
     }

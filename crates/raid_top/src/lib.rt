@@ -1,9 +1,12 @@
 //! The top call: all that the program does, from its words to its status.
 //!
-//! [`run`] reads the words, the texts that they name and the devices of the configuration, does what is asked, puts the devices
-//! back, and prints what came of it. Clients of a script, or such that are drawn, are run on the array; its parity is tested or
-//! rewritten, its devices get labels, or a column is failed; or the array, a label or the configuration is shown. The statuses
-//! and lines are those of docs/FORMATS.md, after NetBSD's raidctl(8).
+//! [`run`] reads the words, which decide what is read next: the configuration of an array with the
+//! texts and devices that go with it, a list of components, requests to a simulated disk, or
+//! nothing, where only one of the program's own texts is told. It does what is asked, puts the
+//! devices back, and prints what came of it. Clients of a script, or such that are drawn, are run
+//! on an array; its parity is tested or rewritten, its devices get labels, or a column is failed;
+//! or the array, a label or the configuration is shown. The statuses and lines are those of
+//! docs/FORMATS.md, after NetBSD's raidctl(8).
 #![tactic(auto)]
 
 mod act;
@@ -11,6 +14,8 @@ mod array;
 mod came;
 mod changing;
 mod doing;
+mod finished;
+mod invoking;
 mod order;
 mod paging;
 mod performing;

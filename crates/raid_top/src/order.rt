@@ -2,14 +2,14 @@
 ghost use Rattle.std.specs.Prelude.{◌≡◌};
 ghost use Rattle.raid_conf.specs.Form.{IsConf};
 ghost use Rattle.top_words.specs.Views.{action_seen};
-ghost use Rattle.raid_top.specs.Orders.{first_label, kill_of, order_by};
+ghost use Rattle.raid_top.specs.Orders.{first_label, kill_of, order_by, order_for};
 
 use crate::array::Order;
 use raid_conf::Conf;
 use raid_label::Label;
 use top_acts::Renewal;
 use top_duty::plan_of;
-use top_words::Action;
+use top_words::{Action, Deed};
 
 // The label of an array that was never labelled.
 fn first_label(conf: &Conf, rows: u32, serial: u32) -> Label
@@ -45,6 +45,27 @@ fn kill_of(comp: Option<u32>, newest: Option<Label>) -> Option<Order>
     }
 }
 
+// What is to be done by the deed.
+fn order_for(
+    deed: Deed,
+    comp: Option<u32>,
+    newest: Option<Label>,
+    conf: &Conf,
+    rows: u32,
+) -> Option<Order>
+    requires { IsConf conf.now }
+    ensures { result ≡ order_for deed comp newest conf.now rows }
+{
+    match deed {
+        Deed::Looks | Deed::Serves => None,
+        Deed::Checks => Some(Order::Check),
+        Deed::Inits => Some(Order::Renew(Renewal::Init, newest)),
+        Deed::Rewrites => Some(Order::Renew(Renewal::Rewrite, newest)),
+        Deed::Kills => kill_of(comp, newest),
+        Deed::Labels { serial } => Some(Order::Label(first_label(conf, rows, serial))),
+    }
+}
+
 /// What is to be done to the array; None where clients are served.
 pub(crate) fn order_of(
     action: Action<'_>,
@@ -56,12 +77,5 @@ pub(crate) fn order_of(
     requires { IsConf conf.now }
     ensures { result ≡ order_by (action_seen action.entry) comp newest conf.now rows }
 {
-    match action {
-        Action::Init => Some(Order::Renew(Renewal::Init, newest)),
-        Action::Rewrite => Some(Order::Renew(Renewal::Rewrite, newest)),
-        Action::Check => Some(Order::Check),
-        Action::Fail { .. } => kill_of(comp, newest),
-        Action::Label { serial } => Some(Order::Label(first_label(conf, rows, serial))),
-        _ => None,
-    }
+    order_for(action.profile().deed, comp, newest, conf, rows)
 }

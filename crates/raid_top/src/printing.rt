@@ -11,7 +11,7 @@ ghost use Rattle.top_run.specs.Works.{service_seen};
 ghost use Rattle.top_status.specs.Status.{status_of_loss, status_text};
 ghost use Rattle.top_words.specs.Views.{action_seen};
 ghost use Rattle.raid_top.specs.Arrays.{ending_seen};
-ghost use Rattle.raid_top.specs.Outcome.{did_text, outcome_text, ran_text, script_text, service_text, status_of_act, status_of_done, sweep_text};
+ghost use Rattle.raid_top.specs.Outcome.{did_text, outcome_text, ran_text, run_text, script_text, service_text, status_of_act, status_of_done, sweep_text};
 ghost use Rattle.raid_top.specs.Rebuilt.{rebuild_text};
 ghost use Rattle.raid_top.specs.Views.{CanBePrinted, outcome_seen, status_came};
 
@@ -28,7 +28,7 @@ use top_looks::{put_label, put_show};
 use top_open::{Front, Opened};
 use top_run::Service;
 use top_status::{Status, put_ending, put_status};
-use top_words::Action;
+use top_words::{Action, Drawing};
 
 // Prints replies, history and trace.
 fn put_script<K: Sink>(service: &Service, out: &mut K) -> Result<(), Failed>
@@ -45,7 +45,8 @@ fn put_script<K: Sink>(service: &Service, out: &mut K) -> Result<(), Failed>
 // Prints the sums of a sweep, and nothing where the array was lost.
 fn put_sweep<K: Sink>(service: &Service, out: &mut K) -> Result<(), Failed>
     requires few { length service.now.clients.items ≤ 16 }
-    requires stand { StandFor service.now.clients.items service.now.replies.items service.now.sectors.items }
+    requires stand { StandFor
+        service.now.clients.items service.now.replies.items service.now.sectors.items }
     ensures output { K.tells → Puts (is_ok result) (K.output out.old)
         (sweep_text (service_seen service.now) service.now.lost) (K.output out.new) }
     ensures later { K.faults out.old ≤ K.faults out.new }
@@ -69,19 +70,33 @@ fn put_clients<K: Sink>(service: &Service, out: &mut K) -> Result<(), Failed>
     put_rebuilt(service.line, out)
 }
 
+// Prints the sums of clients that were drawn, or else what is told of a script and a rebuild.
+fn put_run_of<K: Sink>(drawn: Option<Drawing>, service: &Service, out: &mut K) -> Result<(), Failed>
+    requires few { length service.now.clients.items ≤ 16 }
+    requires stand { StandFor
+        service.now.clients.items service.now.replies.items service.now.sectors.items }
+    ensures output { K.tells → Puts (is_ok result) (K.output out.old)
+        (run_text drawn (service_seen service.now)) (K.output out.new) }
+    ensures later { K.faults out.old ≤ K.faults out.new }
+    ensures cause { OnErr result (Rose (K.faults out.old) (K.faults out.new)) }
+{
+    match drawn {
+        Some(_) => put_sweep(service, out),
+        None => put_clients(service, out),
+    }
+}
+
 // Prints what a run tells, but for its end.
 fn put_service<K: Sink>(action: Action<'_>, service: &Service, out: &mut K) -> Result<(), Failed>
     requires few { length service.now.clients.items ≤ 16 }
-    requires stand { StandFor service.now.clients.items service.now.replies.items service.now.sectors.items }
+    requires stand { StandFor
+        service.now.clients.items service.now.replies.items service.now.sectors.items }
     ensures output { K.tells → Puts (is_ok result) (K.output out.old)
         (service_text (action_seen action.entry) (service_seen service.now)) (K.output out.new) }
     ensures later { K.faults out.old ≤ K.faults out.new }
     ensures cause { OnErr result (Rose (K.faults out.old) (K.faults out.new)) }
 {
-    match action {
-        Action::Sweep { .. } => put_sweep(service, out),
-        _ => put_clients(service, out),
-    }
+    put_run_of(action.profile().drawn, service, out)
 }
 
 // Prints what a run tells, the columns that are dead in the end, and the status.
@@ -92,7 +107,8 @@ fn put_run<K: Sink>(
     out: &mut K,
 ) -> Result<(), Failed>
     requires few { length service.now.clients.items ≤ 16 }
-    requires stand { StandFor service.now.clients.items service.now.replies.items service.now.sectors.items }
+    requires stand { StandFor
+        service.now.clients.items service.now.replies.items service.now.sectors.items }
     requires status { status.now ≡ status_of_loss service.now.lost }
     ensures output { K.tells → Puts (is_ok result) (K.output out.old)
         (ran_text (action_seen action.entry) (service_seen service.now)) (K.output out.new) }

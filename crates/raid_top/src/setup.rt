@@ -79,10 +79,5 @@ pub(crate) fn workers_of(action: Action<'_>) -> u32
     requires { AreNumbersInRange (action_seen action) }
     ensures { result ≤ 16 }
 {
-    match action {
-        Action::Io { workers, .. }
-        | Action::Sweep { workers, .. }
-        | Action::Rebuild { workers, .. } => workers,
-        _ => 0,
-    }
+    action.profile().workers
 }

@@ -1,12 +1,12 @@
 //! The run of the words, and what it prints.
 ghost use Rattle.std.specs.Prelude.{◌≡◌, ◌≤◌, OnOk, OnErr};
 ghost use Rattle.blk_disk.specs.Disk.{Rose};
-ghost use Rattle.top_bay.specs.Told.{Told};
+ghost use Rattle.top_fetch.specs.Told.{Told};
 ghost use Rattle.raid_top.specs.Ends.{Answers, EndsWell, IsRight};
 
-use crate::act::act;
+use crate::finished::status_finished;
+use crate::invoking::invoke;
 use crate::paging::Telling;
-use crate::printing::status_of;
 use blk_disk::Failed;
 use put_line::{page_room, put_by_pages};
 use raid_bay::{Bay, Name, Sink};
@@ -26,8 +26,8 @@ fn answer_of(status: Status, printed: Result<(), Failed>) -> Status
     }
 }
 
-/// Does all that the program does: what the words ask for is run on the array of the configuration, and what came of it is
-/// printed. The answer is the status, or `SinkFault` where the output could not be printed whole.
+/// Does all that the program does: what the words ask for is done, and what came of it is printed.
+/// The answer is the status, or `SinkFault` where the output could not be printed whole.
 ///
 /// What came of the words is printed by pages, for which room is taken first; where there is none, line by line.
 ///
@@ -64,11 +64,11 @@ where
     ensures sink_later { K.faults out.old ≤ K.faults out.new }
 {
     let room = page_room(alloc).ok();
-    match act(rt, alloc, words, bay) {
-        Ok(ended) => {
-            let status = status_of(&ended.came);
+    match invoke(rt, alloc, words, bay) {
+        Ok(finished) => {
+            let status = status_finished(&finished);
             let told = Telling {
-                ended: &ended,
+                finished: &finished,
                 status: &status,
             };
             let printed = put_by_pages(&told, room, out);

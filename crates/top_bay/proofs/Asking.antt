@@ -8,53 +8,11 @@ use Rattle.raid_text.specs.Text.{Text}
 use Rattle.top_status.specs.declared.status.Status.{Status}
 use Rattle.top_status.specs.declared.status.Status.TheVariants as status
 use Rattle.top_status.specs.Refusals.{Refused, ◌then◌, only, text_in}
-use Rattle.top_words.specs.Asked.{Command, command_of}
-use Rattle.top_bay.specs.Told.{Told}
-use Rattle.top_bay.specs.Answers.{IsOrMemory, IsUsage, RefusedAs}
-use Rattle.top_bay.specs.Asked.{Asked, asked_in, book_in, comp_in, command_in, conf_in, device_in, devices_in, graphs_name, is_at_home, names_for, script_in, script_name, texts_in}
-
--- ## Parts that are refused
-
--- what a refused part leads to is refused so too
-pub refused_then : {A B : Type 0} (s : Status) (w : Result A Refused) (f : A → Result B Refused) → RefusedAs s w → RefusedAs s (w then f)
-refused_then status.BayFault w f h = tt
-refused_then status.Memory w f h = tt
-refused_then status.Ok w f h = ap (λ x. x then f) h
-refused_then (status.Usage i) w f h = ap (λ x. x then f) h
-refused_then (status.Conf l c) w f h = ap (λ x. x then f) h
-refused_then (status.Script l c) w f h = ap (λ x. x then f) h
-refused_then (status.GraphText l c) w f h = ap (λ x. x then f) h
-refused_then (status.NoFile n) w f h = ap (λ x. x then f) h
-refused_then status.SinkFault w f h = ap (λ x. x then f) h
-refused_then (status.Lost a b c) w f h = ap (λ x. x then f) h
-refused_then (status.Label a b c d) w f h = ap (λ x. x then f) h
-refused_then (status.Small a b c) w f h = ap (λ x. x then f) h
-refused_then (status.NotInSync n) w f h = ap (λ x. x then f) h
-refused_then status.NoSpare w f h = ap (λ x. x then f) h
-refused_then (status.LongText n) w f h = ap (λ x. x then f) h
-
-status_in : {A : Type 0} → Result A Refused → Status
-status_in (Ok x) = status.Ok
-status_in (Err r) = r.status
-
--- words that are no command are refused by their case
-pub usage_is : (words : List Text) (i : ℕ) (s : Status) → IsUsage s → RefusedAs s (command_in words) → command_of words ≡ Err i → IsOrMemory (status.Usage i) s
-unfolding command_in status_in
-usage_is words i (status.Usage j) is h e = let at : status_in (command_in words) ≡ status.Usage i = rw e refl in sym (ap status_in h) ∙ at
-usage_is words i status.Memory is h e = tt
-usage_is words i status.BayFault is h e = absurd is
-usage_is words i status.Ok is h e = absurd is
-usage_is words i (status.Conf l c) is h e = absurd is
-usage_is words i (status.Script l c) is h e = absurd is
-usage_is words i (status.GraphText l c) is h e = absurd is
-usage_is words i (status.NoFile n) is h e = absurd is
-usage_is words i status.SinkFault is h e = absurd is
-usage_is words i (status.Lost a b c) is h e = absurd is
-usage_is words i (status.Label a b c d) is h e = absurd is
-usage_is words i (status.Small a b c) is h e = absurd is
-usage_is words i (status.NotInSync n) is h e = absurd is
-usage_is words i status.NoSpare is h e = absurd is
-usage_is words i (status.LongText n) is h e = absurd is
+use Rattle.top_words.specs.Asked.{Command}
+use Rattle.top_fetch.specs.Told.{Told}
+use Rattle.top_fetch.specs.Answers.{RefusedAs}
+use Rattle.top_fetch.proofs.Refusing.{refused_then}
+use Rattle.top_bay.specs.Asked.{Asked, asked_in, book_in, comp_in, conf_in, device_in, devices_in, graphs_name, is_at_home, names_for, script_in, script_name, texts_in}
 
 -- ## Texts
 
@@ -69,27 +27,27 @@ unfolding script_in text_in
 script_in-same texts mid None book columns same = refl
 script_in-same texts mid (Some name) book columns same = let here : mid name ≡ texts name = same name in rw here refl
 
-module _ (texts : Text → Option Text) (words : List Text) (command : Command) (conf : Conf) where
-  pub refused_component : (s : Status) → command_in words ≡ Ok command → conf_in texts command.conf ≡ Ok conf
-      → RefusedAs s (comp_in conf command.action) → RefusedAs s (texts_in texts words)
+module _ (texts : Text → Option Text) (command : Command) (conf : Conf) where
+  pub refused_component : (s : Status) → conf_in texts command.conf ≡ Ok conf
+      → RefusedAs s (comp_in conf command.action) → RefusedAs s (texts_in texts command)
   unfolding texts_in
-  refused_component s one two h = rw (one, two) (refused_then s (comp_in conf command.action) _ h)
+  refused_component s one h = rw one (refused_then s (comp_in conf command.action) _ h)
 
-  pub refused_book : (comp : Option ℕ) (s : Status) → command_in words ≡ Ok command → conf_in texts command.conf ≡ Ok conf → comp_in conf command.action ≡ Ok comp
-      → RefusedAs s (book_in texts (graphs_name command.action)) → RefusedAs s (texts_in texts words)
+  pub refused_book : (comp : Option ℕ) (s : Status) → conf_in texts command.conf ≡ Ok conf → comp_in conf command.action ≡ Ok comp
+      → RefusedAs s (book_in texts (graphs_name command.action)) → RefusedAs s (texts_in texts command)
   unfolding texts_in
-  refused_book comp s one two three h = rw (one, two, three) (refused_then s (book_in texts (graphs_name command.action)) _ h)
+  refused_book comp s one two h = rw (one, two) (refused_then s (book_in texts (graphs_name command.action)) _ h)
 
-  pub refused_script : (comp : Option ℕ) (book : List Named) (s : Status) → command_in words ≡ Ok command → conf_in texts command.conf ≡ Ok conf → comp_in conf command.action ≡ Ok comp
-      → book_in texts (graphs_name command.action) ≡ Ok book → RefusedAs s (script_in texts (script_name command.action) book conf.columns) → RefusedAs s (texts_in texts words)
+  pub refused_script : (comp : Option ℕ) (book : List Named) (s : Status) → conf_in texts command.conf ≡ Ok conf → comp_in conf command.action ≡ Ok comp
+      → book_in texts (graphs_name command.action) ≡ Ok book → RefusedAs s (script_in texts (script_name command.action) book conf.columns) → RefusedAs s (texts_in texts command)
   unfolding texts_in
-  refused_script comp book s one two three four h = rw (one, two, three, four) (refused_then s (script_in texts (script_name command.action) book conf.columns) _ h)
+  refused_script comp book s one two three h = rw (one, two, three) (refused_then s (script_in texts (script_name command.action) book conf.columns) _ h)
 
-  pub all_read : (comp : Option ℕ) (book : List Named) (clients : List (List Item)) → command_in words ≡ Ok command → conf_in texts command.conf ≡ Ok conf → comp_in conf command.action ≡ Ok comp
+  pub all_read : (comp : Option ℕ) (book : List Named) (clients : List (List Item)) → conf_in texts command.conf ≡ Ok conf → comp_in conf command.action ≡ Ok comp
       → book_in texts (graphs_name command.action) ≡ Ok book → script_in texts (script_name command.action) book conf.columns ≡ Ok clients
-      → texts_in texts words ≡ Ok (record { command = command; conf = conf; comp = comp; book = book; clients = clients })
+      → texts_in texts command ≡ Ok (record { command = command; conf = conf; comp = comp; book = book; clients = clients })
   unfolding texts_in
-  all_read comp book clients one two three four five = rw (one, two, three, four, five) refl
+  all_read comp book clients one two three four = rw (one, two, three, four) refl
 
 -- ## Devices
 
@@ -142,11 +100,11 @@ found home (b ∷ name) e = passed (is_at_home home (b ∷ name)) (status.NoFile
 
 -- ## All of it
 
-module _ {D : Type 0} (b : Told D) (words : List Text) (asked : Asked) where
-  pub refused_devices : (s : Status) → texts_in b.texts words ≡ Ok asked → RefusedAs s (devices_in b.home (names_for asked)) → RefusedAs s (asked_in b words)
+module _ {D : Type 0} (b : Told D) (command : Command) (asked : Asked) where
+  pub refused_devices : (s : Status) → texts_in b.texts command ≡ Ok asked → RefusedAs s (devices_in b.home (names_for asked)) → RefusedAs s (asked_in b command)
   unfolding asked_in
   refused_devices s one h = rw one (refused_then s (devices_in b.home (names_for asked)) _ h)
 
-  pub all_asked : texts_in b.texts words ≡ Ok asked → devices_in b.home (names_for asked) ≡ Ok tt → asked_in b words ≡ Ok asked
+  pub all_asked : texts_in b.texts command ≡ Ok asked → devices_in b.home (names_for asked) ≡ Ok tt → asked_in b command ≡ Ok asked
   unfolding asked_in
   all_asked one two = rw (one, two) refl

@@ -13,7 +13,7 @@ use Rattle.raid_text.specs.Text.{Text}
 use Rattle.top_status.specs.declared.status.Status.{Status}
 use Rattle.top_status.specs.declared.status.Status.TheVariants as status
 use Rattle.top_status.specs.Refusals.{◌then◌, only, or_refusal}
-use Rattle.top_bay.specs.Answers.{AnswersAs}
+use Rattle.top_fetch.specs.Answers.{AnswersAs}
 use Rattle.top_bay.specs.Asked.{component_in}
 use Rattle.top_bay.specs.Views.{IsPlace}
 

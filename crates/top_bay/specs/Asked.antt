@@ -1,4 +1,4 @@
--- What a command asks for, or which refusal comes first, by its words and by what the bay has.
+-- What a command asks for, or which refusal comes first, by what the bay has.
 use Rattle.std.specs.Prelude.{ℕ, Bool, true, List, [], ◌∷◌, ◌++◌, Option, Some, None, Result, Ok, Err, if◌then◌else◌, is_some, option_and_then, option_map}
 use Rattle.std.specs.List.{position}
 use Rattle.std.specs.Str.{bytes_eq}
@@ -8,11 +8,13 @@ use Rattle.raid_conf.specs.Format.{conf_of}
 use Rattle.raid_conf.specs.declared.conf.Conf.{Conf}
 use Rattle.raid_script.specs.Format.{script_of}
 use Rattle.raid_script.specs.Asked.{Asked as Item}
-use Rattle.top_words.specs.Asked.{Action, Command, Io, Sweep, Show, Init, Check, Rewrite, Print, Fail, ShowLabel, Label, Rebuild, beside_of, command_of}
-use Rattle.top_status.specs.declared.status.Status.{Status}
+use Rattle.top_words.specs.Asked.{Action, Command, Component, Nameless, Column, Device, beside_of, profile_of}
+use Rattle.top_words.specs.declared.profile.Kind.{Kind}
+use Rattle.top_words.specs.declared.profile.Kind.TheVariants as kind
 use Rattle.top_status.specs.declared.status.Status.TheVariants as status
 use Rattle.top_status.specs.Refusals.{Refused, ◌then◌, only, or_refusal, text_in}
-use Rattle.top_bay.specs.Told.{Told}
+use Rattle.top_fetch.specs.Told.{Told}
+use Rattle.top_fetch.specs.Fetched.{or_status}
 
 -- What words and texts ask for: the command, the configuration, the place of the component that the command names, the graphs of the file, and the items of the script by client. Without a file there are no graphs, without a script no clients.
 pub record Asked : Type 0 where
@@ -21,15 +23,6 @@ pub record Asked : Type 0 where
   pub comp : Option ℕ
   pub book : List Named
   pub clients : List (List Item)
-
--- a value, or the status of a fault in its place
-abbrev pub or_status : {A F : Type 0} → (F → Status) → Result A F → Result A Refused
-or_status status_of (Ok x) = Ok x
-or_status status_of (Err fault) = Err (only (status_of fault))
-
--- the command that the words are
-unfoldable pub command_in : List Text → Result Command Refused
-command_in words = or_status (λ case. status.Usage case) (command_of words)
 
 -- the configuration of this name
 unfoldable pub conf_in : (Text → Option Text) → Text → Result Conf Refused
@@ -44,19 +37,15 @@ unfoldable pub component_in : List Text → Text → Result (Option ℕ) Refused
 component_in names [] = Err (only (status.Usage 3))
 component_in names (b ∷ name) = or_refusal (position (λ n. bytes_eq n (b ∷ name)) names) (status.Usage 3) then λ at. Ok (Some at)
 
--- the place of the component that an action names: a column's for one that is to fail or to be rebuilt, and a device's for one whose label is shown, the spares behind the columns
+-- the place of the component that is named: a column's for one of the columns' disks, and a
+-- device's for any device, the spares behind the columns
+abbrev pub comp_named : Conf → Component → Result (Option ℕ) Refused
+comp_named conf Nameless = Ok None
+comp_named conf (Column name) = component_in conf.disks name
+comp_named conf (Device name) = component_in (names_of conf) name
+
 abbrev pub comp_in : Conf → Action → Result (Option ℕ) Refused
-comp_in conf (Fail comp) = component_in conf.disks comp
-comp_in conf (ShowLabel comp) = component_in (names_of conf) comp
-comp_in conf (Io beside workers) = Ok None
-comp_in conf (Sweep seed clients ops workers) = Ok None
-comp_in conf (Rebuild in_place comp beside workers) = component_in conf.disks comp
-comp_in conf Show = Ok None
-comp_in conf Init = Ok None
-comp_in conf Check = Ok None
-comp_in conf Rewrite = Ok None
-comp_in conf Print = Ok None
-comp_in conf (Label serial) = Ok None
+comp_in conf action = comp_named conf (profile_of action).component
 
 -- the graphs of the file of this name, none where no file is named
 unfoldable pub book_in : (Text → Option Text) → Option Text → Result (List Named) Refused
@@ -75,19 +64,22 @@ graphs_name action = option_and_then (λ beside. beside.graphs) (beside_of actio
 abbrev pub script_name : Action → Option Text
 script_name action = option_map (λ beside. beside.script) (beside_of action)
 
--- the names of the devices that an action goes by: none where the configuration is printed, one where a label is shown
+-- the name of a component
+abbrev pub name_of : Component → List Text
+name_of Nameless = []
+name_of (Column name) = name ∷ []
+name_of (Device name) = name ∷ []
+
+-- the names of the devices that an action goes by: none where the configuration is printed, that of
+-- the component where a label is shown
+abbrev pub names_with : Conf → Kind → Component → List Text
+names_with conf kind.Array component = names_of conf
+names_with conf kind.Shown component = names_of conf
+names_with conf kind.Label component = name_of component
+names_with conf kind.Conf component = []
+
 abbrev pub names_by : Conf → Action → List Text
-names_by conf Print = []
-names_by conf (ShowLabel comp) = comp ∷ []
-names_by conf (Fail comp) = names_of conf
-names_by conf (Io beside workers) = names_of conf
-names_by conf (Sweep seed clients ops workers) = names_of conf
-names_by conf (Rebuild in_place comp beside workers) = names_of conf
-names_by conf Show = names_of conf
-names_by conf Init = names_of conf
-names_by conf Check = names_of conf
-names_by conf Rewrite = names_of conf
-names_by conf (Label serial) = names_of conf
+names_by conf action = names_with conf (profile_of action).kind (profile_of action).component
 
 -- the names of the devices that what is asked for goes by
 abbrev pub names_for : Asked → List Text
@@ -107,10 +99,10 @@ unfoldable pub devices_in : {D : Type 0} → (Text → Option D) → List Text �
 devices_in home [] = Ok tt
 devices_in home (name ∷ names) = device_in home name then λ there. devices_in home names
 
--- what words and texts ask for, or the first refusal: the words, the configuration, the component, the file of graphs, the script
-unfoldable pub texts_in : (Text → Option Text) → List Text → Result Asked Refused
-texts_in texts words =
-    command_in words then λ command.
+-- what a command and texts ask for, or the first refusal: the configuration, the component, the
+-- file of graphs, the script
+unfoldable pub texts_in : (Text → Option Text) → Command → Result Asked Refused
+texts_in texts command =
     conf_in texts command.conf then λ conf.
     comp_in conf command.action then λ comp.
     book_in texts (graphs_name command.action) then λ book.
@@ -118,5 +110,7 @@ texts_in texts words =
     Ok (record { command = command; conf = conf; comp = comp; book = book; clients = clients })
 
 -- and of a bay: behind all texts come the devices, those of the columns before the spares
-unfoldable pub asked_in : {D : Type 0} → Told D → List Text → Result Asked Refused
-asked_in b words = texts_in b.texts words then λ asked. devices_in b.home (names_for asked) then λ there. Ok asked
+unfoldable pub asked_in : {D : Type 0} → Told D → Command → Result Asked Refused
+asked_in b command =
+    texts_in b.texts command then λ asked.
+    devices_in b.home (names_for asked) then λ there. Ok asked

@@ -5,7 +5,7 @@ use Rattle.raid_conf.specs.Form.{IsConf}
 use Rattle.raid_script.specs.Asked.{AreFew, IsAsked, seen}
 use Rattle.raid_conf.specs.declared.conf.Conf.{Conf}
 use Rattle.raid_text.specs.Text.{Text}
-use Rattle.top_words.specs.Asked.{Action, Io, Sweep, Show, Init, Check, Rewrite, Print, Fail, ShowLabel, Label, Rebuild, AreNumbersInRange}
+use Rattle.top_words.specs.Asked.{Action, AreNumbersInRange, Component, Nameless, Column, Device, profile_of}
 use Rattle.top_words.specs.Views.{command_seen}
 use Rattle.top_bay.specs.Asked.{Asked, names_of}
 use Rattle.top_bay.specs.declared.asked.Asked as declared_asked
@@ -21,19 +21,14 @@ pub record IsPlace (names : List Text) (count : ℕ) (name : Text) (comp : Optio
   pub here : slice_get names at ≡ Some name
   pub named : name ≡ [] → ⊥
 
--- the component is known where an action names one: a column's disk, or any device
+-- the component is known where one is named: a column's disk, or any device
+abbrev pub IsNamed : Conf → Component → Option ℕ → Type 0
+IsNamed conf Nameless comp = comp ≡ None
+IsNamed conf (Column name) comp = IsPlace conf.disks conf.columns name comp
+IsNamed conf (Device name) comp = IsPlace (names_of conf) (length (names_of conf)) name comp
+
 abbrev pub IsKnown : Conf → Action → Option ℕ → Type 0
-IsKnown conf (Fail name) comp = IsPlace conf.disks conf.columns name comp
-IsKnown conf (ShowLabel name) comp = IsPlace (names_of conf) (length (names_of conf)) name comp
-IsKnown conf (Io beside workers) comp = comp ≡ None
-IsKnown conf (Sweep seed clients ops workers) comp = comp ≡ None
-IsKnown conf (Rebuild in_place name beside workers) comp = IsPlace conf.disks conf.columns name comp
-IsKnown conf Show comp = comp ≡ None
-IsKnown conf Init comp = comp ≡ None
-IsKnown conf Check comp = comp ≡ None
-IsKnown conf Rewrite comp = comp ≡ None
-IsKnown conf Print comp = comp ≡ None
-IsKnown conf (Label serial) comp = comp ≡ None
+IsKnown conf action comp = IsNamed conf (profile_of action).component comp
 
 -- What is asked for lies within the limits: of a command, of a configuration and a component of it, of graphs, and of a script for so many columns beside so many graphs.
 pub record IsWithinLimits (a : Asked) : Type 0 where

@@ -1,29 +1,29 @@
 //! What a command asks for.
-ghost use Rattle.std.specs.Prelude.{◌≡◌, ◌≤◌, ℕ, List, Ok, Err, length, vec_len, IfOk, IfErr, OnErr, IsErrOf, MatchResult};
+ghost use Rattle.std.specs.Prelude.{◌≡◌, ◌≤◌, ℕ, List, length, vec_len, IfOk, IfErr, OnErr, IsErrOf};
 ghost use Rattle.blk_disk.specs.Disk.{Rose};
-ghost use Rattle.top_words.specs.Asked.{command_of};
+ghost use Rattle.top_words.specs.Asked.{AreNumbersInRange};
 ghost use Rattle.top_words.specs.Views.{action_seen, command_seen, text_of};
-ghost use Rattle.top_bay.specs.Answers.{IsEarly, IsOrMemory, AnswersAs, RefusedAs};
+ghost use Rattle.top_fetch.specs.Answers.{IsEarly, AnswersAs};
 ghost use Rattle.top_bay.specs.Asked.{asked_in, graphs_name, names_for, script_name, texts_in};
 ghost use Rattle.top_bay.specs.Lent.{AreOut, IsLent};
-ghost use Rattle.top_bay.specs.Told.{IsRead, Told};
+ghost use Rattle.top_fetch.specs.Told.{IsRead, Told};
 ghost use Rattle.top_bay.specs.Views.{IsWithinLimits, asked_seen};
 
 use crate::component::open_component;
 use crate::devices::take_all;
-use crate::opening::{open_book, open_conf, open_script, open_words};
+use crate::opening::{open_book, open_conf, open_script};
 use eng_world::Item;
 use graph_text::Book;
-use raid_bay::{Bay, Name};
+use raid_bay::Bay;
 use raid_conf::Conf;
 use std::alloc::Global;
 use top_status::Status;
 use top_words::{Action, Command};
 
-/// What the words ask for, and what the texts that they name say.
+/// What a command asks for, and what the texts that it names say.
 #[derive(Drop)]
 pub struct Asked<'a> {
-    /// The command that the words are.
+    /// The command.
     pub command: Command<'a>,
     /// The configuration of the array.
     pub conf: Conf,
@@ -64,23 +64,19 @@ fn script_name<'a>(action: Action<'a>) -> Option<&'a str>
 #[tactic(auto, unfolding(crate::specs::Asked::texts_in))]
 fn read_texts<'a, B: Bay>(
     alloc: Global,
-    words: &'a [Name],
+    command: Command<'a>,
     bay: &mut B,
 ) -> Result<Asked<'a>, Status>
-    ensures answer { B.tells → AnswersAs asked_seen result (texts_in (B.text_of bay.old) words.entry.now) }
-    ensures command { IfOk result (λ a. command_of words.entry.now ≡ Ok (command_seen a.command)) }
-    ensures usage { (i : ℕ) → command_of words.entry.now ≡ Err i →
-        MatchResult result (λ _. ⊥) (IsOrMemory (Status.Usage i)) }
+    requires { AreNumbersInRange (action_seen command.action) }
+    ensures answer { B.tells → AnswersAs asked_seen result
+        (texts_in (B.text_of bay.old) (command_seen command.entry)) }
+    ensures command { IfOk result (λ a. a.command ≡ command.entry) }
     ensures within { IfOk result (λ a. IsWithinLimits (asked_seen a)) }
     ensures kind { IfErr result IsEarly }
     ensures cause { IsErrOf result Status.BayFault → Rose (B.faults bay.old) (B.faults bay.new) }
     ensures read { IsRead B.tells (B.text_of bay.old) (B.text_of bay.new)
         (B.home bay.old) (B.home bay.new) (B.faults bay.old) (B.faults bay.new) }
 {
-    let command = match open_words(alloc, words) {
-        Ok(command) => command,
-        Err(status) => return Err(status),
-    };
     let conf = match open_conf(alloc, command.conf, bay) {
         Ok(conf) => conf,
         Err(status) => return Err(status),
@@ -107,19 +103,22 @@ fn read_texts<'a, B: Bay>(
     })
 }
 
-/// What the words ask for, by the texts of the bay, and the devices that it goes by, which the bay has then lent.
+/// What a command asks for, by the texts of the bay, and the devices that it goes by, which the bay
+/// has then lent.
 ///
-/// Refused are, in this order: the words; the configuration, where there is no text of its name, or it is longer than
-/// 16,777,216 bytes, or not in its form; a component of another name than it has (`Usage` 3); in the same way as the
-/// configuration the file of graphs, and the script; and the first device that isn't there, the columns' disks before the
-/// spares. Where it is refused, the bay has all that it had. `BayFault` comes only where
-/// the bay's count of faults rose, and want of memory at any point.
+/// Refused are, in this order: the configuration, where there is no text of its name, or it is
+/// longer than 16,777,216 bytes, or not in its form; a component of another name than it has
+/// (`Usage` 3); in the same way as the configuration the file of graphs, and the script; and the
+/// first device that isn't there, the columns' disks before the spares. Where it is refused, the
+/// bay has all that it had. `BayFault` comes only where the bay's count of faults rose, and want
+/// of memory at any point.
 #[tactic(auto, unfolding(crate::specs::Asked::asked_in))]
 pub fn ask<'a, B: Bay>(
     alloc: Global,
-    words: &'a [Name],
+    command: Command<'a>,
     bay: &mut B,
 ) -> Result<Taken<'a, B::D>, Status>
+    requires { AreNumbersInRange (action_seen command.action) }
     ensures answer { B.tells → AnswersAs (λ t. asked_seen t.asked) result (asked_in
         (record {
           tells = B.tells;
@@ -127,10 +126,8 @@ pub fn ask<'a, B: Bay>(
           texts = B.text_of bay.old;
           home = B.home bay.old;
           after = B.home bay.new;
-        }) words.entry.now) }
-    ensures command { IfOk result (λ t. command_of words.entry.now ≡ Ok (command_seen t.asked.command)) }
-    ensures usage { (i : ℕ) → command_of words.entry.now ≡ Err i →
-        MatchResult result (λ _. ⊥) (IsOrMemory (Status.Usage i)) }
+        }) (command_seen command.entry)) }
+    ensures command { IfOk result (λ t. t.asked.command ≡ command.entry) }
     ensures within { IfOk result (λ t. IsWithinLimits (asked_seen t.asked)) }
     ensures many { IfOk result (λ t. vec_len t.devices ≡ length (names_for (asked_seen t.asked))) }
     ensures lent { IfOk result (λ t. B.tells →
@@ -141,7 +138,7 @@ pub fn ask<'a, B: Bay>(
     ensures later { B.faults bay.old ≤ B.faults bay.new }
     ensures cause { IsErrOf result Status.BayFault → Rose (B.faults bay.old) (B.faults bay.new) }
 {
-    let asked = match read_texts(alloc, words, bay) {
+    let asked = match read_texts(alloc, command, bay) {
         Ok(asked) => asked,
         Err(status) => return Err(status),
     };

@@ -1,38 +1,22 @@
-//! The words and texts of a command, opened and read.
-ghost use Rattle.std.specs.Prelude.{◌≡◌, ℕ, List, [], Ok, length, map, All, IfOk, IfErr, IsErrOf};
+//! The texts of a command, opened and read.
+ghost use Rattle.std.specs.Prelude.{◌≡◌, [], length, map, All, IfOk, IfErr, IsErrOf};
 ghost use Rattle.blk_disk.specs.Disk.{Rose};
 ghost use Rattle.graph_text.specs.FormatForm.{AreGraphs};
 ghost use Rattle.raid_conf.specs.Form.{IsConf};
 ghost use Rattle.raid_script.specs.Asked.{AreFew, IsAsked, seen};
-ghost use Rattle.top_words.specs.Asked.{AreNumbersInRange, command_of};
-ghost use Rattle.top_words.specs.Views.{action_seen, command_seen, text_of};
-ghost use Rattle.top_bay.specs.Answers.{IsEarly, IsUsage, AnswersAs};
-ghost use Rattle.top_bay.specs.Asked.{book_in, command_in, conf_in, script_in};
-ghost use Rattle.top_bay.specs.Told.{IsRead};
+ghost use Rattle.top_words.specs.Views.{text_of};
+ghost use Rattle.top_fetch.specs.Answers.{IsEarly, AnswersAs};
+ghost use Rattle.top_bay.specs.Asked.{book_in, conf_in, script_in};
+ghost use Rattle.top_fetch.specs.Told.{IsRead};
 
-use crate::texts::open_text;
 use eng_world::Item;
 use graph_text::{Book, BookFault, read_graphs};
-use raid_bay::{Bay, Name};
+use raid_bay::Bay;
 use raid_conf::{Conf, ConfFault, read_conf};
 use raid_script::{ScriptFault, read_script};
 use std::alloc::Global;
+use top_fetch::open_text;
 use top_status::Status;
-use top_words::{Command, WordsFault, read_words};
-
-#[tactic(auto, unfolding(crate::specs::Asked::command_in))]
-pub(crate) fn open_words<'a>(alloc: Global, words: &'a [Name]) -> Result<Command<'a>, Status>
-    ensures answer { AnswersAs command_seen result (command_in words.entry.now) }
-    ensures command { IfOk result (λ c. command_of words.entry.now ≡ Ok (command_seen c)) }
-    ensures range { IfOk result (λ c. AreNumbersInRange (action_seen c.action)) }
-    ensures kind { IfErr result IsUsage }
-{
-    match read_words(alloc, words) {
-        Ok(command) => Ok(command),
-        Err(WordsFault::Usage(case)) => Err(Status::Usage(case)),
-        Err(WordsFault::Memory) => Err(Status::Memory),
-    }
-}
 
 #[tactic(auto, unfolding(crate::specs::Asked::conf_in))]
 pub(crate) fn open_conf<B: Bay>(alloc: Global, name: &str, bay: &mut B) -> Result<Conf, Status>

@@ -1,13 +1,14 @@
 -- Items that are drawn are few, and may be asked.
-use Rattle.std.specs.Prelude.{◌≡◌, ◌<◌, ◌≤◌, ◌^◌, ℕ, List, length, get_or, sum_by, All, Option, None}
+use Rattle.std.specs.Prelude.{◌≡◌, ◌<◌, ◌≤◌, ◌^◌, ℕ, List, [], length, get_or, sum_by, All, Option, None, Some}
 use Rattle.std.specs.Option.{ForSome}
 use Rattle.std.proofs.Common.{arith}
 use Rattle.std.proofs.lemmas.List.Sums.{sum_by-le}
 use Rattle.std.proofs.lemmas.Option.{slice_get-get_or}
 use Rattle.raid_script.specs.Asked.{Asked, Writes, WritesAll, Reads, Syncs, Fails, Other, AreFew, IsAsked, read_sectors}
 use Rattle.raid_script.specs.Drawn.{AreApart, IsOwn}
-use Rattle.top_words.specs.Asked.{Action, Io, Sweep, Show, Init, Check, Rewrite, Print, Fail, ShowLabel, Label, Rebuild}
-use Rattle.top_duty.specs.Duty.{clients_by}
+use Rattle.top_words.specs.Asked.{Action, profile_of}
+use Rattle.top_words.specs.declared.profile.Drawing.{Drawing}
+use Rattle.top_duty.specs.Duty.{clients_by, drawn_or}
 use Rattle.top_duty.specs.Views.{drawn_by}
 
 own_sectors : (wide blocks client : ℕ) (a : Asked) → IsOwn wide blocks client a → read_sectors a ≤ 8
@@ -58,28 +59,16 @@ module _ (taken ops wide blocks : ℕ) (clients : List (List Asked)) (apart : Ar
 -- the clients that are run are within the limits, where those of the script and those that are drawn are
 pub either_asked : (columns graphs : ℕ) (action : Action) (scripted : List (List Asked)) (blocks : ℕ) → All (All (IsAsked columns graphs)) scripted → All (All (IsAsked columns graphs)) (drawn_by action blocks) → All (All (IsAsked columns graphs)) (clients_by action scripted blocks)
 unfolding clients_by
-either_asked columns graphs (Sweep seed clients ops workers) scripted blocks one two = two
-either_asked columns graphs (Io beside workers) scripted blocks one two = one
-either_asked columns graphs Show scripted blocks one two = one
-either_asked columns graphs Init scripted blocks one two = one
-either_asked columns graphs Check scripted blocks one two = one
-either_asked columns graphs Rewrite scripted blocks one two = one
-either_asked columns graphs Print scripted blocks one two = one
-either_asked columns graphs (Fail comp) scripted blocks one two = one
-either_asked columns graphs (ShowLabel comp) scripted blocks one two = one
-either_asked columns graphs (Label serial) scripted blocks one two = one
-either_asked columns graphs (Rebuild in_place comp beside workers) scripted blocks one two = one
+either_asked columns graphs action scripted blocks one two = go (profile_of action).drawn two
+  where
+    go : (drawing : Option Drawing) → All (All (IsAsked columns graphs)) (drawn_or drawing [] blocks) → All (All (IsAsked columns graphs)) (drawn_or drawing scripted blocks)
+    go None two = one
+    go (Some d) two = two
 
 pub either_few : (action : Action) (scripted : List (List Asked)) (blocks : ℕ) → AreFew scripted → AreFew (drawn_by action blocks) → AreFew (clients_by action scripted blocks)
 unfolding clients_by
-either_few (Sweep seed clients ops workers) scripted blocks one two = two
-either_few (Io beside workers) scripted blocks one two = one
-either_few Show scripted blocks one two = one
-either_few Init scripted blocks one two = one
-either_few Check scripted blocks one two = one
-either_few Rewrite scripted blocks one two = one
-either_few Print scripted blocks one two = one
-either_few (Fail comp) scripted blocks one two = one
-either_few (ShowLabel comp) scripted blocks one two = one
-either_few (Label serial) scripted blocks one two = one
-either_few (Rebuild in_place comp beside workers) scripted blocks one two = one
+either_few action scripted blocks one two = go (profile_of action).drawn two
+  where
+    go : (drawing : Option Drawing) → AreFew (drawn_or drawing [] blocks) → AreFew (drawn_or drawing scripted blocks)
+    go None two = one
+    go (Some d) two = two

@@ -6,8 +6,8 @@ use Rattle.std.proofs.lemmas.List.{length-append, length-map}
 use Rattle.eng_cols.specs.Cols.{is_set_filling, is_set_spread}
 use Rattle.raid_conf.specs.declared.conf.Conf.{Conf}
 use Rattle.raid_conf.specs.Form.{IsConf}
-use Rattle.top_bay.specs.Asked.{Asked, names_by, names_of}
-use Rattle.top_bay.specs.Views.{IsKnown, IsWithinLimits}
+use Rattle.top_bay.specs.Asked.{Asked, names_by, names_of, names_with}
+use Rattle.top_bay.specs.Views.{IsNamed, IsWithinLimits}
 use Rattle.top_open.specs.declared.fault.OpenFault.{OpenFault}
 use Rattle.top_open.specs.declared.fronts.Front.{Front}
 use Rattle.top_open.specs.declared.plan.Needs.{Needs}
@@ -17,9 +17,10 @@ use Rattle.top_open.proofs.Columns.{columns_count, few_spread, none_filling}
 use Rattle.top_open.proofs.WholeTables.{whole_tables}
 use Rattle.top_open.specs.Plan.{sectors_for}
 use Rattle.top_status.specs.Refusals.{◌then◌, only}
-use Rattle.top_words.specs.Asked.{Action, Io, Sweep, Show, Init, Check, Rewrite, Print, Fail, ShowLabel, Label, Rebuild}
-use Rattle.top_duty.specs.declared.kind.Kind.TheVariants as kind
-use Rattle.top_duty.specs.Opening.{AreTableRows, as_opened, is_named, kind_of, needs_for, needs_of, opened_by, or_fault, plan_of, present_of, status_of}
+use Rattle.top_words.specs.Asked.{Action, Component, Nameless, Column, Device, profile_of}
+use Rattle.top_words.specs.declared.profile.Kind.{Kind}
+use Rattle.top_words.specs.declared.profile.Kind.TheVariants as kind
+use Rattle.top_duty.specs.Opening.{AreTableRows, as_opened, excused_by, is_named, kind_of, needs_of, opened_by, or_fault, plan_of, present_of, status_of}
 use Rattle.top_duty.proofs.Deadened.{small_fewer, small_length}
 use Rattle.top_duty.proofs.Tables.{plan_is, stripes-most}
 
@@ -89,37 +90,19 @@ module _ (k : Asked) (sizes : List ℕ) (fronts : List Front) (o : Opened) (is :
 
 -- the column that is excused is one of them
 pub dead_within : (k : Asked) → IsWithinLimits k → ForSome (needs_of k).excused (λ c. c < k.conf.columns)
-dead_within k within = go k.command.action within.known
+dead_within k within = go (profile_of k.command.action).component within.known
   where
     nothing : (c : ℕ) → None ≡ Some c → c < k.conf.columns
     nothing c e = cc e
 
-    go : (action : Action) → IsKnown k.conf action k.comp → ForSome (needs_for action k.comp).excused (λ c. c < k.conf.columns)
-    go (Fail name) h = λ c e. let same : h.at ≡ c = cc (h.is, e) in omega (arith, same, h.within)
-    go (Io beside workers) h = nothing
-    go (Sweep seed clients ops workers) h = nothing
-    go Show h = nothing
-    go Init h = nothing
-    go Check h = nothing
-    go Rewrite h = nothing
-    go Print h = nothing
-    go (ShowLabel name) h = nothing
-    go (Label serial) h = nothing
-    go (Rebuild in_place name beside workers) h = λ c e. let same : h.at ≡ c = cc (h.is, e) in omega (arith, same, h.within)
+    go : (component : Component) → IsNamed k.conf component k.comp → ForSome (excused_by component k.comp) (λ c. c < k.conf.columns)
+    go Nameless h = nothing
+    go (Column name) h = λ c e. let same : h.at ≡ c = cc (h.is, e) in omega (arith, same, h.within)
+    go (Device name) h = nothing
 
 -- where an array is opened all devices are taken
 names_count : (conf : Conf) → IsConf conf → length (names_of conf) ≡ conf.columns + conf.spares
 names_count conf is = length-append conf.disks conf.spare_names ∙ omega (arith, is.disk_count, is.spare_count)
 
 pub array_names : (conf : Conf) (action : Action) → IsConf conf → kind_of action ≡ kind.Array → length (names_by conf action) ≡ conf.columns + conf.spares
-array_names conf (Io beside workers) is e = names_count conf is
-array_names conf (Sweep seed clients ops workers) is e = names_count conf is
-array_names conf Show is e = names_count conf is
-array_names conf Init is e = names_count conf is
-array_names conf Check is e = names_count conf is
-array_names conf Rewrite is e = names_count conf is
-array_names conf Print is e = cc e
-array_names conf (Fail name) is e = names_count conf is
-array_names conf (ShowLabel name) is e = cc e
-array_names conf (Label serial) is e = names_count conf is
-array_names conf (Rebuild in_place name beside workers) is e = names_count conf is
+array_names conf action is e = ap (λ (k : Kind). length (names_with conf k (profile_of action).component)) e ∙ names_count conf is

@@ -6,9 +6,10 @@ use Rattle.blk_disk.specs.Devices.{AreNamed, Changes, at_home, device_at, size_o
 use Rattle.blk_disk.specs.declared.disk.Disk.{Ghosts}
 use Rattle.blk_disk.proofs.DeviceLaws.{changes_size}
 use Rattle.raid_text.specs.Text.{Text}
-use Rattle.top_bay.specs.Answers.{RefusedAs}
+use Rattle.top_fetch.specs.Answers.{RefusedAs}
 use Rattle.top_bay.specs.Asked.{Asked, asked_in, names_for}
-use Rattle.top_bay.specs.Told.{Told}
+use Rattle.top_words.specs.Asked.{Command}
+use Rattle.top_fetch.specs.Told.{Told}
 use Rattle.top_open.specs.declared.fronts.Front.{Front}
 use Rattle.top_status.specs.declared.status.Status.{Status}
 use Rattle.top_status.specs.declared.status.Status.TheVariants as status
@@ -35,10 +36,10 @@ pub sizes_are : {D : Type 0} (size : D → ℕ) (home : Text → Option D) (name
 sizes_are size home names ds named = sizes_from size home names ds named.count named.each
 
 -- what is asked goes by the texts and devices alone
-pub asked_same : {D : Type 0} (tells rose now_rose : Type 0) (texts : Text → Option Text) (home after now_after : Text → Option D) (words : List Text)
-    → asked_in (record { tells = tells; rose = rose; texts = texts; home = home; after = after }) words ≡ asked_in (record { tells = tells; rose = now_rose; texts = texts; home = home; after = now_after }) words
+pub asked_same : {D : Type 0} (tells rose now_rose : Type 0) (texts : Text → Option Text) (home after now_after : Text → Option D) (command : Command)
+    → asked_in (record { tells = tells; rose = rose; texts = texts; home = home; after = after }) command ≡ asked_in (record { tells = tells; rose = now_rose; texts = texts; home = home; after = now_after }) command
 unfolding asked_in
-asked_same tells rose now_rose texts home after now_after words = refl
+asked_same tells rose now_rose texts home after now_after command = refl
 
 -- the size of one of these devices
 pub size_at : {D : Type 0} (g : Ghosts D) (ds : List (Option D)) (d : ℕ) → slice_index (sizes_of g.size ds) d ≡ size_of g ds d
@@ -61,27 +62,27 @@ sizes_by g (x ∷ old) (z ∷ new) many each =
 pub sizes_kept : {D : Type 0} (g : Ghosts D) (may : ℕ → ℕ → Type 0) (old new : List (Option D)) → Changes g may old new → sizes_of g.size new ≡ sizes_of g.size old
 sizes_kept g may old new changes = sizes_by g old new changes.count (λ d. changes_size g may old new d changes)
 
-module _ {D : Type 0} (g : Ghosts D) (b : Told D) (words : List Text) where
+module _ {D : Type 0} (g : Ghosts D) (b : Told D) (command : Command) where
   -- what is to be done, by the sizes of the devices
-  duty_from : (k : Asked) (ds : List (Option D)) (fronts : List Front) → asked_in b words ≡ Ok k → AreNamed b.home (names_for k) ds → duty_in g.size b words fronts ≡ duty_by k (sizes_of g.size ds) fronts
+  duty_from : (k : Asked) (ds : List (Option D)) (fronts : List Front) → asked_in b command ≡ Ok k → AreNamed b.home (names_for k) ds → duty_in g.size b command fronts ≡ duty_by k (sizes_of g.size ds) fronts
   unfolding duty_in
   duty_from k ds fronts e named = let sizes = sym (sizes_are g.size b.home (names_for k) ds named) in rw e (ap (λ (l : List ℕ). duty_by k l fronts) sizes)
 
-  duty_err : (r : Refused) (fronts : List Front) → asked_in b words ≡ Err r → duty_in g.size b words fronts ≡ Err r
+  duty_err : (r : Refused) (fronts : List Front) → asked_in b command ≡ Err r → duty_in g.size b command fronts ≡ Err r
   unfolding duty_in
   duty_err r fronts e = rw e refl
 
-  pub is_wanted : (k : Asked) (taken devices : List (Option D)) (fronts : List Front) (d : declared_duty.Duty) → asked_in b words ≡ Ok k → AreNamed b.home (names_for k) taken
-      → Changes g (λ _ _. ⊥) taken devices → IsDutyOver k (sizes_of g.size devices) fronts d → IsWanted (duty_in g.size b words fronts) (Ok (duty_seen k d))
+  pub is_wanted : (k : Asked) (taken devices : List (Option D)) (fronts : List Front) (d : declared_duty.Duty) → asked_in b command ≡ Ok k → AreNamed b.home (names_for k) taken
+      → Changes g (λ _ _. ⊥) taken devices → IsDutyOver k (sizes_of g.size devices) fronts d → IsWanted (duty_in g.size b command fronts) (Ok (duty_seen k d))
   is_wanted k taken devices fronts d e named stays over =
-      let same : duty_by k (sizes_of g.size devices) fronts ≡ duty_in g.size b words fronts = ap (λ (l : List ℕ). duty_by k l fronts) (sizes_kept g (λ _ _. ⊥) taken devices stays) ∙ sym (duty_from k taken fronts e named) in
+      let same : duty_by k (sizes_of g.size devices) fronts ≡ duty_in g.size b command fronts = ap (λ (l : List ℕ). duty_by k l fronts) (sizes_kept g (λ _ _. ⊥) taken devices stays) ∙ sym (duty_from k taken fronts e named) in
       subst (λ (w : Result Duty Refused). IsWanted w (Ok (duty_seen k d))) same (duty_wanted k (sizes_of g.size devices) fronts d over)
 
   -- what was asked is refused
-  refused_early : (r : Refused) → asked_in b words ≡ Err r → RefusedFor g b words r
-  refused_early r e = inl (record { fronts = []; wanted = wanted_err (duty_in g.size b words []) r (duty_err r [] e); read = λ k h. cc (e, h) })
+  refused_early : (r : Refused) → asked_in b command ≡ Err r → RefusedFor g b command r
+  refused_early r e = inl (record { fronts = []; wanted = wanted_err (duty_in g.size b command []) r (duty_err r [] e); read = λ k h. cc (e, h) })
 
-  pub refused_asking : (s : Status) → (s ≡ status.BayFault → b.rose) → RefusedAs s (asked_in b words) → RefusedFor g b words (only s)
+  pub refused_asking : (s : Status) → (s ≡ status.BayFault → b.rose) → RefusedAs s (asked_in b command) → RefusedFor g b command (only s)
   refused_asking status.BayFault rose h = inr (inl (refl, rose refl))
   refused_asking status.Memory rose h = inr (inr (inl refl))
   refused_asking status.Ok rose h = refused_early _ h
@@ -99,21 +100,21 @@ module _ {D : Type 0} (g : Ghosts D) (b : Told D) (words : List Text) where
   refused_asking (status.LongText n) rose h = refused_early _ h
 
   -- what was asked isn't done
-  pub refused_judging : (k : Asked) (taken devices : List (Option D)) (r : Refused) → asked_in b words ≡ Ok k → AreNamed b.home (names_for k) taken → AreNamed b.after (names_for k) devices
-      → Changes g (λ _ _. ⊥) taken devices → RefusedOver g k taken devices r → RefusedFor g b words r
+  pub refused_judging : (k : Asked) (taken devices : List (Option D)) (r : Refused) → asked_in b command ≡ Ok k → AreNamed b.home (names_for k) taken → AreNamed b.after (names_for k) devices
+      → Changes g (λ _ _. ⊥) taken devices → RefusedOver g k taken devices r → RefusedFor g b command r
   refused_judging k taken devices r e before after stays (inl memory) = inr (inr (inl memory))
   refused_judging k taken devices r e before after stays (inr h) = go h.wanted
     where
       w : Result Duty Refused
       w = duty_by k (sizes_of g.size devices) h.fronts
 
-      same : w ≡ duty_in g.size b words h.fronts
+      same : w ≡ duty_in g.size b command h.fronts
       same = ap (λ (l : List ℕ). duty_by k l h.fronts) (sizes_kept g (λ _ _. ⊥) taken devices stays) ∙ sym (duty_from k taken h.fronts e before)
 
-      read : (q : Asked) → asked_in b words ≡ Ok q → WasRead g b q h.fronts
+      read : (q : Asked) → asked_in b command ≡ Ok q → WasRead g b q h.fronts
       read q f = let one : k ≡ q = cc (e, f) in subst (λ (x : Asked). WasRead g b x h.fronts) one (record { taken = taken; back = devices; before = before; after = after; read = h.read })
 
-      go : IsWanted w (Err r) ⊎ WantsMemory w r → RefusedFor g b words r
+      go : IsWanted w (Err r) ⊎ WantsMemory w r → RefusedFor g b command r
       go (inl wanted) = inl (record { fronts = h.fronts; wanted = subst (λ (x : Result Duty Refused). IsWanted x (Err r)) same wanted; read = read })
       go (inr memory) = inr (inr (inr (record { fronts = h.fronts; wanted = subst (λ (x : Result Duty Refused). WantsMemory x r) same memory; read = read })))
 

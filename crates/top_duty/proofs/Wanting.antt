@@ -22,8 +22,8 @@ use Rattle.top_status.specs.declared.status.Status.TheVariants as status
 use Rattle.top_status.specs.Refusals.{Refused, only}
 use Rattle.top_duty.specs.declared.duty.Duty as declared_duty
 use Rattle.top_duty.specs.declared.duty.Duty.TheVariants as duty
-use Rattle.top_duty.specs.declared.kind.Kind.{Kind}
-use Rattle.top_duty.specs.declared.kind.Kind.TheVariants as kind
+use Rattle.top_words.specs.declared.profile.Kind.{Kind}
+use Rattle.top_words.specs.declared.profile.Kind.TheVariants as kind
 use Rattle.top_duty.specs.Duty.{Admitted, Duty, OnArray, Shows, OneLabel, PrintConf, IsWanted, LossIs, WantsMemory, admitted_with, beside_dead, clients_by, columns_of, duty_by, duty_for, is_past, is_past_bound, is_short, judged_states, layout_of, lost_by, rebuilds_by, rebuilds_of, traces, with_dead}
 use Rattle.top_duty.specs.Opening.{kind_of, needs_of, opened_by, status_of}
 use Rattle.top_duty.specs.Start.{start_in}

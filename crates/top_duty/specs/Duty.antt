@@ -1,4 +1,5 @@
--- What is to be done, or which refusal comes first: by words, texts, names, sizes, and sector 0 of the devices.
+-- What is to be done, or which refusal comes first: by texts, names, sizes, and sector 0 of the
+-- devices.
 use Rattle.std.specs.Prelude.{◌≡◌, ◌&&◌, ◌+◌, ℕ, Bool, false, List, length, map, Option, Some, None, is_none, Result, Ok, Err, if◌then◌else◌, nat_lt, slice_set}
 use Rattle.std.specs.Option.{option_map_or}
 use Rattle.lay_core.specs.Layout.{Shape, blocks_in}
@@ -11,10 +12,9 @@ use Rattle.eng_cols.specs.Cols.{ColumnState, state_set}
 use Rattle.eng_cols.specs.Lost.{IsLost, NotLost}
 use Rattle.raid_conf.specs.Layouts.{shape_of}
 use Rattle.raid_recon.specs.Counts.{count_below, is_stripe_of}
-use Rattle.raid_text.specs.Text.{Text}
 use Rattle.raid_script.specs.Asked.{Asked as Item}
 use Rattle.raid_script.specs.Drawn.{drawn}
-use Rattle.top_bay.specs.Told.{Told}
+use Rattle.top_fetch.specs.Told.{Told}
 use Rattle.top_bay.specs.Asked.{Asked, asked_in, names_for, names_of}
 use Rattle.top_bound.specs.Bound.{rebuilds_sum, trace_sum}
 use Rattle.top_open.specs.declared.fronts.Front.{Front}
@@ -23,9 +23,10 @@ use Rattle.top_status.specs.declared.status.Status.{Status}
 use Rattle.top_status.specs.declared.status.Status.TheVariants as status
 use Rattle.top_status.specs.Dead.{dead_columns}
 use Rattle.top_status.specs.Refusals.{Refused, ◌then◌, only}
-use Rattle.top_words.specs.Asked.{Action, Sweep, beside_of}
-use Rattle.top_duty.specs.declared.kind.Kind.{Kind}
-use Rattle.top_duty.specs.declared.kind.Kind.TheVariants as kind
+use Rattle.top_words.specs.Asked.{Action, Command, beside_of, profile_of}
+use Rattle.top_words.specs.declared.profile.Drawing.{Drawing}
+use Rattle.top_words.specs.declared.profile.Kind.{Kind}
+use Rattle.top_words.specs.declared.profile.Kind.TheVariants as kind
 use Rattle.top_duty.specs.Opening.{kind_of, needs_of, opened_by, sizes_in}
 use Rattle.top_duty.specs.Start.{rebuilds, start_in}
 
@@ -79,9 +80,12 @@ abbrev pub judged_states : Admitted → List ColumnState
 judged_states a = states_of (layout_of a) (judged_columns a)
 
 -- the items of the script, or those that are drawn for so many blocks
+abbrev pub drawn_or : Option Drawing → List (List Item) → ℕ → List (List Item)
+drawn_or None scripted blocks = scripted
+drawn_or (Some d) scripted blocks = drawn d.seed d.clients d.ops blocks
+
 unfoldable pub clients_by : Action → List (List Item) → ℕ → List (List Item)
-clients_by (Sweep seed clients ops workers) scripted blocks = drawn seed clients ops blocks
-clients_by action scripted blocks = scripted
+clients_by action scripted blocks = drawn_or (profile_of action).drawn scripted blocks
 
 abbrev pub admitted_with : Asked → Opened → Option Start → Admitted
 admitted_with k o start = record { asked = k; opened = o; clients = clients_by k.command.action k.clients (blocks_in (shape_of k.conf o.rows)); start = start }
@@ -97,9 +101,11 @@ duty_for kind.Conf k sizes fronts = Ok (PrintConf k)
 unfoldable pub duty_by : Asked → List ℕ → List Front → Result Duty Refused
 duty_by k sizes fronts = duty_for (kind_of k.command.action) k sizes fronts
 
--- the same, where neither words and texts nor names are refused
-unfoldable pub duty_in : {D : Type 0} → (D → ℕ) → Told D → List Text → List Front → Result Duty Refused
-duty_in size b words fronts = asked_in b words then λ k. duty_by k (sizes_in size b.home (names_for k)) fronts
+-- the same, where neither texts nor names are refused
+unfoldable pub duty_in : {D : Type 0} → (D → ℕ) → Told D → Command → List Front
+    → Result Duty Refused
+duty_in size b command fronts =
+    asked_in b command then λ k. duty_by k (sizes_in size b.home (names_for k)) fronts
 
 -- ## What is refused though it is admitted
 

@@ -20,61 +20,41 @@ use Rattle.top_open.specs.Opening.{Opened, opened_in}
 use Rattle.top_status.specs.declared.status.Status.{Status}
 use Rattle.top_status.specs.declared.status.Status.TheVariants as status
 use Rattle.top_status.specs.Refusals.{Refused, ◌then◌, only}
-use Rattle.top_words.specs.Asked.{Action, Io, Sweep, Show, Init, Check, Rewrite, Print, Fail, ShowLabel, Label, Rebuild}
-use Rattle.top_duty.specs.declared.kind.Kind.{Kind}
-use Rattle.top_duty.specs.declared.kind.Kind.TheVariants as kind
+use Rattle.top_words.specs.Asked.{Action, Component, Nameless, Column as OfColumn, Device, profile_of}
+use Rattle.top_words.specs.declared.profile.Kind.{Kind}
 
 -- ## What is asked
 
--- what an action makes of the array of its configuration: it is opened, and something is done with it; it is opened and shown; the label of one device is shown; or the configuration is printed
+-- what an action makes of the array of its configuration
 abbrev pub kind_of : Action → Kind
-kind_of (Io beside workers) = kind.Array
-kind_of (Sweep seed clients ops workers) = kind.Array
-kind_of Show = kind.Shown
-kind_of Init = kind.Array
-kind_of Check = kind.Array
-kind_of Rewrite = kind.Array
-kind_of Print = kind.Conf
-kind_of (Fail comp) = kind.Array
-kind_of (ShowLabel comp) = kind.Label
-kind_of (Label serial) = kind.Array
-kind_of (Rebuild in_place comp beside workers) = kind.Array
+kind_of action = (profile_of action).kind
 
--- sector 0 of the devices is read: not where they get their first labels, nor where only the configuration is printed
+-- sector 0 of the devices is read
 abbrev pub reads_fronts : Action → Bool
-reads_fronts (Io beside workers) = true
-reads_fronts (Sweep seed clients ops workers) = true
-reads_fronts Show = true
-reads_fronts Init = true
-reads_fronts Check = true
-reads_fronts Rewrite = true
-reads_fronts Print = false
-reads_fronts (Fail comp) = true
-reads_fronts (ShowLabel comp) = true
-reads_fronts (Label serial) = false
-reads_fronts (Rebuild in_place comp beside workers) = true
+reads_fronts action = (profile_of action).reads
 
--- the array is only looked at
-abbrev pub looks : Needs
-looks = record { plain = false; labels = false; excused = None; own = false; writes = false }
+-- the column that an action names, whose own device is refused for nothing
+abbrev pub excused_by : Component → Option ℕ → Option ℕ
+excused_by Nameless comp = None
+excused_by (OfColumn name) comp = comp
+excused_by (Device name) comp = None
 
--- its labels are written, where it has any
-abbrev pub writes : Needs
-writes = record { plain = false; labels = false; excused = None; own = false; writes = true }
+-- the disk onto which a column is rebuilt in place is judged for its size
+abbrev pub own_by : Option Bool → Bool
+own_by None = false
+own_by (Some in_place) = in_place
 
--- What an action asks of the opening: a column is failed or rebuilt of a labelled array alone, and its own device is refused for nothing; the disk onto which it is rebuilt in place is judged for its size. First labels are written without a look at those that there are.
+-- What an action asks of the opening: whether the array is opened as one without labels, has to
+-- have some, and gets some; the column that it fails or rebuilds; and whether that is rebuilt in
+-- place.
 abbrev pub needs_for : Action → Option ℕ → Needs
-needs_for (Io beside workers) comp = writes
-needs_for (Sweep seed clients ops workers) comp = writes
-needs_for Show comp = looks
-needs_for Init comp = writes
-needs_for Check comp = looks
-needs_for Rewrite comp = writes
-needs_for Print comp = looks
-needs_for (Fail name) comp = record { plain = false; labels = true; excused = comp; own = false; writes = true }
-needs_for (ShowLabel name) comp = looks
-needs_for (Label serial) comp = record { plain = true; labels = false; excused = None; own = false; writes = false }
-needs_for (Rebuild in_place name beside workers) comp = record { plain = false; labels = true; excused = comp; own = in_place; writes = true }
+needs_for action comp = record {
+  plain = (profile_of action).plain;
+  labels = (profile_of action).labels;
+  excused = excused_by (profile_of action).component comp;
+  own = own_by (profile_of action).rebuild;
+  writes = (profile_of action).writes;
+}
 
 abbrev pub needs_of : Asked → Needs
 needs_of k = needs_for k.command.action k.comp

@@ -1,5 +1,5 @@
 -- How a column is rebuilt: onto its own disk, onto a spare, or into the spare places of the other columns.
-use Rattle.std.specs.Prelude.{ℕ, zero, suc, ◌+◌, ◌*◌, ◌==◌, ◌&&◌, Bool, true, false, not, List, Option, Some, None, if◌then◌else◌, nat_le, option_map, slice_get, slice_index}
+use Rattle.std.specs.Prelude.{ℕ, zero, suc, ◌+◌, ◌*◌, ◌==◌, ◌&&◌, Bool, true, false, not, List, Option, Some, None, if◌then◌else◌, is_some, nat_le, option_map, slice_get, slice_index}
 use Rattle.std.specs.List.{list_any}
 use Rattle.eng_array.specs.declared.start.Start.{Start}
 use Rattle.eng_array.specs.declared.start.Start.TheVariants as start
@@ -11,7 +11,7 @@ use Rattle.top_bay.specs.Asked.{Asked}
 use Rattle.top_open.specs.declared.fronts.Front.{Front}
 use Rattle.top_open.specs.Opening.{Opened}
 use Rattle.top_open.specs.Seats.{is_unread}
-use Rattle.top_words.specs.Asked.{Action, Rebuild}
+use Rattle.top_words.specs.Asked.{Action, profile_of}
 
 -- ## A free spare
 
@@ -63,17 +63,20 @@ rebuild_if in_place conf o sizes fronts None = None
 rebuild_if in_place conf o sizes fronts (Some c) = rebuild_of in_place conf o sizes fronts c
 
 -- how the action begins a rebuild, by the array as it is opened; None where it begins none, or where there is nowhere to rebuild to
+abbrev pub start_with : Option Bool → Option ℕ → Conf → Opened → List ℕ → List Front → Option Start
+start_with None comp conf o sizes fronts = None
+start_with (Some in_place) comp conf o sizes fronts = rebuild_if in_place conf o sizes fronts comp
+
 abbrev pub start_by : Action → Option ℕ → Conf → Opened → List ℕ → List Front → Option Start
-start_by (Rebuild in_place name beside workers) comp conf o sizes fronts = rebuild_if in_place conf o sizes fronts comp
-start_by action comp conf o sizes fronts = None
+start_by action comp conf o sizes fronts =
+    start_with (profile_of action).rebuild comp conf o sizes fronts
 
 abbrev pub start_in : Asked → Opened → List ℕ → List Front → Option Start
 start_in k o sizes fronts = start_by k.command.action k.comp k.conf o sizes fronts
 
 -- the action rebuilds a column
 abbrev pub rebuilds : Action → Bool
-rebuilds (Rebuild in_place name beside workers) = true
-rebuilds action = false
+rebuilds action = is_some (profile_of action).rebuild
 
 -- the device that is to be filled couldn't be read
 abbrev pub has_failed : Option Start → List Front → Bool

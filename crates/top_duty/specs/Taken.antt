@@ -3,9 +3,10 @@ use Rattle.std.specs.Prelude.{◌≡◌, ◌⊎◌, Bool, true, false, List, len
 use Rattle.blk_disk.specs.Devices.{AreNamed, Changes}
 use Rattle.blk_disk.specs.declared.disk.Disk.{Ghosts}
 use Rattle.raid_text.specs.Text.{Text}
+use Rattle.top_words.specs.Asked.{Command}
 use Rattle.top_bay.specs.Asked.{Asked, asked_in, names_for}
 use Rattle.top_bay.specs.Lent.{IsMeant}
-use Rattle.top_bay.specs.Told.{Told}
+use Rattle.top_fetch.specs.Told.{Told}
 use Rattle.top_open.specs.declared.fronts.Front.{Front}
 use Rattle.top_open.specs.Fronts.{AreFronts, AreReadOnce}
 use Rattle.top_status.specs.declared.status.Status.TheVariants as status
@@ -34,21 +35,23 @@ module _ {D : Type 0} (g : Ghosts D) (b : Told D) where
     pub after : AreNamed b.after (names_for k) back
     pub read : Reads g (reads_fronts k.command.action) taken back fronts
 
-  -- The call is refused as words, texts, names, sizes and labels call for, the labels being those that were read.
-  pub record RefusedAt (words : List Text) (r : Refused) : Type 0 where
+  -- The call is refused as texts, names, sizes and labels call for, the labels being those that
+  -- were read.
+  pub record RefusedAt (command : Command) (r : Refused) : Type 0 where
     pub fronts : List Front
-    pub wanted : IsWanted (duty_in g.size b words fronts) (Err r)
-    pub read : (k : Asked) → asked_in b words ≡ Ok k → WasRead k fronts
+    pub wanted : IsWanted (duty_in g.size b command fronts) (Err r)
+    pub read : (k : Asked) → asked_in b command ≡ Ok k → WasRead k fronts
 
   -- Memory was wanted behind the opening, the labels being those that were read.
-  pub record MemoryAt (words : List Text) (r : Refused) : Type 0 where
+  pub record MemoryAt (command : Command) (r : Refused) : Type 0 where
     pub fronts : List Front
-    pub wanted : WantsMemory (duty_in g.size b words fronts) r
-    pub read : (k : Asked) → asked_in b words ≡ Ok k → WasRead k fronts
+    pub wanted : WantsMemory (duty_in g.size b command fronts) r
+    pub read : (k : Asked) → asked_in b command ≡ Ok k → WasRead k fronts
 
   -- why a call is refused: that; or the bay's count of faults rose; or memory was wanted before the opening, or behind it
-  abbrev pub RefusedFor : List Text → Refused → Type 0
-  RefusedFor words r = RefusedAt words r ⊎ (((r ≡ only status.BayFault) × b.rose) ⊎ ((r ≡ only status.Memory) ⊎ MemoryAt words r))
+  abbrev pub RefusedFor : Command → Refused → Type 0
+  RefusedFor command r = RefusedAt command r
+      ⊎ (((r ≡ only status.BayFault) × b.rose) ⊎ ((r ≡ only status.Memory) ⊎ MemoryAt command r))
 
 module _ {D : Type 0} (g : Ghosts D) (k : Asked) where
   -- What was asked is refused over these devices as their labels are read.

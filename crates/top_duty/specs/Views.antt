@@ -12,7 +12,6 @@ use Rattle.eng_world.specs.declared.item.Item.{Item as AnyItem}
 use Rattle.raid_conf.specs.declared.layouts.AnyLayout.{AnyLayout}
 use Rattle.raid_conf.specs.Layouts.{shape_in, shape_of}
 use Rattle.raid_script.specs.Asked.{Asked as Item, AreFew, IsAsked, seen}
-use Rattle.raid_script.specs.Drawn.{drawn}
 use Rattle.top_bay.specs.Asked.{Asked}
 use Rattle.top_open.specs.declared.fronts.Front.{Front}
 use Rattle.top_open.specs.Opening.{Opened, opened_seen}
@@ -23,12 +22,12 @@ use Rattle.top_status.specs.declared.status.Status.{Status}
 use Rattle.top_status.specs.declared.status.Status.TheVariants as status
 use Rattle.top_status.specs.Dead.{dead_columns}
 use Rattle.top_status.specs.Refusals.{Refused, only}
-use Rattle.top_words.specs.Asked.{Action, Sweep}
+use Rattle.top_words.specs.Asked.{Action, profile_of}
+use Rattle.top_words.specs.declared.profile.Kind.TheVariants as kind
 use Rattle.top_duty.specs.declared.duty.Duty as declared_duty
 use Rattle.top_duty.specs.declared.duty.Duty.TheVariants as duty
 use Rattle.top_duty.specs.declared.duty.Ready as declared_ready
-use Rattle.top_duty.specs.declared.kind.Kind.TheVariants as kind
-use Rattle.top_duty.specs.Duty.{Admitted, Duty, OnArray, Shows, OneLabel, PrintConf, IsWanted, WantsMemory, admitted_with, is_past, is_past_bound, is_short, judged_states, layout_of, states_of, with_dead}
+use Rattle.top_duty.specs.Duty.{Admitted, Duty, OnArray, Shows, OneLabel, PrintConf, IsWanted, WantsMemory, admitted_with, drawn_or, is_past, is_past_bound, is_short, judged_states, layout_of, states_of, with_dead}
 use Rattle.top_duty.specs.Fit.{IsFit, IsStartIf}
 use Rattle.top_duty.specs.Opening.{AreTableRows, kind_of, opened_by, status_of}
 use Rattle.top_duty.specs.Start.{has_failed, rebuilds, start_in}
@@ -37,10 +36,9 @@ use Rattle.top_duty.specs.Start.{has_failed, rebuilds, start_in}
 abbrev pub items_seen : List (Vec AnyItem Global) → List (List Item)
 items_seen clients = map (λ items. map seen items.items) clients
 
--- the items that are drawn for so many blocks, where that is the action
+-- the items that are drawn for so many blocks, where the action draws any
 abbrev pub drawn_by : Action → ℕ → List (List Item)
-drawn_by (Sweep seed clients ops workers) blocks = drawn seed clients ops blocks
-drawn_by action blocks = []
+drawn_by action blocks = drawn_or (profile_of action).drawn [] blocks
 
 -- ## What is opened
 

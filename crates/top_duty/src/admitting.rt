@@ -1,14 +1,13 @@
-//! What the words say is asked for, taken and made ready.
-ghost use Rattle.std.specs.Prelude.{◌≡◌, ◌⊎◌, ◌≤◌, ℕ, List, Ok, Err, length, vec_len, IfOk, IfErr, OnErr};
+//! What a command asks for, taken and made ready.
+ghost use Rattle.std.specs.Prelude.{◌≡◌, ◌≤◌, ℕ, List, Ok, length, vec_len, IfOk, IfErr, OnErr};
 ghost use Rattle.blk_disk.specs.Disk.{Rose};
 ghost use Rattle.blk_disk.specs.Devices.{Changes, StaysIf};
-ghost use Rattle.top_words.specs.Asked.{command_of};
+ghost use Rattle.top_words.specs.Asked.{AreNumbersInRange};
 ghost use Rattle.top_words.specs.Views.{action_seen, command_seen};
 ghost use Rattle.top_bay.specs.Asked.{names_for};
 ghost use Rattle.top_bay.specs.Lent.{AreOut};
-ghost use Rattle.top_bay.specs.Told.{Told};
+ghost use Rattle.top_fetch.specs.Told.{Told};
 ghost use Rattle.top_bay.specs.Views.{IsWithinLimits, asked_seen};
-ghost use Rattle.top_status.specs.Refusals.{only};
 ghost use Rattle.top_duty.specs.Admitted.{IsAdmitted};
 ghost use Rattle.top_duty.specs.Duty.{IsWanted, duty_in};
 ghost use Rattle.top_duty.specs.Opening.{reads_fronts, sizes_of};
@@ -19,11 +18,12 @@ use crate::duty::Duty;
 use crate::looking::{Seen, look};
 use crate::preparing::prepare;
 use blk_disk::Disk;
-use raid_bay::{Bay, Name};
+use raid_bay::Bay;
 use std::alloc::Global;
 use top_bay::{Asked, Taken, ask, put_all};
 use top_open::Front;
 use top_status::{Refusal, Status};
+use top_words::Command;
 
 /// What is asked for, the devices as they were looked at, and what is to be done.
 pub struct Admitted<'a, D> {
@@ -77,7 +77,8 @@ fn judge<D: Disk>(
     }
 }
 
-/// What the words ask for, the devices that it goes by, which the bay has then lent, and what is to be done.
+/// What a command asks for, the devices that it goes by, which the bay has then lent, and what is
+/// to be done.
 ///
 /// Refused are, in this order, what [`top_bay::ask`] refuses; labels and sizes that [`top_open::open_array`] refuses;
 /// an array that is lost by its columns, as the action makes them; a column that there is nowhere to rebuild to; and a
@@ -85,10 +86,11 @@ fn judge<D: Disk>(
 /// the bay has all devices again, of which nothing but sector 0 was read.
 pub fn admit<'a, B: Bay>(
     alloc: Global,
-    words: &'a [Name],
+    command: Command<'a>,
     bay: &mut B,
 ) -> Result<Admitted<'a, B::D>, Refusal>
-    ensures command { IfOk result (λ a. command_of words.entry.now ≡ Ok (command_seen a.asked.command)) }
+    requires { AreNumbersInRange (action_seen command.action) }
+    ensures command { IfOk result (λ a. a.asked.command ≡ command.entry) }
     ensures admitted { IfOk result (λ a. IsAdmitted B.D.Disk a) }
     ensures wanted { IfOk result (λ a. B.tells → IsWanted
         (duty_in B.D.size
@@ -98,7 +100,7 @@ pub fn admit<'a, B: Bay>(
           texts = B.text_of bay.old;
           home = B.home bay.old;
           after = B.home bay.new;
-        }) words.entry.now a.fronts.items)
+        }) (command_seen command.entry) a.fronts.items)
         (Ok (duty_seen (asked_seen a.asked) a.duty))) }
     ensures taken { IfOk result (λ a. DevicesAreTaken B.D.Disk
         (record {
@@ -117,14 +119,12 @@ pub fn admit<'a, B: Bay>(
           texts = B.text_of bay.old;
           home = B.home bay.old;
           after = B.home bay.new;
-        }) words.entry.now r) }
-    ensures usage { IfErr result (λ r. (i : ℕ) → command_of words.entry.now ≡ Err i →
-        (r ≡ only (Status.Usage i)) ⊎ (r ≡ only Status.Memory)) }
+        }) (command_seen command.entry) r) }
     ensures kind { IfErr result (λ r. IsRefusal (Rose (B.faults bay.old) (B.faults bay.new)) r.status) }
     ensures same { OnErr result (B.tells → (n : List ℕ) → StaysIf B.D.Disk (λ _. ⊥) (B.home bay.old n) (B.home bay.new n)) }
     ensures later { B.faults bay.old ≤ B.faults bay.new }
 {
-    let Taken { asked, mut devices } = match ask(alloc, words, bay) {
+    let Taken { asked, mut devices } = match ask(alloc, command, bay) {
         Ok(taken) => taken,
         Err(status) => return Err(Refusal::only(alloc, status)),
     };

@@ -1,7 +1,8 @@
 //! What is to be done with an array, before anything of it is written: its opening, its layout, the items of its clients, and
 //! whether it is refused.
 //!
-//! [`admit`] asks for what the words say, looks at the devices, and judges the array. Behind the refusals of `top_bay` come, in
+//! [`admit`] asks for what a command says, looks at the devices, and judges the array. Behind the
+//! refusals of `top_bay` come, in
 //! this order, what the labels and sizes of the devices call for, an array that is lost by its columns, a column that there is
 //! nowhere to rebuild to, and a trace that would pass its bound. What is refused is put back.
 #![tactic(auto)]
@@ -23,5 +24,4 @@ pub use admitting::{Admitted, admit};
 pub use clients::choose;
 pub use duty::{Duty, Ready};
 pub use judge::traces;
-pub use kind::Kind;
 pub use plan::plan_of;

@@ -1,32 +1,31 @@
 //! What an action asks of the opening.
-ghost use Rattle.std.specs.Prelude.{◌≡◌, false, true};
+ghost use Rattle.std.specs.Prelude.{◌≡◌};
 ghost use Rattle.top_bay.specs.Views.{asked_seen};
+ghost use Rattle.top_words.specs.Profiled.{component_seen};
 ghost use Rattle.top_words.specs.Views.{action_seen};
-ghost use Rattle.top_duty.specs.Opening.{needs_for, needs_of};
+ghost use Rattle.top_duty.specs.Opening.{excused_by, needs_for, needs_of, own_by};
 
 use top_bay::Asked;
 use top_open::Needs;
-use top_words::Action;
+use top_words::{Action, Component};
 
-/// What the array is opened for that is only looked at: nothing is asked.
-const NOTHING: Needs = Needs {
-    plain: false,
-    labels: false,
-    excused: None,
-    own: false,
-    writes: false,
-};
-
-// What is asked where this column fails: an array with labels. It is rebuilt in place where its own disk is sized.
-fn failing(comp: Option<u32>, own: bool) -> Needs
-    ensures { result ≡ record { plain = false; labels = true; excused = comp; own = own; writes = true } }
+// The column that an action names, whose own device is refused for nothing.
+fn excused_by(component: Component<'_>, comp: Option<u32>) -> Option<u32>
+    ensures { result ≡ excused_by (component_seen component.entry) comp }
 {
-    Needs {
-        labels: true,
-        excused: comp,
-        own,
-        writes: true,
-        ..NOTHING
+    match component {
+        Component::Column { .. } => comp,
+        Component::Nameless | Component::Device { .. } => None,
+    }
+}
+
+// Whether the disk onto which a column is rebuilt is its own.
+fn own_by(rebuild: Option<bool>) -> bool
+    ensures { result ≡ own_by rebuild }
+{
+    match rebuild {
+        Some(in_place) => in_place,
+        None => false,
     }
 }
 
@@ -34,18 +33,13 @@ fn failing(comp: Option<u32>, own: bool) -> Needs
 fn needs_for(action: Action<'_>, comp: Option<u32>) -> Needs
     ensures { result ≡ needs_for (action_seen action.entry) comp }
 {
-    match action {
-        Action::Io { .. } | Action::Sweep { .. } | Action::Init | Action::Rewrite => Needs {
-            writes: true,
-            ..NOTHING
-        },
-        Action::Fail { .. } => failing(comp, false),
-        Action::Rebuild { in_place, .. } => failing(comp, in_place),
-        Action::Label { .. } => Needs {
-            plain: true,
-            ..NOTHING
-        },
-        Action::Show | Action::Check | Action::ShowLabel { .. } | Action::Print => NOTHING,
+    let profile = action.profile();
+    Needs {
+        plain: profile.plain,
+        labels: profile.labels,
+        excused: excused_by(profile.component, comp),
+        own: own_by(profile.rebuild),
+        writes: profile.writes,
     }
 }
 

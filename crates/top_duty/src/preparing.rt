@@ -8,7 +8,7 @@ ghost use Rattle.raid_conf.specs.Layouts.{shape_of};
 ghost use Rattle.top_open.specs.Opening.{opened_seen};
 ghost use Rattle.top_bay.specs.Asked.{names_for};
 ghost use Rattle.top_bay.specs.Views.{IsWithinLimits, asked_seen};
-ghost use Rattle.top_duty.specs.declared.kind.Kind.TheVariants as kind;
+ghost use Rattle.top_words.specs.declared.profile.Kind.TheVariants as kind;
 ghost use Rattle.top_duty.specs.Duty.{admitted_with, duty_by, duty_for, with_dead};
 ghost use Rattle.top_duty.specs.Opening.{AreTableRows, kind_of, needs_of, opened_by};
 ghost use Rattle.top_duty.specs.Views.{IsDutyOver, IsMade, IsPrepared, IsRefusal, MayBeDone, RefusedAfter, RefusedHere, dead_beside};
@@ -16,7 +16,7 @@ ghost use Rattle.top_duty.specs.Views.{IsDutyOver, IsMade, IsPrepared, IsRefusal
 use crate::clients::draw;
 use crate::duty::{Duty, Ready};
 use crate::judge::judge_for;
-use crate::kind::{Kind, kind_of};
+use crate::kind::kind_of;
 use crate::needs::needs_of;
 use crate::opening::{open, status_of};
 use crate::refusing::refusal;
@@ -32,6 +32,7 @@ use std::alloc::Global;
 use top_bay::Asked;
 use top_open::{Front, Opened};
 use top_status::{Refusal, Status};
+use top_words::Kind;
 
 /// What an array needs beside its columns.
 struct Parts {

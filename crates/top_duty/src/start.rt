@@ -7,7 +7,7 @@ ghost use Rattle.top_bay.specs.Views.{asked_seen};
 ghost use Rattle.top_open.specs.Opening.{opened_seen};
 ghost use Rattle.top_open.specs.Seats.{is_unread};
 ghost use Rattle.top_words.specs.Views.{action_seen};
-ghost use Rattle.top_duty.specs.Start.{free_spare, has_failed, has_places, is_free, is_on, rebuild_of, rebuilds, start_in};
+ghost use Rattle.top_duty.specs.Start.{free_spare, has_failed, has_places, is_free, is_on, rebuild_of, rebuilds, start_in, start_with};
 
 use crate::plan::size_at;
 use blk_disk::DATA_SECTOR;
@@ -112,6 +112,27 @@ fn rebuild_of(
     }
 }
 
+// The rebuild of the column that is known, if one is to be rebuilt.
+fn start_with(
+    rebuild: Option<bool>,
+    comp: Option<u32>,
+    conf: &Conf,
+    opened: &Opened,
+    sizes: &[u64],
+    fronts: &[Front],
+) -> Option<Start>
+    requires { IsConf conf.now }
+    ensures { result ≡ start_with
+        rebuild comp conf.now (opened_seen opened.now) sizes.now fronts.now }
+{
+    match (rebuild, comp) {
+        (Some(in_place), Some(column)) => {
+            rebuild_of(in_place, conf, opened, sizes, fronts, column)
+        }
+        _ => None,
+    }
+}
+
 /// How the action begins a rebuild of its component's column, by the array as it is opened: `-R` onto the column's own disk;
 /// `-F` onto the first spare that is in no seat, is large enough and could be read, or else into the spare places, where the
 /// level has them and no column is spread. None where no column is to be rebuilt, and where there is nowhere to rebuild to.
@@ -124,22 +145,17 @@ pub(crate) fn start_in(
     requires { IsConf asked.now.conf }
     ensures { result ≡ start_in (asked_seen asked.now) (opened_seen opened.now) sizes.now fronts.now }
 {
-    match asked.command.action {
-        Action::Rebuild { in_place, .. } => match asked.comp {
-            Some(column) => rebuild_of(in_place, &asked.conf, opened, sizes, fronts, column),
-            None => None,
-        },
-        _ => None,
-    }
+    let rebuild = asked.command.action.profile().rebuild;
+    start_with(rebuild, asked.comp, &asked.conf, opened, sizes, fronts)
 }
 
 /// Whether a column is to be rebuilt, and there is nowhere to.
 pub(crate) fn is_short(action: Action<'_>, start: Option<Start>) -> bool
     ensures { result ≡ (rebuilds (action_seen action.entry) && is_none start) }
 {
-    match action {
-        Action::Rebuild { .. } => start.is_none(),
-        _ => false,
+    match action.profile().rebuild {
+        Some(_) => start.is_none(),
+        None => false,
     }
 }
 

@@ -1,14 +1,14 @@
-use Rattle.std.proofs.Common.{arith, ◌≡◌, subst, length}
+use Rattle.std.proofs.Common.{arith, ◌≡◌, ap, subst, length}
 use Rattle.std.specs.Prelude.{Ok}
 use Rattle.std.proofs.lemmas.Result.{IfOk-weaker}
 use Rattle.blk_disk.specs.Disk.{Rose}
 use Rattle.top_bay.specs.Asked.{names_for}
-use Rattle.top_bay.specs.Told.{Told}
+use Rattle.top_fetch.specs.Told.{Told}
 use Rattle.top_bay.specs.Views.{asked_seen}
 use Rattle.top_duty.specs.Duty.{IsWanted}
 use Rattle.top_duty.specs.Opening.{reads_fronts}
 use Rattle.top_duty.specs.Views.{duty_seen}
-use Rattle.top_words.specs.Views.{action_seen}
+use Rattle.top_words.specs.Views.{action_seen, command_seen}
 use Rattle.raid_top.specs.Views.{outcome_seen}
 use Rattle.raid_top.proofs.Acting.{acted_of, asked_of_seen, refused_of}
 use Rattle.raid_top.proofs.Keeping.{both_err}
@@ -41,8 +41,8 @@ returns-in-Ok-clause-acted g c =
     let told : Told _ = record { tells = B.tells; rose = rose; texts = texts; home = home; after = after } in
     let many : length a.devices.items ≡ length (names_for k) = omega (arith, e.out.0, a.devices.ok.0) in
     IfOk-weaker c.end.result _ _ (λ x done.
-    acted_of g.B.D.Disk told c.args.words.now mid first k (duty_seen k a.duty) a.fronts.items a.devices.items (asked_of_seen k a.duty) e.command
-    (λ t. subst (λ w. IsWanted w (Ok (duty_seen k a.duty))) (duty_same g.B.D.Disk.size B.tells first rose texts home mid after c.args.words.now a.fronts.items) (e.wanted t))
+    acted_of g.B.D.Disk told (command_seen c.args.command) mid first k (duty_seen k a.duty) a.fronts.items a.devices.items (asked_of_seen k a.duty) (ap command_seen e.command)
+    (λ t. subst (λ w. IsWanted w (Ok (duty_seen k a.duty))) (duty_same g.B.D.Disk.size B.tells first rose texts home mid after (command_seen c.args.command) a.fronts.items) (e.wanted t))
     e.taken (outcome_seen (action_seen x.action) x.conf x.came) many done) c.end.ensures.done
 
 pub returns-in-Ok-clause-refused : goal.returns-in-Ok-clause-refused
@@ -60,6 +60,6 @@ returns-in-Ok-clause-refused g c =
     let told : Told _ = record { tells = B.tells; rose = rose; texts = texts; home = home; after = after } in
     let many : length a.devices.items ≡ length (names_for k) = omega (arith, e.out.0, a.devices.ok.0) in
     both_err c.end.result c.end.ensures.memory c.end.ensures.same (λ r memory back.
-    refused_of g.B.D.Disk told c.args.words.now mid first k (duty_seen k a.duty) a.fronts.items a.devices.items (asked_of_seen k a.duty) e.command
-    (λ t. subst (λ w. IsWanted w (Ok (duty_seen k a.duty))) (duty_same g.B.D.Disk.size B.tells first rose texts home mid after c.args.words.now a.fronts.items) (e.wanted t))
+    refused_of g.B.D.Disk told (command_seen c.args.command) mid first k (duty_seen k a.duty) a.fronts.items a.devices.items (asked_of_seen k a.duty) (ap command_seen e.command)
+    (λ t. subst (λ w. IsWanted w (Ok (duty_seen k a.duty))) (duty_same g.B.D.Disk.size B.tells first rose texts home mid after (command_seen c.args.command) a.fronts.items) (e.wanted t))
     e.taken r (B.is_out c.admit.new.bay) many e.out.1 memory back)

@@ -1,24 +1,22 @@
 use Rattle.std.proofs.Common.{refl, ◌∙◌}
 use Rattle.blk_disk.specs.Disk.{Rose}
 use Rattle.top_status.specs.Refusals.{refusal_text}
-use Rattle.top_words.specs.Views.{action_seen}
-use Rattle.raid_top.specs.Outcome.{Refuses, outcome_text}
-use Rattle.raid_top.specs.Views.{outcome_seen}
+use Rattle.raid_top.specs.Calls.{Refuses, call_text}
+use Rattle.raid_top.specs.Finished.{finished_seen}
 use Rattle.raid_top.proofs.Completing.{complete_of}
-use Rattle.raid_top.proofs.Endings.{acts_of, printed_of, status_same}
+use Rattle.raid_top.proofs.Endings.{acts_of, finished_status, printed_of}
 use Rattle.raid_top.proofs.top.run.Goals as goal
 
 pub returns-in-Ok-clause-answer : goal.returns-in-Ok-clause-answer
 returns-in-Ok-clause-answer g c =
     let K = g.K.Sink in
-    let e = c.in-Ok.ended in
-    let outcome = outcome_seen (action_seen e.action) e.conf e.came in
-    let ending = c.status_of-status.result in
+    let f = c.in-Ok.finished in
+    let ending = c.status_finished-status.result in
     record {
       status = ending;
-      text = outcome_text outcome;
-      ends = record { outcome = outcome; status = c.status_of-status.ensures ∙ status_same (action_seen e.action) e.conf e.came; text = refl; acts = acts_of _ _ _ (action_seen e.action) e.conf e.came c.in-Ok.ensures.acted };
-      printed = printed_of K.tells (Rose (K.faults c.args.out.now) (K.faults c.put_by_pages-printed.new.out)) ending c.answer_of.result (outcome_text outcome) (K.output c.args.out.now) (K.output c.put_by_pages-printed.new.out) c.put_by_pages-printed.result c.answer_of.ensures.ok c.answer_of.ensures.err c.put_by_pages-printed.ensures.output c.put_by_pages-printed.ensures.cause;
+      text = call_text (finished_seen f);
+      ends = record { outcome = finished_seen f; status = c.status_finished-status.ensures ∙ finished_status f; text = refl; acts = acts_of _ _ _ f c.in-Ok.ensures.followed };
+      printed = printed_of K.tells (Rose (K.faults c.args.out.now) (K.faults c.put_by_pages-printed.new.out)) ending c.answer_of.result (call_text (finished_seen f)) (K.output c.args.out.now) (K.output c.put_by_pages-printed.new.out) c.put_by_pages-printed.result c.answer_of.ensures.ok c.answer_of.ensures.err c.put_by_pages-printed.ensures.output c.put_by_pages-printed.ensures.cause;
     }
 
 pub returns-in-Err-clause-answer : goal.returns-in-Err-clause-answer
@@ -34,7 +32,7 @@ returns-in-Err-clause-answer g c =
     }
 
 pub returns-in-Ok-clause-complete : goal.returns-in-Ok-clause-complete
-returns-in-Ok-clause-complete g c = λ told right sound quiet. complete_of _ _ _ told right sound _ _ _ _ _ (returns-in-Ok-clause-answer g c) quiet
+returns-in-Ok-clause-complete g c = λ told right sound quiet. complete_of _ _ _ told sound right _ _ _ _ _ (returns-in-Ok-clause-answer g c) quiet
 
 pub returns-in-Err-clause-complete : goal.returns-in-Err-clause-complete
-returns-in-Err-clause-complete g c = λ told right sound quiet. complete_of _ _ _ told right sound _ _ _ _ _ (returns-in-Err-clause-answer g c) quiet
+returns-in-Err-clause-complete g c = λ told right sound quiet. complete_of _ _ _ told sound right _ _ _ _ _ (returns-in-Err-clause-answer g c) quiet

@@ -1,8 +1,9 @@
 use Rattle.std.proofs.Common.{subst}
 use Rattle.blk_disk.specs.Disk.{Rose}
-use Rattle.top_bay.specs.Answers.{RefusedAs}
+use Rattle.top_fetch.specs.Answers.{RefusedAs}
 use Rattle.top_bay.specs.Asked.{names_for}
 use Rattle.top_bay.specs.Views.{asked_seen}
+use Rattle.top_words.specs.Views.{command_seen}
 use Rattle.top_bay.proofs.Asking.{devices_in-same, refused_devices}
 use Rattle.top_bay.proofs.asked.ask.Goals as goal
 
@@ -12,5 +13,5 @@ returns-clause-answer g c = λ told.
     let s = c.in-Err-take_all.status in
     refused_devices
     (record { tells = B.tells; rose = Rose (B.faults c.args.bay.now) (B.faults c.take_all.new.bay); texts = B.text_of c.args.bay.now; home = B.home c.args.bay.now; after = B.home c.take_all.new.bay })
-    c.args.words.now (asked_seen c.in-Ok.asked) s (c.in-Ok.ensures.answer told)
+    (command_seen c.args.command) (asked_seen c.in-Ok.asked) s (c.in-Ok.ensures.answer told)
     (subst (λ w. RefusedAs s w) (devices_in-same (B.home c.args.bay.now) (B.home c.read_texts.new.bay) (names_for (asked_seen c.in-Ok.asked)) (c.in-Ok.ensures.read.homes told)) (c.in-Err-take_all.ensures.answer told))

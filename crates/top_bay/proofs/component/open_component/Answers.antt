@@ -1,12 +1,13 @@
-use Rattle.std.proofs.Common.{refl, take, length, arith}
-use Rattle.std.proofs.lemmas.List.{take_all}
-use Rattle.top_bay.specs.Asked.{names_of}
-use Rattle.top_bay.proofs.Places.{known_among, opens_among}
+use Rattle.std.proofs.Common.{subst}
+use Rattle.top_fetch.specs.Answers.{AnswersAs}
+use Rattle.std.specs.Prelude.{IfOk}
+use Rattle.top_words.specs.Asked.{Profile}
+use Rattle.top_bay.specs.Asked.{comp_named}
+use Rattle.top_bay.specs.Views.{IsNamed}
 use Rattle.top_bay.proofs.component.open_component.Goals as goal
 
-pub returns-in-ShowLabel-clause-known : goal.returns-in-ShowLabel-clause-known
-returns-in-ShowLabel-clause-known c =
-    let names = names_of c.args.conf.now in
-    let name = c.in-ShowLabel.comp.now in
-    rw c.in-ShowLabel.is (known_among c.component.result names (length names) name refl
-    (opens_among c.component.result (take c.count.result names) names name (take_all c.count.result names (omega (arith, c.count.ensures))) c.component.ensures.answer))
+pub returns-clause-answer : goal.returns-clause-answer
+returns-clause-answer c = subst (λ (p : Profile). AnswersAs (λ comp. comp) c.named.result (comp_named c.args.conf.now p.component)) c.profile.ensures c.named.ensures.answer
+
+pub returns-clause-known : goal.returns-clause-known
+returns-clause-known c = subst (λ (p : Profile). IfOk c.named.result (IsNamed c.args.conf.now p.component)) c.profile.ensures c.named.ensures.known

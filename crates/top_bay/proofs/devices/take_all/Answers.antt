@@ -1,6 +1,6 @@
 use Rattle.std.proofs.Common.{◌≡◌, ◌∙◌, ⊎_elim, ℕ, List, [], ◌∷◌, ◌++◌, Some, length, slice_get, ap, sym, subst, arith}
 use Rattle.std.proofs.lemmas.Bool.{cases_lt}
-use Rattle.top_bay.specs.Answers.{RefusedAs}
+use Rattle.top_fetch.specs.Answers.{RefusedAs}
 use Rattle.top_words.specs.Views.{action_seen}
 use Rattle.top_bay.specs.Asked.{is_at_home, names_by}
 use Rattle.top_bay.proofs.NamesBy.{differ_by}

@@ -4,11 +4,11 @@ use Rattle.blk_disk.specs.Disk.{Rose}
 use Rattle.blk_disk.specs.Devices.{AreNamed, Changes}
 use Rattle.top_bay.specs.Asked.{names_for}
 use Rattle.top_bay.specs.Lent.{AreBack, AreOut}
-use Rattle.top_bay.specs.Told.{Told}
+use Rattle.top_fetch.specs.Told.{Told}
 use Rattle.top_bay.specs.Views.{asked_seen}
 use Rattle.top_bay.proofs.Homes.{lent_are_named}
 use Rattle.top_status.specs.Refusals.{Refused}
-use Rattle.top_words.specs.Views.{action_seen}
+use Rattle.top_words.specs.Views.{action_seen, command_seen}
 use Rattle.top_duty.specs.Opening.{reads_fronts, sizes_of}
 use Rattle.top_duty.specs.Taken.{DevicesAreTaken, Reads, RefusedFor, RefusedOver}
 use Rattle.top_duty.specs.Views.{IsDutyOver, IsFitFor}
@@ -20,8 +20,8 @@ pub returns-in-Err-clause-refused : goal.returns-in-Err-clause-refused
 returns-in-Err-clause-refused g c = λ told.
     let B = g.B.Bay in
     let b : Told _ = record { tells = B.tells; rose = Rose (B.faults c.args.bay.now) (B.faults c.ask.new.bay); texts = B.text_of c.args.bay.now; home = B.home c.args.bay.now; after = B.home c.ask.new.bay } in
-    subst (λ (r : Refused). RefusedFor g.B.D.Disk b c.args.words.now r) (sym c.only.ensures)
-    (refused_asking g.B.D.Disk b c.args.words.now c.in-Err.status (λ e. c.in-Err.ensures.cause (ap (λ s. Err s) e)) (c.in-Err.ensures.answer told))
+    subst (λ (r : Refused). RefusedFor g.B.D.Disk b (command_seen c.args.command) r) (sym c.only.ensures)
+    (refused_asking g.B.D.Disk b (command_seen c.args.command) c.in-Err.status (λ e. c.in-Err.ensures.cause (ap (λ s. Err s) e)) (c.in-Err.ensures.answer told))
 
 pub returns-in-Ok-judge-clause-admitted : goal.returns-in-Ok-judge-clause-admitted
 returns-in-Ok-judge-clause-admitted g c =
@@ -52,7 +52,7 @@ returns-in-Ok-judge-clause-wanted g c = λ told.
     let many : length ds ≡ length names = omega (arith, c.in-Ok.ensures.many, c.in-Ok.taken.devices.ok.0) in
     let named = lent_are_named (B.home c.args.bay.now) (B.home c.ask.new.bay) names ds many (c.in-Ok.ensures.lent told) in
     let b : Told _ = record { tells = B.tells; rose = Rose (B.faults c.args.bay.now) (B.faults c.ask.new.bay); texts = B.text_of c.args.bay.now; home = B.home c.args.bay.now; after = B.home c.ask.new.bay } in
-    is_wanted g.B.D.Disk b c.args.words.now k ds now c.in-Ok-judge.field-0.fronts.items c.in-Ok-judge.field-0.duty (c.in-Ok.ensures.answer told) named stays c.in-Ok-judge.ensures.duty
+    is_wanted g.B.D.Disk b (command_seen c.args.command) k ds now c.in-Ok-judge.field-0.fronts.items c.in-Ok-judge.field-0.duty (c.in-Ok.ensures.answer told) named stays c.in-Ok-judge.ensures.duty
 
 pub returns-in-Ok-judge-clause-taken : goal.returns-in-Ok-judge-clause-taken
 returns-in-Ok-judge-clause-taken g c =
@@ -115,8 +115,8 @@ returns-clause-refused g c = λ told.
     let out : AreOut (B.is_out c.ask.new.bay) names now = out_still g.B.D.Disk (λ _ _. ⊥) (B.is_out c.ask.new.bay) names ds now stays c.in-Ok.ensures.out in
     let back : AreBack (B.home c.ask.new.bay) (B.home c.put_all.new.bay) names now = subst (λ l. AreBack (B.home c.ask.new.bay) (B.home c.put_all.new.bay) names l) whole (c.put_all.ensures.back told) in
     let after : AreNamed (B.home c.put_all.new.bay) names now = back_named g.B.D.Disk (B.home c.args.bay.now) (B.home c.ask.new.bay) (B.home c.put_all.new.bay) (B.is_out c.ask.new.bay) names ds now stays out back (omega (arith, many, stays.count)) in
-    let asked = asked_same B.tells b.rose (Rose (B.faults c.args.bay.now) (B.faults c.ask.new.bay)) b.texts b.home b.after (B.home c.ask.new.bay) c.args.words.now ∙ c.in-Ok.ensures.answer told in
-    refused_judging g.B.D.Disk b c.args.words.now k ds now c.in-Err-judge.refusal asked named after stays
+    let asked = asked_same B.tells b.rose (Rose (B.faults c.args.bay.now) (B.faults c.ask.new.bay)) b.texts b.home b.after (B.home c.ask.new.bay) (command_seen c.args.command) ∙ c.in-Ok.ensures.answer told in
+    refused_judging g.B.D.Disk b (command_seen c.args.command) k ds now c.in-Err-judge.refusal asked named after stays
     (subst (λ l. RefusedOver g.B.D.Disk k l now c.in-Err-judge.refusal) c.as_mut_slice.ensures.value c.in-Err-judge.ensures.refused)
 
 pub returns-clause-same : goal.returns-clause-same

@@ -5,7 +5,7 @@ use Rattle.top_open.specs.declared.plan.Needs.{Needs}
 use Rattle.top_open.specs.Opening.{opened_seen}
 use Rattle.top_status.specs.declared.status.Status.{Status}
 use Rattle.top_status.specs.Refusals.{Refused, only}
-use Rattle.top_duty.specs.declared.kind.Kind.TheVariants as kind
+use Rattle.top_words.specs.declared.profile.Kind.TheVariants as kind
 use Rattle.top_duty.specs.Duty.{IsWanted, WantsMemory, admitted_with, duty_for}
 use Rattle.top_duty.specs.Opening.{needs_of}
 use Rattle.top_duty.specs.Views.{RefusedHere, dead_beside}

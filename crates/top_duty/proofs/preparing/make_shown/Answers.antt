@@ -2,7 +2,7 @@ use Rattle.std.proofs.Common.{◌∙◌, ap, subst, sym}
 use Rattle.top_bay.specs.Views.{asked_seen}
 use Rattle.top_status.specs.declared.status.Status.{Status}
 use Rattle.top_status.specs.Refusals.{Refused, only}
-use Rattle.top_duty.specs.declared.kind.Kind.TheVariants as kind
+use Rattle.top_words.specs.declared.profile.Kind.TheVariants as kind
 use Rattle.top_duty.specs.Duty.{duty_for}
 use Rattle.top_duty.specs.Views.{RefusedHere}
 use Rattle.top_duty.proofs.Wanting.{refused_showing}

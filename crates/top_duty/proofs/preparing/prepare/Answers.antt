@@ -1,6 +1,6 @@
 use Rattle.std.proofs.Common.{◌∙◌, sym}
 use Rattle.top_bay.specs.Views.{asked_seen}
-use Rattle.top_duty.specs.declared.kind.Kind.TheVariants as kind
+use Rattle.top_words.specs.declared.profile.Kind.TheVariants as kind
 use Rattle.top_duty.proofs.Wanting.{refused_duty}
 use Rattle.top_duty.proofs.preparing.prepare.Goals as goal
 

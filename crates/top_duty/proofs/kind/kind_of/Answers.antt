@@ -1,0 +1,6 @@
+use Rattle.std.proofs.Common.{ap}
+use Rattle.top_words.specs.Asked.{Profile}
+use Rattle.top_duty.proofs.kind.kind_of.Goals as goal
+
+pub returns : goal.returns
+returns c = ap (λ (p : Profile). p.kind) c.profile.ensures

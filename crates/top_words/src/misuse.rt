@@ -1,0 +1,161 @@
+//! What is wrong with words that are refused.
+ghost use Rattle.std.specs.Prelude.{◌≡◌, IfOk, option_map};
+ghost use Rattle.top_words.specs.Misuse.{apart_in, component_in, lone, misuse_of, misused, not_one, wrong, wrong_number};
+ghost use Rattle.top_words.specs.Views.{given_seen, misuse_seen, text_of};
+
+use crate::app;
+use crate::given::{Given, given_by};
+use crate::judge::{
+    actions, has_one_action, has_sweep_alone, has_workers_apart, number_within, stands,
+};
+use blk_plain::limits;
+use clap::error::ErrorKind;
+use raid_bay::Name;
+use std::alloc::{AllocError, Global};
+
+/// What is wrong with words that are refused, as far as they tell it.
+#[derive(Clone, Copy)]
+pub enum Misuse<'a> {
+    /// They are of no form.
+    NoForm,
+    /// No action stands there.
+    NoAction,
+    /// More than one action stands there.
+    ManyActions,
+    /// An option stands there without what it goes with.
+    Apart {
+        option: &'static str,
+        with: &'static str,
+    },
+    /// The word behind an option isn't a number from `low` to `high`.
+    Number {
+        option: &'static str,
+        word: &'a str,
+        low: u32,
+        high: u32,
+    },
+    /// Nothing is: they are a command, with this component behind an option.
+    Component {
+        option: &'static str,
+        word: &'a str,
+    },
+}
+
+/// What is wrong with the words, judged in the order in which they are read; where nothing is, the
+/// component that they name, if they name one. It fails only for want of memory.
+pub fn misuse_of<'a>(alloc: Global, words: &'a [Name]) -> Result<Option<Misuse<'a>>, AllocError>
+    ensures { IfOk result (λ misuse. option_map misuse_seen misuse ≡ misuse_of words.entry.now) }
+{
+    let app = app::command(alloc)?;
+    match app.try_get_matches_from(words) {
+        Ok(matches) => Ok(misused(given_by(&matches))),
+        Err(error) => match error.kind() {
+            ErrorKind::OutOfMemory => Err(AllocError),
+            _ => Ok(Some(Misuse::NoForm)),
+        },
+    }
+}
+
+// What is wrong with what is given.
+#[tactic(auto, unfolding(crate::specs::Misuse::misused))]
+fn misused<'a>(given: Given<'a>) -> Option<Misuse<'a>>
+    ensures { option_map misuse_seen result ≡ misused (given_seen given.entry) }
+{
+    if !has_one_action(given) {
+        return Some(not_one(given));
+    }
+    apart(given).or(wrong_number(given)).or(component(given))
+}
+
+// Which way it isn't one action.
+#[tactic(auto, unfolding(crate::specs::Misuse::not_one))]
+fn not_one<'a>(given: Given<'a>) -> Misuse<'a>
+    ensures { misuse_seen result ≡ not_one (given_seen given.entry) }
+{
+    if actions(given) == 0 {
+        Misuse::NoAction
+    } else {
+        Misuse::ManyActions
+    }
+}
+
+// An option that goes with another one.
+fn lone<'a>(option: &'static str, with: &'static str) -> Option<Misuse<'a>>
+    ensures { option_map misuse_seen result ≡ lone option.entry.now with.entry.now }
+{
+    Some(Misuse::Apart { option, with })
+}
+
+// The first option that stands without what it goes with.
+#[tactic(auto, unfolding(crate::specs::Misuse::apart_in))]
+fn apart<'a>(given: Given<'a>) -> Option<Misuse<'a>>
+    ensures { option_map misuse_seen result ≡ apart_in (given_seen given.entry) }
+{
+    if has_workers_apart(given) {
+        return lone("-w", "--io, --sweep, -F or -R");
+    }
+    if stands(given.graphs) && !stands(given.io) {
+        return lone("--graphs", "--io");
+    }
+    if given.trace && !stands(given.io) {
+        return lone("--trace", "--io");
+    }
+    if stands(given.clients) && !stands(given.sweep) {
+        return lone("--clients", "--sweep");
+    }
+    if stands(given.ops) && !stands(given.sweep) {
+        return lone("--ops", "--sweep");
+    }
+    if has_sweep_alone(given) {
+        return lone("--sweep", "--clients and --ops");
+    }
+    None
+}
+
+// The word behind an option, where it isn't a number from `low` to `high`.
+#[tactic(auto, unfolding(crate::specs::Misuse::wrong))]
+fn wrong<'a>(option: &'static str, word: Option<&'a str>, low: u32, high: u32) -> Option<Misuse<'a>>
+    ensures { option_map misuse_seen result ≡ wrong option.entry.now (text_of word.entry) low high }
+{
+    let Some(word) = word else {
+        return None;
+    };
+    match number_within(low, high, word) {
+        Some(_) => None,
+        None => Some(Misuse::Number {
+            option,
+            word,
+            low,
+            high,
+        }),
+    }
+}
+
+// The first word that isn't a number in its range.
+#[tactic(auto, unfolding(crate::specs::Misuse::wrong_number))]
+fn wrong_number<'a>(given: Given<'a>) -> Option<Misuse<'a>>
+    ensures { option_map misuse_seen result ≡ wrong_number (given_seen given.entry) }
+{
+    wrong("-w", given.workers, 0, limits::WORKERS)
+        .or(wrong("--sweep", given.sweep, 0, u32::MAX))
+        .or(wrong("--clients", given.clients, 1, limits::CLIENTS))
+        .or(wrong("--ops", given.ops, 0, limits::SWEEP_ITEMS))
+        .or(wrong("-I", given.label, 0, u32::MAX))
+}
+
+// The component that stands there.
+#[tactic(auto, unfolding(crate::specs::Misuse::component_in))]
+fn component<'a>(given: Given<'a>) -> Option<Misuse<'a>>
+    ensures { option_map misuse_seen result ≡ component_in (given_seen given.entry) }
+{
+    let (option, word) = if let Some(word) = given.fail {
+        ("-f", word)
+    } else if let Some(word) = given.rebuild {
+        ("-F", word)
+    } else if let Some(word) = given.in_place {
+        ("-R", word)
+    } else {
+        ("-g", given.show_label?)
+    };
+    Some(Misuse::Component { option, word })
+}

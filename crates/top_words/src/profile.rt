@@ -1,0 +1,186 @@
+//! What an action is: one table, with a row for each.
+ghost use Rattle.std.specs.Prelude.{◌≡◌, option_map};
+ghost use Rattle.top_words.specs.Asked.{beside_of, looking, profile_of};
+ghost use Rattle.top_words.specs.Profiled.{profile_seen};
+ghost use Rattle.top_words.specs.Views.{action_seen, beside_seen};
+
+use crate::command::{Action, Beside};
+
+/// What an action makes of the array of its configuration.
+#[derive(Clone, Copy, Debug, PartialEq, Eq)]
+pub enum Kind {
+    /// It is opened, and something is done with it.
+    Array,
+    /// It is opened and shown.
+    Shown,
+    /// The label of one device is shown.
+    Label,
+    /// The configuration is printed.
+    Conf,
+}
+
+/// What is done with an array.
+#[derive(Clone, Copy, Debug, PartialEq, Eq)]
+pub enum Deed {
+    /// Nothing: it is only looked at.
+    Looks,
+    /// Clients are served over it.
+    Serves,
+    /// Its stripes are tested.
+    Checks,
+    /// The check unit of each stripe is rewritten.
+    Inits,
+    /// The check units of those stripes are rewritten that aren't in sync.
+    Rewrites,
+    /// A column is failed.
+    Kills,
+    /// Its devices get their first labels.
+    Labels { serial: u32 },
+}
+
+/// The component that an action names.
+#[derive(Clone, Copy)]
+pub enum Component<'a> {
+    /// It names none.
+    Nameless,
+    /// One of the columns' disks, by which its column is meant.
+    Column { name: &'a str },
+    /// Any device, which may be a spare.
+    Device { name: &'a str },
+}
+
+/// Clients that are drawn from a number.
+#[derive(Clone, Copy, Debug, PartialEq, Eq)]
+pub struct Drawing {
+    /// The number.
+    pub seed: u32,
+    /// How many clients, 1 to 16.
+    pub clients: u32,
+    /// How many operations each of them has, at most 2,048.
+    pub ops: u32,
+}
+
+/// What an action is.
+#[derive(Clone, Copy)]
+pub struct Profile<'a> {
+    /// What it makes of the array.
+    pub kind: Kind,
+    /// The component that it names.
+    pub component: Component<'a>,
+    /// What it does with the array.
+    pub deed: Deed,
+    /// Sector 0 of the devices is read.
+    pub reads: bool,
+    /// The array is opened as one without labels.
+    pub plain: bool,
+    /// The array has to have labels.
+    pub labels: bool,
+    /// Labels are written, where the array has any.
+    pub writes: bool,
+    /// Whether the column of its component is rebuilt, and then whether in place.
+    pub rebuild: Option<bool>,
+    /// The script that goes with it.
+    pub beside: Option<Beside<'a>>,
+    /// The clients that are drawn.
+    pub drawn: Option<Drawing>,
+    /// With how many workers clients are served, the caller among them: at most 16, and 0 where it
+    /// does all.
+    pub workers: u32,
+}
+
+// The array is looked at, and nothing else is asked.
+fn looking<'a>(kind: Kind) -> Profile<'a>
+    ensures { profile_seen result ≡ looking kind }
+{
+    Profile {
+        kind,
+        component: Component::Nameless,
+        deed: Deed::Looks,
+        reads: true,
+        plain: false,
+        labels: false,
+        writes: false,
+        rebuild: None,
+        beside: None,
+        drawn: None,
+        workers: 0,
+    }
+}
+
+// Something is done with the array.
+fn doing<'a>(deed: Deed, writes: bool) -> Profile<'a>
+    ensures { profile_seen result ≡ record (looking Kind.Array) { deed = deed; writes = writes } }
+{
+    Profile {
+        deed,
+        writes,
+        ..looking(Kind::Array)
+    }
+}
+
+impl<'a> Action<'a> {
+    /// What it is.
+    pub fn profile(self) -> Profile<'a>
+        ensures { profile_seen result ≡ profile_of (action_seen self.entry) }
+    {
+        match self {
+            Action::Io { beside, workers } => Profile {
+                beside: Some(beside),
+                workers,
+                ..doing(Deed::Serves, true)
+            },
+            Action::Sweep {
+                seed,
+                clients,
+                ops,
+                workers,
+            } => Profile {
+                drawn: Some(Drawing { seed, clients, ops }),
+                workers,
+                ..doing(Deed::Serves, true)
+            },
+            Action::Show => looking(Kind::Shown),
+            Action::Init => doing(Deed::Inits, true),
+            Action::Check => doing(Deed::Checks, false),
+            Action::Rewrite => doing(Deed::Rewrites, true),
+            Action::Print => Profile {
+                reads: false,
+                ..looking(Kind::Conf)
+            },
+            Action::Fail { comp } => Profile {
+                component: Component::Column { name: comp },
+                labels: true,
+                ..doing(Deed::Kills, true)
+            },
+            Action::ShowLabel { comp } => Profile {
+                component: Component::Device { name: comp },
+                ..looking(Kind::Label)
+            },
+            Action::Label { serial } => Profile {
+                reads: false,
+                plain: true,
+                ..doing(Deed::Labels { serial }, false)
+            },
+            Action::Rebuild {
+                in_place,
+                comp,
+                beside,
+                workers,
+            } => Profile {
+                component: Component::Column { name: comp },
+                labels: true,
+                rebuild: Some(in_place),
+                beside,
+                workers,
+                ..doing(Deed::Serves, true)
+            },
+        }
+    }
+
+    /// The script that goes with it, if one does.
+    pub fn beside(self) -> Option<Beside<'a>>
+        ensures { option_map beside_seen result ≡ beside_of (action_seen self.entry) }
+    {
+        self.profile().beside
+    }
+}
