@@ -1,5 +1,6 @@
 //! What is admitted, and which refusal comes first. The rows are worked by hand: a component of 128 sectors has 64 of them for
 //! units, behind the 64 that are kept free.
+use crate::commands::command_of;
 use crate::judging::{holds, len_at, same, same_at};
 use blk_disk::{MemDisk, SECTOR};
 use eng_array::Start;
@@ -158,7 +159,11 @@ struct Made {
 
 // What the words are admitted for; the devices are put back.
 fn make(alloc: Global, bay: &mut MemBay<MemDisk>, words: &[Name]) -> Result<Made, Refusal> {
-    match admit(alloc, words, bay) {
+    let command = match command_of(alloc, words) {
+        Ok(command) => command,
+        Err(status) => return Err(Refusal::only(alloc, status)),
+    };
+    match admit(alloc, command, bay) {
         Ok(
             Admitted {
                 asked,

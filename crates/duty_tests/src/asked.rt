@@ -1,5 +1,6 @@
 //! What words, texts and names ask for, and which refusal comes first. The wanted answers are read off the orders and codes
 //! of docs/FORMATS.md.
+use crate::commands::command_of;
 use crate::judging::{len_at, same, same_at};
 use blk_disk::{MemDisk, SECTOR};
 use raid_bay::{MemBay, Name};
@@ -87,7 +88,11 @@ fn look<'a>(
     bay: &mut MemBay<MemDisk>,
     words: &'a [Name],
 ) -> Result<Seen<'a>, Status> {
-    let Taken { asked, devices } = match ask(alloc, words, bay) {
+    let command = match command_of(alloc, words) {
+        Ok(command) => command,
+        Err(status) => return Err(status),
+    };
+    let Taken { asked, devices } = match ask(alloc, command, bay) {
         Ok(taken) => taken,
         Err(status) => return Err(status),
     };

@@ -10,6 +10,8 @@ mod asked;
 #[cfg(test)]
 mod bounds;
 #[cfg(test)]
+mod commands;
+#[cfg(test)]
 mod judging;
 #[cfg(test)]
 mod opened;

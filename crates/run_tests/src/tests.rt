@@ -16,14 +16,17 @@ mod levels;
 mod rebuilds;
 mod refused;
 mod rows;
+mod scans;
 mod several;
+mod simulations;
+mod topics;
 
 const CONF: &str = "START array\n1 3 0\nSTART disks\nd0\nd1\nd2\nSTART layout\n1 1 1 5\n";
 
 const SCRIPT: &str = "0 write 0 1 a5\n0 read 0 1\n";
 
 // The components of each bay. A configuration names those that it takes.
-const NAMES: [&str; 8] = ["d0", "d1", "d2", "d3", "d4", "d5", "d6", "s0"];
+const NAMES: [&str; 9] = ["d0", "d1", "d2", "d3", "d4", "d5", "d6", "s0", "z"];
 
 /// A step of a session.
 #[derive(Clone, Copy)]
@@ -123,7 +126,7 @@ fn answer<D: Disk + Drop + Send, R: Threads + Wait + Sync>(
     bay: &mut MemBay<D>,
     words: &str,
 ) -> Result<(u8, Vec<u8>), Fail> {
-    let mut out = MemSink::new(alloc, 8192, Vec::new(alloc))?;
+    let mut out = MemSink::new(alloc, 16_384, Vec::new(alloc))?;
     let words = names_of(alloc, words)?;
     let status = run(rt, alloc, &words, bay, &mut out);
     Ok((status.number(), out.bytes().to_vec(alloc)?))

@@ -4,7 +4,7 @@ use raid_bay::Name;
 use std::alloc::Global;
 use std::process::Abort;
 use std::test::Fail;
-use top_words::{Action, Command, WordsFault, read_words};
+use top_words::{Action, Command, Invocation, WordsFault, read_words};
 
 fn names(alloc: Global, words: &[&str]) -> Result<Vec<Name>, Fail> {
     let mut names = Vec::new(alloc);
@@ -68,10 +68,9 @@ fn rebuilds_that_are_refused(rt: HostRuntime) -> Result<(), Fail> {
 
 #[test]
 fn letters_that_are_refused(rt: HostRuntime) -> Result<(), Fail> {
-    let rows: [(&[&str], u8); 9] = [
+    let rows: [(&[&str], u8); 8] = [
         (&["CONF", "-s", "-s"], 0),
         (&["CONF", "-f"], 0),
-        (&["CONF", "-h"], 0),
         (&["CONF", "-s", "-p"], 1),
         (&["CONF", "-f", "d0", "-g", "d0", "-w", "1"], 1),
         (&["CONF", "-s", "--trace"], 2),
@@ -84,7 +83,8 @@ fn letters_that_are_refused(rt: HostRuntime) -> Result<(), Fail> {
 
 fn command<'a>(alloc: Global, words: &'a [Name]) -> Result<Command<'a>, Fail> {
     match read_words(alloc, words) {
-        Ok(command) => Ok(command),
+        Ok(Invocation::OnArray { command }) => Ok(command),
+        Ok(_) => Err("no command on an array".into()),
         Err(_) => Err("refused".into()),
     }
 }
