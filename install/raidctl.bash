@@ -9,7 +9,7 @@ _raidctl_conf() {
             continue
         fi
         case ${COMP_WORDS[i]} in
-        --io | --graphs | --sweep | --clients | --ops | -w | -I | -f | -F | -R | -g) skip=yes ;;
+        --io | --graphs | --sweep | --clients | --ops | --sim | -w | -I | -f | -F | -R | -g) skip=yes ;;
         -*) ;;
         *)
             printf '%s\n' "${COMP_WORDS[i]}"
@@ -39,10 +39,11 @@ _raidctl() {
     -g) words=$(_raidctl_names spares) ;;
     -w) words=$(echo {0..16}) ;;
     --clients) words=$(echo {1..16}) ;;
+    --sim) words='fifo sstf scan' ;;
     --sweep | --ops | -I) return ;;
     *)
         if [ -n "$(_raidctl_conf)" ] || [[ $word == -* ]]; then
-            words='-s -p -P -i -I -f -F -R -g -G -w --io --graphs --trace --sweep --clients --ops'
+            words='-s -p -P -i -I -f -F -R -g -G -w --io --graphs --trace --sweep --clients --ops --scan --sim --help --version'
         fi
         ;;
     esac
