@@ -186,7 +186,11 @@ fn a_list_has_1024_names_at_most(rt: HostRuntime) -> Result<(), Fail> {
 }
 
 // The answer to a list of this one name.
-fn answer_to(rt: &HostRuntime, alloc: Global, name: &str) -> Result<(u8, Vec<u8>), Fail> {
+fn answer_to<R: Threads + Wait + Sync>(
+    rt: &R,
+    alloc: Global,
+    name: &str,
+) -> Result<(u8, Vec<u8>), Fail> {
     let texts = vec![in alloc; text(alloc, "list", name)?]?;
     let mut bay = MemBay::<MemDisk>::new(alloc, texts, Vec::new(alloc), Vec::new(alloc));
     answer(rt, alloc, &mut bay, "list --scan")
