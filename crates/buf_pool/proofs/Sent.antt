@@ -3,7 +3,7 @@ use Rattle.std.proofs.Crossing.{Vec-send}
 use denote.RattleType.{RattleType}
 use denote.Param.Send.{IsSend, sendable, view_send, recorded_send, enum_send}
 use denote.Param.SendFields.{declared_send}
-use denote.Struct.Field.{u8-field, u32-field}
+use denote.Struct.Field.{u8-field, u32-field, usize-field}
 use denote.Enum.Enum.{Enum}
 use denote.Enum.Declared.{shape as shape_of}
 use Rattle.buf_pool.specs.contracts.pool.Pool as pool
@@ -11,6 +11,7 @@ use Rattle.buf_pool.specs.contracts.seat.Seat as seat
 use Rattle.buf_pool.specs.contracts.seat.Place as place
 use Rattle.buf_pool.specs.contracts.seat.Owner as owner
 use Rattle.buf_pool.specs.contracts.buffer.Buffer as buffer
+use Rattle.buf_pool.specs.contracts.zeroed.Zeroed as zeroed
 use Rattle.buf_pool.specs.contracts.lease.Lease as lease
 use Rattle.std.specs.contracts.snapshot.Snapshot as snapshot
 
@@ -26,11 +27,17 @@ byte_send = search sendable
 number_send : IsSend u32-field.row
 number_send = search sendable
 
+count_send : IsSend usize-field.row
+count_send = search sendable
+
 pub buffer_send : IsSend buffer.the_row
 buffer_send = view_send _ _ _ _ _ (declared_send buffer.TheInside.the_type (Vec-send u8-field.row byte_send, tt))
 
+pub zeroed_send : IsSend zeroed.the_row
+zeroed_send = view_send _ _ _ _ _ (declared_send zeroed.TheInside.the_type (Vec-send u8-field.row byte_send, (count_send, tt)))
+
 place_send : IsSend place.the_row
-place_send = let E = place.the_type in let b = buffer_send in let v = Vec-send u8-field.row byte_send in recorded_send (Enum (shape_of E)) E.D E.to E.to_one (enum_send (shape_of E) ((search sendable, tt), ((snapshot_send buffer.the_row, tt), tt)))
+place_send = let E = place.the_type in recorded_send (Enum (shape_of E)) E.D E.to E.to_one (enum_send (shape_of E) ((zeroed_send, tt), ((snapshot_send zeroed.the_row, tt), tt)))
 
 owner_send : IsSend owner.the_row
 owner_send = let E = owner.the_type in recorded_send (Enum (shape_of E)) E.D E.to E.to_one (enum_send (shape_of E) ((search sendable, tt), ((search sendable, (search sendable, tt)), tt)))

@@ -19,11 +19,11 @@ pub record PoolView : Type 0 where
   pub seats : List SeatView
 
 abbrev pub is_out : Place → Bool
-is_out (Home buffer) = false
+is_out (Home bytes) = false
 is_out (Out copy) = true
 
 abbrev pub bytes_in : Place → List ℕ
-bytes_in (Home buffer) = buffer
+bytes_in (Home bytes) = bytes
 bytes_in (Out copy) = copy.value
 
 abbrev pub seen : Seat → SeatView

@@ -9,7 +9,9 @@ mod buffer;
 mod lease;
 mod pool;
 mod seat;
+mod zeroed;
 
 pub use buffer::{Buffer, Memory};
 pub use lease::{Full, Lease};
 pub use pool::Pool;
+pub use zeroed::Zeroed;

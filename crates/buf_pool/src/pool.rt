@@ -5,6 +5,7 @@ ghost use Rattle.buf_pool.specs.Pool.{PoolView, IsLease, AllHome, Leases, Stands
 use crate::buffer::{Buffer, Memory};
 use crate::lease::{Full, Lease};
 use crate::seat::{Owner, Place, Seat};
+use crate::zeroed::Zeroed;
 use std::alloc::Global;
 use std::marker::Model;
 use std::mem;
@@ -35,6 +36,8 @@ impl Model for Pool {
 
 impl Pool {
     /// A pool of that many buffers of so many zero bytes, all free.
+    ///
+    /// All memory is taken here; the zeros of a buffer are written as it is first taken out.
     pub fn open(alloc: Global, count: u32, bytes: u32) -> Result<Pool, Memory>
         requires count { count ≤ 2048 }
         requires bytes { bytes ≤ 65536 }
@@ -44,9 +47,7 @@ impl Pool {
         let mut free = Vec::with_capacity(alloc, count as usize)?;
         let mut seats = Vec::with_capacity(alloc, count as usize)?;
         for k in 0..count {
-            let place = Place::Home(Buffer {
-                bytes: zeros(alloc, bytes as usize)?,
-            });
+            let place = Place::Home(Zeroed::open(alloc, bytes as usize)?);
             free.push_reserved(k);
             seats.push_reserved(Seat {
                 owner: Owner::Free(k),
@@ -194,11 +195,13 @@ impl Pool {
     {
         let seat = &mut self.seats[lease.seat(i) as usize];
         let copied = match &seat.place {
-            Place::Home(buffer) => Snapshot::of(buffer),
+            Place::Home(bytes) => Snapshot::of(bytes),
             Place::Out(_) => unreachable!(),
         };
         match mem::replace(&mut seat.place, Place::Out(copied)) {
-            Place::Home(buffer) => buffer,
+            Place::Home(bytes) => Buffer {
+                bytes: bytes.into_vec(),
+            },
             Place::Out(_) => unreachable!(),
         }
     }
@@ -212,14 +215,6 @@ impl Pool {
         ensures back { self.new ≡ put self.old (get_or lease.now i 0) buffer }
         ensures leases { KeepsLeases self.old self.new }
     {
-        self.seats[lease.seat(i) as usize].place = Place::Home(buffer);
+        self.seats[lease.seat(i) as usize].place = Place::Home(Zeroed::of(buffer.bytes));
     }
-}
-
-fn zeros(alloc: Global, count: usize) -> Result<Vec<u8>, Memory>
-    ensures { IfOk result (λ z. z.items ≡ replicate count 0) }
-{
-    let mut bytes = Vec::with_capacity(alloc, count)?;
-    bytes.resize(count, 0)?;
-    Ok(bytes)
 }

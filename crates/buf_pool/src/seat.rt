@@ -1,5 +1,5 @@
 //! The seats of a pool, one for each buffer.
-use crate::buffer::Buffer;
+use crate::zeroed::Zeroed;
 use std::snapshot::Snapshot;
 
 /// Whose a seat is: free, at this place of the list of free seats, or a lease's, which is named by
@@ -14,8 +14,8 @@ pub(crate) enum Owner {
 /// as it left.
 #[derive(Drop)]
 pub(crate) enum Place {
-    Home(Buffer),
-    Out(Snapshot<Buffer>),
+    Home(Zeroed),
+    Out(Snapshot<Zeroed>),
 }
 
 #[derive(Drop)]

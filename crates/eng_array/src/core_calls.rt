@@ -1,6 +1,8 @@
 //! What an engine tells of itself, and which event is next.
-ghost use Rattle.std.specs.Prelude.{◌≡◌, ◌↔◌, None, IsTrue, MatchOption, IfSome};
+ghost use Rattle.std.specs.Prelude.{◌≡◌, ◌↔◌, None, IsTrue, MatchOption, IfSome, length};
 ghost use Rattle.eng_world.specs.World.{World};
+ghost use Rattle.eng_clients.specs.Desk.{desk_at};
+ghost use Rattle.eng_rest.specs.Left.{below};
 ghost use Rattle.eng_state.specs.Doing.{CanDo};
 ghost use Rattle.eng_state.specs.Out.{IsOut};
 ghost use Rattle.eng_choice.specs.Picked.{next_after, IsPicked, IsResting, IsStuck};
@@ -10,6 +12,7 @@ ghost use Rattle.eng_array.specs.Tickets.{Quiet};
 
 use crate::calls::Core;
 use blk_disk::Disk;
+use blk_plain::limits;
 use eng_choice::{can, pick, rest};
 use eng_job::Job;
 use eng_world::Event;
@@ -53,5 +56,17 @@ impl<L: Layout, D: Disk> Core<L, D> {
         ensures { IsTrue result ↔ IsResting self.now.array }
     {
         rest(&self.array)
+    }
+
+    /// How many items have a reply, of all clients, the engine's own among them.
+    pub fn replied(&self) -> u64
+        requires { IsSteady L.Layout D.Disk self.now.array }
+        ensures { result ≡ below (λ c. length (desk_at self.now.array.clients c).replies) 17 }
+    {
+        let mut replied = 0;
+        for client in 0..limits::CLIENTS + 1 {
+            replied += u64::from(self.array.clients.served(client));
+        }
+        replied
     }
 }

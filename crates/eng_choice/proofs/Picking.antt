@@ -68,6 +68,26 @@ module _ {L D : Type 0} (lay : LayoutGhosts L) (disk : DiskGhosts D) (core : Arr
   nothing-of c begin take back nodes (may.Skip k n) is can = (nodes n).0 (subst (λ (j : ℕ). CanSkip lay core j n) is can)
   nothing-of c begin take back nodes (may.Back k) is can = back (subst (CanBack lay core) is can)
 
+  -- what a client is doing tells which of its events can't be done
+  pub nothing-begins : (c : ℕ) → (desk_at core.clients c).stage ≡ Nothing → (CanBegin core c → ⊥) → CanNothing lay core c
+  nothing-begins c is begin =
+      nothing-of c begin (λ take. let z : Nothing ≡ Waits = sym is ∙ take.waits in let u : ⊥ = cc in u) (λ back. let z : Nothing ≡ Runs = sym is ∙ back.runs in let u : ⊥ = cc in u)
+      (λ n. ((λ skip. let z : Nothing ≡ Runs = sym is ∙ skip.runs in let u : ⊥ = cc in u), (λ fire. let z : Nothing ≡ Runs = sym is ∙ fire.runs in let u : ⊥ = cc in u)))
+
+  pub waits-begins-not : (c : ℕ) → (desk_at core.clients c).stage ≡ Waits → CanBegin core c → ⊥
+  waits-begins-not c is begin = let z : Waits ≡ Nothing = sym is ∙ begin.nothing in let u : ⊥ = cc in u
+
+  pub nothing-taken : (c : ℕ) → (desk_at core.clients c).stage ≡ Waits → (CanTake lay core c → ⊥) → CanNothing lay core c
+  nothing-taken c is take =
+      nothing-of c (waits-begins-not c is) take (λ back. let z : Waits ≡ Runs = sym is ∙ back.runs in let u : ⊥ = cc in u)
+      (λ n. ((λ skip. let z : Waits ≡ Runs = sym is ∙ skip.runs in let u : ⊥ = cc in u), (λ fire. let z : Waits ≡ Runs = sym is ∙ fire.runs in let u : ⊥ = cc in u)))
+
+  pub runs-begins-not : (c : ℕ) → (desk_at core.clients c).stage ≡ Runs → CanBegin core c → ⊥
+  runs-begins-not c is begin = let z : Runs ≡ Nothing = sym is ∙ begin.nothing in let u : ⊥ = cc in u
+
+  pub runs-takes-not : (c : ℕ) → (desk_at core.clients c).stage ≡ Runs → CanTake lay core c → ⊥
+  runs-takes-not c is take = let z : Runs ≡ Waits = sym is ∙ take.waits in let u : ⊥ = cc in u
+
   pub first-begin : (c : ℕ) → CanBegin core c → IsFirstOf lay core c (may.Begin c)
   first-begin c can = record { its = refl; can = can; first = λ other is h. omega arith }
 

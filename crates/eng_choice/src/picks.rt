@@ -1,5 +1,6 @@
 //! Which event is done next.
 ghost use Rattle.std.specs.Prelude.{◌≡◌, MatchOption, IfSome};
+ghost use Rattle.eng_clients.specs.Desk.{desk_at};
 ghost use Rattle.eng_world.specs.World.{World};
 ghost use Rattle.eng_state.specs.Out.{IsOut};
 ghost use Rattle.eng_state.specs.Serves.{Stands};
@@ -59,22 +60,53 @@ fn pick_node<L: Layout, D: Disk>(array: &Array<L, D>, client: u32) -> Option<Eve
     None
 }
 
-// The client's first event that can be done.
-fn pick_of<L: Layout, D: Disk>(array: &Array<L, D>, client: u32) -> Option<Event>
-    requires sound { IsSound L.Layout D.Disk array.now }
-    requires stands { Stands L.Layout array.now }
+// The first event of a client's that no operation of its own keeps busy.
+fn pick_begin<L: Layout, D: Disk>(array: &Array<L, D>, client: u32) -> Option<Event>
+    requires { (desk_at array.now.clients client).stage ≡ Stage.Nothing }
     ensures { MatchOption result (CanNothing L.Layout array.now client) (IsFirstOf L.Layout array.now client) }
 {
     if can_begin(array, client) {
         return Some(Event::Begin { client });
     }
+    None
+}
+
+// The first event of a client's whose operation waits.
+fn pick_take<L: Layout, D: Disk>(array: &Array<L, D>, client: u32) -> Option<Event>
+    requires sound { IsSound L.Layout D.Disk array.now }
+    requires stands { Stands L.Layout array.now }
+    requires waits { (desk_at array.now.clients client).stage ≡ Stage.Waits }
+    ensures { MatchOption result (CanNothing L.Layout array.now client) (IsFirstOf L.Layout array.now client) }
+{
     if can_take(array, client) {
         return Some(Event::Take { client });
     }
+    None
+}
+
+// The first event of a client's whose operation runs.
+fn pick_step<L: Layout, D: Disk>(array: &Array<L, D>, client: u32) -> Option<Event>
+    requires sound { IsSound L.Layout D.Disk array.now }
+    requires runs { (desk_at array.now.clients client).stage ≡ Stage.Runs }
+    ensures { MatchOption result (CanNothing L.Layout array.now client) (IsFirstOf L.Layout array.now client) }
+{
     if can_back(array, client) {
         return Some(Event::Back { client });
     }
     pick_node(array, client)
+}
+
+// The client's first event that can be done. By what the client is doing it is one of few.
+fn pick_of<L: Layout, D: Disk>(array: &Array<L, D>, client: u32) -> Option<Event>
+    requires sound { IsSound L.Layout D.Disk array.now }
+    requires stands { Stands L.Layout array.now }
+    ensures { MatchOption result (CanNothing L.Layout array.now client) (IsFirstOf L.Layout array.now client) }
+{
+    match array.clients.stage(client) {
+        Stage::Nothing => pick_begin(array, client),
+        Stage::Waits => pick_take(array, client),
+        Stage::Runs => pick_step(array, client),
+    }
 }
 
 // The first event of the first client in the ring that has one.

@@ -13,6 +13,7 @@ use blk_disk::Disk;
 use eng_array::Core;
 use eng_turn::{Pass, Turn};
 use lay_core::Layout;
+use raid_progress::Progress;
 use std::alloc::Global;
 use std::sync::Wait;
 use std::thread;
@@ -25,15 +26,22 @@ pub struct Memory;
 /// Lets 1 to 16 workers at the core, which has no job out, until each of them found nothing to do, and hands it back:
 /// with all jobs home, and by events of clients alone. On its way it was idle: at rest, or with nothing to do but that jobs
 /// came home. Where the system makes no more threads, this one does the work
-/// of those that are missing.
+/// of those that are missing. Each worker tells every now and then how many items have a reply, of so many in all.
 ///
 /// All passes are made, and the memory for them taken, before the first event. `Memory` where there was none: it comes
 /// only then, and the core comes back as it was.
-pub fn run_crew<L: Layout + Drop + Send, D: Disk + Drop + Send, R: Threads + Wait + Sync>(
+pub fn run_crew<
+    L: Layout + Drop + Send,
+    D: Disk + Drop + Send,
+    R: Threads + Wait + Sync,
+    P: Progress + Sync,
+>(
     rt: &R,
     alloc: Global,
     core: Core<L, D>,
     workers: u32,
+    progress: &P,
+    all: u64,
 ) -> Result<Core<L, D>, (Core<L, D>, Memory)>
     requires workers { (1 ≤ workers) × (workers ≤ 16) }
     requires steady { IsSteady L.Layout D.Disk core.array }
@@ -52,7 +60,7 @@ pub fn run_crew<L: Layout + Drop + Send, D: Disk + Drop + Send, R: Threads + Wai
         Err((core, _)) => return Err((core, Memory)),
     };
     split_all(&turn, &mut pass, &mut others, workers - 1);
-    let pass = crew(rt, &turn, pass, others);
+    let pass = crew(rt, &turn, pass, others, progress, all);
     let Some(core) = turn.close(pass) else {
         unreachable!()
     };
@@ -81,11 +89,18 @@ fn split_all<L: Layout + Drop, D: Disk + Drop>(
 }
 
 // A thread for each of the other passes, and this one for its own.
-fn crew<L: Layout + Drop + Send, D: Disk + Drop + Send, R: Threads + Wait + Sync>(
+fn crew<
+    L: Layout + Drop + Send,
+    D: Disk + Drop + Send,
+    R: Threads + Wait + Sync,
+    P: Progress + Sync,
+>(
     rt: &R,
     turn: &Turn<CrewRule<L, D>>,
     mut pass: Pass<CrewRule<L, D>>,
     mut others: Vec<Pass<CrewRule<L, D>>>,
+    progress: &P,
+    all: u64,
 ) -> Pass<CrewRule<L, D>>
     requires ready { IsReady turn.now pass }
     requires others { All (IsSpare turn.now) others.items }
@@ -94,34 +109,36 @@ fn crew<L: Layout + Drop + Send, D: Disk + Drop + Send, R: Threads + Wait + Sync
     ensures idle { HasIdleMark L.Layout D.Disk (opening_of turn.now) result }
 {
     let Some(other) = others.pop() else {
-        return worked(rt, turn, pass)
+        return worked(rt, turn, pass, progress, all)
     };
     let (other, mut pass) = thread::join(
         rt,
         || -> Pass<CrewRule<L, D>>
             requires { IsSpare turn.now other }
             ensures { IsSpare turn.entry.now result }
-        { worked(rt, turn, other) },
+        { worked(rt, turn, other, progress, all) },
         || -> Pass<CrewRule<L, D>>
-            requires { IsSync R.row × (IsReady turn.now pass × All (IsSpare turn.now) others.items) }
+            requires { IsSync R.row × IsSync P.row × (IsReady turn.now pass × All (IsSpare turn.now) others.items) }
             ensures { IsReady turn.entry.now result × (share_of result ≡ share_of pass + vec_len others) × HasIdleMark L.Layout D.Disk (opening_of turn.entry.now) result }
-        { crew(rt, turn, pass, others) },
+        { crew(rt, turn, pass, others, progress, all) },
     );
     turn.join(&mut pass, other);
     pass
 }
 
 // One worker, with a pass of its own.
-fn worked<L: Layout + Drop, D: Disk + Drop, W: Wait>(
+fn worked<L: Layout + Drop, D: Disk + Drop, W: Wait, P: Progress>(
     rt: &W,
     turn: &Turn<CrewRule<L, D>>,
     mut pass: Pass<CrewRule<L, D>>,
+    progress: &P,
+    all: u64,
 ) -> Pass<CrewRule<L, D>>
     requires { IsReady turn.now pass }
     ensures ready { IsReady turn.now result }
     ensures share { share_of result ≡ share_of pass }
     ensures idle { HasIdleMark L.Layout D.Disk (opening_of turn.now) result }
 {
-    work(rt, turn, &mut pass);
+    work(rt, turn, &mut pass, progress, all);
     pass
 }

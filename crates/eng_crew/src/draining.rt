@@ -8,17 +8,19 @@ ghost use Rattle.eng_array.specs.Tickets.{After, Shared};
 ghost use Rattle.eng_crew.specs.Drained.{Drained};
 ghost use Rattle.eng_crew.specs.Idle.{IsIdle};
 
-use crate::turns::{Found, go_on};
+use crate::turns::{Found, LOOK, go_on};
 use blk_disk::Disk;
 use eng_array::{Core, Job};
 use lay_core::Layout;
+use raid_progress::Progress;
 
 /// Serves the core, which has no job out, until every item has its reply, or the array is lost, and no job is out. A
 /// node that is fired is performed and comes home before the next event.
 ///
 /// An item of which no graph has more than m nodes has at most 2 m + 4 events, and as many again for each column that
-/// dies meanwhile. It waits for nobody and takes no memory.
-pub fn drain<L: Layout, D: Disk>(core: &mut Core<L, D>)
+/// dies meanwhile. It waits for nobody and takes no memory. It tells every now and then, and in the end, how many items
+/// have a reply, of so many in all.
+pub fn drain<L: Layout, D: Disk, P: Progress>(core: &mut Core<L, D>, progress: &P, all: u64)
     requires steady { IsSteady L.Layout D.Disk core.old.array }
     requires home { NoneOut core.old.array.clients }
     ensures steady { IsSteady L.Layout D.Disk core.new.array }
@@ -26,7 +28,14 @@ pub fn drain<L: Layout, D: Disk>(core: &mut Core<L, D>)
     ensures rest { IsResting core.new.array }
     ensures drained { Drained L.Layout D.Disk core.old.array core.new.array }
 {
-    while drain_one(core) {}
+    let mut turns: u32 = 0;
+    while drain_one(core) {
+        turns = turns.wrapping_add(1);
+        if turns % LOOK == 0 {
+            progress.tell(core.replied(), all);
+        }
+    }
+    progress.tell(core.replied(), all);
 }
 
 // One event and, if it fires a node, the end of its job; and whether there was one.

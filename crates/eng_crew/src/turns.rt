@@ -14,6 +14,9 @@ use eng_turn::{Pass, Turn};
 use lay_core::Layout;
 use std::sync::Wait;
 
+/// How many items have a reply is looked at each so many turns.
+pub(crate) const LOOK: u32 = 64;
+
 /// What a turn found to do.
 pub(crate) enum Found {
     /// An event, which was made.
@@ -54,6 +57,18 @@ fn act<L: Layout, D: Disk>(core: &mut Core<L, D>, event: Event) -> Option<Job<D>
     }
 }
 
+// Where there is no event but the end of a job: whether all is done.
+fn without_event<L: Layout, D: Disk>(core: &Core<L, D>) -> Found
+    requires { IsSteady L.Layout D.Disk core.now.array }
+    ensures { result ≡ Found.Event → ⊥ }
+{
+    if core.rest() {
+        Found::Rest
+    } else {
+        Found::Nothing
+    }
+}
+
 /// One event, if there is one but the end of a job; and the job of a node that was fired.
 pub(crate) fn go_on<L: Layout, D: Disk>(core: &mut Core<L, D>) -> (Found, Option<Job<D>>)
     requires { IsSteady L.Layout D.Disk core.old.array }
@@ -61,11 +76,8 @@ pub(crate) fn go_on<L: Layout, D: Disk>(core: &mut Core<L, D>) -> (Found, Option
     ensures event { result.0 ≡ Found.Event → Falls core.old.array core.new.array }
     ensures idle { (result.0 ≡ Found.Event) ⊎ ((result.1 ≡ None) × IsIdle L.Layout core.new.array) }
 {
-    if core.rest() {
-        return (Found::Rest, None);
-    }
     let Some(event) = core.pick() else {
-        return (Found::Nothing, None)
+        return (without_event(core), None)
     };
     let job = act(core, event);
     (Found::Event, job)
@@ -89,6 +101,22 @@ pub(crate) fn turn_by<L: Layout + Drop, D: Disk + Drop, W: Wait>(
         bring_back(rt, turn, pass, job);
     }
     found
+}
+
+/// How many items have a reply. A turn in which nothing is done.
+pub(crate) fn look<L: Layout + Drop, D: Disk + Drop, W: Wait>(
+    rt: &W,
+    turn: &Turn<CrewRule<L, D>>,
+    pass: &mut Pass<CrewRule<L, D>>,
+) -> u64
+    requires { IsReady turn.now pass.old }
+    ensures ready { IsReady turn.now pass.new }
+    ensures share { share_of pass.new ≡ share_of pass.old }
+{
+    let core = turn.enter(rt, pass);
+    let replied = core.replied();
+    turn.leave(pass, core, &None);
+    replied
 }
 
 // The job is performed outside, and comes home in a turn of its own.

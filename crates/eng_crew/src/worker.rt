@@ -4,11 +4,12 @@ ghost use Rattle.eng_turn.specs.Turn.{opening_of, share_of};
 ghost use Rattle.eng_crew.specs.Idle.{IsReady, HasIdleMark};
 
 use crate::rule::CrewRule;
-use crate::turns::{Found, turn_by};
+use crate::turns::{Found, LOOK, look, turn_by};
 use crate::waiting::back_off;
 use blk_disk::Disk;
 use eng_turn::{Pass, Turn};
 use lay_core::Layout;
+use raid_progress::Progress;
 use std::sync::Wait;
 use std::thread::Parker;
 
@@ -20,11 +21,14 @@ const EMPTY: u32 = 1_048_576;
 ///
 /// The core that the pass left last is then at rest, or one in which nothing can be done but that jobs come home, and it
 /// comes after the one with which the turn was opened.
-/// Nobody else needs to be there: what is left over the drain completes. It waits for the turn, and takes no memory.
-pub fn work<L: Layout + Drop, D: Disk + Drop, W: Wait>(
+/// Nobody else needs to be there: what is left over the drain completes. It waits for the turn, and takes no memory. It
+/// tells every now and then how many items have a reply, of so many in all.
+pub fn work<L: Layout + Drop, D: Disk + Drop, W: Wait, P: Progress>(
     rt: &W,
     turn: &Turn<CrewRule<L, D>>,
     pass: &mut Pass<CrewRule<L, D>>,
+    progress: &P,
+    all: u64,
 )
     requires { IsReady turn.now pass.old }
     ensures ready { IsReady turn.now pass.new }
@@ -33,7 +37,12 @@ pub fn work<L: Layout + Drop, D: Disk + Drop, W: Wait>(
 {
     let idle = Parker::new();
     let mut empty = 0;
+    let mut turns: u32 = 0;
     for _ in rt.forever() {
+        turns = turns.wrapping_add(1);
+        if turns % LOOK == 0 {
+            progress.tell(look(rt, turn, pass), all);
+        }
         match turn_by(rt, turn, pass) {
             Found::Event => empty = 0,
             Found::Rest => return,

@@ -5,8 +5,8 @@ ghost use Rattle.eng_log.specs.Handed.{AreRegions, region_at};
 
 mod open;
 
-use crate::fill::put_at;
 use crate::region::Region;
+use buf_pool::Zeroed;
 use std::marker::Model;
 
 /// The regions of one client's items.
@@ -24,10 +24,11 @@ impl Model for Regions {
     ghost view = { λ r. r.list.items };
 }
 
-/// The sectors that reads hand out: a region for each read, so that no reply takes memory.
+/// The sectors that reads hand out: a region for each read, so that no reply takes memory. Those behind the last that was
+/// handed out are written at the end.
 #[derive(Drop)]
 pub struct Handed {
-    pub(crate) bytes: Vec<u8>,
+    pub(crate) bytes: Zeroed,
     pub(crate) regions: Vec<Regions>,
 }
 
@@ -36,9 +37,9 @@ impl Model for Handed {
 
     ghost Value = { Handout };
 
-    ghost view = { λ h. record { bytes = h.bytes.items; regions = h.regions.items } };
+    ghost view = { λ h. record { bytes = h.bytes; regions = h.regions.items } };
 
-    ghost invariant = { λ h. AreRegions (record { bytes = h.bytes.items; regions = h.regions.items }) };
+    ghost invariant = { λ h. AreRegions (record { bytes = h.bytes; regions = h.regions.items }) };
 }
 
 impl Regions {
@@ -66,7 +67,8 @@ impl Handed {
         requires { 512 * first + length from.now ≤ length self.old.bytes }
         ensures { self.new ≡ record self.old { bytes = put self.old.bytes first from.now } }
     {
-        put_at(self.bytes.as_mut_slice(), first, from);
+        let _count = self.bytes.len();
+        self.bytes.put(512 * first, from);
     }
 
     /// The bytes, and the regions of each client's items.
@@ -74,13 +76,13 @@ impl Handed {
         ensures bytes { result.0.items ≡ self.bytes }
         ensures regions { result.1.items ≡ self.regions }
     {
-        (self.bytes, self.regions)
+        (self.bytes.into_vec(), self.regions)
     }
 
     /// What is so of the regions. It does nothing.
     pub fn stands(&self)
         ensures { AreRegions self.now }
     {
-        let _bytes = self.bytes.len();
+        let _regions = self.regions.len();
     }
 }

@@ -16,3 +16,9 @@ impl<T: Drop> From<AllocFailed<T>> for Memory {
         Memory
     }
 }
+
+impl From<buf_pool::Memory> for Memory {
+    fn from(_: buf_pool::Memory) -> Self {
+        Memory
+    }
+}

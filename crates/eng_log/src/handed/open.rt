@@ -9,6 +9,7 @@ use crate::handed::{Handed, Regions};
 use crate::memory::Memory;
 use crate::region::Region;
 use blk_plain::{Op, limits};
+use buf_pool::Zeroed;
 use eng_world::Item;
 use std::alloc::Global;
 
@@ -36,16 +37,6 @@ fn item_sectors(item: &Item) -> u32
         Item::Run { op, .. } => op_sectors(op),
         Item::Fail { .. } => 0,
     }
-}
-
-fn zero_bytes(alloc: Global, count: u32) -> Result<Vec<u8>, Memory>
-    ensures { IfOk result (λ bytes. bytes.items ≡ replicate count 0) }
-{
-    let mut bytes = Vec::with_capacity(alloc, count as usize)?;
-    for i in 0..count {
-        bytes.push_reserved(0);
-    }
-    Ok(bytes)
 }
 
 impl Regions {
@@ -105,7 +96,7 @@ impl Handed {
         let laid = lay_rows(alloc, clients)?;
         let mut regions = laid.0;
         regions.push_reserved(Regions::empty(alloc, own)?);
-        let bytes = zero_bytes(alloc, SECTOR * laid.1)?;
+        let bytes = Zeroed::open(alloc, (SECTOR * laid.1) as usize)?;
         Ok(Handed { bytes, regions })
     }
 }
