@@ -2,6 +2,7 @@
 ghost use Rattle.std.specs.Prelude.{◌≡◌, IfOk};
 
 use crate::memory::Memory;
+use raid_progress::Progress;
 use std::alloc::Global;
 use std::marker::Model;
 
@@ -35,5 +36,30 @@ impl Room {
             sum: vec![in alloc; 0; half]?,
             unit: vec![in alloc; 0; half]?,
         })
+    }
+}
+
+/// Room for a sweep, and who is told after each stripe how many of all are done. Contracts see how
+/// many bytes the room has.
+#[derive(Drop)]
+pub struct SweepRoom<P> {
+    pub(crate) room: Room,
+    pub(crate) progress: P,
+}
+
+impl<P> Model for SweepRoom<P> {
+    ghost use Rattle.std.specs.Prelude.{ℕ};
+
+    ghost Value = { ℕ };
+
+    ghost view = { λ r. r.room };
+}
+
+impl<P: Progress> SweepRoom<P> {
+    /// The room, and who is told.
+    pub fn new(room: Room, progress: P) -> SweepRoom<P>
+        ensures { result ≡ room }
+    {
+        SweepRoom { room, progress }
     }
 }

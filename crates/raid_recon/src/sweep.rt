@@ -11,47 +11,50 @@ ghost use Rattle.raid_recon.specs.Units.{SweepsStripe};
 ghost use Rattle.raid_recon.specs.declared.kind.Sweep.TheVariants as sweep;
 
 use crate::kind::Sweep;
-use crate::room::Room;
+use crate::room::{Room, SweepRoom};
 use crate::stripe::sweep_stripe;
 use blk_disk::{Disk, SECTOR};
 use eng_cols::Column;
 use lay_core::Layout;
+use raid_progress::Progress;
 
-// The turns of the first stripes, so many, and how many of them count.
-fn sweep_stripes<L: Layout, D: Disk>(
+// The turns of all stripes, and how many of them count.
+fn sweep_stripes<L: Layout, D: Disk, P: Progress>(
     kind: Sweep,
     layout: &L,
     devices: &mut [Option<D>],
     columns: &mut [Column],
     sum: &mut [u8],
     unit: &mut [u8],
-    stripes: u32,
+    progress: &P,
 ) -> u64
     requires array { IsArray D.Disk (L.shape layout.now) columns.old devices.old }
     requires checks { (L.shape layout.now).checks ≡ 1 }
     requires sum { length sum.old ≡ 512 * (L.shape layout.now).unit_sectors }
     requires unit { length unit.old ≡ 512 * (L.shape layout.now).unit_sectors }
-    requires stripes { stripes ≤ (L.shape layout.now).stripes }
-    ensures { IsSwept D.Disk kind (L.shape layout.now) stripes
+    ensures { IsSwept D.Disk kind (L.shape layout.now) (L.shape layout.now).stripes
         columns.old columns.new devices.old devices.new result }
 {
     let mut counted = 0;
-    for stripe in 0..stripes {
+    let all = layout.stripes();
+    for stripe in 0..all {
         if sweep_stripe(kind, layout, devices, columns, stripe, sum, unit) {
             counted += 1;
         }
+        progress.tell(u64::from(stripe) + 1, u64::from(all));
     }
     counted
 }
 
 // The turns of all stripes, in the front of buffers that may be longer.
-fn sweep_in<L: Layout, D: Disk>(
+fn sweep_in<L: Layout, D: Disk, P: Progress>(
     kind: Sweep,
     layout: &L,
     devices: &mut [Option<D>],
     columns: &mut [Column],
     sum: &mut [u8],
     unit: &mut [u8],
+    progress: &P,
 ) -> u64
     requires array { IsArray D.Disk (L.shape layout.now) columns.old devices.old }
     requires checks { (L.shape layout.now).checks ≡ 1 }
@@ -68,17 +71,18 @@ fn sweep_in<L: Layout, D: Disk>(
         columns,
         &mut sum[..bytes],
         &mut unit[..bytes],
-        layout.stripes(),
+        progress,
     )
 }
 
 // A sweep of whatever kind. Without check units there is nothing to be done.
-fn sweep<L: Layout, D: Disk>(
+fn sweep<L: Layout, D: Disk, P: Progress>(
     kind: Sweep,
     layout: &L,
     devices: &mut [Option<D>],
     columns: &mut [Column],
     room: &mut Room,
+    progress: &P,
 ) -> u64
     requires array { IsArray D.Disk (L.shape layout.now) columns.old devices.old }
     requires room { 1024 * (L.shape layout.now).unit_sectors ≤ room.old }
@@ -109,7 +113,7 @@ fn sweep<L: Layout, D: Disk>(
     }
     let sum = room.sum.as_mut_slice();
     let unit = room.unit.as_mut_slice();
-    sweep_in(kind, layout, devices, columns, sum, unit)
+    sweep_in(kind, layout, devices, columns, sum, unit, progress)
 }
 
 // One stripe's turn in a sync, in the front of buffers that may be longer.
@@ -164,11 +168,11 @@ pub fn sync_one<L: Layout, D: Disk>(
 }
 
 /// How many stripes, of those that lack no unit, don't sum to zero.
-pub fn sweep_check<L: Layout, D: Disk>(
+pub fn sweep_check<L: Layout, D: Disk, P: Progress>(
     layout: &L,
     devices: &mut [Option<D>],
     columns: &mut [Column],
-    room: &mut Room,
+    room: &mut SweepRoom<P>,
 ) -> u64
     requires array { IsArray D.Disk (L.shape layout.now) columns.old devices.old }
     requires room { 1024 * (L.shape layout.now).unit_sectors ≤ room.old }
@@ -187,16 +191,23 @@ pub fn sweep_check<L: Layout, D: Disk>(
         (result ≡ 0) × ((columns.new ≡ columns.old) × (devices.new ≡ devices.old)) }
     ensures room { room.new ≡ room.old }
 {
-    sweep(Sweep::Check, layout, devices, columns, room)
+    sweep(
+        Sweep::Check,
+        layout,
+        devices,
+        columns,
+        &mut room.room,
+        &room.progress,
+    )
 }
 
 /// Rewrites the check unit of each stripe that lacks no unit and doesn't sum to zero, and answers
 /// how many it rewrote.
-pub fn sweep_sync<L: Layout, D: Disk>(
+pub fn sweep_sync<L: Layout, D: Disk, P: Progress>(
     layout: &L,
     devices: &mut [Option<D>],
     columns: &mut [Column],
-    room: &mut Room,
+    room: &mut SweepRoom<P>,
 ) -> u64
     requires array { IsArray D.Disk (L.shape layout.now) columns.old devices.old }
     requires room { 1024 * (L.shape layout.now).unit_sectors ≤ room.old }
@@ -221,16 +232,23 @@ pub fn sweep_sync<L: Layout, D: Disk>(
         (result ≡ 0) × ((columns.new ≡ columns.old) × (devices.new ≡ devices.old)) }
     ensures room { room.new ≡ room.old }
 {
-    sweep(Sweep::Sync, layout, devices, columns, room)
+    sweep(
+        Sweep::Sync,
+        layout,
+        devices,
+        columns,
+        &mut room.room,
+        &room.progress,
+    )
 }
 
 /// Rewrites the check unit of each stripe that lacks no unit, whatever it holds, and answers how
 /// many it rewrote.
-pub fn sweep_init<L: Layout, D: Disk>(
+pub fn sweep_init<L: Layout, D: Disk, P: Progress>(
     layout: &L,
     devices: &mut [Option<D>],
     columns: &mut [Column],
-    room: &mut Room,
+    room: &mut SweepRoom<P>,
 ) -> u64
     requires array { IsArray D.Disk (L.shape layout.now) columns.old devices.old }
     requires room { 1024 * (L.shape layout.now).unit_sectors ≤ room.old }
@@ -255,5 +273,12 @@ pub fn sweep_init<L: Layout, D: Disk>(
         (result ≡ 0) × ((columns.new ≡ columns.old) × (devices.new ≡ devices.old)) }
     ensures room { room.new ≡ room.old }
 {
-    sweep(Sweep::Init, layout, devices, columns, room)
+    sweep(
+        Sweep::Init,
+        layout,
+        devices,
+        columns,
+        &mut room.room,
+        &room.progress,
+    )
 }

@@ -1,27 +1,35 @@
 -- How a run over an array without labels ends.
-use Rattle.std.proofs.Common.{◌≡◌, ℕ, List, ◌++◌, Option, Some, None, sym, ◌∙◌, ap, subst}
-use Rattle.std.specs.Prelude.{All, slice_index}
+use Rattle.std.proofs.Common.{◌≡◌, ℕ, List, [], ◌∷◌, ◌++◌, Option, Some, None, sym, ◌∙◌, ap, subst}
+use Rattle.std.specs.Prelude.{option_and_then, slice_get, slice_index}
+use Rattle.std.proofs.lemmas.Option.{slice_get_within}
 use Rattle.blk_disk.specs.declared.disk.Call.{Call}
 use Rattle.blk_disk.specs.declared.disk.Disk.{Ghosts as DiskGhosts}
+use Rattle.blk_disk.specs.Disk.{Tells, call_of}
 use Rattle.blk_disk.specs.Devices.{contents_of, calls_of}
 use Rattle.blk_disk.proofs.DeviceLaws.{changes-more, changes-then, changes_sector}
 use Rattle.lay_core.specs.declared.layout.Layout.{Ghosts as LayoutGhosts}
+use Rattle.eng_cols.specs.declared.column.Column.{Column}
 use Rattle.eng_events.specs.Opened.{IsSetup}
 use Rattle.eng_state.specs.Shows.{AreTold}
 use Rattle.eng_parts.specs.declared.setup.Setup.{Setup}
 use Rattle.eng_parts.specs.declared.setup.Closed.{Closed}
-use Rattle.top_close.specs.Calls.{IsSettle, SettlesOn}
+use Rattle.top_close.specs.Settled.{IsLiveOn, is_live}
 use Rattle.top_serve.specs.Served as served
 use Rattle.top_run.specs.Work.{Service}
 use Rattle.top_run.specs.Works.{service_of, work_of}
 use Rattle.top_run.specs.Ends.{RunIsEnded, EndsSo}
 use Rattle.top_run.specs.Ran.{MayChange, ColumnsEnd, Finishes}
-use Rattle.top_run.proofs.AtEnd.{columns-end, live-in-end}
+use Rattle.top_run.proofs.AtEnd.{columns-end, ends-kept, live-in-end}
 
--- calls that are told, behind those of the run
-settles-behind : {D : Type 0} (g : DiskGhosts D) (o : Option (List Call)) (calls told : List Call) → AreTold g o calls → SettlesOn o (Some told) → (settles : List Call) × (told ≡ calls ++ settles) × All IsSettle settles
-settles-behind g None calls told are on = absurd on
-settles-behind g (Some before) calls told are on = (on.0, on.1 ∙ ap (λ l. l ++ on.0) (sym are), on.2)
+-- one call that is told, behind those of the run
+one-behind : {D : Type 0} (g : DiskGhosts D) (o : Option (List Call)) (calls told : List Call) (call : Call) → AreTold g o calls → Tells o (Some told) call → told ≡ calls ++ call ∷ []
+one-behind g None calls told call are tells = absurd tells
+one-behind g (Some before) calls told call are tells = tells ∙ ap (λ (l : List Call). l ++ call ∷ []) (sym are)
+
+-- and none
+none-behind : {D : Type 0} (g : DiskGhosts D) (o : Option (List Call)) (calls told : List Call) → AreTold g o calls → o ≡ Some told → told ≡ calls
+none-behind g None calls told are is = let z : None ≡ Some told = is in absurd (let u : ⊥ = cc in u)
+none-behind g (Some before) calls told are is = let z : Some before ≡ Some told = is in let e : before ≡ told = cc in sym e ∙ sym are
 
 -- devices that were settled have changed nowhere
 pub ends-so : {L D : Type 0} (lay : LayoutGhosts L) (closed : Closed L D) (disk : DiskGhosts D) (v : Service) (back : List (Option D)) → RunIsEnded lay closed disk v back → EndsSo lay closed disk v back
@@ -39,12 +47,21 @@ module _ {L D : Type 0} (lay : LayoutGhosts L) (disk : DiskGhosts D) (setup : Se
   abbrev ends : ColumnsEnd disk (work_of lay setup None) setup.devices.items v back s.now
   ends = columns-end lay disk setup None closed given s v back so
 
+  kept-is : ends.kept ≡ closed.columns.items
+  kept-is = ends-kept lay disk setup None closed given s v back so
+
   -- no sector changes at the end
   same-contents : disk.tells → (d n k : ℕ) → contents_of disk back d n k ≡ contents_of disk closed.devices.items d n k
   same-contents tells d n k = ap (λ (l : List ℕ). slice_index l k) (changes_sector disk (λ _ _. ⊥) closed.devices.items back d n e.settled.frame tells (λ never. never))
 
-  told-behind : (d : ℕ) (told : List Call) → calls_of disk back d ≡ Some told → (settles : List Call) × (told ≡ s.now.calls d ++ settles) × All IsSettle settles
-  told-behind d told is = settles-behind disk (calls_of disk closed.devices.items d) (s.now.calls d) told (s.leaves.calls d) (subst (λ o. SettlesOn (calls_of disk closed.devices.items d) o) is (e.settled.told d))
+  once : (c d : ℕ) (told : List Call) → IsLiveOn closed.columns.items c d → calls_of disk back d ≡ Some told → told ≡ s.now.calls d ++ call_of 2 0 0 (is_live (slice_get v.ending.columns c)) ∷ []
+  once c d told live is =
+      let call = call_of 2 0 0 (is_live (slice_get v.ending.columns c)) in
+      one-behind disk (calls_of disk closed.devices.items d) (s.now.calls d) told call (s.leaves.calls d) (subst (λ o. Tells (calls_of disk closed.devices.items d) o call) is (e.settled.once c d (slice_get_within closed.columns.items c _ live) live))
+
+  others : (d : ℕ) (told : List Call) → ((c : ℕ) → IsLiveOn closed.columns.items c d → ⊥) → calls_of disk back d ≡ Some told → told ≡ s.now.calls d
+  others d told free is =
+      none-behind disk (calls_of disk closed.devices.items d) (s.now.calls d) told (s.leaves.calls d) (ap (λ o. option_and_then disk.calls o) (sym (e.settled.others d (λ c below live. free c live))) ∙ is)
 
   abbrev May : ℕ → ℕ → Type 0
   May = MayChange disk (work_of lay setup None) setup.devices.items v back
@@ -58,7 +75,8 @@ module _ {L D : Type 0} (lay : LayoutGhosts L) (disk : DiskGhosts D) (setup : Se
     dies = ends.dies;
     lost = ends.lost;
     contents = λ tells d n k kb. same-contents tells d n k ∙ sym (s.leaves.contents tells d n k kb);
-    calls = told-behind;
+    once = λ c d told live is. once c d told (subst (λ (cs : List Column). IsLiveOn cs c d) kept-is live) is;
+    others = λ d told free is. others d told (λ c live. free c (subst (λ (cs : List Column). IsLiveOn cs c d) (sym kept-is) live)) is;
     settled = λ c d has. e.last c d (live-in-end lay disk setup None closed given s v back so c d has);
     frame = changes-then disk May setup.devices.items closed.devices.items back s.leaves.frame (changes-more disk (λ _ _. ⊥) May closed.devices.items back (λ d n never. absurd never) e.settled.frame);
   }

@@ -1,9 +1,10 @@
 -- What a run of clients is, and what it leaves.
-use Rattle.std.specs.Prelude.{◌≡◌, ◌≢◌, ◌⊎◌, ◌<◌, ◌≤◌, ◌+◌, ◌*◌, ℕ, List, [], ◌∷◌, ◌++◌, length, Bool, true, false, Option, Some, None, All, map, drop, reverse, slice_get, slice_index, slice_index_or}
+use Rattle.std.specs.Prelude.{◌≡◌, ◌≢◌, ◌⊎◌, ◌<◌, ◌≤◌, ◌+◌, ◌*◌, ℕ, List, [], ◌∷◌, ◌++◌, length, Bool, true, false, Option, Some, None, map, drop, reverse, slice_get, slice_index, slice_index_or}
 use Rattle.blk_plain.specs.declared.op.Op.{Op}
 use Rattle.blk_plain.specs.declared.op.OpId.{OpId}
 use Rattle.blk_disk.specs.declared.disk.Call.{Call}
 use Rattle.blk_disk.specs.declared.disk.Disk.{Ghosts}
+use Rattle.blk_disk.specs.Disk.{call_of}
 use Rattle.blk_disk.specs.Devices.{size_of, contents_of, calls_of, RisesOn, Changes}
 use Rattle.lay_core.specs.Layout.{Shape}
 use Rattle.graph_lib.specs.Library.{library}
@@ -37,8 +38,9 @@ use Rattle.raid_script.specs.Replies.{StandFor, item_bytes, item_sectors, items_
 use Rattle.top_serve.specs.Setups.{with_rebuilt, with_start}
 use Rattle.top_serve.specs.Caused.{RestsOn, WentBadOn, WasLostBy}
 use Rattle.top_serve.specs.Served.{BeginsBy, IsRebuiltBy, IsUnbuilt}
-use Rattle.top_close.specs.Calls.{IsSettle, EndsSettled}
+use Rattle.top_close.specs.Calls.{EndsSettled}
 use Rattle.top_close.specs.Closes.{ClosesAs}
+use Rattle.top_close.specs.Settled.{IsLiveOn, is_live}
 use Rattle.top_run.specs.Work.{Work, Service}
 
 -- ## Words of a run
@@ -146,7 +148,7 @@ module _ {D : Type 0} (g : Ghosts D) (a : Work) (taken : List (Option D)) where
       abbrev pub HasStopped : World → List Column → Type 0
       HasStopped now kept = (start : Start) → a.start ≡ Some start → slice_get kept (column_of start) ≡ Some column.Dead → IsStoppedBy now start
 
-      -- The columns are those of the run's end, where a column that was being rebuilt is kept if it is whole and else is dead, but for some that died as their devices were settled; and the loss is the run's, or that of the columns in the end. Devices hold what they do at the run's end, and have changed nowhere else; of the calls that they tell those behind the run's are settles; and each device of a column in the end has been settled last.
+      -- The columns are those of the run's end, where a column that was being rebuilt is kept if it is whole and else is dead, but for some that died as their devices were settled; and the loss is the run's, or that of the columns in the end. Devices hold what they do at the run's end, and have changed nowhere else. Behind the run the device of each column that was live has one call more, a settle, which went well exactly where the column is live in the end; no other device was called; so each device of a column in the end has been settled last.
       pub record Finishes (now : World) : Type 0 where
         pub kept : List Column
         pub closes : ClosesAs a.layout now.columns kept
@@ -155,7 +157,8 @@ module _ {D : Type 0} (g : Ghosts D) (a : Work) (taken : List (Option D)) where
         pub dies : Dies RisesAt kept s.ending.columns
         pub lost : IsLossAtEnd a.layout now (states_of a.layout s.ending.columns) s.ending.lost
         pub contents : g.tells → (d n k : ℕ) → k < 512 → contents_of g back d n k ≡ now.contents d n k
-        pub calls : (d : ℕ) (told : List Call) → calls_of g back d ≡ Some told → (settles : List Call) × (told ≡ now.calls d ++ settles) × All IsSettle settles
+        pub once : (c d : ℕ) (told : List Call) → IsLiveOn kept c d → calls_of g back d ≡ Some told → told ≡ now.calls d ++ call_of 2 0 0 (is_live (slice_get s.ending.columns c)) ∷ []
+        pub others : (d : ℕ) (told : List Call) → ((c : ℕ) → IsLiveOn kept c d → ⊥) → calls_of g back d ≡ Some told → told ≡ now.calls d
         pub settled : (c d : ℕ) → HasDevice (states_of a.layout s.ending.columns) c d → EndsSettled (calls_of g back d)
         pub frame : Changes g MayChange taken back
 

@@ -14,6 +14,7 @@ use blk_disk::Disk;
 use eng_array::Setup;
 use eng_cols::Cols;
 use lay_core::Layout;
+use raid_progress::Progress;
 use std::alloc::Global;
 use std::sync::Wait;
 use std::thread::Threads;
@@ -30,13 +31,21 @@ fn judge_for<L: Layout>(alloc: Global, layout: &L) -> Option<Cols>
 /// Serves the setup's clients until each item has its reply and no job is out, with so many workers, and ends the run:
 /// each device in use is settled, and a column whose device fails that is dead.
 ///
+/// `progress` is told every now and then, and in the end, how many items have a reply.
+///
 /// All memory that the run itself takes is taken first. Refused are an array that is lost by its columns, and want of
 /// that memory; the setup then comes back as it was.
-pub fn run_clients<L: Layout + Drop + Send, D: Disk + Drop + Send, R: Threads + Wait + Sync>(
+pub fn run_clients<
+    L: Layout + Drop + Send,
+    D: Disk + Drop + Send,
+    R: Threads + Wait + Sync,
+    P: Progress + Sync,
+>(
     rt: &R,
     alloc: Global,
     setup: Setup<L, D>,
     workers: u32,
+    progress: &P,
 ) -> Result<(Service, Vec<Option<D>>), Refused<L, D>>
     requires workers { workers ≤ 16 }
     requires setup { IsSetup L.Layout D.Disk setup }
@@ -53,7 +62,7 @@ pub fn run_clients<L: Layout + Drop + Send, D: Disk + Drop + Send, R: Threads + 
         let fault = ServeFault::Memory;
         return Err(Refused { fault, setup });
     };
-    match serve(rt, alloc, setup, workers) {
+    match serve(rt, alloc, setup, workers, progress) {
         Ok(closed) => {
             deaths_bring_no_unit_back();
             Ok(ended(closed, judge))

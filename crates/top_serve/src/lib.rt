@@ -10,6 +10,7 @@
 //! any of their events, and at the end the column is live or spread if all of it was rebuilt, and else dead.
 #![tactic(auto)]
 
+mod asking;
 mod judging;
 mod opening;
 mod refused;

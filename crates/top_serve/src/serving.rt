@@ -10,6 +10,7 @@ ghost use Rattle.top_serve.specs.Judged.{CanBegin, HasStarted, HasColumn, IsClos
 ghost use Rattle.top_serve.specs.Setups.{IsFew, IsNotLost, IsServeRefusal, IsRoomOf, MayStart, SectorsAreLong};
 ghost use Rattle.top_serve.specs.Served.{IsServed};
 
+use crate::asking::asked;
 use crate::judging::judge;
 use crate::opening::{opened_in, room_for};
 use crate::refused::{Refused, ServeFault};
@@ -17,6 +18,7 @@ use blk_disk::Disk;
 use eng_array::{Closed, Core, CoreRoom, Setup, Start};
 use eng_crew::{drain, run_crew};
 use lay_core::Layout;
+use raid_progress::Progress;
 use std::alloc::Global;
 use std::sync::Wait;
 use std::thread::Threads;
@@ -24,13 +26,21 @@ use std::thread::Threads;
 /// Serves the setup's clients until each item has its reply and no job is out: with a crew of 1 to 16 workers and then
 /// on this thread alone, or with 0 workers on this thread alone. So it is too where there is no memory for the crew.
 ///
+/// `progress` is told every now and then, and in the end, how many items have a reply.
+///
 /// All memory that the run itself takes is taken first. Refused are an array that is lost by its columns, and want of
 /// that memory; the setup then comes back as it was.
-pub fn serve<L: Layout + Drop + Send, D: Disk + Drop + Send, R: Threads + Wait + Sync>(
+pub fn serve<
+    L: Layout + Drop + Send,
+    D: Disk + Drop + Send,
+    R: Threads + Wait + Sync,
+    P: Progress + Sync,
+>(
     rt: &R,
     alloc: Global,
     setup: Setup<L, D>,
     workers: u32,
+    progress: &P,
 ) -> Result<Closed<L, D>, Refused<L, D>>
     requires workers { workers ≤ 16 }
     requires setup { IsSetup L.Layout D.Disk setup }
@@ -45,8 +55,9 @@ pub fn serve<L: Layout + Drop + Send, D: Disk + Drop + Send, R: Threads + Wait +
         let fault = ServeFault::Memory;
         return Err(Refused { fault, setup });
     };
+    let all = asked(&setup, None);
     match opened_in(setup, room) {
-        Ok(core) => Ok(served(rt, alloc, core, None, workers)),
+        Ok(core) => Ok(served(rt, alloc, core, None, workers, progress, all)),
         Err((loss, setup)) => {
             let fault = ServeFault::Lost(loss);
             Err(Refused { fault, setup })
@@ -58,14 +69,20 @@ pub fn serve<L: Layout + Drop + Send, D: Disk + Drop + Send, R: Threads + Wait +
 /// lost by its columns, and the run takes no memory.
 ///
 /// A dead column is rebuilt beside the clients where a start is given. At rest it is live on the device that was filled,
-/// or spread, if each of its stripes is done there; else it is dead.
-pub fn serve_in<L: Layout + Drop + Send, D: Disk + Drop + Send, R: Threads + Wait + Sync>(
+/// or spread, if each of its stripes is done there; else it is dead. Its stripes are items of which `progress` is told.
+pub fn serve_in<
+    L: Layout + Drop + Send,
+    D: Disk + Drop + Send,
+    R: Threads + Wait + Sync,
+    P: Progress + Sync,
+>(
     rt: &R,
     alloc: Global,
     setup: Setup<L, D>,
     room: CoreRoom<D>,
     start: Option<Start>,
     workers: u32,
+    progress: &P,
 ) -> Closed<L, D>
     requires workers { workers ≤ 16 }
     requires setup { IsSetup L.Layout D.Disk setup }
@@ -75,19 +92,27 @@ pub fn serve_in<L: Layout + Drop + Send, D: Disk + Drop + Send, R: Threads + Wai
     requires start { MayStart L.Layout D.Disk setup start }
     ensures { IsServed L.Layout D.Disk setup start result }
 {
+    let all = asked(&setup, start);
     match opened_in(setup, room) {
-        Ok(core) => served(rt, alloc, core, start, workers),
+        Ok(core) => served(rt, alloc, core, start, workers, progress, all),
         Err(_) => unreachable!(),
     }
 }
 
 // All that the core's clients ask is served, beside a rebuild where one is to start, and the core is closed.
-fn served<L: Layout + Drop + Send, D: Disk + Drop + Send, R: Threads + Wait + Sync>(
+fn served<
+    L: Layout + Drop + Send,
+    D: Disk + Drop + Send,
+    R: Threads + Wait + Sync,
+    P: Progress + Sync,
+>(
     rt: &R,
     alloc: Global,
     core: Core<L, D>,
     start: Option<Start>,
     workers: u32,
+    progress: &P,
+    all: u64,
 ) -> Closed<L, D>
     requires workers { workers ≤ 16 }
     requires steady { IsSteady L.Layout D.Disk core.array }
@@ -98,8 +123,8 @@ fn served<L: Layout + Drop + Send, D: Disk + Drop + Send, R: Threads + Wait + Sy
         → SectorsAreLong D.Disk → IsServed L.Layout D.Disk setup start result }
 {
     let begun = begun(core, start);
-    let left = worked(rt, alloc, begun, workers);
-    let rested = at_rest(left);
+    let left = worked(rt, alloc, begun, workers, progress, all);
+    let rested = at_rest(left, progress, all);
     closed(rested, start)
 }
 
@@ -121,12 +146,12 @@ fn begun<L: Layout, D: Disk>(mut core: Core<L, D>, start: Option<Start>) -> Core
 }
 
 // The core after so many workers were at it, if there was memory for them.
-fn worked<L: Layout + Drop + Send, D: Disk + Drop + Send, R: Threads + Wait + Sync>(
-    rt: &R,
-    alloc: Global,
-    core: Core<L, D>,
-    workers: u32,
-) -> Core<L, D>
+fn worked<
+    L: Layout + Drop + Send,
+    D: Disk + Drop + Send,
+    R: Threads + Wait + Sync,
+    P: Progress + Sync,
+>(rt: &R, alloc: Global, core: Core<L, D>, workers: u32, progress: &P, all: u64) -> Core<L, D>
     requires workers { workers ≤ 16 }
     requires steady { IsSteady L.Layout D.Disk core.array }
     requires home { NoneOut core.array.clients }
@@ -137,14 +162,18 @@ fn worked<L: Layout + Drop + Send, D: Disk + Drop + Send, R: Threads + Wait + Sy
     if workers == 0 {
         return core;
     }
-    match run_crew(rt, alloc, core, workers) {
+    match run_crew(rt, alloc, core, workers, progress, all) {
         Ok(core) => core,
         Err((core, _)) => core,
     }
 }
 
 // The core at rest: all that the crew left is done.
-fn at_rest<L: Layout + Drop, D: Disk + Drop>(mut core: Core<L, D>) -> Core<L, D>
+fn at_rest<L: Layout + Drop, D: Disk + Drop, P: Progress>(
+    mut core: Core<L, D>,
+    progress: &P,
+    all: u64,
+) -> Core<L, D>
     requires steady { IsSteady L.Layout D.Disk core.array }
     requires home { NoneOut core.array.clients }
     ensures after { After L.Layout D.Disk core.array result.array }
@@ -152,7 +181,7 @@ fn at_rest<L: Layout + Drop, D: Disk + Drop>(mut core: Core<L, D>) -> Core<L, D>
     ensures home { NoneOut result.array.clients }
     ensures rest { IsResting result.array }
 {
-    drain(&mut core);
+    drain(&mut core, progress, all);
     core
 }
 

@@ -5,10 +5,11 @@ ghost use Rattle.raid_recon.specs.Array.{IsArray};
 ghost use Rattle.raid_recon.specs.Samples.{FitsAt};
 
 use crate::kind::Sweep;
-use crate::{Room, sweep_check, sweep_init, sweep_sync};
+use crate::{Room, SweepRoom, sweep_check, sweep_init, sweep_sync};
 use blk_disk::{Call, Disk, MemDisk, SECTOR};
 use eng_cols::Column;
 use lay_core::Layout;
+use raid_progress::Silent;
 use std::alloc::Global;
 use std::process::Abort;
 use std::test::Fail;
@@ -85,7 +86,8 @@ pub(crate) fn swept<L: Layout, D: Disk>(
     columns: &mut [Column],
     devices: &mut [Option<D>],
 ) -> Result<u64, Fail> {
-    let mut room = Room::open(alloc, 1024 * layout.unit_sectors())?;
+    let room = Room::open(alloc, 1024 * layout.unit_sectors())?;
+    let mut room = SweepRoom::new(room, Silent);
     if !is_array(layout, columns, devices) {
         return Err("no array".into());
     }

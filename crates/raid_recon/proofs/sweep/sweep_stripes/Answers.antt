@@ -15,12 +15,12 @@ pub overflow_add-counted : goal.overflow_add-counted
 overflow_add-counted g c =
     let w = c.loop-stripe.invariant in
     let law = g.met.L.Layout.is_layout c.args.layout.now in
-    omega (arith, w.count, count-few w.turns, w.each, c.loop-stripe-test.true, c.requires.stripes, law.stripes_most)
+    omega (arith, w.count, count-few w.turns, w.each, c.loop-stripe-test.true, c.stripes-all.ensures, law.stripes_most)
 
 pub loop-stripe-preserved : goal.loop-stripe-preserved
 loop-stripe-preserved g c =
     let y = g.L.Layout.shape c.args.layout.now in
-    let within : c.loop-stripe.stripe < y.stripes = omega (arith, c.loop-stripe-test.true, c.requires.stripes) in
+    let within : c.loop-stripe.stripe < y.stripes = omega (arith, c.loop-stripe-test.true, c.stripes-all.ensures) in
     swept-more g.D.Disk c.args.kind y c.args.columns.now (g.met.L.Layout.is_layout c.args.layout.now) c.requires.checks c.args.devices.now c.loop-stripe.devices c.sweep_stripe.new.devices c.loop-stripe.columns c.sweep_stripe.new.columns
     c.loop-stripe.stripe c.loop-stripe.counted c.if-sweep_stripe.counted (c.loop-stripe.stripe + 1) c.sweep_stripe.result c.requires.array within c.loop-stripe.invariant c.sweep_stripe.ensures
     (elim c.if-sweep_stripe.branch [
