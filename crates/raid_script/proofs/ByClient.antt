@@ -1,13 +1,17 @@
 -- Items by client: what each has, and how many all have.
 use Rattle.std.proofs.Common.{◌≡◌, ◌≢◌, ◌∙◌, ℕ, zero, suc, ◌+◌, ◌<◌, ◌≤◌, ◌⊎◌, inl, inr, ⊎_elim, Bool, true, false, cond, List, [], ◌∷◌, ◌++◌, length, refl, sym, ap, subst, arith, All, add-one, zero-add}
-use Rattle.std.specs.Prelude.{nat_eq, nat_le, sum_by}
+use Rattle.std.specs.Prelude.{nat_eq, nat_le, sum_by, Option, Some, None}
+use Rattle.std.specs.Option.{ForSome}
 use Rattle.std.proofs.lemmas.Bool.{eqb-true, leb-false, leb-true}
 use Rattle.std.proofs.lemmas.Bool.Decides.{nat_tests}
 use Rattle.std.proofs.lemmas.List.Elements.{All-cons, All-head, All-nil, All-push, All-tail}
 use Rattle.std.proofs.lemmas.List.FromFn.{length-map-range_with_len, map-range_with_len_more, sum_by-map-range_with_len_more}
 use Rattle.std.proofs.lemmas.List.Sums.{sum_by-cons}
-use Rattle.raid_script.specs.Asked.{AreFew, Asked, IsAsked, Request, asked_by, by_client, by_first, read_sectors}
-use Rattle.raid_script.specs.Form.{AreRequests, IsRequest}
+use Rattle.raid_text.specs.Text.{Numbered}
+use Rattle.graph_text.specs.Format.{Named}
+use Rattle.raid_script.specs.declared.join.Join.{Join}
+use Rattle.raid_script.specs.Asked.{AreFew, Asked, Writes, WritesAll, Reads, Syncs, Fails, Other, IsAsked, IsJoinOf, IsScript, Request, asked_by, by_client, by_first, joined_in, joins_of, read_sectors, scripted}
+use Rattle.raid_script.specs.Form.{AreLinesOf, AreRequests, IsJoin, IsSaid}
 
 -- ---- all clients
 
@@ -21,24 +25,91 @@ by_first_none requests = refl
 
 -- ---- what each may ask for
 
-one_asked : (columns graphs client : ℕ) (qs : List Request) → All (IsRequest columns graphs) qs → All (IsAsked columns graphs) (asked_by qs client)
+-- an item beside so many graphs
+abbrev Asks : ℕ → ℕ → Request → Type 0
+Asks columns graphs q = IsAsked columns graphs q.asked
+
+one_asked : (columns graphs client : ℕ) (qs : List Request) → All (Asks columns graphs) qs → All (IsAsked columns graphs) (asked_by qs client)
 unfolding asked_by
 one_asked columns graphs client [] are = All-nil _
 one_asked columns graphs client (q ∷ qs) are =
-    go (nat_eq q.client client) refl (All-head (IsRequest columns graphs) q qs are) (one_asked columns graphs client qs (All-tail (IsRequest columns graphs) q qs are))
+    go (nat_eq q.client client) refl (All-head (Asks columns graphs) q qs are) (one_asked columns graphs client qs (All-tail (Asks columns graphs) q qs are))
   where
-    go : (b : Bool) → nat_eq q.client client ≡ b → IsRequest columns graphs q → All (IsAsked columns graphs) (asked_by qs client) → All (IsAsked columns graphs) (asked_by (q ∷ qs) client)
-    go true h is others = rw h (All-cons (IsAsked columns graphs) q.asked (asked_by qs client) is.1 others)
+    go : (b : Bool) → nat_eq q.client client ≡ b → Asks columns graphs q → All (IsAsked columns graphs) (asked_by qs client) → All (IsAsked columns graphs) (asked_by (q ∷ qs) client)
+    go true h is others = rw h (All-cons (IsAsked columns graphs) q.asked (asked_by qs client) is others)
     go false h is others = rw h others
 
-first_asked : (columns graphs n : ℕ) (qs : List Request) → All (IsRequest columns graphs) qs → All (All (IsAsked columns graphs)) (by_first n qs)
+first_asked : (columns graphs n : ℕ) (qs : List Request) → All (Asks columns graphs) qs → All (All (IsAsked columns graphs)) (by_first n qs)
 first_asked columns graphs zero qs are = rw (by_first_none qs) (All-nil _)
 first_asked columns graphs (suc n) qs are =
     let more = All-push (All (IsAsked columns graphs)) (by_first n qs) (asked_by qs n) (first_asked columns graphs n qs are) (one_asked columns graphs n qs are) in
     subst (λ (xs : List (List Asked)). All (All (IsAsked columns graphs)) xs) (sym (ap (λ (k : ℕ). by_first k qs) (sym (add-one n)) ∙ by_first_more n qs)) more
 
-pub clients_asked : (columns graphs : ℕ) (qs : List Request) → AreRequests columns graphs qs → All (All (IsAsked columns graphs)) (by_client qs)
-clients_asked columns graphs qs are = first_asked columns graphs 16 qs are.asked
+-- ---- of lines
+
+known_more : (graph : Option ℕ) (g h : ℕ) → g ≤ h → ForSome graph (λ n. n < g) → ForSome graph (λ n. n < h)
+known_more graph g h l known n e = let k = known n e in omega (arith, l, k)
+
+-- beside more graphs the same may be asked
+asked_more : (columns g h : ℕ) (a : Asked) → g ≤ h → IsAsked columns g a → IsAsked columns h a
+asked_more columns g h (Writes first count bytes graph) l is = (is.0, is.1, known_more graph g h l is.2)
+asked_more columns g h (WritesAll patches graph) l is = (is.0, known_more graph g h l is.1)
+asked_more columns g h (Reads first count graph) l is = (is.0, is.1, known_more graph g h l is.2)
+asked_more columns g h (Syncs stripe) l is = tt
+asked_more columns g h (Fails column) l is = is
+asked_more columns g h Other l is = is
+
+-- the item of a join line names a graph that is joined
+join_asked : (columns graphs j line total : ℕ) (asked : Asked) (join : Join) → j < total → IsJoin graphs j line asked join → IsAsked columns (graphs + total) asked
+join_asked columns graphs j line total asked join below is =
+    subst (λ (a : Asked). IsAsked columns (graphs + total) a) (sym is.is)
+    (is.are, λ n e. (let same : graphs + j ≡ n = cc in omega (arith, same, below)))
+
+lines_asked : (book : List Named) (columns j total : ℕ) (qs : List Request) (lines : List Numbered) → AreLinesOf book columns j qs lines → j + length (joins_of qs) ≤ total → All (Asks columns (length book + total)) qs
+unfolding joins_of
+lines_asked book columns j total [] lines are most = All-nil _
+lines_asked book columns j total (q ∷ qs) [] are most = absurd are
+lines_asked book columns j total (q ∷ qs) (line ∷ lines) are most = go q.joined are.0.1 are.2 most (λ k l m. lines_asked book columns k total qs lines l m)
+  where
+    go : (joined : Option Join) → IsSaid columns (length book) j line.at q.asked joined → AreLinesOf book columns (j + length (joined_in joined)) qs lines → j + length (joined_in joined ++ joins_of qs) ≤ total
+        → ((k : ℕ) → AreLinesOf book columns k qs lines → k + length (joins_of qs) ≤ total → All (Asks columns (length book + total)) qs)
+        → All (Asks columns (length book + total)) (q ∷ qs)
+    go None is others m more =
+        All-cons (Asks columns (length book + total)) q qs (asked_more columns (length book) (length book + total) q.asked (omega arith) is)
+        (more (j + 0) others (omega (arith, m)))
+    go (Some join) is others m more =
+        All-cons (Asks columns (length book + total)) q qs (join_asked columns (length book) j line.at total q.asked join (omega (arith, m)) is)
+        (more (j + 1) others (omega (arith, m)))
+
+-- the join lines are few, and each names two graphs
+lines_few : (book : List Named) (columns j : ℕ) (qs : List Request) (lines : List Numbered) → AreLinesOf book columns j qs lines → j ≤ 64 → j + length (joins_of qs) ≤ 64
+unfolding joins_of
+lines_few book columns j [] lines are few = omega (arith, few)
+lines_few book columns j (q ∷ qs) [] are few = absurd are
+lines_few book columns j (q ∷ qs) (line ∷ lines) are few = go q.joined are.0.1 are.2 (λ k l m. lines_few book columns k qs lines l m)
+  where
+    go : (joined : Option Join) → IsSaid columns (length book) j line.at q.asked joined → AreLinesOf book columns (j + length (joined_in joined)) qs lines
+        → ((k : ℕ) → AreLinesOf book columns k qs lines → k ≤ 64 → k + length (joins_of qs) ≤ 64)
+        → j + length (joined_in joined ++ joins_of qs) ≤ 64
+    go None is others more = let l = more (j + 0) others (omega (arith, few)) in omega (arith, l)
+    go (Some join) is others more = let l = more (j + 1) others (let f = is.few in omega (arith, f)) in omega (arith, l)
+
+lines_joins : (book : List Named) (columns j : ℕ) (qs : List Request) (lines : List Numbered) → AreLinesOf book columns j qs lines → All (IsJoinOf (length book)) (joins_of qs)
+unfolding joins_of
+lines_joins book columns j [] lines are = All-nil _
+lines_joins book columns j (q ∷ qs) [] are = absurd are
+lines_joins book columns j (q ∷ qs) (line ∷ lines) are = go q.joined are.0.1 (lines_joins book columns (j + length (joined_in q.joined)) qs lines are.2)
+  where
+    go : (joined : Option Join) → IsSaid columns (length book) j line.at q.asked joined → All (IsJoinOf (length book)) (joins_of qs) → All (IsJoinOf (length book)) (joined_in joined ++ joins_of qs)
+    go None is others = others
+    go (Some join) is others = All-cons (IsJoinOf (length book)) join (joins_of qs) is.of others
+
+-- what lines say may stand in a script
+pub script_asked : (book : List Named) (columns : ℕ) (qs : List Request) (lines : List Numbered) → AreLinesOf book columns 0 qs lines → IsScript columns (length book) (scripted qs)
+script_asked book columns qs lines are = record {
+  asked = first_asked columns (length book + length (joins_of qs)) 16 qs (lines_asked book columns 0 (length (joins_of qs)) qs lines are (omega arith));
+  joins = record { few = (let l = lines_few book columns 0 qs lines are (omega arith) in omega (arith, l)); each = lines_joins book columns 0 qs lines are };
+}
 
 -- ---- how many there are
 
@@ -128,8 +199,8 @@ sixteen : (qs : List Request) → length (by_client qs) ≡ 16
 unfolding by_first
 sixteen qs = length-map-range_with_len (asked_by qs) 0 16
 
-pub clients_few : (columns graphs : ℕ) (qs : List Request) → AreRequests columns graphs qs → AreFew (by_client qs)
-clients_few columns graphs qs are =
+pub clients_few : (qs : List Request) → AreRequests qs → AreFew (by_client qs)
+clients_few qs are =
     let items = firsts_most (λ items. length items) (λ _. 1) (record { none = refl; more = λ a others. omega arith }) 16 qs in
     let sectors = firsts_most (λ items. sum_by read_sectors items) read_sectors (record { none = refl; more = λ a others. sum_by-cons read_sectors a others }) 16 qs in
     record {

@@ -11,11 +11,11 @@ use Rattle.raid_script.specs.Form.{Place, Number, Digits, FillsAll, patch_places
 use Rattle.raid_script.proofs.PlacesFilled.{end_fills, pattern_fills, span_fills}
 
 -- a patch that was read, in front of words that fill places
-record PatchRead (book : List Named) (words : List Text) (patch : AskedPatch) (behind : List Text) : Type 0 where
-  is : IsPatch patch
-  fills : (places : List Place) → FillsAll book places behind → FillsAll book (Number patch.span.first ∷ Number patch.span.count ∷ Digits patch.bytes ∷ places) words
+pub record PatchRead (book : List Named) (words : List Text) (patch : AskedPatch) (behind : List Text) : Type 0 where
+  pub is : IsPatch patch
+  pub fills : (places : List Place) → FillsAll book places behind → FillsAll book (Number patch.span.first ∷ Number patch.span.count ∷ Digits patch.bytes ∷ places) words
 
-patch_fills : (book : List Named) (words : List Text) (patch : AskedPatch) (behind : List Text) → next_patch words ≡ Ok (patch, behind) → PatchRead book words patch behind
+pub patch_fills : (book : List Named) (words : List Text) (patch : AskedPatch) (behind : List Text) → next_patch words ≡ Ok (patch, behind) → PatchRead book words patch behind
 unfolding next_patch
 patch_fills book words patch behind h =
     let span = bind_ok (next_span words) _ (patch, behind) h in

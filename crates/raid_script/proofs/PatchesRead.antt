@@ -11,7 +11,7 @@ use Rattle.raid_script.specs.Form.{Place, Number, Digits, FillsAll, patch_places
 use Rattle.raid_script.proofs.PlacesRead.{pattern_read, span_read}
 use Rattle.raid_script.proofs.PatchesApart.{apart-test}
 
-patch_read : (book : List Named) (patch : AskedPatch) (places : List Place) (words : List Text) → IsPatch patch → FillsAll book (Number patch.span.first ∷ Number patch.span.count ∷ Digits patch.bytes ∷ places) words
+pub patch_read : (book : List Named) (patch : AskedPatch) (places : List Place) (words : List Text) → IsPatch patch → FillsAll book (Number patch.span.first ∷ Number patch.span.count ∷ Digits patch.bytes ∷ places) words
     → (behind : List Text) × (next_patch words ≡ Ok (patch, behind)) × FillsAll book places behind
 unfolding next_patch
 patch_read book patch places words is fills =

@@ -1,13 +1,13 @@
 -- What becomes of a script once its lines were read.
-use Rattle.std.proofs.Common.{◌≡◌, ℕ, List, Ok, refl, length, All}
-use Rattle.raid_text.specs.Text.{Text}
+use Rattle.std.proofs.Common.{◌≡◌, ℕ, List, Ok, refl, length}
+use Rattle.raid_text.specs.Text.{Text, lines_in}
 use Rattle.graph_text.specs.Format.{Named}
 use Rattle.raid_script.specs.declared.fault.ScriptFault.{ScriptFault}
 use Rattle.raid_script.specs.declared.fault.ScriptFault.TheVariants as fault
 use Rattle.raid_script.specs.Answers.{GivesFault}
-use Rattle.raid_script.specs.Asked.{AreFew, Asked, IsAsked, Request, by_client}
+use Rattle.raid_script.specs.Asked.{AreFew, IsScript, Request, Scripted, scripted}
 use Rattle.raid_script.specs.Format.{requests_of, script_of}
-use Rattle.raid_script.proofs.ByClient.{clients_asked, clients_few}
+use Rattle.raid_script.proofs.ByClient.{clients_few, script_asked}
 use Rattle.raid_script.proofs.ScriptForm.{script_of_form}
 
 -- the fault of a line is the script's
@@ -17,17 +17,17 @@ refused book columns text (fault.At line code) told = rw told refl
 refused book columns text fault.Memory told = tt
 
 -- all lines were read
-pub sorted : (book : List Named) (columns : ℕ) (text : Text) (requests : List Request) → requests_of book columns text ≡ Ok requests → script_of book columns text ≡ Ok (by_client requests)
+pub sorted : (book : List Named) (columns : ℕ) (text : Text) (requests : List Request) → requests_of book columns text ≡ Ok requests → script_of book columns text ≡ Ok (scripted requests)
 unfolding script_of
 sorted book columns text requests told = rw told refl
 
 -- what was read may stand in a script, and is within its limits
-pub are_asked : (book : List Named) (columns : ℕ) (text : Text) (clients : List (List Asked)) → script_of book columns text ≡ Ok clients → All (All (IsAsked columns (length book))) clients
-are_asked book columns text clients told =
-    let s = script_of_form book columns text clients told in
-    rw (← s.1.sorted) (clients_asked columns (length book) s.0 s.1.are)
+pub are_asked : (book : List Named) (columns : ℕ) (text : Text) (script : Scripted) → script_of book columns text ≡ Ok script → IsScript columns (length book) script
+are_asked book columns text script told =
+    let s = script_of_form book columns text script told in
+    rw (← s.1.sorted) (script_asked book columns s.0 (lines_in text) s.1.form)
 
-pub are_few : (book : List Named) (columns : ℕ) (text : Text) (clients : List (List Asked)) → script_of book columns text ≡ Ok clients → AreFew clients
-are_few book columns text clients told =
-    let s = script_of_form book columns text clients told in
-    rw (← s.1.sorted) (clients_few columns (length book) s.0 s.1.are)
+pub are_few : (book : List Named) (columns : ℕ) (text : Text) (script : Scripted) → script_of book columns text ≡ Ok script → AreFew script.clients
+are_few book columns text script told =
+    let s = script_of_form book columns text script told in
+    rw (← s.1.sorted) (clients_few s.0 s.1.are)

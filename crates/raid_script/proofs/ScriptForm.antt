@@ -1,5 +1,5 @@
 -- That the scripts that are read are those of the form.
-use Rattle.std.proofs.Common.{◌≡◌, ◌∙◌, ℕ, ◌+◌, ◌<◌, ◌≤◌, Bool, true, false, cond, List, [], ◌∷◌, ◌++◌, length, map, Option, Some, None, Result, Ok, Err, refl, sym, ap, subst, arith, All}
+use Rattle.std.proofs.Common.{◌≡◌, ◌∙◌, ℕ, ◌+◌, ◌<◌, ◌≤◌, Bool, true, false, cond, List, [], ◌∷◌, ◌++◌, length, Option, Some, None, Result, Ok, Err, refl, sym, ap, subst, arith}
 use Rattle.std.specs.Prelude.{◌&&◌, nat_le, nat_lt, codes, sum_by}
 use Rattle.std.specs.Option.{ForSome}
 use Rattle.std.specs.Str.{bytes_eq}
@@ -10,12 +10,12 @@ use Rattle.raid_text.specs.Text.{Text, Numbered, is_sound, lines_in, sound_words
 use Rattle.graph_text.specs.FormatSteps.{at_end, next_number, next_word, only_if}
 use Rattle.graph_text.specs.Format.{Named, at_line}
 use Rattle.graph_text.proofs.CanonicalSteps.{bind_ok, bytes_same, ok_same, only_ok, words_are}
-use Rattle.raid_script.specs.Asked.{Asked, Writes, WritesAll, Reads, Syncs, Fails, IsAsked, Request, by_client, read_sectors}
-use Rattle.raid_script.specs.Format.{all_patches_of, are_apart, fail_of, item_of, line_of, next_client, next_column, next_graph, next_of, next_pattern, next_span, read_of, request_of, requests_behind, requests_of, run_of, script_of, sync_of, use_of, write_of, writes_of}
-use Rattle.raid_script.specs.Form.{Place, Literal, Number, Digits, FillsAll, HasForm, IsLineOf, IsRequest, asked_places, patch_places, places, use_places}
+use Rattle.raid_script.specs.Asked.{Asked, Writes, WritesAll, Reads, Syncs, Fails, IsAsked, IsPatch, Request, joined_in, read_sectors, scripted}
+use Rattle.raid_script.specs.Format.{Halves, all_patches_of, are_apart, asked_of, fail_of, halves_of, item_of, join_of, line_of, next_client, next_column, next_graph, next_of, next_patch, next_pattern, next_span, plain_of, read_of, request_of, requests_behind, requests_of, run_of, script_of, sync_of, use_of, write_of, writes_of}
+use Rattle.raid_script.specs.Form.{Place, Literal, Number, Digits, Graph, AreLinesOf, FillsAll, IsLineOf, IsRequest, IsSaid, asked_places, patch_places, places, said_places, use_places}
 use Rattle.raid_script.specs.Laws.{ScriptIsOfTheForm}
 use Rattle.raid_script.proofs.PatchesApart.{test-apart}
-use Rattle.raid_script.proofs.PatchesForm.{all_patches_fill}
+use Rattle.raid_script.proofs.PatchesForm.{all_patches_fill, patch_fills}
 use Rattle.raid_script.proofs.PlacesFilled.{append_fills, client_fills, column_fills, end_fills, graph_fills, number_fills, pattern_fills, span_fills}
 
 -- ---- one line
@@ -140,90 +140,176 @@ item_fills book columns kind words asked h = syncs (bytes_eq kind (codes "sync")
 split_fills : (book : List Named) (ps : List Place) (words : List Text) (word : Text) (behind : List Text) → words ≡ word ∷ behind → FillsAll book ps (word ∷ behind) → FillsAll book ps words
 split_fills book ps words word behind is fills = subst (λ (ws : List Text). FillsAll book ps ws) (sym is) fills
 
-request_fills : (book : List Named) (columns : ℕ) (words : List Text) (r : Request) → request_of book columns words ≡ Ok r → IsRequest columns (length book) r × FillsAll book (places r) words
+-- ---- a join line
+
+-- the places behind `join`
+abbrev half_places : Halves → List Place
+half_places h =
+    Graph h.first ∷ Number h.one.span.first ∷ Number h.one.span.count ∷ Digits h.one.bytes
+    ∷ Graph h.second ∷ Number h.other.span.first ∷ Number h.other.span.count ∷ Digits h.other.bytes ∷ []
+
+-- the halves that were read
+record HalvesRead (book : List Named) (words : List Text) (h : Halves) : Type 0 where
+  one : IsPatch h.one
+  other : IsPatch h.other
+  first : h.first < length book
+  second : h.second < length book
+  fills : FillsAll book (half_places h) words
+
+halves_fill : (book : List Named) (words : List Text) (h : Halves) → halves_of book words ≡ Ok h → HalvesRead book words h
+unfolding halves_of
+halves_fill book words h e =
+    let first = bind_ok (next_graph book words) _ h e in
+    let one = bind_ok (next_patch first.0.1) _ h first.2 in
+    let second = bind_ok (next_graph book one.0.1) _ h one.2 in
+    let other = bind_ok (next_patch second.0.1) _ h second.2 in
+    let end = bind_ok (at_end other.0.1) _ h other.2 in
+    let name = graph_fills book words first.0.0 first.0.1 first.1 in
+    let written = patch_fills book first.0.1 one.0.0 one.0.1 one.1 in
+    let next = graph_fills book one.0.1 second.0.0 second.0.1 second.1 in
+    let too = patch_fills book second.0.1 other.0.0 other.0.1 other.1 in
+    let found : Halves = record { first = first.0.0; one = one.0.0; second = second.0.0; other = other.0.0 } in
+    let last : FillsAll book (Number other.0.0.span.first ∷ Number other.0.0.span.count ∷ Digits other.0.0.bytes ∷ []) second.0.1 = too.fills [] (end_fills book other.0.1 end.0 end.1) in
+    let half : FillsAll book (Graph second.0.0 ∷ Number other.0.0.span.first ∷ Number other.0.0.span.count ∷ Digits other.0.0.bytes ∷ []) one.0.1 = split_fills book (Graph second.0.0 ∷ Number other.0.0.span.first ∷ Number other.0.0.span.count ∷ Digits other.0.0.bytes ∷ []) one.0.1 next.name second.0.1 next.split (next.named, last) in
+    subst (λ (x : Halves). HalvesRead book words x) (ok_same found h end.2) (record {
+      one = written.is;
+      other = too.is;
+      first = name.within;
+      second = next.within;
+      fills = split_fills book (half_places found) words name.name first.0.1 name.split (name.named, written.fills (Graph second.0.0 ∷ Number other.0.0.span.first ∷ Number other.0.0.span.count ∷ Digits other.0.0.bytes ∷ []) half);
+    })
+
+-- ---- one line
+
+-- what was read of a client from an item's kind on
+record AskedRead (book : List Named) (columns j line client : ℕ) (words : List Text) (r : Request) : Type 0 where
+  client_is : r.client ≡ client
+  is : IsSaid columns (length book) j line r.asked r.joined
+  fills : FillsAll book (said_places r.asked r.joined) words
+
+plain_fills : (book : List Named) (columns j line client : ℕ) (kind : Text) (words : List Text) (r : Request) → plain_of book columns client kind words ≡ Ok r → AskedRead book columns j line client (kind ∷ words) r
+unfolding plain_of
+plain_fills book columns j line client kind words r h =
+    let asked = bind_ok (item_of book columns kind words) _ r h in
+    let item = item_fills book columns kind words asked.0 asked.1 in
+    subst (λ (q : Request). AskedRead book columns j line client (kind ∷ words) q) (ok_same _ r asked.2) (record { client_is = refl; is = item.0; fills = item.1 })
+
+join_fills : (book : List Named) (columns j line client : ℕ) (words : List Text) (r : Request) → join_of book j line client words ≡ Ok r → AskedRead book columns j line client (codes "join" ∷ words) r
+unfolding join_of
+join_fills book columns j line client words r h =
+    let halves = bind_ok (halves_of book words) _ r h in
+    let apart = bind_ok (only_if (are_apart (halves.0.one ∷ halves.0.other ∷ [])) 9) _ r halves.2 in
+    let few = bind_ok (only_if (nat_lt j 64) 13) _ r apart.2 in
+    let read = halves_fill book words halves.0 halves.1 in
+    let both = halves.0.one ∷ halves.0.other ∷ [] in
+    subst (λ (q : Request). AskedRead book columns j line client (codes "join" ∷ words) q) (ok_same _ r few.2) (record {
+      client_is = refl;
+      is = record {
+        one = halves.0.one;
+        other = halves.0.other;
+        is = refl;
+        are = record {
+          some = omega arith;
+          few = omega arith;
+          each = All-cons IsPatch halves.0.one (halves.0.other ∷ []) read.one (All-cons IsPatch halves.0.other [] read.other (All-nil IsPatch));
+          apart = test-apart both (only_ok (are_apart both) 9 apart.0 apart.1);
+        };
+        of = record { first = read.first; second = read.second };
+        line_is = refl;
+        few = ltb-true j 64 (only_ok (nat_lt j 64) 13 few.0 few.1);
+      };
+      fills = (refl, read.fills);
+    })
+
+asked_fills : (book : List Named) (columns j line client : ℕ) (kind : Text) (words : List Text) (r : Request) → asked_of book columns j line client kind words ≡ Ok r → AskedRead book columns j line client (kind ∷ words) r
+unfolding asked_of
+asked_fills book columns j line client kind words r h = go (bytes_eq kind (codes "join")) refl h
+  where
+    go : (b : Bool) → bytes_eq kind (codes "join") ≡ b → cond b (join_of book j line client words) (plain_of book columns client kind words) ≡ Ok r → AskedRead book columns j line client (kind ∷ words) r
+    go true e s = rw (bytes_same kind (codes "join") e) (join_fills book columns j line client words r s)
+    go false e s = plain_fills book columns j line client kind words r s
+
+request_fills : (book : List Named) (columns j line : ℕ) (words : List Text) (r : Request) → request_of book columns j line words ≡ Ok r → IsRequest columns (length book) j line r × FillsAll book (places r) words
 unfolding request_of
-request_fills book columns words r h =
+request_fills book columns j line words r h =
     let client = bind_ok (next_client words) _ r h in
     let kind = bind_ok (next_word client.0.1) _ r client.2 in
-    let asked = bind_ok (item_of book columns kind.0.0 kind.0.1) _ r kind.2 in
     let known = client_fills words client.0.0 client.0.1 client.1 in
-    let item = item_fills book columns kind.0.0 kind.0.1 asked.0 asked.1 in
-    let behind : FillsAll book (asked_places asked.0) client.0.1 = split_fills book (asked_places asked.0) client.0.1 kind.0.0 kind.0.1 (words_are client.0.1 kind.0.0 kind.0.1 kind.1) item.1 in
-    subst (λ (q : Request). IsRequest columns (length book) q × FillsAll book (places q) words) (ok_same _ r asked.2)
-    ((known.0, item.0), number_fills book words client.0.0 client.0.1 known.1 (asked_places asked.0) behind)
+    let asked = asked_fills book columns j line client.0.0 kind.0.0 kind.0.1 r kind.2 in
+    let behind : FillsAll book (said_places r.asked r.joined) client.0.1 = split_fills book (said_places r.asked r.joined) client.0.1 kind.0.0 kind.0.1 (words_are client.0.1 kind.0.0 kind.0.1 kind.1) asked.fills in
+    let numbered : FillsAll book (Number client.0.0 ∷ said_places r.asked r.joined) words = number_fills book words client.0.0 client.0.1 known.1 (said_places r.asked r.joined) behind in
+    ((rw asked.client_is known.0, asked.is), subst (λ (c : ℕ). FillsAll book (Number c ∷ said_places r.asked r.joined) words) (sym asked.client_is) numbered)
 
-line_fills : (book : List Named) (columns : ℕ) (line : Numbered) (r : Request) → line_of book columns line ≡ Ok r → IsRequest columns (length book) r × IsLineOf book (places r) line
+line_fills : (book : List Named) (columns j : ℕ) (line : Numbered) (r : Request) → line_of book columns j line ≡ Ok r → IsRequest columns (length book) j line.at r × IsLineOf book (places r) line
 unfolding line_of sound_words
-line_fills book columns line r h =
+line_fills book columns j line r h =
     let sound = bind_ok (only_if (is_sound line.body) 1) _ r h in
-    let fills = request_fills book columns (words_of line.body) r sound.2 in
+    let fills = request_fills book columns j line.at (words_of line.body) r sound.2 in
     (fills.0, (words_of line.body, rw (only_ok (is_sound line.body) 1 sound.0 sound.1) refl, fills.1))
 
 -- ---- all lines
 
 -- the item of a line, within the limits
-record NextRead (book : List Named) (columns n r : ℕ) (line : Numbered) (request : Request) : Type 0 where
-  is : IsRequest columns (length book) request
+record NextRead (book : List Named) (columns n r j : ℕ) (line : Numbered) (request : Request) : Type 0 where
+  is : IsRequest columns (length book) j line.at request
   few : n < 65536
   sectors : r + read_sectors request.asked ≤ 262144
   form : IsLineOf book (places request) line
 
-next_fills : (book : List Named) (columns n r : ℕ) (line : Numbered) (request : Request) → next_of book columns n r line ≡ Ok request → NextRead book columns n r line request
+next_fills : (book : List Named) (columns n r j : ℕ) (line : Numbered) (request : Request) → next_of book columns n r j line ≡ Ok request → NextRead book columns n r j line request
 unfolding next_of
-next_fills book columns n r line request h =
-    let q = bind_ok (line_of book columns line) _ request h in
+next_fills book columns n r j line request h =
+    let q = bind_ok (line_of book columns j line) _ request h in
     let t = bind_ok (only_if (nat_lt n 65536 && nat_le (r + read_sectors q.0.asked) 262144) 7) _ request q.2 in
     let both = and_parts (nat_lt n 65536) (nat_le (r + read_sectors q.0.asked) 262144) (only_ok _ 7 t.0 t.1) in
-    let fills = line_fills book columns line q.0 q.1 in
-    subst (λ (x : Request). NextRead book columns n r line x) (ok_same q.0 request t.2) (record {
+    let fills = line_fills book columns j line q.0 q.1 in
+    subst (λ (x : Request). NextRead book columns n r j line x) (ok_same q.0 request t.2) (record {
       is = fills.0;
       few = ltb-true n 65536 both.0;
       sectors = leb-true (r + read_sectors q.0.asked) 262144 both.1;
       form = fills.1;
     })
 
--- the items of lines, behind n items whose reads have r sectors
-record LinesRead (book : List Named) (columns n r : ℕ) (lines : List Numbered) (requests : List Request) : Type 0 where
-  are : All (IsRequest columns (length book)) requests
+-- the items of lines, behind n items whose reads have r sectors, and j join lines
+record LinesRead (book : List Named) (columns n r j : ℕ) (lines : List Numbered) (requests : List Request) : Type 0 where
   count : n ≤ 65536 → n + length requests ≤ 65536
   sectors : r ≤ 262144 → r + sum_by (λ q. read_sectors q.asked) requests ≤ 262144
-  form : HasForm book (map places requests) lines
+  form : AreLinesOf book columns j requests lines
 
 of_line : {A : Type 0} (n : ℕ) (read : Result A ℕ) (x : A) → at_line n read ≡ Ok x → read ≡ Ok x
 of_line n (Ok y) x h = ap (λ z. Ok z) (ok_same y x h)
 of_line n (Err code) x h = absurd (cc)
 
-lines_fill : (book : List Named) (columns n r : ℕ) (lines : List Numbered) (requests : List Request) → requests_behind book columns n r lines ≡ Ok requests → LinesRead book columns n r lines requests
+lines_fill : (book : List Named) (columns n r j : ℕ) (lines : List Numbered) (requests : List Request) → requests_behind book columns n r j lines ≡ Ok requests → LinesRead book columns n r j lines requests
 unfolding requests_behind
-lines_fill book columns n r [] requests h =
-    subst (λ (rs : List Request). LinesRead book columns n r [] rs) (ok_same [] requests h) (record {
-      are = All-nil (IsRequest columns (length book));
+lines_fill book columns n r j [] requests h =
+    subst (λ (rs : List Request). LinesRead book columns n r j [] rs) (ok_same [] requests h) (record {
       count = λ most. omega arith;
       sectors = λ most. omega arith;
       form = tt;
     })
-lines_fill book columns n r (line ∷ lines) requests h =
-    let q = bind_ok (at_line line.at (next_of book columns n r line)) _ requests h in
-    let more = bind_ok (requests_behind book columns (n + 1) (r + read_sectors q.0.asked) lines) _ requests q.2 in
-    let one = next_fills book columns n r line q.0 (of_line line.at (next_of book columns n r line) q.0 q.1) in
-    let others = lines_fill book columns (n + 1) (r + read_sectors q.0.asked) lines more.0 more.1 in
+lines_fill book columns n r j (line ∷ lines) requests h =
+    let q = bind_ok (at_line line.at (next_of book columns n r j line)) _ requests h in
+    let joins = j + length (joined_in q.0.joined) in
+    let more = bind_ok (requests_behind book columns (n + 1) (r + read_sectors q.0.asked) joins lines) _ requests q.2 in
+    let one = next_fills book columns n r j line q.0 (of_line line.at (next_of book columns n r j line) q.0 q.1) in
+    let others = lines_fill book columns (n + 1) (r + read_sectors q.0.asked) joins lines more.0 more.1 in
     let total = sum_by-cons (λ (x : Request). read_sectors x.asked) q.0 more.0 in
-    subst (λ (rs : List Request). LinesRead book columns n r (line ∷ lines) rs) (ok_same (q.0 ∷ more.0) requests more.2) (record {
-      are = All-cons (IsRequest columns (length book)) q.0 more.0 one.is others.are;
+    subst (λ (rs : List Request). LinesRead book columns n r j (line ∷ lines) rs) (ok_same (q.0 ∷ more.0) requests more.2) (record {
       count = λ most. let f = others.count (let g = one.few in omega arith) in omega arith;
       sectors = λ most. let s = others.sectors one.sectors in omega (arith, total);
-      form = (one.form, others.form);
+      form = (one.is, one.form, others.form);
     })
 
 pub script_of_form : ScriptIsOfTheForm
 unfolding script_of
-script_of_form book columns text clients h =
-    let read = bind_ok (requests_of book columns text) _ clients h in
-    let all = lines_fill book columns 0 0 (lines_in text) read.0 read.1 in (
+script_of_form book columns text script h =
+    let read = bind_ok (requests_of book columns text) _ script h in
+    let all = lines_fill book columns 0 0 0 (lines_in text) read.0 read.1 in (
       read.0,
       record {
-        are = record { asked = all.are; few = (let f = all.count (omega arith) in omega arith); sectors = (let s = all.sectors (omega arith) in omega arith) };
+        are = record { few = (let f = all.count (omega arith) in omega arith); sectors = (let s = all.sectors (omega arith) in omega arith) };
         form = all.form;
-        sorted = ok_same (by_client read.0) clients read.2;
+        sorted = ok_same (scripted read.0) script read.2;
       },
     )

@@ -4,11 +4,17 @@ use Rattle.graph_text.specs.FormatSteps.{◌>>=◌}
 use Rattle.graph_text.specs.Format.{At}
 use Rattle.raid_script.specs.declared.fault.ScriptFault.{ScriptFault}
 use Rattle.raid_script.specs.declared.fault.ScriptFault.TheVariants as fault
-use Rattle.raid_script.specs.Asked.{AskedPatch}
+use Rattle.raid_script.specs.declared.joining.Halves.{Halves}
+use Rattle.raid_script.specs.Asked.{AskedPatch, seen_patch}
+use Rattle.raid_script.specs.Format as format
 
 -- the patches in front of those that are read, where they are
 abbrev pub behind : List AskedPatch → Result (List AskedPatch) ℕ → Result (List AskedPatch) ℕ
 behind front read = read >>= λ more. Ok (front ++ more)
+
+-- what a join line names, without where it lies in memory
+abbrev pub seen_halves : Halves → format.Halves
+seen_halves h = record { first = h.first; one = seen_patch h.one; second = h.second; other = seen_patch h.other }
 
 -- the refusal of a text
 abbrev pub GivesFault : {A : Type 0} → ScriptFault → Result A At → Type 0

@@ -1,5 +1,5 @@
 -- What a script asks for: its items as they are spoken of, each with its client, and in the order of the clients.
-use Rattle.std.specs.Prelude.{◌≡◌, ℕ, ◌<◌, ◌≤◌, ◌^◌, true, List, [], ◌∷◌, ◌++◌, Option, Some, None, if◌then◌else◌, length, map, filter, sum_by, nat_eq, nat_le, slice_index_or, slice_set, All, AllPairs}
+use Rattle.std.specs.Prelude.{◌≡◌, ℕ, ◌+◌, ◌<◌, ◌≤◌, ◌^◌, true, List, [], ◌∷◌, ◌++◌, Option, Some, None, if◌then◌else◌, length, map, filter, sum_by, nat_eq, nat_le, slice_index_or, slice_set, All, AllPairs}
 use Rattle.std.specs.List.{range_with_len}
 use Rattle.std.specs.Option.{ForSome}
 use Rattle.blk_plain.specs.declared.op.Span.{Span}
@@ -12,6 +12,7 @@ use Rattle.raid_text.specs.Pattern.{pattern_bytes}
 use Rattle.eng_world.specs.declared.item.Item.{Item}
 use Rattle.eng_world.specs.declared.item.Item.TheVariants.{Run, Fail}
 use Rattle.raid_script.specs.declared.entry.Entry.{Entry}
+use Rattle.raid_script.specs.declared.join.Join.{Join}
 
 -- a span of blocks, and the bytes that are repeated in each of them
 pub record AskedPatch : Type 0 where
@@ -27,10 +28,16 @@ pub data Asked : Type 0 where
   Fails : ℕ → Asked
   Other : Asked
 
--- what a client asks for
+-- what a client asks for, and which graphs are joined for it, if any are
 pub record Request : Type 0 where
   pub client : ℕ
   pub asked : Asked
+  pub joined : Option Join
+
+-- what all clients ask for, and the join lines, in order
+pub record Scripted : Type 0 where
+  pub clients : List (List Asked)
+  pub joins : List Join
 
 -- ---- items, as what they ask for; no script asks for a rebuild, for a sync by a graph of the file, or for more than eight spans
 
@@ -54,7 +61,7 @@ seen (Run op graph) = seen_op op graph
 seen (Fail column) = Fails column
 
 abbrev pub seen_entry : Entry → Request
-seen_entry e = record { client = e.client; asked = seen e.item }
+seen_entry e = record { client = e.client; asked = seen e.item; joined = e.join }
 
 -- ---- by client
 
@@ -70,9 +77,27 @@ by_first n requests = map (asked_by requests) (range_with_len 0 n)
 abbrev pub by_client : List Request → List (List Asked)
 by_client requests = by_first 16 requests
 
--- what each client asks for, with one item more behind those of its client
-abbrev pub with_request : List (List Asked) → Request → List (List Asked)
-with_request rows r = slice_set rows r.client (slice_index_or rows r.client [] ++ r.asked ∷ [])
+-- the join line that there is, if there is one
+abbrev pub joined_in : Option Join → List Join
+joined_in None = []
+joined_in (Some join) = join ∷ []
+
+-- those of all requests
+unfoldable pub joins_of : List Request → List Join
+joins_of [] = []
+joins_of (r ∷ requests) = joined_in r.joined ++ joins_of requests
+
+-- what all clients ask for, and the join lines
+abbrev pub scripted : List Request → Scripted
+scripted requests = record { clients = by_client requests; joins = joins_of requests }
+
+-- what each client asks for, with one item more behind those of this client
+abbrev pub with_asked : List (List Asked) → ℕ → Asked → List (List Asked)
+with_asked rows client asked = slice_set rows client (slice_index_or rows client [] ++ asked ∷ [])
+
+-- the same of a whole script
+abbrev pub with_request : Scripted → Request → Scripted
+with_request s r = record { clients = with_asked s.clients r.client r.asked; joins = s.joins ++ joined_in r.joined }
 
 -- ---- limits
 
@@ -108,6 +133,21 @@ IsAsked columns graphs (Reads first count graph) = (first < 2 ^ 32) × (0 < coun
 IsAsked columns graphs (Syncs stripe) = Unit {0}
 IsAsked columns graphs (Fails column) = column < columns
 IsAsked columns graphs Other = ⊥
+
+-- a join line that may stand in a script beside so many graphs: two of them
+pub record IsJoinOf (graphs : ℕ) (join : Join) : Type 0 where
+  pub first : join.first < graphs
+  pub second : join.second < graphs
+
+-- at most 64, each of them so
+pub record AreJoinsOf (graphs : ℕ) (joins : List Join) : Type 0 where
+  pub few : length joins ≤ 64
+  pub each : All (IsJoinOf graphs) joins
+
+-- what may stand in a script: items by graphs of the file, or by those that are joined of them, whose numbers are behind theirs
+pub record IsScript (columns graphs : ℕ) (s : Scripted) : Type 0 where
+  pub asked : All (All (IsAsked columns (graphs + length s.joins))) s.clients
+  pub joins : AreJoinsOf graphs s.joins
 
 -- at most 16 clients, 65,536 items, and 262,144 sectors that are read
 pub record AreFew (rows : List (List Asked)) : Type 0 where

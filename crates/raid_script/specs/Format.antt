@@ -1,12 +1,12 @@
 -- Scripts: what a text asks for, or the first line that is refused and the code of its refusal.
-use Rattle.std.specs.Prelude.{ℕ, zero, suc, ◌+◌, ◌&&◌, ◌||◌, not, Bool, true, List, [], ◌∷◌, Option, Some, None, Result, Ok, Err, if◌then◌else◌, nat_eq, nat_le, nat_lt, codes, position}
+use Rattle.std.specs.Prelude.{ℕ, zero, suc, ◌+◌, ◌&&◌, ◌||◌, not, Bool, true, List, [], ◌∷◌, Option, Some, None, Result, Ok, Err, length, if◌then◌else◌, nat_eq, nat_le, nat_lt, codes, position}
 use Rattle.std.specs.List.{list_all}
 use Rattle.std.specs.Str.{bytes_eq}
 use Rattle.raid_text.specs.Text.{Text, Numbered, is_sound, lines_in, words_of}
 use Rattle.raid_text.specs.Pattern.{pattern_of}
 use Rattle.graph_text.specs.FormatSteps.{◌>>=◌, at_end, next_number, next_word, only_if, or_code}
 use Rattle.graph_text.specs.Format.{At, Named, at_line}
-use Rattle.raid_script.specs.Asked.{Asked, AskedPatch, Writes, WritesAll, Reads, Syncs, Fails, Request, by_client, read_sectors}
+use Rattle.raid_script.specs.Asked.{Asked, AskedPatch, Writes, WritesAll, Reads, Syncs, Fails, Request, Scripted, joined_in, read_sectors, scripted}
 
 -- ---- words
 
@@ -143,41 +143,75 @@ item_of book columns kind words =
     else (if bytes_eq kind (codes "fail") then fail_of columns words
     else (if bytes_eq kind (codes "use") then use_of book words else run_of None kind words))
 
--- a client and its item
-unfoldable pub request_of : List Named → ℕ → List Text → Result Request ℕ
-request_of book columns words = do
+-- NAME FIRST COUNT PATTERN, twice: the graphs, and what is written
+pub record Halves : Type 0 where
+  pub first : ℕ
+  pub one : AskedPatch
+  pub second : ℕ
+  pub other : AskedPatch
+
+unfoldable pub halves_of : List Named → List Text → Result Halves ℕ
+halves_of book words = do
+  first ← next_graph book words
+  one ← next_patch first.1
+  second ← next_graph book one.1
+  other ← next_patch second.1
+  end ← at_end other.1
+  Ok (record { first = first.0; one = one.0; second = second.0; other = other.0 })
+
+-- a write of both by the two graphs joined, which has the number behind those of the book and of the j that are joined before; code 9 where the spans share a block, and code 13 where 64 are joined before
+unfoldable pub join_of : List Named → ℕ → ℕ → ℕ → List Text → Result Request ℕ
+join_of book j line client words = do
+  halves ← halves_of book words
+  apart ← only_if (are_apart (halves.one ∷ halves.other ∷ [])) 9
+  few ← only_if (nat_lt j 64) 13
+  Ok (record { client = client; asked = WritesAll (halves.one ∷ halves.other ∷ []) (Some (length book + j)); joined = Some (record { line = line; first = halves.first; second = halves.second }) })
+
+-- any other item
+unfoldable pub plain_of : List Named → ℕ → ℕ → Text → List Text → Result Request ℕ
+plain_of book columns client kind words = do
+  asked ← item_of book columns kind words
+  Ok (record { client = client; asked = asked; joined = None })
+
+-- what stands behind the client, and the word that says what kind of item it is
+unfoldable pub asked_of : List Named → ℕ → ℕ → ℕ → ℕ → Text → List Text → Result Request ℕ
+asked_of book columns j line client kind words =
+    if bytes_eq kind (codes "join") then join_of book j line client words else plain_of book columns client kind words
+
+-- a client and its item, in this line and behind j join lines
+unfoldable pub request_of : List Named → ℕ → ℕ → ℕ → List Text → Result Request ℕ
+request_of book columns j line words = do
   client ← next_client words
   kind ← next_word client.1
-  asked ← item_of book columns kind.0 kind.1
-  Ok (record { client = client.0; asked = asked })
+  asked_of book columns j line client.0 kind.0 kind.1
 
 -- the item of a line, which code 1 refuses where a byte outside its comment neither separates words nor may stand in one
-unfoldable pub line_of : List Named → ℕ → Numbered → Result Request ℕ
-line_of book columns line = do
+unfoldable pub line_of : List Named → ℕ → ℕ → Numbered → Result Request ℕ
+line_of book columns j line = do
   sound ← only_if (is_sound line.body) 1
-  request_of book columns (words_of line.body)
+  request_of book columns j line.at (words_of line.body)
 
 -- ---- all lines
 
--- the item of a line, behind n items whose reads have r sectors; code 7 where they are too many with it
-unfoldable pub next_of : List Named → ℕ → ℕ → ℕ → Numbered → Result Request ℕ
-next_of book columns n r line = do
-  request ← line_of book columns line
+-- the item of a line, behind n items whose reads have r sectors, and j join lines; code 7 where the items are too many with it
+unfoldable pub next_of : List Named → ℕ → ℕ → ℕ → ℕ → Numbered → Result Request ℕ
+next_of book columns n r j line = do
+  request ← line_of book columns j line
   room ← only_if (nat_lt n 65536 && nat_le (r + read_sectors request.asked) 262144) 7
   Ok request
 
--- the items of these lines, behind n items whose reads have r sectors
-unfoldable pub requests_behind : List Named → ℕ → ℕ → ℕ → List Numbered → Result (List Request) At
-requests_behind book columns n r [] = Ok []
-requests_behind book columns n r (line ∷ lines) = do
-  request ← at_line line.at (next_of book columns n r line)
-  more ← requests_behind book columns (n + 1) (r + read_sectors request.asked) lines
+-- the items of these lines, behind n items whose reads have r sectors, and j join lines
+unfoldable pub requests_behind : List Named → ℕ → ℕ → ℕ → ℕ → List Numbered → Result (List Request) At
+requests_behind book columns n r j [] = Ok []
+requests_behind book columns n r j (line ∷ lines) = do
+  request ← at_line line.at (next_of book columns n r j line)
+  more ← requests_behind book columns (n + 1) (r + read_sectors request.asked) (j + length (joined_in request.joined)) lines
   Ok (request ∷ more)
 
 -- the items of a text, in the order of its lines
 abbrev pub requests_of : List Named → ℕ → Text → Result (List Request) At
-requests_of book columns text = requests_behind book columns 0 0 (lines_in text)
+requests_of book columns text = requests_behind book columns 0 0 0 (lines_in text)
 
--- what a text asks for, by client; the graphs of the file are numbered as the book has them, and there are none where no file was given
-unfoldable pub script_of : List Named → ℕ → Text → Result (List (List Asked)) At
-script_of book columns text = requests_of book columns text >>= λ requests. Ok (by_client requests)
+-- what a text asks for, by client, and its join lines; the graphs of the file are numbered as the book has them, and there are none where no file was given
+unfoldable pub script_of : List Named → ℕ → Text → Result Scripted At
+script_of book columns text = requests_of book columns text >>= λ requests. Ok (scripted requests)

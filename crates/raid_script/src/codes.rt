@@ -23,3 +23,6 @@ pub const LIMIT: u8 = 7;
 
 /// Two spans of the line that share a block.
 pub const SHARED: u8 = 9;
+
+/// One join line more than there may be.
+pub const JOINED: u8 = 13;

@@ -118,11 +118,12 @@ pub fn generate(
     requires most { clients ≤ 16 }
     requires ops { ops ≤ 2048 }
     requires blocks { 0 < blocks }
-    ensures value { IfOk result (λ s. s ≡ drawn seed clients ops blocks) }
+    ensures value { IfOk result (λ s. s.clients ≡ drawn seed clients ops blocks) }
+    ensures joins { IfOk result (λ s. s.joins ≡ []) }
 
     // Each client has so many items, each of 1 to 8 blocks of its own share.
-    ensures apart { IfOk result (λ s. AreApart (taken clients blocks) ops (share clients blocks) blocks s) }
-    ensures few { IfOk result (λ s. AreFew s) }
+    ensures apart { IfOk result (λ s. AreApart (taken clients blocks) ops (share clients blocks) blocks s.clients) }
+    ensures few { IfOk result (λ s. AreFew s.clients) }
 {
     let taken = u64::from(clients).min(blocks) as u32;
     let wide = blocks / u64::from(taken);
@@ -131,5 +132,8 @@ pub fn generate(
     for client in 0..taken {
         rows.push(row_from(alloc, client, wide, ops, &mut words)?)?;
     }
-    Ok(Script { clients: rows })
+    Ok(Script {
+        clients: rows,
+        joins: Vec::new(alloc),
+    })
 }

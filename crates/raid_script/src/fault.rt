@@ -20,7 +20,10 @@ pub enum ScriptFault {
     /// 6. no graph of the file has this name, or no file was given;
     /// 7. the 65,537th item, or the item by which the COUNTs of all reads pass 262,144, judged once
     ///    the line is read whole;
-    /// 9. two spans of the line share a block, judged once the line is read whole, and before code 7.
+    /// 9. two spans of the line share a block, judged once the line is read whole, and before codes
+    ///    13 and 7;
+    ///
+    /// and 13: the 65th join line, judged once the line is read whole, and before code 7.
     #[error("line {line} of the script is refused by code {code}")]
     At { line: u32, code: u8 },
     /// There was no memory for the items.

@@ -8,6 +8,9 @@
 //!   spans share a block;
 //! - `C use NAME write ..`, `C use NAME writes ..` and `C use NAME read ..`: the same by the graph of
 //!   the file that has this name;
+//! - `C join NAME FIRST COUNT PATTERN NAME FIRST COUNT PATTERN`: two writes as one operation, by the
+//!   graph that the two of these names are joined to. There are at most 64 such lines; the graph of
+//!   the first has the number behind those of the file;
 //! - `C sync STRIPE`: makes a stripe's check unit from its data units;
 //! - `C fail COLUMN`: the operator fails a column.
 //!
@@ -26,6 +29,8 @@ mod drawn;
 mod entry;
 mod fault;
 mod history;
+mod join;
+mod joining;
 mod kinds;
 mod laws;
 mod lines;
@@ -44,6 +49,7 @@ mod words;
 pub use drawn::generate;
 pub use fault::ScriptFault;
 pub use history::put_history;
+pub use join::{JOINS, Join};
 pub use laws::{own_items_touch_their_share, script_is_of_the_form, script_is_read};
 pub use memory::Memory;
 pub use reader::read_script;

@@ -1,12 +1,13 @@
 //! The lines of a script.
-ghost use Rattle.std.specs.Prelude.{◌≡◌, ◌+◌, ◌<◌, ◌≤◌, ◌^◌, IfOk};
+ghost use Rattle.std.specs.Prelude.{◌≡◌, ◌+◌, ◌<◌, ◌≤◌, ◌^◌, None, length, IfOk};
 ghost use Rattle.raid_text.specs.Seen.{seen as seen_line, words_left};
 ghost use Rattle.graph_text.specs.Answers.{Gives};
-ghost use Rattle.raid_script.specs.Asked.{read_sectors, seen, seen_entry};
-ghost use Rattle.raid_script.specs.Format.{line_of, next_of, request_of};
+ghost use Rattle.raid_script.specs.Asked.{joined_in, read_sectors, seen, seen_entry};
+ghost use Rattle.raid_script.specs.Format.{asked_of, line_of, next_of, plain_of, request_of};
 
 use crate::codes::{LIMIT, WORD};
 use crate::entry::Entry;
+use crate::joining::join_in;
 use crate::kinds::item_in;
 use crate::words::{next_client, next_word};
 use blk_plain::{Op, limits};
@@ -14,26 +15,77 @@ use eng_world::Item;
 use graph_text::Book;
 use raid_text::{Line, Words};
 
+#[tactic(auto, unfolding(crate::specs::Format::plain_of))]
+fn plain_in(
+    book: &Book,
+    columns: u32,
+    client: u32,
+    kind: &[u8],
+    words: &mut Words,
+) -> Result<Entry, u8>
+    ensures value { Gives seen_entry result (plain_of book.now columns client kind.now (words_left words.old)) }
+    ensures client { IfOk result (λ e. e.client ≡ client) }
+    ensures none { IfOk result (λ e. e.join ≡ None) }
+{
+    let item = item_in(book, columns, kind, words)?;
+    Ok(Entry {
+        client,
+        item,
+        join: None,
+    })
+}
+
+#[tactic(auto, unfolding(crate::specs::Format::asked_of))]
+fn asked_in(
+    book: &Book,
+    columns: u32,
+    joins: u32,
+    line: u32,
+    client: u32,
+    kind: &[u8],
+    words: &mut Words,
+) -> Result<Entry, u8>
+    requires { joins ≤ 64 }
+    ensures value { Gives seen_entry result (asked_of book.now columns joins line client kind.now (words_left words.old)) }
+    ensures client { IfOk result (λ e. e.client ≡ client) }
+    ensures joins { IfOk result (λ e. joins + length (joined_in e.join) ≤ 64) }
+{
+    if kind == b"join".as_slice() {
+        join_in(book, joins, line, client, words)
+    } else {
+        plain_in(book, columns, client, kind, words)
+    }
+}
+
 #[tactic(auto, unfolding(crate::specs::Format::request_of))]
-fn entry_in(book: &Book, columns: u32, words: &mut Words) -> Result<Entry, u8>
-    ensures value { Gives seen_entry result (request_of book.now columns (words_left words.old)) }
+fn entry_in(
+    book: &Book,
+    columns: u32,
+    joins: u32,
+    line: u32,
+    words: &mut Words,
+) -> Result<Entry, u8>
+    requires { joins ≤ 64 }
+    ensures value { Gives seen_entry result (request_of book.now columns joins line (words_left words.old)) }
     ensures client { IfOk result (λ e. e.client < 16) }
+    ensures joins { IfOk result (λ e. joins + length (joined_in e.join) ≤ 64) }
 {
     let client = next_client(words)?;
     let kind = next_word(words)?;
-    let item = item_in(book, columns, kind, words)?;
-    Ok(Entry { client, item })
+    asked_in(book, columns, joins, line, client, kind, words)
 }
 
 #[tactic(auto, unfolding(crate::specs::Format::line_of))]
-fn read_line(book: &Book, columns: u32, line: &Line) -> Result<Entry, u8>
-    ensures value { Gives seen_entry result (line_of book.now columns (seen_line line.now)) }
+fn read_line(book: &Book, columns: u32, joins: u32, line: &Line) -> Result<Entry, u8>
+    requires { joins ≤ 64 }
+    ensures value { Gives seen_entry result (line_of book.now columns joins (seen_line line.now)) }
     ensures client { IfOk result (λ e. e.client < 16) }
+    ensures joins { IfOk result (λ e. joins + length (joined_in e.join) ≤ 64) }
 {
     if !line.sound() {
         return Err(WORD);
     }
-    entry_in(book, columns, &mut line.words())
+    entry_in(book, columns, joins, line.at(), &mut line.words())
 }
 
 /// How many sectors an item reads.
@@ -50,22 +102,25 @@ pub fn read_sectors(item: &Item) -> u64
     }
 }
 
-/// The item of a line, behind so many items whose reads have so many sectors.
+/// The item of a line, behind so many items whose reads have so many sectors, and so many join lines.
 #[tactic(auto, unfolding(crate::specs::Format::next_of))]
 pub fn next_entry(
     book: &Book,
     columns: u32,
     items: usize,
     sectors: u64,
+    joins: u32,
     line: &Line,
 ) -> Result<Entry, u8>
-    requires { sectors ≤ 262144 }
-    ensures value { Gives seen_entry result (next_of book.now columns items sectors (seen_line line.now)) }
+    requires sectors { sectors ≤ 262144 }
+    requires joins { joins ≤ 64 }
+    ensures value { Gives seen_entry result (next_of book.now columns items sectors joins (seen_line line.now)) }
     ensures client { IfOk result (λ e. e.client < 16) }
+    ensures joins { IfOk result (λ e. joins + length (joined_in e.join) ≤ 64) }
     ensures few { IfOk result (λ e. items < 65536) }
     ensures bound { IfOk result (λ e. sectors + read_sectors (seen e.item) ≤ 262144) }
 {
-    let entry = read_line(book, columns, line)?;
+    let entry = read_line(book, columns, joins, line)?;
     if items < limits::ITEMS as usize
         && sectors + read_sectors(&entry.item) <= limits::READ_SECTORS as u64
     {

@@ -23,6 +23,31 @@ fn patch_from(word: &[u8], words: &mut Words) -> Result<Patch, u8>
     Ok(Patch { span, pattern })
 }
 
+/// FIRST, COUNT and PATTERN.
+#[tactic(auto, unfolding(crate::specs::Format::next_patch, crate::specs::Format::next_span, graph_text::specs::FormatSteps::next_number))]
+pub fn next_patch(words: &mut Words) -> Result<Patch, u8>
+    ensures value { Gives (λ p. (seen_patch p, words_left words.new)) result (next_patch (words_left words.old)) }
+    ensures some { IfOk result (λ p. 1 ≤ p.span.count) }
+{
+    match words.next() {
+        Some(word) => patch_from(word, words),
+        None => Err(WORD),
+    }
+}
+
+/// Two patches.
+pub fn two_patches(one: Patch, other: Patch) -> Patches
+    ensures used { result.used ≡ 2 }
+    ensures list { used_of result ≡ one ∷ other ∷ [] }
+{
+    let mut patches = Patches {
+        used: 1,
+        list: [one; 8],
+    };
+    push_patch(&mut patches, other);
+    patches
+}
+
 // Puts a patch behind those in use.
 fn push_patch(patches: &mut Patches, patch: Patch)
     requires { patches.old.used < 8 }

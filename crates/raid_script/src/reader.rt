@@ -1,7 +1,7 @@
 //! The reader of a whole script.
-ghost use Rattle.std.specs.Prelude.{◌≤◌, length, All, IfOk};
+ghost use Rattle.std.specs.Prelude.{◌≤◌, length, IfOk};
 ghost use Rattle.raid_script.specs.Answers.{GivesScript};
-ghost use Rattle.raid_script.specs.Asked.{AreFew, IsAsked};
+ghost use Rattle.raid_script.specs.Asked.{AreFew, IsScript};
 ghost use Rattle.raid_script.specs.Format.{script_of};
 
 use crate::fault::ScriptFault;
@@ -26,16 +26,18 @@ pub fn read_script(
     requires { length text.now ≤ 16777216 }
     ensures value { GivesScript (λ s. s) result (script_of book.now columns text.now) }
 
-    // Each item has a block at least, a column of the array, a graph of the book; and no two spans of one share a block.
-    ensures asked { IfOk result (λ s. All (All (IsAsked columns (length book.now))) s) }
-    ensures few { IfOk result (λ s. AreFew s) }
+    // Each item has a block at least, a column of the array, a graph of the book or one that is joined of two; and no two
+    // spans of one share a block.
+    ensures asked { IfOk result (λ s. IsScript columns (length book.now) s) }
+    ensures few { IfOk result (λ s. AreFew s.clients) }
 {
     let mut script = Script::empty(alloc)?;
     let mut items = 0;
     let mut sectors = 0;
     let mut lines = Lines::new(text);
     while let Some(line) = lines.next() {
-        match next_entry(book, columns, items, sectors, &line) {
+        let joins = script.joins().len() as u32;
+        match next_entry(book, columns, items, sectors, joins, &line) {
             Ok(entry) => {
                 items += 1;
                 sectors += read_sectors(&entry.item);

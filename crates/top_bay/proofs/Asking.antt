@@ -3,7 +3,7 @@ use Rattle.std.specs.Prelude.{◌≡◌, ◌<◌, ℕ, zero, suc, List, [], ◌�
 use Rattle.std.proofs.Common.{arith, refl, sym, ap, subst, ◌∙◌}
 use Rattle.raid_conf.specs.declared.conf.Conf.{Conf}
 use Rattle.graph_text.specs.Format.{Named}
-use Rattle.raid_script.specs.Asked.{Asked as Item}
+use Rattle.raid_script.specs.Asked.{Scripted}
 use Rattle.raid_text.specs.Text.{Text}
 use Rattle.top_status.specs.declared.status.Status.{Status}
 use Rattle.top_status.specs.declared.status.Status.TheVariants as status
@@ -43,11 +43,11 @@ module _ (texts : Text → Option Text) (command : Command) (conf : Conf) where
   unfolding texts_in
   refused_script comp book s one two three h = rw (one, two, three) (refused_then s (script_in texts (script_name command.action) book conf.columns) _ h)
 
-  pub all_read : (comp : Option ℕ) (book : List Named) (clients : List (List Item)) → conf_in texts command.conf ≡ Ok conf → comp_in conf command.action ≡ Ok comp
-      → book_in texts (graphs_name command.action) ≡ Ok book → script_in texts (script_name command.action) book conf.columns ≡ Ok clients
-      → texts_in texts command ≡ Ok (record { command = command; conf = conf; comp = comp; book = book; clients = clients })
+  pub all_read : (comp : Option ℕ) (book : List Named) (script : Scripted) → conf_in texts command.conf ≡ Ok conf → comp_in conf command.action ≡ Ok comp
+      → book_in texts (graphs_name command.action) ≡ Ok book → script_in texts (script_name command.action) book conf.columns ≡ Ok script
+      → texts_in texts command ≡ Ok (record { command = command; conf = conf; comp = comp; book = book; clients = script.clients; joins = script.joins })
   unfolding texts_in
-  all_read comp book clients one two three four = rw (one, two, three, four) refl
+  all_read comp book script one two three four = rw (one, two, three, four) refl
 
 -- ## Devices
 

@@ -1,5 +1,5 @@
 -- One more device is lent.
-use Rattle.std.specs.Prelude.{◌≡◌, ◌≢◌, ◌<◌, ◌⊎◌, ◌↔◌, ℕ, zero, suc, Bool, true, false, List, [], ◌∷◌, ◌++◌, length, Option, Some, IsSome, slice_get}
+use Rattle.std.specs.Prelude.{◌≡◌, ◌≢◌, ◌<◌, ◌⊎◌, ◌↔◌, ℕ, zero, suc, Bool, true, false, List, [], ◌∷◌, ◌++◌, length, Option, Some, None, IsSome, slice_get}
 use Rattle.std.proofs.Common.{arith, refl, sym, ap, subst, inl, inr, ◌∙◌, ⊎_elim}
 use Rattle.std.specs.Str.{bytes_eq}
 use Rattle.std.proofs.lemmas.Bool.{cases_lt}
@@ -79,3 +79,14 @@ out_more {D} was is_out names ds device name at out more there now = record {
   where
     some-eq : {X : Type 0} (x y : X) → Some x ≡ Some y → x ≡ y
     some-eq x y e = cc e
+
+-- devices that are lent of homes are lent of others that are the same
+pub lent-same : {D : Type 0} (home mid after : Text → Option D) (names : List Text) (ds : List (Option D)) → ((n : Text) → mid n ≡ home n) → IsLent mid after names ds → IsLent home after names ds
+lent-same {D} home mid after names ds same lent = record {
+  each = λ d l. lent.each d l ∙ here (slice_get names d);
+  others = λ n none. lent.others n none ∙ same n;
+}
+  where
+    here : (o : Option Text) → at_home mid o ≡ at_home home o
+    here None = refl
+    here (Some n) = at_home-same home mid n (λ named. same n)

@@ -7,7 +7,8 @@ use Rattle.graph_text.specs.Format.{Named, graphs_of}
 use Rattle.raid_conf.specs.Format.{conf_of}
 use Rattle.raid_conf.specs.declared.conf.Conf.{Conf}
 use Rattle.raid_script.specs.Format.{script_of}
-use Rattle.raid_script.specs.Asked.{Asked as Item}
+use Rattle.raid_script.specs.declared.join.Join.{Join}
+use Rattle.raid_script.specs.Asked.{Asked as Item, Scripted}
 use Rattle.top_words.specs.Asked.{Action, Command, Component, Nameless, Column, Device, beside_of, profile_of}
 use Rattle.top_words.specs.declared.profile.Kind.{Kind}
 use Rattle.top_words.specs.declared.profile.Kind.TheVariants as kind
@@ -16,13 +17,14 @@ use Rattle.top_status.specs.Refusals.{Refused, ◌then◌, only, or_refusal, tex
 use Rattle.top_fetch.specs.Told.{Told}
 use Rattle.top_fetch.specs.Fetched.{or_status}
 
--- What words and texts ask for: the command, the configuration, the place of the component that the command names, the graphs of the file, and the items of the script by client. Without a file there are no graphs, without a script no clients.
+-- What words and texts ask for: the command, the configuration, the place of the component that the command names, the graphs of the file, and the items of the script by client, with its join lines. Without a file there are no graphs, without a script no clients.
 pub record Asked : Type 0 where
   pub command : Command
   pub conf : Conf
   pub comp : Option ℕ
   pub book : List Named
   pub clients : List (List Item)
+  pub joins : List Join
 
 -- the configuration of this name
 unfoldable pub conf_in : (Text → Option Text) → Text → Result Conf Refused
@@ -52,9 +54,9 @@ unfoldable pub book_in : (Text → Option Text) → Option Text → Result (List
 book_in texts None = Ok []
 book_in texts (Some name) = text_in texts name then λ text. or_status (λ at. status.GraphText at.line at.code) (graphs_of text)
 
--- the items by client of the script of this name, beside these graphs and for so many columns; no clients where no script is named
-unfoldable pub script_in : (Text → Option Text) → Option Text → List Named → ℕ → Result (List (List Item)) Refused
-script_in texts None book columns = Ok []
+-- the items by client of the script of this name, and its join lines, beside these graphs and for so many columns; no clients where no script is named
+unfoldable pub script_in : (Text → Option Text) → Option Text → List Named → ℕ → Result Scripted Refused
+script_in texts None book columns = Ok (record { clients = []; joins = [] })
 script_in texts (Some name) book columns = text_in texts name then λ text. or_status (λ at. status.Script at.line at.code) (script_of book columns text)
 
 -- the names of the file of graphs and of the script that go with an action
@@ -106,8 +108,8 @@ texts_in texts command =
     conf_in texts command.conf then λ conf.
     comp_in conf command.action then λ comp.
     book_in texts (graphs_name command.action) then λ book.
-    script_in texts (script_name command.action) book conf.columns then λ clients.
-    Ok (record { command = command; conf = conf; comp = comp; book = book; clients = clients })
+    script_in texts (script_name command.action) book conf.columns then λ script.
+    Ok (record { command = command; conf = conf; comp = comp; book = book; clients = script.clients; joins = script.joins })
 
 -- and of a bay: behind all texts come the devices, those of the columns before the spares
 unfoldable pub asked_in : {D : Type 0} → Told D → Command → Result Asked Refused

@@ -1,8 +1,8 @@
 -- What is seen of a command and of what it asks for, without where that lies in memory.
-use Rattle.std.specs.Prelude.{◌≡◌, ◌<◌, ℕ, List, [], length, map, All, Option, Some, None, slice_get}
+use Rattle.std.specs.Prelude.{◌≡◌, ◌<◌, ◌+◌, ℕ, List, [], length, map, All, Option, Some, None, slice_get}
 use Rattle.graph_text.specs.FormatForm.{AreGraphs}
 use Rattle.raid_conf.specs.Form.{IsConf}
-use Rattle.raid_script.specs.Asked.{AreFew, IsAsked, seen}
+use Rattle.raid_script.specs.Asked.{AreFew, AreJoinsOf, IsAsked, seen}
 use Rattle.raid_conf.specs.declared.conf.Conf.{Conf}
 use Rattle.raid_text.specs.Text.{Text}
 use Rattle.top_words.specs.Asked.{Action, AreNumbersInRange, Component, Nameless, Column, Device, profile_of}
@@ -11,7 +11,7 @@ use Rattle.top_bay.specs.Asked.{Asked, names_of}
 use Rattle.top_bay.specs.declared.asked.Asked as declared_asked
 
 abbrev pub asked_seen : declared_asked.Asked → Asked
-asked_seen a = record { command = command_seen a.command; conf = a.conf; comp = a.comp; book = a.book; clients = map (λ items. map seen items.items) a.clients.items }
+asked_seen a = record { command = command_seen a.command; conf = a.conf; comp = a.comp; book = a.book; clients = map (λ items. map seen items.items) a.clients.items; joins = a.joins.items }
 
 -- a name that isn't empty stands in this place, which is below the count
 pub record IsPlace (names : List Text) (count : ℕ) (name : Text) (comp : Option ℕ) : Type 0 where
@@ -36,5 +36,6 @@ pub record IsWithinLimits (a : Asked) : Type 0 where
   pub conf : IsConf a.conf
   pub known : IsKnown a.conf a.command.action a.comp
   pub graphs : AreGraphs a.book
-  pub asked : All (All (IsAsked a.conf.columns (length a.book))) a.clients
+  pub asked : All (All (IsAsked a.conf.columns (length a.book + length a.joins))) a.clients
+  pub joins : AreJoinsOf (length a.book) a.joins
   pub few : AreFew a.clients

@@ -16,6 +16,7 @@ use eng_world::Item;
 use graph_text::Book;
 use raid_bay::Bay;
 use raid_conf::Conf;
+use raid_script::Join;
 use std::alloc::Global;
 use top_status::Status;
 use top_words::{Action, Command};
@@ -34,6 +35,9 @@ pub struct Asked<'a> {
     pub book: Book,
     /// The items of each client of the script; no clients where no script is named.
     pub clients: Vec<Vec<Item>>,
+    /// The join lines of the script. The item of line j of them names the graph whose number is that
+    /// of the book's graphs, and j more.
+    pub joins: Vec<Join>,
 }
 
 /// What is asked for, and the devices that it goes by: for `-g` that of the component alone, for `-G` none, and else those of
@@ -90,16 +94,18 @@ fn read_texts<'a, B: Bay>(
         Err(status) => return Err(status),
     };
     let script = script_name(command.action);
-    let clients = match open_script(alloc, script, &book, conf.columns, bay) {
-        Ok(clients) => clients,
+    let script = match open_script(alloc, script, &book, conf.columns, bay) {
+        Ok(script) => script,
         Err(status) => return Err(status),
     };
+    let (clients, joins) = script.into_parts();
     Ok(Asked {
         command,
         conf,
         comp,
         book,
         clients,
+        joins,
     })
 }
 

@@ -1,19 +1,18 @@
 //! The texts of a command, opened and read.
-ghost use Rattle.std.specs.Prelude.{◌≡◌, [], length, map, All, IfOk, IfErr, IsErrOf};
+ghost use Rattle.std.specs.Prelude.{◌≡◌, [], length, IfOk, IfErr, IsErrOf};
 ghost use Rattle.blk_disk.specs.Disk.{Rose};
 ghost use Rattle.graph_text.specs.FormatForm.{AreGraphs};
 ghost use Rattle.raid_conf.specs.Form.{IsConf};
-ghost use Rattle.raid_script.specs.Asked.{AreFew, IsAsked, seen};
+ghost use Rattle.raid_script.specs.Asked.{AreFew, IsScript};
 ghost use Rattle.top_words.specs.Views.{text_of};
 ghost use Rattle.top_fetch.specs.Answers.{IsEarly, AnswersAs};
 ghost use Rattle.top_bay.specs.Asked.{book_in, conf_in, script_in};
 ghost use Rattle.top_fetch.specs.Told.{IsRead};
 
-use eng_world::Item;
 use graph_text::{Book, BookFault, read_graphs};
 use raid_bay::Bay;
 use raid_conf::{Conf, ConfFault, read_conf};
-use raid_script::{ScriptFault, read_script};
+use raid_script::{Script, ScriptFault, read_script};
 use std::alloc::Global;
 use top_fetch::open_text;
 use top_status::Status;
@@ -77,7 +76,7 @@ pub(crate) fn open_book<B: Bay>(
     }
 }
 
-/// The items by client of the script of that name; no clients where no script is named.
+/// The script of that name; one without clients where no script is named.
 #[tactic(auto, unfolding(crate::specs::Asked::script_in))]
 pub(crate) fn open_script<B: Bay>(
     alloc: Global,
@@ -85,26 +84,25 @@ pub(crate) fn open_script<B: Bay>(
     book: &Book,
     columns: u32,
     bay: &mut B,
-) -> Result<Vec<Vec<Item>>, Status>
-    ensures answer { B.tells → AnswersAs (λ clients. map (λ items. map seen items.items) clients.items) result
+) -> Result<Script, Status>
+    ensures answer { B.tells → AnswersAs (λ script. script) result
         (script_in (B.text_of bay.old) (text_of name.entry) book.now columns) }
-    ensures asked { IfOk result (λ clients.
-        All (All (IsAsked columns (length book.now))) (map (λ items. map seen items.items) clients.items)) }
-    ensures few { IfOk result (λ clients. AreFew (map (λ items. map seen items.items) clients.items)) }
+    ensures asked { IfOk result (λ script. IsScript columns (length book.now) script) }
+    ensures few { IfOk result (λ script. AreFew script.clients) }
     ensures kind { IfErr result IsEarly }
     ensures cause { IsErrOf result Status.BayFault → Rose (B.faults bay.old) (B.faults bay.new) }
     ensures read { IsRead B.tells (B.text_of bay.old) (B.text_of bay.new)
         (B.home bay.old) (B.home bay.new) (B.faults bay.old) (B.faults bay.new) }
 {
     let Some(name) = name else {
-        return Ok(Vec::new(alloc));
+        return Ok(Script::none(alloc));
     };
     let text = match open_text(alloc, name, bay) {
         Ok(text) => text,
         Err(status) => return Err(status),
     };
     match read_script(alloc, &text, book, columns) {
-        Ok(script) => Ok(script.clients()),
+        Ok(script) => Ok(script),
         Err(ScriptFault::At { line, code }) => Err(Status::Script(line, code)),
         Err(ScriptFault::Memory) => Err(Status::Memory),
     }

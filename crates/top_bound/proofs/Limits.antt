@@ -1,16 +1,17 @@
 -- A script within its limits is one that a core has room for, and graphs that were read fit its pool.
 use Rattle.std.proofs.Common.{◌≡◌, ◌∙◌, ℕ, ◌+◌, ◌<◌, ◌≤◌, inl, inr, List, [], ◌∷◌, length, map, take, get_or, refl, sym, ap, subst, arith}
-use Rattle.std.specs.Prelude.{Bool, true, false, if◌then◌else◌, nat_le, Option, Some, None, Vec, slice_get, slice_index_or, sum_by, option_map}
+use Rattle.std.specs.Prelude.{All, ◌++◌, Bool, true, false, if◌then◌else◌, nat_le, Option, Some, None, Vec, slice_get, slice_index_or, sum_by, option_map}
 use Rattle.std.specs.declared.alloc.Global.{Global}
 use Rattle.std.proofs.lemmas.Bool.{cases_lt}
-use Rattle.std.proofs.lemmas.List.{take_all, get_or_past, length-map}
+use Rattle.std.proofs.lemmas.List.{take_all, get_or-map, get_or_past, length-map}
+use Rattle.std.proofs.lemmas.List.Elements.{All-append, All-map}
 use Rattle.std.proofs.lemmas.Option.{slice_get-get_or, slice_get-map, slice_get_cases}
 use Rattle.std.proofs.lemmas.List.Sums.{sum_by-cons}
 use Rattle.blk_plain.specs.declared.op.Op.TheVariants.{Write, Writes, Read, Rebuild, Sync}
 use Rattle.blk_plain.specs.declared.op.Patches.{Patches}
 use Rattle.graph_mean.specs.Graph.{Held, View}
 use Rattle.graph_text.specs.Format.{Named}
-use Rattle.graph_text.specs.FormatForm.{AreGraphs, IsWritable}
+use Rattle.graph_text.specs.FormatForm.{AreGraphs}
 use Rattle.eng_world.specs.declared.item.Item.{Item}
 use Rattle.eng_world.specs.declared.item.Item.TheVariants.{Run, Fail}
 use Rattle.eng_plan.specs.Asked.{no_graph}
@@ -18,7 +19,7 @@ use Rattle.eng_log.specs.Given.{items_at}
 use Rattle.eng_log.specs.Laid as laid
 use Rattle.raid_script.specs.Asked.{Asked, AreFew, Other, WritesAll, seen, seen_patches, read_sectors}
 use Rattle.raid_script.specs.Replies as replies
-use Rattle.top_bound.specs.Laws.{asked_of, HasRoomFor}
+use Rattle.top_bound.specs.Laws.{asked_of, HasRoomFor, IsSmall}
 use Rattle.top_bound.proofs.Below.{below-all, below-clients, below-same}
 
 -- ## Sums that agree at each place
@@ -102,30 +103,19 @@ few-have-room given few =
 
 -- ## Graphs
 
-abbrev bufs-in : Option View → ℕ
-bufs-in None = 0
-bufs-in (Some v) = length v.bufs
+-- each of the graphs that a file's reader and joining promise
+views-small : (book : List Named) (joined : List View) → AreGraphs book → All IsSmall joined → All IsSmall (map (λ g. g.graph) book ++ joined)
+views-small book joined are small = All-append IsSmall (map (λ g. g.graph) book) joined (All-map IsSmall (λ (g : Named). g.graph) book (λ k d l. (are.writable k d l).limits.bufs)) small
 
-pub graphs-fit : (book : List Named) (graphs : List Held) → AreGraphs book → map (λ g. g.drawn) graphs ≡ map (λ g. g.graph) book
+-- a graph of a list whose views are small
+pub graphs-fit : (book : List Named) (joined : List View) (graphs : List Held) → AreGraphs book → All IsSmall joined → map (λ g. g.drawn) graphs ≡ map (λ g. g.graph) book ++ joined
     → (n : ℕ) → length (slice_index_or graphs n no_graph).drawn.bufs ≤ 2048
-graphs-fit book graphs are same n =
+graphs-fit book joined graphs are small same n =
     elim (cases_lt n (length graphs)) [
       | inl within ↦
-          let there : slice_get graphs n ≡ Some (get_or graphs n no_graph) = slice_get-get_or graphs n no_graph within in
-          let drawn : option_map (λ (g : Held). g.drawn) (slice_get graphs n) ≡ option_map (λ (g : Named). g.graph) (slice_get book n) =
-          sym (slice_get-map (λ (g : Held). g.drawn) graphs n) ∙ (ap (λ (gs : List View). slice_get gs n) same ∙ slice_get-map (λ (g : Named). g.graph) book n) in
-          let count : length graphs ≡ length book = sym (length-map graphs (λ (g : Held). g.drawn)) ∙ (ap length same ∙ length-map book (λ (g : Named). g.graph)) in
-          let below : n < length book = omega (arith, within, count) in
-          elim (slice_get_cases book n).1 [
-            | inl found ↦
-                let g : Named = found.0 in
-                let one : Some (get_or graphs n no_graph).drawn ≡ Some g.graph = ap (option_map (λ (h : Held). h.drawn)) (sym there) ∙ (drawn ∙ ap (option_map (λ (h : Named). h.graph)) found.2) in
-                let same_bufs : length (get_or graphs n no_graph).drawn.bufs ≡ length g.graph.bufs = ap bufs-in one in
-                let writable : IsWritable (get_or book n g).graph = are.writable n g below in
-                let limit : length g.graph.bufs ≤ 2048 = subst (λ (h : Named). length h.graph.bufs ≤ 2048) found.3 writable.limits.bufs in
-                omega (arith, same_bufs, limit)
-            | inr past ↦ absurd (omega (arith, below, past.0))
-          ]
+          let many = length-map graphs (λ (g : Held). g.drawn) in
+          let all : All IsSmall (map (λ (g : Held). g.drawn) graphs) = subst (λ (vs : List View). All IsSmall vs) (sym same) (views-small book joined are small) in
+          subst IsSmall (get_or-map (λ (g : Held). g.drawn) graphs n no_graph no_graph.drawn within) (all n no_graph.drawn (omega (arith, within, many)))
       | inr past ↦
           subst (λ (h : Held). length h.drawn.bufs ≤ 2048) (sym (get_or_past graphs n no_graph (omega (arith, past)))) (omega arith)
     ]

@@ -1,10 +1,11 @@
 -- How many events a trace may come to: a bound for each item, and the sum of these.
-use Rattle.std.specs.Prelude.{ℕ, ◌+◌, ◌*◌, List, length, map, Option, Some, None, if◌then◌else◌, nat_lt, slice_get, sum_by}
+use Rattle.std.specs.Prelude.{ℕ, ◌+◌, ◌*◌, ◌++◌, List, length, map, Option, Some, None, if◌then◌else◌, nat_lt, slice_get, sum_by}
 use Rattle.std.specs.List.{list_any}
 use Rattle.blk_plain.specs.declared.op.Span.{Span}
 use Rattle.blk_plain.specs.Plain.{is_in_some}
 use Rattle.lay_core.specs.Layout.{Shape, data_units, blocks_in}
 use Rattle.lay_core.specs.Touched.{stripe_count, stripes_among}
+use Rattle.graph_mean.specs.Graph.{Held, View}
 use Rattle.graph_text.specs.Format.{Named}
 use Rattle.raid_script.specs.Asked.{Asked, AskedPatch, IsAsked, Writes, WritesAll, Reads, Syncs, Fails, Other}
 
@@ -22,32 +23,36 @@ span_nodes y span = if nat_lt (blocks_in y) (span.first + span.count) then 0 els
 unfoldable pub spans_nodes : Shape → List Span → ℕ
 spans_nodes y spans = if list_any (λ s. nat_lt (blocks_in y) (s.first + s.count)) spans then 0 else (2 * data_units y + 1) * (stripes_among y (is_in_some spans) + 2 * length spans) + 2
 
--- the graph of the file of this number, if there is one
-abbrev pub nodes_in : Option Named → ℕ
+-- the graphs that items name: those of the file, and behind them those that are joined of two
+abbrev pub graphs_in : List Named → List Held → List View
+graphs_in book joined = map (λ n. n.graph) book ++ map (λ g. g.drawn) joined
+
+-- the graph of this number, if there is one
+abbrev pub nodes_in : Option View → ℕ
 nodes_in None = 0
-nodes_in (Some g) = length g.graph.nodes
+nodes_in (Some g) = length g.nodes
 
-abbrev pub graph_nodes : List Named → ℕ → ℕ
-graph_nodes book n = nodes_in (slice_get book n)
+abbrev pub graph_nodes : List View → ℕ → ℕ
+graph_nodes graphs n = nodes_in (slice_get graphs n)
 
--- the graph of a write or read: the one of the file, or the library's
-abbrev pub run_nodes : Shape → List Named → Span → Option ℕ → ℕ
-run_nodes y book span None = span_nodes y span
-run_nodes y book span (Some n) = graph_nodes book n
+-- the graph of a write or read: the one that is named, or the library's
+abbrev pub run_nodes : Shape → List View → Span → Option ℕ → ℕ
+run_nodes y graphs span None = span_nodes y span
+run_nodes y graphs span (Some n) = graph_nodes graphs n
 
 -- the graph of a write of several spans
-abbrev pub patches_nodes : Shape → List Named → List AskedPatch → Option ℕ → ℕ
-patches_nodes y book patches None = spans_nodes y (map (λ p. p.span) patches)
-patches_nodes y book patches (Some n) = graph_nodes book n
+abbrev pub patches_nodes : Shape → List View → List AskedPatch → Option ℕ → ℕ
+patches_nodes y graphs patches None = spans_nodes y (map (λ p. p.span) patches)
+patches_nodes y graphs patches (Some n) = graph_nodes graphs n
 
 -- an item's graph: that of a sync, or of a rebuild, which no script asks for, has a node for each unit of a stripe, and three
-abbrev pub item_nodes : Shape → List Named → Asked → ℕ
-item_nodes y book (Writes first count bytes graph) = run_nodes y book (record { first = first; count = count }) graph
-item_nodes y book (WritesAll patches graph) = patches_nodes y book patches graph
-item_nodes y book (Reads first count graph) = run_nodes y book (record { first = first; count = count }) graph
-item_nodes y book (Syncs stripe) = y.width + 3
-item_nodes y book (Fails column) = 0
-item_nodes y book Other = y.width + 3
+abbrev pub item_nodes : Shape → List View → Asked → ℕ
+item_nodes y graphs (Writes first count bytes graph) = run_nodes y graphs (record { first = first; count = count }) graph
+item_nodes y graphs (WritesAll patches graph) = patches_nodes y graphs patches graph
+item_nodes y graphs (Reads first count graph) = run_nodes y graphs (record { first = first; count = count }) graph
+item_nodes y graphs (Syncs stripe) = y.width + 3
+item_nodes y graphs (Fails column) = 0
+item_nodes y graphs Other = y.width + 3
 
 -- ---- events
 
@@ -55,12 +60,12 @@ item_nodes y book Other = y.width + 3
 abbrev pub item_bound : ℕ → ℕ → ℕ
 item_bound devices nodes = (2 * nodes + 4) * (1 + devices)
 
-abbrev pub row_sum : Shape → List Named → ℕ → List Asked → ℕ
-row_sum y book devices items = sum_by (λ i. item_bound devices (item_nodes y book i)) items
+abbrev pub row_sum : Shape → List View → ℕ → List Asked → ℕ
+row_sum y graphs devices items = sum_by (λ i. item_bound devices (item_nodes y graphs i)) items
 
 -- the sum over the items of all clients, for so many devices, columns and spares
-unfoldable pub trace_sum : Shape → List Named → ℕ → List (List Asked) → ℕ
-trace_sum y book devices clients = sum_by (row_sum y book devices) clients
+unfoldable pub trace_sum : Shape → List View → ℕ → List (List Asked) → ℕ
+trace_sum y graphs devices clients = sum_by (row_sum y graphs devices) clients
 
 -- and over so many rebuilds, each of which has the graph of one unit
 abbrev pub rebuilds_sum : Shape → ℕ → ℕ → ℕ

@@ -1,7 +1,7 @@
 -- What is promised of a script and of graphs that were read, in the words of the core that serves them.
-use Rattle.std.specs.Prelude.{◌≡◌, ◌≤◌, ℕ, List, length, map, Vec}
+use Rattle.std.specs.Prelude.{◌≡◌, ◌≤◌, ◌++◌, ℕ, List, length, map, All, Vec}
 use Rattle.std.specs.declared.alloc.Global.{Global}
-use Rattle.graph_mean.specs.Graph.{Held}
+use Rattle.graph_mean.specs.Graph.{Held, View}
 use Rattle.graph_text.specs.Format.{Named}
 use Rattle.graph_text.specs.FormatForm.{AreGraphs}
 use Rattle.eng_world.specs.declared.item.Item.{Item}
@@ -29,7 +29,12 @@ FewItemsHaveRoom = (given : List (Vec Item Global)) → AreFew (asked_of given) 
 abbrev pub SectorsAreCountedAlike : Type 0
 SectorsAreCountedAlike = (given : List (Vec Item Global)) (c : ℕ) → replies.sectors_before given c ≡ sectors_before given c
 
--- the graphs of a file, without their names, each fit the pool of a core
+-- a graph has no more buffers than the pool
+abbrev pub IsSmall : View → Type 0
+IsSmall g = length g.bufs ≤ 2048
+
+-- the graphs of a file, without their names, and small ones behind them, each fit the pool of a core
 abbrev pub FileGraphsFitThePool : Type 0
-FileGraphsFitThePool = (book : List Named) (graphs : List Held) → AreGraphs book → map (λ g. g.drawn) graphs ≡ map (λ g. g.graph) book
+FileGraphsFitThePool = (book : List Named) (joined : List View) (graphs : List Held) → AreGraphs book → All IsSmall joined
+    → map (λ g. g.drawn) graphs ≡ map (λ g. g.graph) book ++ joined
     → FitThePool (graphs_of graphs)

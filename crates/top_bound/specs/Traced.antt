@@ -3,8 +3,7 @@ use Rattle.std.specs.Prelude.{◌≡◌, ◌≤◌, ◌+◌, ℕ, List, length, 
 use Rattle.std.specs.declared.alloc.Global.{Global}
 use Rattle.lay_core.specs.Layout.{Shape}
 use Rattle.lay_core.specs.declared.layout.Layout.{Ghosts as LayoutGhosts}
-use Rattle.graph_mean.specs.Graph.{Held}
-use Rattle.graph_text.specs.Format.{Named}
+use Rattle.graph_mean.specs.Graph.{Held, View}
 use Rattle.eng_cols.specs.Cols.{Dead}
 use Rattle.eng_events.specs.Opened.{states_of}
 use Rattle.eng_world.specs.declared.item.Item.{Item}
@@ -14,28 +13,28 @@ use Rattle.raid_script.specs.Asked.{IsAsked}
 use Rattle.top_bound.specs.Bound.{rebuilds_sum, trace_sum}
 use Rattle.top_bound.specs.Laws.{asked_of}
 
--- the items are a script's, of at most 16 clients, for so many columns, and the graphs are the book's, without their names
-pub record AreScriptAndBook (columns : ℕ) (book : List Named) (graphs : List Held) (given : List (Vec Item Global)) : Type 0 where
+-- the items are a script's, of at most 16 clients, for so many columns, and these are its graphs
+pub record AreScriptAndGraphs (columns : ℕ) (views : List View) (graphs : List Held) (given : List (Vec Item Global)) : Type 0 where
   pub clients : length given ≤ 16
-  pub asked : All (All (IsAsked columns (length book))) (asked_of given)
-  pub graphs_are : map (λ g. g.drawn) graphs ≡ map (λ g. g.graph) book
+  pub asked : All (All (IsAsked columns (length views))) (asked_of given)
+  pub graphs_are : map (λ g. g.drawn) graphs ≡ views
 
 -- the sum by which a trace is judged is the one that a core counts
 abbrev pub TraceIsCountedAlike : Type 0
-TraceIsCountedAlike = (y : Shape) (book : List Named) (graphs : List Held) (devices columns : ℕ) (given : List (Vec Item Global)) → AreScriptAndBook columns book graphs given
-    → trace_sum y book devices (asked_of given) ≡ core.trace_sum y graphs devices given
+TraceIsCountedAlike = (y : Shape) (views : List View) (graphs : List Held) (devices columns : ℕ) (given : List (Vec Item Global)) → AreScriptAndGraphs columns views graphs given
+    → trace_sum y views devices (asked_of given) ≡ core.trace_sum y graphs devices given
 
 -- a setup of such items and graphs, over at least as many devices as columns, has room in its trace for what is judged to fit
 abbrev pub WhatFitsHasRoom : {L D : Type 0} → LayoutGhosts L → Setup L D → Type 0
-WhatFitsHasRoom lay setup = (book : List Named) (devices columns : ℕ) → length setup.columns.items ≡ (lay.shape setup.layout).columns → (lay.shape setup.layout).columns ≤ devices
-    → AreScriptAndBook columns book setup.graphs.items setup.clients.items
-    → trace_sum (lay.shape setup.layout) book devices (asked_of setup.clients.items) ≤ 1048576 → core.FitsTrace lay setup
+WhatFitsHasRoom lay setup = (views : List View) (devices columns : ℕ) → length setup.columns.items ≡ (lay.shape setup.layout).columns → (lay.shape setup.layout).columns ≤ devices
+    → AreScriptAndGraphs columns views setup.graphs.items setup.clients.items
+    → trace_sum (lay.shape setup.layout) views devices (asked_of setup.clients.items) ≤ 1048576 → core.FitsTrace lay setup
 
 -- so it has for the rebuild of a dead column too, where that has at most so many stripes, and so many rebuilds are judged to fit beside the items
 abbrev pub WhatFitsARebuild : {L D : Type 0} → LayoutGhosts L → Setup L D → Type 0
-WhatFitsARebuild lay setup = (book : List Named) (devices columns column rebuilds : ℕ) → length setup.columns.items ≡ (lay.shape setup.layout).columns → (lay.shape setup.layout).columns ≤ devices
-    → AreScriptAndBook columns book setup.graphs.items setup.clients.items
+WhatFitsARebuild lay setup = (views : List View) (devices columns column rebuilds : ℕ) → length setup.columns.items ≡ (lay.shape setup.layout).columns → (lay.shape setup.layout).columns ≤ devices
+    → AreScriptAndGraphs columns views setup.graphs.items setup.clients.items
     → slice_get (states_of (lay.shape setup.layout) setup.columns.items) column ≡ Some Dead
     → core.HasAtMost (lay.shape setup.layout) (states_of (lay.shape setup.layout) setup.columns.items) column rebuilds
-    → trace_sum (lay.shape setup.layout) book devices (asked_of setup.clients.items) + rebuilds_sum (lay.shape setup.layout) devices rebuilds ≤ 1048576
+    → trace_sum (lay.shape setup.layout) views devices (asked_of setup.clients.items) + rebuilds_sum (lay.shape setup.layout) devices rebuilds ≤ 1048576
     → core.FitsRebuilding lay setup column

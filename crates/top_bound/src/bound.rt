@@ -4,10 +4,11 @@ ghost use Rattle.blk_plain.specs.Plain.{AreSound, spans_of};
 ghost use Rattle.lay_core.specs.Layout.{data_units, blocks_in};
 ghost use Rattle.lay_core.specs.Touched.{stripe_count};
 ghost use Rattle.raid_script.specs.Asked.{seen, seen_patches};
-ghost use Rattle.top_bound.specs.Bound.{MayBeAsked, span_nodes, spans_nodes, graph_nodes, run_nodes, patches_nodes, item_nodes, item_bound, row_sum, rebuilds_sum, trace_sum};
+ghost use Rattle.top_bound.specs.Bound.{MayBeAsked, span_nodes, spans_nodes, graph_nodes, run_nodes, patches_nodes, item_nodes, item_bound, row_sum, rebuilds_sum, trace_sum, graphs_in};
 
 use blk_plain::{Op, Patches, Span, limits};
 use eng_world::Item;
+use graph_mean::Graph;
 use graph_text::Book;
 use lay_core::{Layout, blocks, count_all, some_passes_end};
 
@@ -71,50 +72,66 @@ fn spans_nodes<L: Layout>(layout: &L, patches: &Patches) -> u64
     }
 }
 
-fn graph_nodes(book: &Book, n: u32) -> u32
-    ensures { result ≡ graph_nodes book.now n }
+fn graph_nodes(book: &Book, joined: &[Graph], n: u32) -> u32
+    ensures { result ≡ graph_nodes (graphs_in book.now joined.now) n }
 {
     if n < book.count() {
-        book.graph(n).nodes()
+        return book.graph(n).nodes();
+    }
+    let k = (n - book.count()) as usize;
+    if k < joined.len() {
+        joined[k].nodes()
     } else {
         0
     }
 }
 
 // The most nodes of the graph of a write or read.
-fn run_nodes<L: Layout>(layout: &L, book: &Book, span: Span, graph: Option<u32>) -> u64
-    ensures value { result ≡ run_nodes (L.shape layout.now) book.now span graph }
+fn run_nodes<L: Layout>(
+    layout: &L,
+    book: &Book,
+    joined: &[Graph],
+    span: Span,
+    graph: Option<u32>,
+) -> u64
+    ensures value { result ≡ run_nodes (L.shape layout.now) (graphs_in book.now joined.now) span graph }
     ensures small { result ≤ 300000000000 }
 {
     match graph {
         None => span_nodes(layout, span),
-        Some(n) => u64::from(graph_nodes(book, n)),
+        Some(n) => u64::from(graph_nodes(book, joined, n)),
     }
 }
 
-fn patches_nodes<L: Layout>(layout: &L, book: &Book, patches: &Patches, graph: Option<u32>) -> u64
+fn patches_nodes<L: Layout>(
+    layout: &L,
+    book: &Book,
+    joined: &[Graph],
+    patches: &Patches,
+    graph: Option<u32>,
+) -> u64
     requires sound { AreSound patches.now }
     requires some { All (λ s. 1 ≤ s.count) (spans_of patches.now) }
-    ensures value { result ≡ patches_nodes (L.shape layout.now) book.now (seen_patches patches.now) graph }
+    ensures value { result ≡ patches_nodes (L.shape layout.now) (graphs_in book.now joined.now) (seen_patches patches.now) graph }
     ensures small { result ≤ 300000000000 }
 {
     match graph {
         None => spans_nodes(layout, patches),
-        Some(n) => u64::from(graph_nodes(book, n)),
+        Some(n) => u64::from(graph_nodes(book, joined, n)),
     }
 }
 
-fn item_nodes<L: Layout>(layout: &L, book: &Book, item: &Item) -> u64
+fn item_nodes<L: Layout>(layout: &L, book: &Book, joined: &[Graph], item: &Item) -> u64
     requires { MayBeAsked (seen item.now) }
-    ensures value { result ≡ item_nodes (L.shape layout.now) book.now (seen item.now) }
+    ensures value { result ≡ item_nodes (L.shape layout.now) (graphs_in book.now joined.now) (seen item.now) }
     ensures small { result ≤ 300000000000 }
 {
     match item {
         Item::Fail { .. } => 0,
         Item::Run { op, graph } => match op {
-            Op::Write { span, .. } => run_nodes(layout, book, *span, *graph),
-            Op::Writes { patches } => patches_nodes(layout, book, patches, *graph),
-            Op::Read { span } => run_nodes(layout, book, *span, *graph),
+            Op::Write { span, .. } => run_nodes(layout, book, joined, *span, *graph),
+            Op::Writes { patches } => patches_nodes(layout, book, joined, patches, *graph),
+            Op::Read { span } => run_nodes(layout, book, joined, *span, *graph),
             Op::Sync { .. } | Op::Rebuild { .. } => u64::from(layout.width()) + 3,
         },
     }
@@ -130,30 +147,42 @@ fn item_bound(devices: u32, nodes: u64) -> u64
 }
 
 // The most events of a client's items.
-fn row_sum<L: Layout>(layout: &L, book: &Book, devices: u32, items: &[Item]) -> u128
+fn row_sum<L: Layout>(
+    layout: &L,
+    book: &Book,
+    joined: &[Graph],
+    devices: u32,
+    items: &[Item],
+) -> u128
     requires devices { devices ≤ 40 }
     requires asked { All MayBeAsked (map seen items.now) }
-    ensures value { result ≡ row_sum (L.shape layout.now) book.now devices (map seen items.now) }
+    ensures value { result ≡ row_sum (L.shape layout.now) (graphs_in book.now joined.now) devices (map seen items.now) }
     ensures small { result ≤ 70368744177664 * length items.now }
 {
     let mut total: u128 = 0;
     for item in items {
-        total += u128::from(item_bound(devices, item_nodes(layout, book, item)));
+        total += u128::from(item_bound(devices, item_nodes(layout, book, joined, item)));
     }
     total
 }
 
 #[tactic(auto, unfolding(crate::specs::Bound::trace_sum))]
-fn trace_sum<L: Layout>(layout: &L, book: &Book, devices: u32, clients: &[Vec<Item>]) -> u128
+fn trace_sum<L: Layout>(
+    layout: &L,
+    book: &Book,
+    joined: &[Graph],
+    devices: u32,
+    clients: &[Vec<Item>],
+) -> u128
     requires few { length clients.now ≤ 17 }
     requires devices { devices ≤ 40 }
     requires asked { All (λ items. All MayBeAsked (map seen items.items)) clients.now }
-    ensures value { result ≡ trace_sum (L.shape layout.now) book.now devices (map (λ items. map seen items.items) clients.now) }
+    ensures value { result ≡ trace_sum (L.shape layout.now) (graphs_in book.now joined.now) devices (map (λ items. map seen items.items) clients.now) }
     ensures small { result ≤ 41538374868278621028243970633760768 }
 {
     let mut total: u128 = 0;
     for items in clients {
-        total += row_sum(layout, book, devices, items.as_slice());
+        total += row_sum(layout, book, joined, devices, items.as_slice());
     }
     total
 }
@@ -172,12 +201,14 @@ fn rebuilds_sum<L: Layout>(layout: &L, devices: u32, rebuilds: u32) -> u128
 ///
 /// N bounds the nodes of the item's graph: (2 d + 1) (s + 2 r) + 2 for a write or read by the
 /// library's graph whose r spans, one but for a write of several, touch s stripes of d data units
-/// together, none of their blocks past the end; the nodes of the graph of the file, where one is
-/// named; k + 3 for a sync or a rebuild, k being the units of a stripe; and 0 for the rest.
-/// `devices` counts columns and spares; each may fail in the run, and have an operation planned anew.
+/// together, none of their blocks past the end; the nodes of the graph that is named, where
+/// one is, those of the file before those that are joined of two; k + 3 for a sync or a rebuild, k
+/// being the units of a stripe; and 0 for the rest. `devices` counts columns and spares; each may
+/// fail in the run, and have an operation planned anew.
 pub fn trace_fits<L: Layout>(
     layout: &L,
     book: &Book,
+    joined: &[Graph],
     devices: u32,
     clients: &[Vec<Item>],
     rebuilds: u32,
@@ -185,9 +216,9 @@ pub fn trace_fits<L: Layout>(
     requires few { length clients.now ≤ 17 }
     requires devices { devices ≤ 40 }
     requires asked { All (λ items. All MayBeAsked (map seen items.items)) clients.now }
-    ensures { result ≡ nat_le (trace_sum (L.shape layout.now) book.now devices
+    ensures { result ≡ nat_le (trace_sum (L.shape layout.now) (graphs_in book.now joined.now) devices
         (map (λ items. map seen items.items) clients.now) + rebuilds_sum (L.shape layout.now) devices rebuilds) 1048576 }
 {
-    let items = trace_sum(layout, book, devices, clients);
+    let items = trace_sum(layout, book, joined, devices, clients);
     items + rebuilds_sum(layout, devices, rebuilds) <= EVENTS
 }

@@ -18,7 +18,7 @@ pub fn sectors_are_counted_alike()
     ensures { SectorsAreCountedAlike }
 {}
 
-/// No graph of a file has more buffers than the pool, so that none waits for good.
+/// No graph of a file, and none of small ones behind them, has more buffers than the pool, so that none waits for good.
 pub fn file_graphs_fit_the_pool()
     ensures { FileGraphsFitThePool }
 {}

@@ -29,7 +29,7 @@ use Rattle.top_duty.specs.declared.duty.Duty.TheVariants as duty
 use Rattle.top_duty.specs.Duty.{states_of}
 use Rattle.top_duty.specs.Fit.{IsFit}
 use Rattle.top_duty.specs.Opening.{as_opened, needs_of, opened_by, plan_of, present_of, sizes_of}
-use Rattle.top_duty.specs.Views.{IsDutyOver, IsFitFor, IsReady}
+use Rattle.top_duty.specs.Views.{IsDutyOver, IsFitFor, IsReady, views_of}
 use Rattle.top_duty.proofs.Deadened.{small_get, small_live}
 use Rattle.top_duty.proofs.Opens.{opened_count, opened_filling, opened_rows, opened_spread, present_count, was_opened}
 use Rattle.top_duty.proofs.Places.{spare_by}
@@ -127,7 +127,7 @@ pub fit_for : {D : Type 0} (g : Ghosts D) (k : Asked) (devices : List (Option D)
     → IsDutyOver k (sizes_of g.size devices) fronts d → IsFitFor g k devices d
 fit_for g k devices fronts (duty.OnArray r) within over =
     let o = opened_seen r.opened in
-    let ready : IsReady k (sizes_of g.size devices) fronts o r.start = over.1.ready in
+    let ready : IsReady k (sizes_of g.size devices) fronts o r.start (views_of r.joined.items) = over.1.ready in
     (is_fit g k o devices fronts within.conf ready.opened, may_start g k o devices fronts within ready.opened r.start ready.starts)
 fit_for g k devices fronts (duty.Shows o) within over = tt
 fit_for g k devices fronts duty.OneLabel within over = tt

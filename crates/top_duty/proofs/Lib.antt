@@ -16,4 +16,5 @@ pub mod Labels
 mod Starting
 pub mod Fitting
 pub mod Fits
-mod Returning
+pub mod Returning
+mod Unlost

@@ -1,5 +1,5 @@
 -- By what an array is lost of which a column is made dead.
-use Rattle.std.specs.Prelude.{◌≡◌, ◌<◌, ℕ, zero, suc, List, [], ◌∷◌, map, Option, Some, None, MatchOption, slice_set}
+use Rattle.std.specs.Prelude.{◌≡◌, ℕ, zero, suc, List, [], ◌∷◌, map, Option, Some, None, MatchOption, slice_set}
 use Rattle.std.proofs.Common.{refl, ap, subst, ◌∙◌}
 use Rattle.lay_core.specs.Layout.{Shape}
 use Rattle.eng_cols.specs.declared.column.Column.{Column}

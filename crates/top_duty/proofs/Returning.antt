@@ -1,14 +1,15 @@
 -- Devices that were looked at are at home again.
-use Rattle.std.specs.Prelude.{◌≡◌, ◌<◌, ◌≤◌, ◌↔◌, ℕ, zero, suc, List, [], ◌∷◌, ◌++◌, length, take, drop, Option, Some, None, IsSome, slice_get}
+use Rattle.std.specs.Prelude.{◌≡◌, ◌<◌, ◌≤◌, ◌↔◌, ℕ, zero, suc, List, [], ◌∷◌, ◌++◌, length, take, drop, Option, Some, None, IsSome, Contains, slice_get}
 use Rattle.std.proofs.Common.{arith, refl, sym, ap, subst, ◌∙◌, ⊎_elim, append-nil}
 use Rattle.std.proofs.lemmas.Bool.{cases_lt}
 use Rattle.std.proofs.lemmas.List.{drop_all, take_all}
-use Rattle.std.proofs.lemmas.Option.{slice_get_past}
+use Rattle.std.proofs.lemmas.List.Elements.{Contains-get_or}
+use Rattle.std.proofs.lemmas.Option.{get_or_from_slice_get, slice_get_past, slice_get_within}
 use Rattle.blk_disk.specs.Devices.{AreNamed, Changes, StaysIf, at_home, device_at}
 use Rattle.blk_disk.specs.declared.disk.Disk.{Ghosts}
 use Rattle.blk_disk.proofs.DeviceLaws.{stays-refl}
 use Rattle.raid_text.specs.Text.{Text}
-use Rattle.top_bay.specs.Lent.{AreBack, AreOut, IsLent}
+use Rattle.top_bay.specs.Lent.{AreBack, AreOut, IsLent, IsMeant}
 use Rattle.top_bay.proofs.Homes.{at_home-named, device_at-past}
 use Rattle.top_bay.proofs.Meant.{by_meant}
 
@@ -36,6 +37,14 @@ same_if g (Some x) = stays-refl g (λ _. ⊥) x
 -- what is as it was has changed in nothing
 pub same_stays : {D : Type 0} (g : Ghosts D) (x z : Option D) → z ≡ x → StaysIf g (λ _. ⊥) x z
 same_stays {D} g x z e = subst (λ (y : Option D). StaysIf g (λ _. ⊥) x y) (sym e) (same_if g x)
+
+-- a name that none of the names is has what it had
+pub others_home : {D : Type 0} (home mid after : Text → Option D) (names : List Text) (taken devices : List (Option D)) → length devices ≡ length taken
+    → ((n : Text) → (IsMeant names (length taken) n → ⊥) → mid n ≡ home n) → AreBack mid after names devices
+    → (n : Text) → (Contains names n → ⊥) → after n ≡ home n
+others_home home mid after names taken devices count lent back n away =
+    let apart : (k : ℕ) → IsMeant names k n → ⊥ = λ k m. away (subst (λ (x : Text). Contains names x) (get_or_from_slice_get names m.at n n m.is) (Contains-get_or names m.at n (slice_get_within names m.at n m.is))) in
+    back.others n (apart (length devices)) ∙ lent n (apart (length taken))
 
 module _ {D : Type 0} (g : Ghosts D) (home mid after : Text → Option D) (is_out : Text → Type 0) (names : List Text) (taken devices : List (Option D)) (stays : Changes g (λ _ _. ⊥) taken devices) (out : AreOut is_out names devices) (back : AreBack mid after names devices) where
   -- they are those of the names

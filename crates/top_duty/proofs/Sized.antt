@@ -1,5 +1,5 @@
 -- Sizes, and refusals by what a bay has.
-use Rattle.std.specs.Prelude.{◌≡◌, ◌⊎◌, ℕ, zero, suc, List, [], ◌∷◌, length, Option, Some, Result, Ok, Err, slice_get, slice_index}
+use Rattle.std.specs.Prelude.{◌≡◌, ◌⊎◌, ℕ, zero, suc, List, [], ◌∷◌, length, Option, Some, Result, Ok, Err, Contains, slice_get, slice_index}
 use Rattle.std.specs.Option.{option_map_or}
 use Rattle.std.proofs.Common.{arith, refl, sym, ap, subst, inl, inr, ◌∙◌}
 use Rattle.blk_disk.specs.Devices.{AreNamed, Changes, at_home, device_at, size_of}
@@ -17,7 +17,7 @@ use Rattle.top_status.specs.Refusals.{Refused, only}
 use Rattle.top_duty.specs.declared.duty.Duty as declared_duty
 use Rattle.top_duty.specs.Duty.{Duty, IsWanted, WantsMemory, duty_by, duty_in}
 use Rattle.top_duty.specs.Opening.{reads_fronts, sizes_in, sizes_of}
-use Rattle.top_duty.specs.Taken.{Reads, RefusedFor, RefusedOver, WasRead}
+use Rattle.top_duty.specs.Taken.{AreLookedAtMost, AreUntouched, IsRefusedOver, Reads, ReadsAtMost, RefusedFor, RefusedOver, WasRead}
 use Rattle.top_duty.specs.Views.{IsDutyOver, RefusedHere, duty_seen}
 use Rattle.top_duty.proofs.Wanting.{duty_wanted, wanted_err}
 
@@ -68,7 +68,7 @@ module _ {D : Type 0} (g : Ghosts D) (b : Told D) (command : Command) where
   unfolding duty_in
   duty_from k ds fronts e named = let sizes = sym (sizes_are g.size b.home (names_for k) ds named) in rw e (ap (λ (l : List ℕ). duty_by k l fronts) sizes)
 
-  duty_err : (r : Refused) (fronts : List Front) → asked_in b command ≡ Err r → duty_in g.size b command fronts ≡ Err r
+  pub duty_err : (r : Refused) (fronts : List Front) → asked_in b command ≡ Err r → duty_in g.size b command fronts ≡ Err r
   unfolding duty_in
   duty_err r fronts e = rw e refl
 
@@ -78,48 +78,61 @@ module _ {D : Type 0} (g : Ghosts D) (b : Told D) (command : Command) where
       let same : duty_by k (sizes_of g.size devices) fronts ≡ duty_in g.size b command fronts = ap (λ (l : List ℕ). duty_by k l fronts) (sizes_kept g (λ _ _. ⊥) taken devices stays) ∙ sym (duty_from k taken fronts e named) in
       subst (λ (w : Result Duty Refused). IsWanted w (Ok (duty_seen k d))) same (duty_wanted k (sizes_of g.size devices) fronts d over)
 
-  -- what was asked is refused
-  refused_early : (r : Refused) → asked_in b command ≡ Err r → RefusedFor g b command r
-  refused_early r e = inl (record { fronts = []; wanted = wanted_err (duty_in g.size b command []) r (duty_err r [] e); read = λ k h. cc (e, h) })
+  -- what was asked is refused, and no device was called
+  refused_early : (r : Refused) → AreUntouched g b → asked_in b command ≡ Err r → RefusedFor g b command r
+  refused_early r same e = inl (record { fronts = []; wanted = wanted_err (duty_in g.size b command []) r (duty_err r [] e); unread = λ early h. same; read = λ k h. cc (e, h) })
 
-  pub refused_asking : (s : Status) → (s ≡ status.BayFault → b.rose) → RefusedAs s (asked_in b command) → RefusedFor g b command (only s)
-  refused_asking status.BayFault rose h = inr (inl (refl, rose refl))
-  refused_asking status.Memory rose h = inr (inr (inl refl))
-  refused_asking status.Ok rose h = refused_early _ h
-  refused_asking (status.Usage i) rose h = refused_early _ h
-  refused_asking (status.Conf l c) rose h = refused_early _ h
-  refused_asking (status.Script l c) rose h = refused_early _ h
-  refused_asking (status.GraphText l c) rose h = refused_early _ h
-  refused_asking (status.NoFile n) rose h = refused_early _ h
-  refused_asking status.SinkFault rose h = refused_early _ h
-  refused_asking (status.Lost f s t) rose h = refused_early _ h
-  refused_asking (status.Label f s t u) rose h = refused_early _ h
-  refused_asking (status.Small f s t) rose h = refused_early _ h
-  refused_asking (status.NotInSync n) rose h = refused_early _ h
-  refused_asking status.NoSpare rose h = refused_early _ h
-  refused_asking (status.LongText n) rose h = refused_early _ h
+  pub refused_asking : (s : Status) → AreUntouched g b → (s ≡ status.BayFault → b.rose) → RefusedAs s (asked_in b command) → RefusedFor g b command (only s)
+  refused_asking status.BayFault same rose h = inr (inl (refl, rose refl, same))
+  refused_asking status.Memory same rose h = inr (inr (inl (refl, inl same)))
+  refused_asking status.Ok same rose h = refused_early _ same h
+  refused_asking (status.Usage i) same rose h = refused_early _ same h
+  refused_asking (status.Conf l c) same rose h = refused_early _ same h
+  refused_asking (status.Script l c) same rose h = refused_early _ same h
+  refused_asking (status.GraphText l c) same rose h = refused_early _ same h
+  refused_asking (status.NoFile n) same rose h = refused_early _ same h
+  refused_asking status.SinkFault same rose h = refused_early _ same h
+  refused_asking (status.Lost f s t) same rose h = refused_early _ same h
+  refused_asking (status.Label f s t u) same rose h = refused_early _ same h
+  refused_asking (status.Small f s t) same rose h = refused_early _ same h
+  refused_asking (status.NotInSync n) same rose h = refused_early _ same h
+  refused_asking status.NoSpare same rose h = refused_early _ same h
+  refused_asking (status.LongText n) same rose h = refused_early _ same h
 
   -- what was asked isn't done
   pub refused_judging : (k : Asked) (taken devices : List (Option D)) (r : Refused) → asked_in b command ≡ Ok k → AreNamed b.home (names_for k) taken → AreNamed b.after (names_for k) devices
+      → ((n : Text) → (Contains (names_for k) n → ⊥) → b.after n ≡ b.home n) → (devices ≡ taken → AreUntouched g b)
       → Changes g (λ _ _. ⊥) taken devices → RefusedOver g k taken devices r → RefusedFor g b command r
-  refused_judging k taken devices r e before after stays (inl memory) = inr (inr (inl memory))
-  refused_judging k taken devices r e before after stays (inr h) = go h.wanted
+  refused_judging k taken devices r e before after others untouched stays over = elim over [
+    | inl memory ↦ inr (inr (inl (memory.0, looked memory.1)))
+    | inr h ↦ judged h
+  ]
     where
-      w : Result Duty Refused
-      w = duty_by k (sizes_of g.size devices) h.fronts
+      was : (fronts : List Front) → Reads g (reads_fronts k.command.action) taken devices fronts → WasRead g b k fronts
+      was fronts read = record { taken = taken; back = devices; before = before; after = after; others = others; read = read }
 
-      same : w ≡ duty_in g.size b command h.fronts
-      same = ap (λ (l : List ℕ). duty_by k l h.fronts) (sizes_kept g (λ _ _. ⊥) taken devices stays) ∙ sym (duty_from k taken h.fronts e before)
+      looked : ReadsAtMost g k taken devices → AreLookedAtMost g b command
+      looked (inl same) = inl (untouched same)
+      looked (inr read) = inr (k, e, read.0, was read.0 read.1)
 
-      read : (q : Asked) → asked_in b command ≡ Ok q → WasRead g b q h.fronts
-      read q f = let one : k ≡ q = cc (e, f) in subst (λ (x : Asked). WasRead g b x h.fronts) one (record { taken = taken; back = devices; before = before; after = after; read = h.read })
+      judged : IsRefusedOver g k taken devices r → RefusedFor g b command r
+      judged h = go h.wanted
+        where
+          w : Result Duty Refused
+          w = duty_by k (sizes_of g.size devices) h.fronts
 
-      go : IsWanted w (Err r) ⊎ WantsMemory w r → RefusedFor g b command r
-      go (inl wanted) = inl (record { fronts = h.fronts; wanted = subst (λ (x : Result Duty Refused). IsWanted x (Err r)) same wanted; read = read })
-      go (inr memory) = inr (inr (inr (record { fronts = h.fronts; wanted = subst (λ (x : Result Duty Refused). WantsMemory x r) same memory; read = read })))
+          same : w ≡ duty_in g.size b command h.fronts
+          same = ap (λ (l : List ℕ). duty_by k l h.fronts) (sizes_kept g (λ _ _. ⊥) taken devices stays) ∙ sym (duty_from k taken h.fronts e before)
+
+          read : (q : Asked) → asked_in b command ≡ Ok q → WasRead g b q h.fronts
+          read q f = let one : k ≡ q = cc (e, f) in subst (λ (x : Asked). WasRead g b x h.fronts) one (was h.fronts h.read)
+
+          go : IsWanted w (Err r) ⊎ WantsMemory w r → RefusedFor g b command r
+          go (inl wanted) = inl (record { fronts = h.fronts; wanted = subst (λ (x : Result Duty Refused). IsWanted x (Err r)) same wanted; unread = λ early f. cc (e, f); read = read })
+          go (inr memory) = inr (inr (inr (record { fronts = h.fronts; wanted = subst (λ (x : Result Duty Refused). WantsMemory x r) same memory; read = read })))
 
 -- what is refused by what was read
 pub refused_over : {D : Type 0} (g : Ghosts D) (k : Asked) (old new : List (Option D)) (fronts : List Front) (r : Refused) → Reads g (reads_fronts k.command.action) old new fronts
     → RefusedHere (duty_by k (sizes_of g.size new) fronts) r → RefusedOver g k old new r
 refused_over g k old new fronts r read (inl h) = inr (record { fronts = fronts; read = read; wanted = h })
-refused_over g k old new fronts r read (inr memory) = inl memory
+refused_over g k old new fronts r read (inr memory) = inl (memory, inr (fronts, read))

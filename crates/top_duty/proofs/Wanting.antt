@@ -1,5 +1,5 @@
 -- What is wanted, by how far the array was made ready.
-use Rattle.std.specs.Prelude.{◌≡◌, ◌⊎◌, ◌&&◌, ◌+◌, ℕ, true, false, List, length, nat_lt, Option, Some, None, Result, Ok, Err}
+use Rattle.std.specs.Prelude.{◌≡◌, ◌⊎◌, ◌&&◌, ◌+◌, ℕ, true, false, List, [], length, nat_lt, Option, Some, None, Result, Ok, Err}
 use Rattle.std.specs.Option.{ForSome}
 use Rattle.std.proofs.Common.{refl, sym, ap, subst, inl, inr, ◌∙◌}
 use Rattle.lay_core.specs.Layout.{Shape, blocks_in}
@@ -7,7 +7,8 @@ use Rattle.eng_array.specs.Starts.{column_of}
 use Rattle.eng_array.specs.declared.start.Start.{Start}
 use Rattle.eng_cols.specs.declared.column.Column.{Column}
 use Rattle.eng_cols.specs.declared.spot.Loss.{Loss}
-use Rattle.graph_text.specs.Format.{Named}
+use Rattle.graph_mean.specs.Graph.{View}
+use Rattle.graph_text.specs.Format.{At}
 use Rattle.raid_conf.specs.Layouts.{shape_of}
 use Rattle.raid_script.specs.Asked.{Asked as Item}
 use Rattle.top_bound.specs.Bound.{rebuilds_sum, trace_sum}
@@ -24,10 +25,10 @@ use Rattle.top_duty.specs.declared.duty.Duty as declared_duty
 use Rattle.top_duty.specs.declared.duty.Duty.TheVariants as duty
 use Rattle.top_words.specs.declared.profile.Kind.{Kind}
 use Rattle.top_words.specs.declared.profile.Kind.TheVariants as kind
-use Rattle.top_duty.specs.Duty.{Admitted, Duty, OnArray, Shows, OneLabel, PrintConf, IsWanted, LossIs, WantsMemory, admitted_with, beside_dead, clients_by, columns_of, duty_by, duty_for, is_past, is_past_bound, is_short, judged_states, layout_of, lost_by, rebuilds_by, rebuilds_of, traces, with_dead}
+use Rattle.top_duty.specs.Duty.{Admitted, ComesOfJoins, Duty, OnArray, Shows, OneLabel, PrintConf, IsWanted, LossIs, WantsMemory, admitted_with, beside_dead, clients_by, columns_of, duty_by, duty_for, is_past, is_past_bound, is_short, judged_states, layout_of, lost_by, rebuilds_by, rebuilds_of, traces, with_dead}
 use Rattle.top_duty.specs.Opening.{kind_of, needs_of, opened_by, status_of}
 use Rattle.top_duty.specs.Start.{start_in}
-use Rattle.top_duty.specs.Views.{IsDutyOver, IsReady, MayBeDone, RefusedAfter, RefusedHere, RefusedIf, dead_beside, duty_seen}
+use Rattle.top_duty.specs.Views.{ComesOver, GoesIf, IsDutyOver, IsReady, MayBeDone, RefusedAfter, RefusedHere, RefusedIf, RefusedScript, dead_beside, duty_seen, graphs_with, views_of}
 use Rattle.top_duty.proofs.Counting.{rebuilds_dead, rebuilds_none}
 
 ok_same : (r : Result Duty Refused) (a b : Admitted) → r ≡ Ok (OnArray a) → r ≡ Ok (OnArray b) → a ≡ b
@@ -37,56 +38,84 @@ ok_same r a b one two = cc (one, two)
 pub wanted_err : (w : Result Duty Refused) (r : Refused) → w ≡ Err r → IsWanted w (Err r)
 wanted_err w r e = record {
   loss = None;
+  joined = Ok [];
   is_loss = λ a h. cc (e, h);
+  is_joined = λ a h none short. cc (e, h);
   is = rw e refl;
 }
 
--- an array is refused for a loss, or for its trace, or isn't
+-- an array is refused for a loss, for want of a spare, for graphs that can't be joined, or for its trace, or isn't
 pub wanted_lost : (w : Result Duty Refused) (a : Admitted) (loss : Loss) → w ≡ Ok (OnArray a) → LossIs (layout_of a) (judged_states a) (Some loss) → IsWanted w (Err (lost_by a loss))
 wanted_lost w a loss e h = record {
   loss = Some loss;
+  joined = Ok [];
   is_loss = λ b here. subst (λ (x : Admitted). LossIs (layout_of x) (judged_states x) (Some loss)) (ok_same w a b e here) h;
+  is_joined = λ b here none short. absurd (cc none);
   is = rw e refl;
 }
 
 pub wanted_short : (w : Result Duty Refused) (a : Admitted) → w ≡ Ok (OnArray a) → LossIs (layout_of a) (judged_states a) None → is_short a ≡ true → IsWanted w (Err (only status.NoSpare))
 wanted_short w a e h short = record {
   loss = None;
+  joined = Ok [];
   is_loss = λ b here. subst (λ (x : Admitted). LossIs (layout_of x) (judged_states x) None) (ok_same w a b e here) h;
+  is_joined = λ b here none found.
+      (let other : is_short b ≡ true = subst (λ (x : Admitted). is_short x ≡ true) (ok_same w a b e here) short in
+      let no : true ≡ false = sym other ∙ found in
+      absurd (cc no));
   is = rw (e, short) refl;
 }
 
-pub wanted_past : (w : Result Duty Refused) (a : Admitted) → w ≡ Ok (OnArray a) → LossIs (layout_of a) (judged_states a) None → is_short a ≡ false → is_past_bound a ≡ true → IsWanted w (Err (beside_dead a (status.Script 0 8)))
-wanted_past w a e h found past = record {
-  loss = None;
-  is_loss = λ b here. subst (λ (x : Admitted). LossIs (layout_of x) (judged_states x) None) (ok_same w a b e here) h;
-  is = rw (e, found, past) refl;
-}
+module _ (w : Result Duty Refused) (a : Admitted) (e : w ≡ Ok (OnArray a)) (h : LossIs (layout_of a) (judged_states a) None) (found : is_short a ≡ false) where
+  pub wanted_apart : (at : At) → ComesOfJoins a (Err at) → IsWanted w (Err (beside_dead a (status.Script at.line at.code)))
+  wanted_apart at joins = record {
+    loss = None;
+    joined = Err at;
+    is_loss = λ b here. subst (λ (x : Admitted). LossIs (layout_of x) (judged_states x) None) (ok_same w a b e here) h;
+    is_joined = λ b here none short. subst (λ (x : Admitted). ComesOfJoins x (Err at)) (ok_same w a b e here) joins;
+    is = rw (e, found) refl;
+  }
 
-pub wanted_ok : (w : Result Duty Refused) (a : Admitted) → w ≡ Ok (OnArray a) → LossIs (layout_of a) (judged_states a) None → is_short a ≡ false → is_past_bound a ≡ false → IsWanted w (Ok (OnArray a))
-wanted_ok w a e h found past = record {
-  loss = None;
-  is_loss = λ b here. subst (λ (x : Admitted). LossIs (layout_of x) (judged_states x) None) (ok_same w a b e here) h;
-  is = rw (e, found, past) refl;
-}
+  pub wanted_past : (views : List View) → ComesOfJoins a (Ok views) → is_past_bound (record a { joined = views }) ≡ true → IsWanted w (Err (beside_dead a (status.Script 0 8)))
+  wanted_past views joins past = record {
+    loss = None;
+    joined = Ok views;
+    is_loss = λ b here. subst (λ (x : Admitted). LossIs (layout_of x) (judged_states x) None) (ok_same w a b e here) h;
+    is_joined = λ b here none short. subst (λ (x : Admitted). ComesOfJoins x (Ok views)) (ok_same w a b e here) joins;
+    is = rw (e, found, past) refl;
+  }
+
+  pub wanted_ok : (views : List View) → ComesOfJoins a (Ok views) → is_past_bound (record a { joined = views }) ≡ false → IsWanted w (Ok (OnArray (record a { joined = views })))
+  wanted_ok views joins past = record {
+    loss = None;
+    joined = Ok views;
+    is_loss = λ b here. subst (λ (x : Admitted). LossIs (layout_of x) (judged_states x) None) (ok_same w a b e here) h;
+    is_joined = λ b here none short. subst (λ (x : Admitted). ComesOfJoins x (Ok views)) (ok_same w a b e here) joins;
+    is = rw (e, found, past) refl;
+  }
 
 -- what isn't judged is wanted as it is
 wanted_shown : (w : Result Duty Refused) (k : Asked) (o : Opened) → w ≡ Ok (Shows k o) → IsWanted w (Ok (Shows k o))
-wanted_shown w k o e = record { loss = None; is_loss = λ a h. cc (e, h); is = rw e refl }
+wanted_shown w k o e = record { loss = None; joined = Ok []; is_loss = λ a h. cc (e, h); is_joined = λ a h none short. cc (e, h); is = rw e refl }
 
 wanted_label : (w : Result Duty Refused) (k : Asked) → w ≡ Ok (OneLabel k) → IsWanted w (Ok (OneLabel k))
-wanted_label w k e = record { loss = None; is_loss = λ a h. cc (e, h); is = rw e refl }
+wanted_label w k e = record { loss = None; joined = Ok []; is_loss = λ a h. cc (e, h); is_joined = λ a h none short. cc (e, h); is = rw e refl }
 
 wanted_conf : (w : Result Duty Refused) (k : Asked) → w ≡ Ok (PrintConf k) → IsWanted w (Ok (PrintConf k))
-wanted_conf w k e = record { loss = None; is_loss = λ a h. cc (e, h); is = rw e refl }
+wanted_conf w k e = record { loss = None; joined = Ok []; is_loss = λ a h. cc (e, h); is_joined = λ a h none short. cc (e, h); is = rw e refl }
 
 -- what nothing is done with is refused as is wanted, or memory was wanted
 pub refused_after : (w : Result Duty Refused) (a : Admitted) (s : Status) → w ≡ Ok (OnArray a) → RefusedAfter a s
     → (let r : Refused = record { status = s; dead = dead_beside (needs_of a.asked).excused (columns_of a) s } in IsWanted w (Err r) ⊎ WantsMemory w r)
 refused_after w a (status.Lost first second stripe) e h = inl (wanted_lost w a (record { first = first; second = second; stripe = stripe }) e h)
-refused_after w a (status.Script line code) e h =
-    inl (subst (λ (l : ℕ). IsWanted w (Err (beside_dead a (status.Script l code)))) (sym h.3)
-    (subst (λ (c : ℕ). IsWanted w (Err (beside_dead a (status.Script 0 c)))) (sym h.4) (wanted_past w a e h.0 h.1 h.2)))
+refused_after w a (status.Script line code) e h = inl (script h.2)
+  where
+    script : RefusedScript (λ l c. ComesOfJoins a (Err (record { line = l; code = c }))) (λ views. ComesOfJoins a (Ok views) × (is_past_bound (record a { joined = views }) ≡ true)) line code
+        → IsWanted w (Err (beside_dead a (status.Script line code)))
+    script (inl apart) = wanted_apart w a e h.0 h.1 (record { line = line; code = code }) apart
+    script (inr past) =
+        subst (λ (l : ℕ). IsWanted w (Err (beside_dead a (status.Script l code)))) (sym past.2)
+        (subst (λ (c : ℕ). IsWanted w (Err (beside_dead a (status.Script 0 c)))) (sym past.3) (wanted_past w a e h.0 h.1 past.0 past.1.0 past.1.1))
 refused_after w a status.Memory e h = inr (a, e, refl)
 refused_after w a status.Ok e h = absurd h
 refused_after w a (status.Usage i) e h = absurd h
@@ -102,40 +131,49 @@ refused_after w a status.NoSpare e h = inl (wanted_short w a e h.0 h.1)
 refused_after w a (status.LongText n) e h = absurd h
 
 -- a trace is kept of a script's items alone, and of rebuilds
-past_same : (y : Shape) (book : List Named) (n count : ℕ) (action : Action) (scripted : List (List Item)) (blocks : ℕ)
-    → (traces action && nat_lt 1048576 (trace_sum y book n (clients_by action scripted blocks) + rebuilds_sum y n count)) ≡ (traces action && nat_lt 1048576 (trace_sum y book n scripted + rebuilds_sum y n count))
+past_same : (y : Shape) (graphs : List View) (n count : ℕ) (action : Action) (scripted : List (List Item)) (blocks : ℕ)
+    → (traces action && nat_lt 1048576 (trace_sum y graphs n (clients_by action scripted blocks) + rebuilds_sum y n count)) ≡ (traces action && nat_lt 1048576 (trace_sum y graphs n scripted + rebuilds_sum y n count))
 unfolding clients_by
-past_same y book n count (Io beside workers) scripted blocks = refl
-past_same y book n count (Sweep seed clients ops workers) scripted blocks = refl
-past_same y book n count Show scripted blocks = refl
-past_same y book n count Init scripted blocks = refl
-past_same y book n count Check scripted blocks = refl
-past_same y book n count Rewrite scripted blocks = refl
-past_same y book n count Print scripted blocks = refl
-past_same y book n count (Fail comp) scripted blocks = refl
-past_same y book n count (ShowLabel comp) scripted blocks = refl
-past_same y book n count (Label serial) scripted blocks = refl
-past_same y book n count (Rebuild in_place comp beside workers) scripted blocks = refl
+past_same y graphs n count (Io beside workers) scripted blocks = refl
+past_same y graphs n count (Sweep seed clients ops workers) scripted blocks = refl
+past_same y graphs n count Show scripted blocks = refl
+past_same y graphs n count Init scripted blocks = refl
+past_same y graphs n count Check scripted blocks = refl
+past_same y graphs n count Rewrite scripted blocks = refl
+past_same y graphs n count Print scripted blocks = refl
+past_same y graphs n count (Fail comp) scripted blocks = refl
+past_same y graphs n count (ShowLabel comp) scripted blocks = refl
+past_same y graphs n count (Label serial) scripted blocks = refl
+past_same y graphs n count (Rebuild in_place comp beside workers) scripted blocks = refl
 
 -- its rebuilds are those of the columns as they are opened
 rebuilds_are : (k : Asked) (o : Opened) (start : Option Start) → ForSome start (λ s. (needs_of k).excused ≡ Some (column_of s))
-    → rebuilds_of (admitted_with k o start) ≡ rebuilds_by (shape_of k.conf o.rows) o.columns start
+    → rebuilds_of (admitted_with k o start []) ≡ rebuilds_by (shape_of k.conf o.rows) o.columns start
 rebuilds_are k o None named = rebuilds_none (shape_of k.conf o.rows) (with_dead (needs_of k).excused o.columns) o.columns
 rebuilds_are k o (Some s) named =
     ap (λ (e : Option ℕ). rebuilds_by (shape_of k.conf o.rows) (with_dead e o.columns) (Some s)) (named s refl)
     ∙ rebuilds_dead (shape_of k.conf o.rows) o.columns s
 
-past_is : (k : Asked) (o : Opened) (start : Option Start) → ForSome start (λ s. (needs_of k).excused ≡ Some (column_of s))
-    → is_past_bound (admitted_with k o start) ≡ is_past (shape_of k.conf o.rows) k k.clients (rebuilds_by (shape_of k.conf o.rows) o.columns start)
-past_is k o start named =
-    past_same (shape_of k.conf o.rows) k.book (length (names_of k.conf)) (rebuilds_of (admitted_with k o start)) k.command.action k.clients (blocks_in (shape_of k.conf o.rows))
-    ∙ ap (λ (n : ℕ). is_past (shape_of k.conf o.rows) k k.clients n) (rebuilds_are k o start named)
+past_is : (k : Asked) (o : Opened) (start : Option Start) (views : List View) → ForSome start (λ s. (needs_of k).excused ≡ Some (column_of s))
+    → is_past_bound (admitted_with k o start views) ≡ is_past (shape_of k.conf o.rows) k (graphs_with k views) k.clients (rebuilds_by (shape_of k.conf o.rows) o.columns start)
+past_is k o start views named =
+    past_same (shape_of k.conf o.rows) (graphs_with k views) (length (names_of k.conf)) (rebuilds_of (admitted_with k o start [])) k.command.action k.clients (blocks_in (shape_of k.conf o.rows))
+    ∙ ap (λ (n : ℕ). is_past (shape_of k.conf o.rows) k (graphs_with k views) k.clients n) (rebuilds_are k o start named)
 
 module _ (k : Asked) (o : Opened) (start : Option Start) (named : ForSome start (λ s. (needs_of k).excused ≡ Some (column_of s))) where
+  -- why a script that is asked for isn't run is why one that is admitted isn't
+  script_if : (line code : ℕ)
+      → RefusedScript (λ l c. ComesOver (shape_of k.conf o.rows) k (Err (record { line = l; code = c })))
+      (λ views. ComesOver (shape_of k.conf o.rows) k (Ok views) × (is_past (shape_of k.conf o.rows) k (graphs_with k views) k.clients (rebuilds_by (shape_of k.conf o.rows) o.columns start) ≡ true)) line code
+      → RefusedScript (λ l c. ComesOfJoins (admitted_with k o start []) (Err (record { line = l; code = c })))
+      (λ views. ComesOfJoins (admitted_with k o start []) (Ok views) × (is_past_bound (admitted_with k o start views) ≡ true)) line code
+  script_if line code (inl apart) = inl apart
+  script_if line code (inr past) = inr (past.0, (past.1.0, past_is k o start past.0 named ∙ past.1.1), past.2, past.3)
+
   -- why what is asked isn't run is why what is admitted isn't
-  pub after_if : (s : Status) → RefusedIf (shape_of k.conf o.rows) k (with_dead (needs_of k).excused o.columns) (rebuilds_by (shape_of k.conf o.rows) o.columns start) start (Some s) → RefusedAfter (admitted_with k o start) s
+  pub after_if : (s : Status) → RefusedIf (shape_of k.conf o.rows) k (with_dead (needs_of k).excused o.columns) (rebuilds_by (shape_of k.conf o.rows) o.columns start) start s → RefusedAfter (admitted_with k o start []) s
   after_if (status.Lost first second stripe) h = h
-  after_if (status.Script line code) h = (h.0, h.1.0, past_is k o start named ∙ h.1.1, h.1.2, h.1.3)
+  after_if (status.Script line code) h = (h.0, h.1.0, script_if line code h.1.1)
   after_if status.NoSpare h = h
   after_if status.Memory h = tt
   after_if status.Ok h = absurd h.1
@@ -151,22 +189,28 @@ module _ (k : Asked) (o : Opened) (start : Option Start) (named : ForSome start 
   after_if (status.LongText n) h = absurd h.1
 
   -- and where it isn't refused, it may be done
-  pub done_if : RefusedIf (shape_of k.conf o.rows) k (with_dead (needs_of k).excused o.columns) (rebuilds_by (shape_of k.conf o.rows) o.columns start) start None → MayBeDone (admitted_with k o start)
-  done_if h = record { kept = h.0; found = h.1.0; bound = past_is k o start named ∙ h.1.1 }
+  pub done_if : (views : List View) → GoesIf (shape_of k.conf o.rows) k (with_dead (needs_of k).excused o.columns) (rebuilds_by (shape_of k.conf o.rows) o.columns start) start views → MayBeDone (admitted_with k o start views)
+  done_if views h = record { kept = h.0; found = h.1.found; joins = h.1.joins; bound = past_is k o start views named ∙ h.1.bound }
 
 -- the same of a layout and columns that are those
-pub if_same : (y z : Shape) (k : Asked) (columns cols opened others : List Column) (start : Option Start) (r : Option Status) → y ≡ z → columns ≡ cols → opened ≡ others
-    → RefusedIf y k columns (rebuilds_by y opened start) start r → RefusedIf z k cols (rebuilds_by z others start) start r
-if_same y z k columns cols opened others start r one two three h =
-    subst (λ (x : Shape). RefusedIf x k cols (rebuilds_by x others start) start r) one
-    (subst (λ (l : List Column). RefusedIf y k cols (rebuilds_by y l start) start r) three
-    (subst (λ (l : List Column). RefusedIf y k l (rebuilds_by y opened start) start r) two h))
+module _ (y z : Shape) (k : Asked) (columns cols opened others : List Column) (start : Option Start) (one : y ≡ z) (two : columns ≡ cols) (three : opened ≡ others) where
+  pub if_same : (s : Status) → RefusedIf y k columns (rebuilds_by y opened start) start s → RefusedIf z k cols (rebuilds_by z others start) start s
+  if_same s h =
+      subst (λ (x : Shape). RefusedIf x k cols (rebuilds_by x others start) start s) one
+      (subst (λ (l : List Column). RefusedIf y k cols (rebuilds_by y l start) start s) three
+      (subst (λ (l : List Column). RefusedIf y k l (rebuilds_by y opened start) start s) two h))
+
+  pub goes_same : (views : List View) → GoesIf y k columns (rebuilds_by y opened start) start views → GoesIf z k cols (rebuilds_by z others start) start views
+  goes_same views h =
+      subst (λ (x : Shape). GoesIf x k cols (rebuilds_by x others start) start views) one
+      (subst (λ (l : List Column). GoesIf y k cols (rebuilds_by y l start) start views) three
+      (subst (λ (l : List Column). GoesIf y k l (rebuilds_by y opened start) start views) two h))
 
 -- ## By how the array was opened
 
 pub array_is : (k : Asked) (sizes : List ℕ) (fronts : List Front) (o : Opened) (start : Option Start) → opened_by k sizes fronts ≡ Ok o → start ≡ start_in k o sizes fronts
-    → duty_for kind.Array k sizes fronts ≡ Ok (OnArray (admitted_with k o start))
-array_is k sizes fronts o start e is = rw e (ap (λ (s : Option Start). Ok (OnArray (admitted_with k o s))) (sym is))
+    → duty_for kind.Array k sizes fronts ≡ Ok (OnArray (admitted_with k o start []))
+array_is k sizes fronts o start e is = rw e (ap (λ (s : Option Start). Ok (OnArray (admitted_with k o s []))) (sym is))
 
 -- an array is refused as it is opened, or memory was wanted
 pub refused_opening : (k : Asked) (sizes : List ℕ) (fronts : List Front) (f : OpenFault) → (f ≡ fault.Memory) ⊎ (opened_by k sizes fronts ≡ Err (only (status_of f)))
@@ -192,8 +236,9 @@ refused_duty k sizes fronts x r e h = subst (λ (w : Result Duty Refused). Refus
 pub duty_wanted : (k : Asked) (sizes : List ℕ) (fronts : List Front) (d : declared_duty.Duty) → IsDutyOver k sizes fronts d → IsWanted (duty_by k sizes fronts) (Ok (duty_seen k d))
 duty_wanted k sizes fronts (duty.OnArray r) h =
     let o = opened_seen r.opened in
-    let ready : IsReady k sizes fronts o r.start = h.1.ready in
-    wanted_ok (duty_by k sizes fronts) (admitted_with k o r.start) (duty_is k sizes fronts kind.Array h.0 ∙ array_is k sizes fronts o r.start ready.opened ready.starts) ready.kept ready.found ready.bound
+    let views = views_of r.joined.items in
+    let ready : IsReady k sizes fronts o r.start views = h.1.ready in
+    wanted_ok (duty_by k sizes fronts) (admitted_with k o r.start []) (duty_is k sizes fronts kind.Array h.0 ∙ array_is k sizes fronts o r.start ready.opened ready.starts) ready.may.kept ready.may.found views ready.may.joins ready.may.bound
 duty_wanted k sizes fronts (duty.Shows opened) h =
     wanted_shown (duty_by k sizes fronts) k (opened_seen opened) (duty_is k sizes fronts kind.Shown h.0 ∙ shown h.1)
   where

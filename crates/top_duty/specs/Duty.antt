@@ -1,8 +1,10 @@
 -- What is to be done, or which refusal comes first: by texts, names, sizes, and sector 0 of the
 -- devices.
-use Rattle.std.specs.Prelude.{◌≡◌, ◌&&◌, ◌+◌, ℕ, Bool, false, List, length, map, Option, Some, None, is_none, Result, Ok, Err, if◌then◌else◌, nat_lt, slice_set}
+use Rattle.std.specs.Prelude.{◌≡◌, ◌&&◌, ◌+◌, ◌++◌, ℕ, Bool, false, List, [], ◌∷◌, length, map, Option, Some, None, is_none, Result, Ok, Err, if◌then◌else◌, nat_lt, slice_set}
 use Rattle.std.specs.Option.{option_map_or}
 use Rattle.lay_core.specs.Layout.{Shape, blocks_in}
+use Rattle.graph_mean.specs.Graph.{View}
+use Rattle.graph_text.specs.Format.{At}
 use Rattle.eng_array.specs.declared.start.Start.{Start}
 use Rattle.eng_array.specs.Starts.{column_of}
 use Rattle.eng_cols.specs.declared.column.Column.{Column}
@@ -17,6 +19,7 @@ use Rattle.raid_script.specs.Drawn.{drawn}
 use Rattle.top_fetch.specs.Told.{Told}
 use Rattle.top_bay.specs.Asked.{Asked, asked_in, names_for, names_of}
 use Rattle.top_bound.specs.Bound.{rebuilds_sum, trace_sum}
+use Rattle.top_join.specs.Joining.{AreJoined}
 use Rattle.top_open.specs.declared.fronts.Front.{Front}
 use Rattle.top_open.specs.Opening.{Opened}
 use Rattle.top_status.specs.declared.status.Status.{Status}
@@ -32,12 +35,13 @@ use Rattle.top_duty.specs.Start.{rebuilds, start_in}
 
 -- ## What is admitted
 
--- What was asked, the array as it is opened, the items of all clients, and how a column is rebuilt, if one is.
+-- What was asked, the array as it is opened, the items of all clients, how a column is rebuilt, if one is, and the graphs that are joined for join lines.
 pub record Admitted : Type 0 where
   pub asked : Asked
   pub opened : Opened
   pub clients : List (List Item)
   pub start : Option Start
+  pub joined : List View
 
 -- Something is done with an array; or an array is shown; or the label of one device; or the configuration is printed.
 pub data Duty : Type 0 where
@@ -87,12 +91,20 @@ drawn_or (Some d) scripted blocks = drawn d.seed d.clients d.ops blocks
 unfoldable pub clients_by : Action → List (List Item) → ℕ → List (List Item)
 clients_by action scripted blocks = drawn_or (profile_of action).drawn scripted blocks
 
-abbrev pub admitted_with : Asked → Opened → Option Start → Admitted
-admitted_with k o start = record { asked = k; opened = o; clients = clients_by k.command.action k.clients (blocks_in (shape_of k.conf o.rows)); start = start }
+abbrev pub admitted_with : Asked → Opened → Option Start → List View → Admitted
+admitted_with k o start joined = record { asked = k; opened = o; clients = clients_by k.command.action k.clients (blocks_in (shape_of k.conf o.rows)); start = start; joined = joined }
+
+-- the graphs that items name: those of the file, and behind them those that are joined
+abbrev pub graphs_of : Admitted → List View
+graphs_of a = map (λ n. n.graph) a.asked.book ++ a.joined
+
+-- this comes of the join lines over its layout
+abbrev pub ComesOfJoins : Admitted → Result (List View) At → Type 0
+ComesOfJoins a r = AreJoined (layout_of a) a.asked.book a.asked.clients (length a.asked.book) a.asked.joins r
 
 -- what is to be done by what is made of the array
 abbrev pub duty_for : Kind → Asked → List ℕ → List Front → Result Duty Refused
-duty_for kind.Array k sizes fronts = opened_by k sizes fronts then λ o. Ok (OnArray (admitted_with k o (start_in k o sizes fronts)))
+duty_for kind.Array k sizes fronts = opened_by k sizes fronts then λ o. Ok (OnArray (admitted_with k o (start_in k o sizes fronts) []))
 duty_for kind.Shown k sizes fronts = opened_by k sizes fronts then λ o. Ok (Shows k o)
 duty_for kind.Label k sizes fronts = Ok (OneLabel k)
 duty_for kind.Conf k sizes fronts = Ok (PrintConf k)
@@ -123,17 +135,27 @@ abbrev pub lost_by : Admitted → Loss → Refused
 lost_by a loss = record { status = status.Lost loss.first loss.second loss.stripe; dead = dead_columns (judged_columns a) }
 
 -- the array may not be lost
-abbrev pub unless_lost : Admitted → Option Loss → Result Admitted Refused
-unless_lost a None = Ok a
-unless_lost a (Some loss) = Err (lost_by a loss)
+abbrev pub if_lost : Admitted → Option Loss → Option Refused
+if_lost a None = None
+if_lost a (Some loss) = Some (lost_by a loss)
 
 -- a column is to be rebuilt, and there is nowhere to
 abbrev pub is_short : Admitted → Bool
 is_short a = rebuilds a.asked.command.action && is_none a.start
 
 -- that is refused, and no column is printed dead
-abbrev pub unless_short : Admitted → Result Admitted Refused
-unless_short a = if is_short a then Err (only status.NoSpare) else Ok a
+abbrev pub if_short : Admitted → Option Refused
+if_short a = if is_short a then Some (only status.NoSpare) else None
+
+-- so are graphs that can't be joined
+abbrev pub if_apart : Admitted → Result (List View) At → Option Refused
+if_apart a (Ok views) = None
+if_apart a (Err at) = Some (beside_dead a (status.Script at.line at.code))
+
+-- the same, where they are joined
+abbrev pub with_joined : Admitted → Result (List View) At → Admitted
+with_joined a (Ok views) = record a { joined = views }
+with_joined a (Err at) = a
 
 -- whether a trace is kept
 abbrev pub traces : Action → Bool
@@ -147,30 +169,46 @@ rebuilds_by y columns (Some start) = count_below (is_stripe_of y (states_of y co
 abbrev pub rebuilds_of : Admitted → ℕ
 rebuilds_of a = rebuilds_by (layout_of a) (judged_columns a) a.start
 
--- so many items of clients, and so many rebuilds: more events may come than a trace that is kept has room for
-abbrev pub is_past : Shape → Asked → List (List Item) → ℕ → Bool
-is_past y asked clients rebuilds = traces asked.command.action
-    && nat_lt 1048576 (trace_sum y asked.book (length (names_of asked.conf)) clients + rebuilds_sum y (length (names_of asked.conf)) rebuilds)
+-- so many items of clients by these graphs, and so many rebuilds: more events may come than a trace that is kept has room for
+abbrev pub is_past : Shape → Asked → List View → List (List Item) → ℕ → Bool
+is_past y asked graphs clients rebuilds = traces asked.command.action
+    && nat_lt 1048576 (trace_sum y graphs (length (names_of asked.conf)) clients + rebuilds_sum y (length (names_of asked.conf)) rebuilds)
 
 abbrev pub is_past_bound : Admitted → Bool
-is_past_bound a = is_past (layout_of a) a.asked a.clients (rebuilds_of a)
+is_past_bound a = is_past (layout_of a) a.asked (graphs_of a) a.clients (rebuilds_of a)
 
 -- a trace that is kept has room for all events
-abbrev pub unless_past : Admitted → Result Admitted Refused
-unless_past a = if is_past_bound a then Err (beside_dead a (status.Script 0 8)) else Ok a
+abbrev pub if_past : Admitted → Option Refused
+if_past a = if is_past_bound a then Some (beside_dead a (status.Script 0 8)) else None
 
--- an array that something is done with isn't lost, has somewhere to rebuild to, and its trace has room; nothing else is judged
-abbrev pub judged : Duty → Option Loss → Result Duty Refused
-judged (OnArray a) loss = unless_lost a loss then λ kept. unless_short kept then λ with_start. unless_past with_start then λ bound. Ok (OnArray bound)
-judged (Shows k o) loss = Ok (Shows k o)
-judged (OneLabel k) loss = Ok (OneLabel k)
-judged (PrintConf k) loss = Ok (PrintConf k)
+-- an array that something is done with isn't lost, has somewhere to rebuild to, its graphs are joined, and its trace has room
+abbrev pub judgements : Admitted → Option Loss → Result (List View) At → List (Option Refused)
+judgements a loss joined = if_lost a loss ∷ if_short a ∷ if_apart a joined ∷ if_past (with_joined a joined) ∷ []
 
--- What is to be done, or the first refusal: the duty, if it is judged so.
+-- the first refusal, if there is one
+abbrev pub first_of : List (Option Refused) → Option Refused
+first_of [] = None
+first_of (None ∷ more) = first_of more
+first_of (Some r ∷ more) = Some r
+
+abbrev pub unless : Option Refused → Duty → Result Duty Refused
+unless None d = Ok d
+unless (Some r) d = Err r
+
+-- nothing else is judged
+abbrev pub judged : Duty → Option Loss → Result (List View) At → Result Duty Refused
+judged (OnArray a) loss joined = unless (first_of (judgements a loss joined)) (OnArray (with_joined a joined))
+judged (Shows k o) loss joined = Ok (Shows k o)
+judged (OneLabel k) loss joined = Ok (OneLabel k)
+judged (PrintConf k) loss joined = Ok (PrintConf k)
+
+-- What is to be done, or the first refusal: the duty, if it is judged so. Of an array that is refused before, nothing is joined.
 pub record IsWanted (duty wanted : Result Duty Refused) : Type 0 where
   pub loss : Option Loss
+  pub joined : Result (List View) At
   pub is_loss : (a : Admitted) → duty ≡ Ok (OnArray a) → LossIs (layout_of a) (judged_states a) loss
-  pub is : wanted ≡ (duty then λ d. judged d loss)
+  pub is_joined : (a : Admitted) → duty ≡ Ok (OnArray a) → loss ≡ None → is_short a ≡ false → ComesOfJoins a joined
+  pub is : wanted ≡ (duty then λ d. judged d loss joined)
 
 -- Memory was wanted behind the opening: those columns are printed dead that are so as the array is opened.
 abbrev pub WantsMemory : Result Duty Refused → Refused → Type 0

@@ -1,8 +1,10 @@
 -- What is seen of what is to be done, without where it lies in memory.
-use Rattle.std.specs.Prelude.{◌≡◌, ◌⊎◌, ◌≤◌, ◌*◌, ◌&&◌, ℕ, List, [], true, false, map, All, Vec, Option, Some, None, is_none, Ok, Err, Result}
+use Rattle.std.specs.Prelude.{◌≡◌, ◌⊎◌, ◌≤◌, ◌*◌, ◌&&◌, ◌++◌, ℕ, List, [], true, false, length, map, All, Vec, Option, Some, None, is_none, Ok, Err, Result}
 use Rattle.std.specs.declared.alloc.Global.{Global}
 use Rattle.blk_disk.specs.declared.disk.Disk.{Ghosts}
 use Rattle.lay_core.specs.Layout.{Shape, blocks_in}
+use Rattle.graph_mean.specs.Graph.{Held, View}
+use Rattle.graph_text.specs.Format.{At}
 use Rattle.eng_array.specs.declared.start.Start.{Start}
 use Rattle.eng_cols.specs.Changes.{killed}
 use Rattle.eng_cols.specs.Cols.{Columns, ColumnState, IsFor}
@@ -13,6 +15,7 @@ use Rattle.raid_conf.specs.declared.layouts.AnyLayout.{AnyLayout}
 use Rattle.raid_conf.specs.Layouts.{shape_in, shape_of}
 use Rattle.raid_script.specs.Asked.{Asked as Item, AreFew, IsAsked, seen}
 use Rattle.top_bay.specs.Asked.{Asked}
+use Rattle.top_join.specs.Joining.{AreJoined}
 use Rattle.top_open.specs.declared.fronts.Front.{Front}
 use Rattle.top_open.specs.Opening.{Opened, opened_seen}
 use Rattle.top_open.specs.declared.fault.OpenFault.{OpenFault}
@@ -27,7 +30,7 @@ use Rattle.top_words.specs.declared.profile.Kind.TheVariants as kind
 use Rattle.top_duty.specs.declared.duty.Duty as declared_duty
 use Rattle.top_duty.specs.declared.duty.Duty.TheVariants as duty
 use Rattle.top_duty.specs.declared.duty.Ready as declared_ready
-use Rattle.top_duty.specs.Duty.{Admitted, Duty, OnArray, Shows, OneLabel, PrintConf, IsWanted, WantsMemory, admitted_with, drawn_or, is_past, is_past_bound, is_short, judged_states, layout_of, states_of, with_dead}
+use Rattle.top_duty.specs.Duty.{Admitted, Duty, OnArray, Shows, OneLabel, PrintConf, IsWanted, WantsMemory, ComesOfJoins, admitted_with, drawn_or, is_past, is_past_bound, is_short, judged_states, layout_of, states_of, with_dead}
 use Rattle.top_duty.specs.Fit.{IsFit, IsStartIf}
 use Rattle.top_duty.specs.Opening.{AreTableRows, kind_of, opened_by, status_of}
 use Rattle.top_duty.specs.Start.{has_failed, rebuilds, start_in}
@@ -40,6 +43,10 @@ items_seen clients = map (λ items. map seen items.items) clients
 abbrev pub drawn_by : Action → ℕ → List (List Item)
 drawn_by action blocks = drawn_or (profile_of action).drawn [] blocks
 
+-- graphs, without where they lie in memory
+abbrev pub views_of : List Held → List View
+views_of graphs = map (λ g. g.drawn) graphs
+
 -- ## What is opened
 
 -- this is that opening; want of memory may come in its place
@@ -49,13 +56,18 @@ OpensSo (Err f) answer = (f ≡ fault.Memory) ⊎ (answer ≡ Err (only (status_
 
 -- ## What is ready
 
--- Something may be done with the array: it is opened as this, it isn't lost as the action makes its columns, a column is rebuilt so or none is, and a trace that is kept has room.
-pub record IsReady (k : Asked) (sizes : List ℕ) (fronts : List Front) (o : Opened) (start : Option Start) : Type 0 where
+-- It isn't lost as the action makes its columns, there is somewhere to rebuild a column to that is to be, its graphs are joined, and a trace that is kept has room.
+pub record MayBeDone (a : Admitted) : Type 0 where
+  pub kept : NotLost (layout_of a) (judged_states a)
+  pub found : is_short a ≡ false
+  pub joins : ComesOfJoins a (Ok a.joined)
+  pub bound : is_past_bound a ≡ false
+
+-- Something may be done with the array: it is opened as this, a column is rebuilt so or none is, these graphs are joined, and it is judged so.
+pub record IsReady (k : Asked) (sizes : List ℕ) (fronts : List Front) (o : Opened) (start : Option Start) (joined : List View) : Type 0 where
   pub opened : opened_by k sizes fronts ≡ Ok o
   pub starts : start ≡ start_in k o sizes fronts
-  pub kept : NotLost (layout_of (admitted_with k o start)) (judged_states (admitted_with k o start))
-  pub found : is_short (admitted_with k o start) ≡ false
-  pub bound : is_past_bound (admitted_with k o start) ≡ false
+  pub may : MayBeDone (admitted_with k o start joined)
 
 -- Its layout, the items that are drawn, and room for its columns and for the units of a stripe are made.
 pub record IsMade (k : Asked) (o : Opened) (layout : AnyLayout) (given : List (Vec AnyItem Global)) (cols : Columns) (bytes : ℕ) : Type 0 where
@@ -68,15 +80,19 @@ pub record IsMade (k : Asked) (o : Opened) (layout : AnyLayout) (given : List (V
 
 -- both; and whether the device that is to be filled couldn't be read
 pub record IsPrepared (k : Asked) (sizes : List ℕ) (fronts : List Front) (r : declared_ready.Ready) : Type 0 where
-  pub ready : IsReady k sizes fronts (opened_seen r.opened) r.start
+  pub ready : IsReady k sizes fronts (opened_seen r.opened) r.start (views_of r.joined.items)
   pub failed : r.failed ≡ has_failed r.start fronts
   pub rows : AreTableRows k.conf r.opened.rows
   pub made : IsMade k (opened_seen r.opened) r.layout r.drawn.items r.judge r.room
 
 -- ## What is to be done
 
+-- what is admitted, by what is ready for it
+abbrev pub admitted_by : Asked → declared_ready.Ready → Admitted
+admitted_by k r = admitted_with k (opened_seen r.opened) r.start (views_of r.joined.items)
+
 abbrev pub duty_seen : Asked → declared_duty.Duty → Duty
-duty_seen k (duty.OnArray r) = OnArray (admitted_with k (opened_seen r.opened) r.start)
+duty_seen k (duty.OnArray r) = OnArray (admitted_by k r)
 duty_seen k (duty.Shows o) = Shows k (opened_seen o)
 duty_seen k duty.OneLabel = OneLabel k
 duty_seen k duty.PrintConf = PrintConf k
@@ -97,33 +113,57 @@ IsFitFor g k devices duty.PrintConf = Unit {0}
 
 -- ## Why nothing is done
 
--- Why nothing is done with an array that was opened: it is lost; or it isn't, and there is nowhere to rebuild a column to; or there is, and its trace would pass its bound; or memory was wanted.
+-- why a script is refused behind the opening, by what it is if these graphs are joined: they can't be, or its trace would pass its bound
+abbrev pub RefusedScript : (ℕ → ℕ → Type 0) → (List View → Type 0) → (line code : ℕ) → Type 0
+RefusedScript apart past line code = apart line code ⊎ ((views : List View) × past views × (line ≡ 0) × (code ≡ 8))
+
+-- Why nothing is done with an array that was opened: it is lost; or it isn't, and there is nowhere to rebuild a column to; or there is, and graphs can't be joined; or they are, and its trace would pass its bound; or memory was wanted.
 abbrev pub RefusedAfter : Admitted → Status → Type 0
 RefusedAfter a (status.Lost first second stripe) = IsLost (layout_of a) (judged_states a) (record { first = first; second = second; stripe = stripe })
 RefusedAfter a status.NoSpare = NotLost (layout_of a) (judged_states a) × (is_short a ≡ true)
-RefusedAfter a (status.Script line code) = NotLost (layout_of a) (judged_states a) × (is_short a ≡ false) × (is_past_bound a ≡ true) × (line ≡ 0) × (code ≡ 8)
+RefusedAfter a (status.Script line code) = NotLost (layout_of a) (judged_states a) × (is_short a ≡ false)
+    × RefusedScript (λ l c. ComesOfJoins a (Err (record { line = l; code = c })))
+    (λ views. ComesOfJoins a (Ok views) × (is_past_bound (record a { joined = views }) ≡ true)) line code
 RefusedAfter a status.Memory = Unit {0}
 RefusedAfter a _ = ⊥
 
--- nothing of that is so
-pub record MayBeDone (a : Admitted) : Type 0 where
-  pub kept : NotLost (layout_of a) (judged_states a)
-  pub found : is_short a ≡ false
-  pub bound : is_past_bound a ≡ false
+-- this comes of the join lines over a layout
+abbrev pub ComesOver : Shape → Asked → Result (List View) At → Type 0
+ComesOver y k r = AreJoined y k.book k.clients (length k.book) k.joins r
 
--- the same of an array that isn't lost, whose clients are those of the script, beside so many rebuilds, if nothing is done with it
-abbrev pub RefusedUnlost : Shape → Asked → ℕ → Option Start → Option Status → Type 0
-RefusedUnlost y k count start None = ((rebuilds k.command.action && is_none start) ≡ false) × (is_past y k k.clients count ≡ false)
-RefusedUnlost y k count start (Some status.NoSpare) = (rebuilds k.command.action && is_none start) ≡ true
-RefusedUnlost y k count start (Some (status.Script line code)) = ((rebuilds k.command.action && is_none start) ≡ false) × (is_past y k k.clients count ≡ true) × (line ≡ 0) × (code ≡ 8)
-RefusedUnlost y k count start (Some _) = ⊥
+-- they can't be joined, or memory was wanted
+abbrev pub RefusedJoins : Shape → Asked → Status → Type 0
+RefusedJoins y k (status.Script line code) = ComesOver y k (Err (record { line = line; code = code }))
+RefusedJoins y k status.Memory = Unit {0}
+RefusedJoins y k _ = ⊥
+
+-- the graphs of the file and those that are joined
+abbrev pub graphs_with : Asked → List View → List View
+graphs_with k views = map (λ n. n.graph) k.book ++ views
+
+-- the same of an array that isn't lost, whose clients are those of the script, beside so many rebuilds: nothing is done with it
+abbrev pub RefusedUnlost : Shape → Asked → ℕ → Option Start → Status → Type 0
+RefusedUnlost y k count start status.NoSpare = (rebuilds k.command.action && is_none start) ≡ true
+RefusedUnlost y k count start (status.Script line code) = ((rebuilds k.command.action && is_none start) ≡ false)
+    × RefusedScript (λ l c. ComesOver y k (Err (record { line = l; code = c })))
+    (λ views. ComesOver y k (Ok views) × (is_past y k (graphs_with k views) k.clients count ≡ true)) line code
+RefusedUnlost y k count start status.Memory = Unit {0}
+RefusedUnlost y k count start _ = ⊥
+
+-- or it is, by these graphs
+pub record GoesUnlost (y : Shape) (k : Asked) (count : ℕ) (start : Option Start) (views : List View) : Type 0 where
+  pub found : (rebuilds k.command.action && is_none start) ≡ false
+  pub joins : ComesOver y k (Ok views)
+  pub bound : is_past y k (graphs_with k views) k.clients count ≡ false
 
 -- and of one of these columns
-abbrev pub RefusedIf : Shape → Asked → List Column → ℕ → Option Start → Option Status → Type 0
-RefusedIf y k columns count start (Some (status.Lost first second stripe)) = IsLost y (states_of y columns) (record { first = first; second = second; stripe = stripe })
-RefusedIf y k columns count start (Some status.Memory) = Unit {0}
-RefusedIf y k columns count start None = NotLost y (states_of y columns) × RefusedUnlost y k count start None
-RefusedIf y k columns count start (Some s) = NotLost y (states_of y columns) × RefusedUnlost y k count start (Some s)
+abbrev pub RefusedIf : Shape → Asked → List Column → ℕ → Option Start → Status → Type 0
+RefusedIf y k columns count start (status.Lost first second stripe) = IsLost y (states_of y columns) (record { first = first; second = second; stripe = stripe })
+RefusedIf y k columns count start status.Memory = Unit {0}
+RefusedIf y k columns count start s = NotLost y (states_of y columns) × RefusedUnlost y k count start s
+
+abbrev pub GoesIf : Shape → Asked → List Column → ℕ → Option Start → List View → Type 0
+GoesIf y k columns count start views = NotLost y (states_of y columns) × GoesUnlost y k count start views
 
 -- a column is made dead, if there is one to be
 abbrev pub with_killed : Option ℕ → List ColumnState → List ColumnState

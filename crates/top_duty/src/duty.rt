@@ -2,6 +2,7 @@
 use eng_array::Start;
 use eng_cols::Cols;
 use eng_world::Item;
+use graph_mean::Graph;
 use raid_conf::AnyLayout;
 use raid_recon::Room;
 use top_open::Opened;
@@ -15,6 +16,8 @@ pub struct Ready {
     pub layout: AnyLayout,
     /// The items that are drawn, of a sweep; else none.
     pub drawn: Vec<Vec<Item>>,
+    /// The graphs that are joined for the join lines of the script, in their order.
+    pub joined: Vec<Graph>,
     /// Room for the columns, by which it is judged whether they make the array lost.
     pub judge: Cols,
     /// Room for the units of a stripe.

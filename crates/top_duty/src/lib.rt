@@ -4,7 +4,8 @@
 //! [`admit`] asks for what a command says, looks at the devices, and judges the array. Behind the
 //! refusals of `top_bay` come, in
 //! this order, what the labels and sizes of the devices call for, an array that is lost by its columns, a column that there is
-//! nowhere to rebuild to, and a trace that would pass its bound. What is refused is put back.
+//! nowhere to rebuild to, a join line whose graphs can't be joined, and a trace that would pass its bound. What is refused is
+//! put back.
 #![tactic(auto)]
 
 mod admitting;

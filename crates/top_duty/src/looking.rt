@@ -1,5 +1,5 @@
 //! The devices are looked at.
-ghost use Rattle.std.specs.Prelude.{◌≡◌, IfOk, length};
+ghost use Rattle.std.specs.Prelude.{◌≡◌, IfOk, OnErr, length};
 ghost use Rattle.blk_disk.specs.Devices.{Changes};
 ghost use Rattle.top_words.specs.Views.{action_seen};
 ghost use Rattle.top_duty.specs.Opening.{reads_fronts, sizes_of};
@@ -29,6 +29,7 @@ fn fronts_of<D: Disk>(
 ) -> Result<Vec<Front>, AllocError>
     ensures read { IfOk result (λ fronts. Reads D.Disk (reads_fronts (action_seen action.entry)) devices.old devices.new fronts.items) }
     ensures stays { Changes D.Disk (λ _ _. ⊥) devices.old devices.new }
+    ensures same { OnErr result (devices.new ≡ devices.old) }
 {
     if reads_fronts(action) {
         read_fronts(alloc, devices)
@@ -37,7 +38,8 @@ fn fronts_of<D: Disk>(
     }
 }
 
-/// Looks at the devices: at their sizes, and where the action asks for it at sector 0 of each.
+/// Looks at the devices: at their sizes, and where the action asks for it at sector 0 of each. Where memory is wanted
+/// no device was called.
 pub(crate) fn look<D: Disk>(
     alloc: Global,
     action: Action<'_>,
@@ -46,8 +48,9 @@ pub(crate) fn look<D: Disk>(
     ensures read { IfOk result (λ seen. Reads D.Disk (reads_fronts (action_seen action.entry)) devices.old devices.new seen.fronts.items) }
     ensures sizes { IfOk result (λ seen. seen.sizes.items ≡ sizes_of D.size devices.new) }
     ensures stays { Changes D.Disk (λ _ _. ⊥) devices.old devices.new }
+    ensures same { OnErr result (devices.new ≡ devices.old) }
 {
-    let fronts = fronts_of(alloc, action, devices)?;
     let sizes = sizes_of(alloc, devices)?;
+    let fronts = fronts_of(alloc, action, devices)?;
     Ok(Seen { sizes, fronts })
 }

@@ -1,5 +1,5 @@
 //! What is asked for is made ready, or refused.
-ghost use Rattle.std.specs.Prelude.{◌≡◌, ◌⊎◌, ◌≤◌, ◌<◌, ◌*◌, ◌+◌, ℕ, Some, length, count_by, Ok, Err, IfOk, IfErr, OnOk};
+ghost use Rattle.std.specs.Prelude.{◌≡◌, ◌⊎◌, ◌≤◌, ◌<◌, ◌*◌, ◌+◌, ℕ, [], Some, length, count_by, Ok, Err, IfOk, IfErr};
 ghost use Rattle.std.specs.Option.{ForSome};
 ghost use Rattle.eng_array.specs.Starts.{column_of};
 ghost use Rattle.eng_cols.specs.Cols.{IsFor, is_set_filling, is_set_spread};
@@ -11,7 +11,7 @@ ghost use Rattle.top_bay.specs.Views.{IsWithinLimits, asked_seen};
 ghost use Rattle.top_words.specs.declared.profile.Kind.TheVariants as kind;
 ghost use Rattle.top_duty.specs.Duty.{admitted_with, duty_by, duty_for, with_dead};
 ghost use Rattle.top_duty.specs.Opening.{AreTableRows, kind_of, needs_of, opened_by};
-ghost use Rattle.top_duty.specs.Views.{IsDutyOver, IsMade, IsPrepared, IsRefusal, MayBeDone, RefusedAfter, RefusedHere, dead_beside};
+ghost use Rattle.top_duty.specs.Views.{IsDutyOver, IsMade, IsPrepared, IsRefusal, MayBeDone, RefusedAfter, RefusedHere, dead_beside, views_of};
 
 use crate::clients::draw;
 use crate::duty::{Duty, Ready};
@@ -19,11 +19,12 @@ use crate::judge::judge_for;
 use crate::kind::kind_of;
 use crate::needs::needs_of;
 use crate::opening::{open, status_of};
-use crate::refusing::refusal;
+use crate::refusing::join_unless_refused;
 use crate::start::{has_failed, start_in};
 use eng_array::Start;
 use eng_cols::{Cols, Column};
 use eng_world::Item;
+use graph_mean::Graph;
 use lay_core::{Layout, blocks};
 use lay_design::designs_have_no_fault;
 use raid_conf::{AnyFault, AnyLayout, Conf};
@@ -38,6 +39,7 @@ use top_words::Kind;
 struct Parts {
     layout: AnyLayout,
     drawn: Vec<Vec<Item>>,
+    joined: Vec<Graph>,
     judge: Cols,
     room: Room,
 }
@@ -95,8 +97,8 @@ fn make(
     requires start { ForSome start (λ s. (needs_of (asked_seen asked.now)).excused ≡ Some (column_of s)) }
     ensures made { IfOk result (λ parts. IsMade (asked_seen asked.now) (opened_seen opened.now)
         parts.layout parts.drawn.items parts.judge parts.room) }
-    ensures may { OnOk result (MayBeDone (admitted_with (asked_seen asked.now) (opened_seen opened.now) start)) }
-    ensures refused { IfErr result (RefusedAfter (admitted_with (asked_seen asked.now) (opened_seen opened.now) start)) }
+    ensures may { IfOk result (λ parts. MayBeDone (admitted_with (asked_seen asked.now) (opened_seen opened.now) start (views_of parts.joined.items))) }
+    ensures refused { IfErr result (RefusedAfter (admitted_with (asked_seen asked.now) (opened_seen opened.now) start [])) }
 {
     let layout = match layout_of(alloc, &asked.conf, opened.rows) {
         Ok(layout) => layout,
@@ -107,10 +109,13 @@ fn make(
         Err(status) => return Err(status),
     };
     let dead = needs_of(asked).excused;
-    match refusal(&mut judge, &layout, asked, &opened.columns, dead, start) {
-        Some(status) => return Err(status),
-        None => {}
-    }
+    let columns = &opened.columns;
+    let joined = match join_unless_refused(
+        alloc, &mut judge, &layout, asked, columns, dead, start,
+    ) {
+        Ok(joined) => joined,
+        Err(status) => return Err(status),
+    };
     let drawn = match draw(alloc, asked.command.action, blocks(&layout)) {
         Ok(drawn) => drawn,
         Err(status) => return Err(status),
@@ -119,6 +124,7 @@ fn make(
         Ok(room) => Ok(Parts {
             layout,
             drawn,
+            joined,
             judge,
             room,
         }),
@@ -172,6 +178,7 @@ fn make_ready(
             Parts {
                 layout,
                 drawn,
+                joined,
                 judge,
                 room,
             },
@@ -179,6 +186,7 @@ fn make_ready(
             opened,
             layout,
             drawn,
+            joined,
             judge,
             room,
             start,
@@ -209,8 +217,8 @@ fn make_shown(
 /// What is to be done, by sizes and fronts of the devices.
 ///
 /// An array is opened and made ready; one that is shown is opened. Refused are, in this order, what its labels and sizes call
-/// for; an array that is lost by its columns, as the action makes them; a column that there is nowhere to rebuild to; and a
-/// trace that would pass its bound. Memory may be wanted at any point. Behind the opening the columns that are dead are
+/// for; an array that is lost by its columns, as the action makes them; a column that there is nowhere to rebuild to; the
+/// first join line whose graphs can't be joined; and a trace that would pass its bound. Memory may be wanted at any point. Behind the opening the columns that are dead are
 /// printed, but for a column without a spare.
 pub(crate) fn prepare(
     alloc: Global,

@@ -1,20 +1,23 @@
 //! Why nothing may be done with an array.
-ghost use Rattle.std.specs.Prelude.{◌≡◌, ◌≤◌, ◌<◌, length, count_by};
+ghost use Rattle.std.specs.Prelude.{◌≡◌, ◌≤◌, ◌<◌, Ok, length, count_by, IfOk, IfErr};
 ghost use Rattle.std.specs.Option.{ForSome};
 ghost use Rattle.eng_array.specs.Starts.{column_of};
 ghost use Rattle.eng_cols.specs.Cols.{IsFor, is_set_filling, is_set_spread};
 ghost use Rattle.top_bay.specs.Views.{IsWithinLimits, asked_seen};
 ghost use Rattle.top_duty.specs.Duty.{is_past, rebuilds_by, with_dead};
-ghost use Rattle.top_duty.specs.Views.{RefusedIf, RefusedUnlost};
+ghost use Rattle.top_duty.specs.Views.{ComesOver, GoesIf, GoesUnlost, RefusedIf, RefusedJoins, RefusedUnlost, graphs_with, views_of};
 
 use crate::judge::{loss_of, traces};
 use crate::start::is_short;
 use eng_array::Start;
 use eng_cols::{Cols, Column};
+use graph_mean::Graph;
 use lay_core::Layout;
 use raid_recon::rebuild_count;
+use std::alloc::Global;
 use top_bay::Asked;
 use top_bound::trace_fits;
+use top_join::{JoinFault, join_all};
 use top_status::Status;
 
 // How many rebuilds there are: one for each stripe of the column that is rebuilt so.
@@ -30,46 +33,79 @@ fn rebuilds_by<L: Layout>(layout: &L, columns: &[Column], start: Option<Start>) 
     }
 }
 
-// Whether more events may come than a trace that is kept has room for.
-fn is_past<L: Layout>(layout: &L, asked: &Asked<'_>, rebuilds: u32) -> bool
+// Whether more events may come, by the graphs of the file and these joined ones, than a trace that is kept has room for.
+fn is_past<L: Layout>(layout: &L, asked: &Asked<'_>, joined: &[Graph], rebuilds: u32) -> bool
     requires { IsWithinLimits (asked_seen asked.now) }
-    ensures { result ≡ is_past (L.shape layout.now) (asked_seen asked.now) (asked_seen asked.now).clients rebuilds }
+    ensures { result ≡ is_past (L.shape layout.now) (asked_seen asked.now) (graphs_with (asked_seen asked.now) (views_of joined.now)) (asked_seen asked.now).clients rebuilds }
 {
     if !traces(asked.command.action) {
         return false;
     }
     let devices = asked.conf.disks.len() + asked.conf.spare_names.len();
-    !trace_fits(layout, &asked.book, devices, &asked.clients, rebuilds)
+    !trace_fits(
+        layout,
+        &asked.book,
+        joined,
+        devices,
+        &asked.clients,
+        rebuilds,
+    )
 }
 
-// Why nothing may be done with an array that isn't lost, if that is so.
-fn refusal_unlost<L: Layout>(
+// The graphs of the join lines of the script.
+fn join<L: Layout>(alloc: Global, layout: &L, asked: &Asked<'_>) -> Result<Vec<Graph>, Status>
+    requires { IsWithinLimits (asked_seen asked.now) }
+    ensures joined { IfOk result (λ gs. ComesOver (L.shape layout.now) (asked_seen asked.now) (Ok (views_of gs.items))) }
+    ensures refused { IfErr result (RefusedJoins (L.shape layout.now) (asked_seen asked.now)) }
+{
+    match join_all(alloc, layout, &asked.book, &asked.clients, &asked.joins) {
+        Ok(joined) => Ok(joined),
+        Err(JoinFault::At { line, code }) => Err(Status::Script(line, code)),
+        Err(JoinFault::Memory) => Err(Status::Memory),
+    }
+}
+
+// The graphs that are joined for an array that isn't lost; or why nothing may be done with it.
+fn join_unlost<L: Layout>(
+    alloc: Global,
     layout: &L,
     asked: &Asked<'_>,
     columns: &[Column],
     start: Option<Start>,
-) -> Option<Status>
+) -> Result<Vec<Graph>, Status>
     requires asked { IsWithinLimits (asked_seen asked.now) }
     requires columns { length columns.now ≡ (L.shape layout.now).columns }
     requires start { ForSome start (λ s. column_of s < length columns.now) }
-    ensures { RefusedUnlost (L.shape layout.now) (asked_seen asked.now) (rebuilds_by (L.shape layout.now) columns.now start) start result }
+    ensures goes { IfOk result (λ gs. GoesUnlost (L.shape layout.now) (asked_seen asked.now) (rebuilds_by (L.shape layout.now) columns.now start) start (views_of gs.items)) }
+    ensures refused { IfErr result (RefusedUnlost (L.shape layout.now) (asked_seen asked.now) (rebuilds_by (L.shape layout.now) columns.now start) start) }
 {
     if is_short(asked.command.action, start) {
-        return Some(Status::NoSpare);
+        return Err(Status::NoSpare);
     }
-    is_past(layout, asked, rebuilds_by(layout, columns, start)).then_some(Status::Script(0, 8))
+    let joined = match join(alloc, layout, asked) {
+        Ok(joined) => joined,
+        Err(status) => return Err(status),
+    };
+    let rebuilds = rebuilds_by(layout, columns, start);
+    if is_past(layout, asked, joined.as_slice(), rebuilds) {
+        Err(Status::Script(0, 8))
+    } else {
+        Ok(joined)
+    }
 }
 
-/// Why nothing may be done with the array, if that is so: it is lost, this column being made dead; or a column is to be
-/// rebuilt, and there is nowhere to; or its trace would pass its bound.
-pub(crate) fn refusal<L: Layout>(
+/// The graphs that are joined for what is done with the array; or why nothing may be done with it: it is lost, this column
+/// being made dead; or a column is to be rebuilt, and there is nowhere to; or the graphs of a join line can't be joined; or
+/// its trace would pass its bound.
+pub(crate) fn join_unless_refused<L: Layout>(
+    alloc: Global,
     judge: &mut Cols,
     layout: &L,
     asked: &Asked<'_>,
     columns: &[Column],
     dead: Option<u32>,
     start: Option<Start>,
-) -> Option<Status>
+) -> Result<Vec<Graph>, Status>
     requires asked { IsWithinLimits (asked_seen asked.now) }
     requires judge { IsFor (L.shape layout.now) judge.old }
     requires columns { length columns.now ≡ (L.shape layout.now).columns }
@@ -77,11 +113,12 @@ pub(crate) fn refusal<L: Layout>(
     requires spread { count_by is_set_spread columns.now ≤ 1 }
     requires dead { ForSome dead (λ c. c < length columns.now) }
     requires start { ForSome start (λ s. column_of s < length columns.now) }
-    ensures refused { RefusedIf (L.shape layout.now) (asked_seen asked.now) (with_dead dead columns.now) (rebuilds_by (L.shape layout.now) columns.now start) start result }
+    ensures goes { IfOk result (λ gs. GoesIf (L.shape layout.now) (asked_seen asked.now) (with_dead dead columns.now) (rebuilds_by (L.shape layout.now) columns.now start) start (views_of gs.items)) }
+    ensures refused { IfErr result (RefusedIf (L.shape layout.now) (asked_seen asked.now) (with_dead dead columns.now) (rebuilds_by (L.shape layout.now) columns.now start) start) }
     ensures judge { IsFor (L.shape layout.now) judge.new }
 {
     match loss_of(judge, layout, columns, dead) {
-        None => refusal_unlost(layout, asked, columns, start),
-        Some(loss) => Some(Status::of_loss(Some(loss))),
+        None => join_unlost(alloc, layout, asked, columns, start),
+        Some(loss) => Err(Status::of_loss(Some(loss))),
     }
 }

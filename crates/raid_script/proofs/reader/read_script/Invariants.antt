@@ -10,4 +10,5 @@ abbrev pub invariant-loop-line : goal.invariant-loop-line
 invariant-loop-line l = record {
   read : HasRead l.book l.columns l.text l.script l.items l.sectors (left l.lines);
   bound : l.sectors ≤ 262144;
+  joins : length l.script.joins ≤ 64;
 }

@@ -2,7 +2,7 @@ use Rattle.std.proofs.Common.{◌≡◌, ◌∙◌, ℕ, ap, sym}
 use Rattle.std.specs.Prelude.{Option}
 use Rattle.blk_plain.specs.Plain.{used_of}
 use Rattle.raid_script.specs.Asked.{seen_patches}
-use Rattle.top_bound.specs.Bound.{patches_nodes, spans_nodes}
+use Rattle.top_bound.specs.Bound.{graphs_in, patches_nodes, spans_nodes}
 use Rattle.top_bound.proofs.Patched.{spans-seen}
 use Rattle.top_bound.proofs.bound.patches_nodes.Goals as goal
 
@@ -12,4 +12,4 @@ returns-in-None-clause-value g c =
     let patches = c.args.patches.now in
     c.spans_nodes.ensures.value
     ∙ (ap (spans_nodes y) (sym (spans-seen (used_of patches)))
-    ∙ ap (λ (o : Option ℕ). patches_nodes y c.args.book.now (seen_patches patches) o) (sym c.in-None.is))
+    ∙ ap (λ (o : Option ℕ). patches_nodes y (graphs_in c.args.book.now c.args.joined.now) (seen_patches patches) o) (sym c.in-None.is))

@@ -1,12 +1,12 @@
 use Rattle.std.proofs.Common.{◌≡◌, ◌≤◌, ◌*◌, take}
 use Rattle.std.specs.Prelude.{sum_by}
 use Rattle.raid_script.specs.Asked.{seen}
-use Rattle.top_bound.specs.Bound.{item_nodes, item_bound}
+use Rattle.top_bound.specs.Bound.{graphs_in, item_nodes, item_bound}
 use Rattle.top_bound.proofs.bound.row_sum.Given as goal
 
 -- the sum so far
 abbrev pub invariant-loop-item : goal.invariant-loop-item
 invariant-loop-item g l = record {
-  sum : l.total ≡ sum_by (λ i. item_bound l.devices (item_nodes (g.L.Layout.shape l.layout) l.book (seen i))) (take l.item-index l.items);
+  sum : l.total ≡ sum_by (λ i. item_bound l.devices (item_nodes (g.L.Layout.shape l.layout) (graphs_in l.book l.joined) (seen i))) (take l.item-index l.items);
   small : l.total ≤ 70368744177664 * l.item-index;
 }

@@ -6,13 +6,13 @@ use Rattle.top_bay.specs.Asked.{names_for}
 use Rattle.top_bay.specs.Lent.{AreBack, AreOut}
 use Rattle.top_fetch.specs.Told.{Told}
 use Rattle.top_bay.specs.Views.{asked_seen}
-use Rattle.top_bay.proofs.Homes.{lent_are_named}
+use Rattle.top_bay.proofs.Homes.{home_again, lent_are_named}
 use Rattle.top_status.specs.Refusals.{Refused}
 use Rattle.top_words.specs.Views.{action_seen, command_seen}
 use Rattle.top_duty.specs.Opening.{reads_fronts, sizes_of}
 use Rattle.top_duty.specs.Taken.{DevicesAreTaken, Reads, RefusedFor, RefusedOver}
 use Rattle.top_duty.specs.Views.{IsDutyOver, IsFitFor}
-use Rattle.top_duty.proofs.Returning.{back_named, home_stays, out_still, written_back}
+use Rattle.top_duty.proofs.Returning.{back_named, home_stays, others_home, out_still, written_back}
 use Rattle.top_duty.proofs.Sized.{asked_same, is_wanted, refused_asking, refused_judging}
 use Rattle.top_duty.proofs.admitting.admit.Goals as goal
 
@@ -21,7 +21,7 @@ returns-in-Err-clause-refused g c = λ told.
     let B = g.B.Bay in
     let b : Told _ = record { tells = B.tells; rose = Rose (B.faults c.args.bay.now) (B.faults c.ask.new.bay); texts = B.text_of c.args.bay.now; home = B.home c.args.bay.now; after = B.home c.ask.new.bay } in
     subst (λ (r : Refused). RefusedFor g.B.D.Disk b (command_seen c.args.command) r) (sym c.only.ensures)
-    (refused_asking g.B.D.Disk b (command_seen c.args.command) c.in-Err.status (λ e. c.in-Err.ensures.cause (ap (λ s. Err s) e)) (c.in-Err.ensures.answer told))
+    (refused_asking g.B.D.Disk b (command_seen c.args.command) c.in-Err.status (λ n. c.in-Err.ensures.same told n) (λ e. c.in-Err.ensures.cause (ap (λ s. Err s) e)) (c.in-Err.ensures.answer told))
 
 pub returns-in-Ok-judge-clause-admitted : goal.returns-in-Ok-judge-clause-admitted
 returns-in-Ok-judge-clause-admitted g c =
@@ -116,7 +116,10 @@ returns-clause-refused g c = λ told.
     let back : AreBack (B.home c.ask.new.bay) (B.home c.put_all.new.bay) names now = subst (λ l. AreBack (B.home c.ask.new.bay) (B.home c.put_all.new.bay) names l) whole (c.put_all.ensures.back told) in
     let after : AreNamed (B.home c.put_all.new.bay) names now = back_named g.B.D.Disk (B.home c.args.bay.now) (B.home c.ask.new.bay) (B.home c.put_all.new.bay) (B.is_out c.ask.new.bay) names ds now stays out back (omega (arith, many, stays.count)) in
     let asked = asked_same B.tells b.rose (Rose (B.faults c.args.bay.now) (B.faults c.ask.new.bay)) b.texts b.home b.after (B.home c.ask.new.bay) (command_seen c.args.command) ∙ c.in-Ok.ensures.answer told in
-    refused_judging g.B.D.Disk b (command_seen c.args.command) k ds now c.in-Err-judge.refusal asked named after stays
+    refused_judging g.B.D.Disk b (command_seen c.args.command) k ds now c.in-Err-judge.refusal asked named after
+    (others_home (B.home c.args.bay.now) (B.home c.ask.new.bay) (B.home c.put_all.new.bay) names ds now stays.count (c.in-Ok.ensures.lent told).others back)
+    (λ same. home_again (B.home c.args.bay.now) (B.home c.ask.new.bay) (B.home c.put_all.new.bay) (B.is_out c.ask.new.bay) names ds (c.in-Ok.ensures.lent told) c.in-Ok.ensures.out
+    (subst (λ l. AreBack (B.home c.ask.new.bay) (B.home c.put_all.new.bay) names l) same back)) stays
     (subst (λ l. RefusedOver g.B.D.Disk k l now c.in-Err-judge.refusal) c.as_mut_slice.ensures.value c.in-Err-judge.ensures.refused)
 
 pub returns-clause-same : goal.returns-clause-same

@@ -1,5 +1,5 @@
 use Rattle.std.specs.Prelude.{◌≡◌, ℕ, List}
-use Rattle.std.proofs.Common.{◌∙◌, subst}
+use Rattle.std.proofs.Common.{◌∙◌, inl, subst}
 use Rattle.top_bay.specs.Views.{asked_seen}
 use Rattle.top_open.specs.declared.fronts.Front.{Front}
 use Rattle.top_duty.specs.Duty.{duty_by}
@@ -17,6 +17,9 @@ returns-in-Ok-prepare-clause-fit g c =
     fit_for g.D.Disk k c.look.new.devices c.in-Ok.seen.fronts.items d c.requires.asked
     (subst (λ (l : List ℕ). IsDutyOver k l c.in-Ok.seen.fronts.items d) sizes
     (subst (λ (f : List Front). IsDutyOver k c.deref.result.now f d) c.deref-2.ensures.value c.in-Ok-prepare.ensures.duty))
+
+pub returns-in-Err-clause-refused : goal.returns-in-Err-clause-refused
+returns-in-Err-clause-refused g c = inl (c.only.ensures, inl c.in-Err.ensures.same)
 
 pub returns-in-Err-prepare-clause-refused : goal.returns-in-Err-prepare-clause-refused
 returns-in-Err-prepare-clause-refused g c =

@@ -1,4 +1,4 @@
-use Rattle.std.proofs.Common.{◌≡◌, ◌∙◌, ap, sym}
+use Rattle.std.proofs.Common.{◌∙◌, ap, sym}
 use Rattle.std.specs.Prelude.{[], Option}
 use Rattle.top_words.specs.Asked.{Profile}
 use Rattle.top_words.specs.declared.profile.Drawing.{Drawing}

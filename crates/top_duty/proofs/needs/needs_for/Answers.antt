@@ -1,4 +1,4 @@
-use Rattle.std.proofs.Common.{◌≡◌, ◌∙◌, ap, ap₂, Bool, ℕ}
+use Rattle.std.proofs.Common.{◌∙◌, ap, ap₂, Bool, ℕ}
 use Rattle.std.specs.Prelude.{Option}
 use Rattle.top_open.specs.declared.plan.Needs.{Needs}
 use Rattle.top_words.specs.Asked.{Profile}

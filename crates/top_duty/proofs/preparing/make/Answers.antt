@@ -1,4 +1,4 @@
-use Rattle.std.specs.Prelude.{◌≡◌, ◌<◌, ◌≤◌, ℕ, None, Some, List, Option, length}
+use Rattle.std.specs.Prelude.{◌≡◌, ◌<◌, ◌≤◌, ℕ, Some, List, Option, length}
 use Rattle.std.proofs.Common.{◌∙◌, ap, arith, subst, sym}
 use Rattle.lay_core.specs.Layout.{Shape, blocks_in}
 use Rattle.eng_array.specs.Starts.{column_of}
@@ -12,18 +12,18 @@ use Rattle.top_open.specs.Opening.{opened_seen}
 use Rattle.top_words.specs.Views.{action_seen}
 use Rattle.top_duty.specs.Duty.{with_dead}
 use Rattle.top_duty.specs.Opening.{needs_of}
-use Rattle.top_duty.specs.Views.{drawn_by}
+use Rattle.top_duty.specs.Views.{drawn_by, views_of}
 use Rattle.top_duty.proofs.Tables.{few_blocks, some_blocks}
-use Rattle.top_duty.proofs.Wanting.{after_if, done_if, if_same}
+use Rattle.top_duty.proofs.Wanting.{after_if, done_if, goes_same, if_same}
 use Rattle.top_duty.proofs.preparing.make.Goals as goal
 
-pub refusal-requires-clause-columns : goal.refusal-requires-clause-columns
-refusal-requires-clause-columns c =
+pub join_unless_refused-requires-clause-columns : goal.join_unless_refused-requires-clause-columns
+join_unless_refused-requires-clause-columns c =
     ap (λ (l : List Column). length l) c.deref.ensures.value
     ∙ (c.requires.columns ∙ (sym (shape-columns c.args.asked.now.conf c.args.opened.now.rows c.requires.asked.conf) ∙ sym (ap (λ (y : Shape). y.columns) c.in-Ok.ensures.shape)))
 
-pub refusal-requires-clause-dead : goal.refusal-requires-clause-dead
-refusal-requires-clause-dead c = λ i e.
+pub join_unless_refused-requires-clause-dead : goal.join_unless_refused-requires-clause-dead
+join_unless_refused-requires-clause-dead c = λ i e.
     let is : (needs_of (asked_seen c.args.asked.now)).excused ≡ Some i = sym (ap (λ (q : Needs). q.excused) c.needs_of-dead.ensures) ∙ e in
     let lt : i < c.args.asked.now.conf.columns = c.requires.dead i is in
     omega (arith, lt, c.requires.columns, ap (λ (l : List Column). length l) c.deref.ensures.value)
@@ -34,32 +34,31 @@ draw-requires-clause-blocks c = subst (λ (n : ℕ). 0 < n) (sym c.blocks-2.ensu
 pub draw-requires-clause-most : goal.draw-requires-clause-most
 draw-requires-clause-most c = subst (λ (n : ℕ). n ≤ 4294967296) (sym c.blocks-2.ensures) (few_blocks (shape_in c.in-Ok.layout) (shape_lawful c.in-Ok.layout))
 
-pub refusal-requires-clause-start : goal.refusal-requires-clause-start
-refusal-requires-clause-start c = λ s e.
+pub join_unless_refused-requires-clause-start : goal.join_unless_refused-requires-clause-start
+join_unless_refused-requires-clause-start c = λ s e.
     let lt : column_of s < c.args.asked.now.conf.columns = c.requires.dead (column_of s) (c.requires.start s e) in
     omega (arith, lt, c.requires.columns, ap (λ (l : List Column). length l) c.deref.ensures.value)
 
-pub returns-in-Some-clause-refused : goal.returns-in-Some-clause-refused
-returns-in-Some-clause-refused c =
+pub returns-in-Err-join_unless_refused-clause-refused : goal.returns-in-Err-join_unless_refused-clause-refused
+returns-in-Err-join_unless_refused-clause-refused c =
     let dead : c.needs_of-dead.result.excused ≡ (needs_of (asked_seen c.args.asked.now)).excused = ap (λ (q : Needs). q.excused) c.needs_of-dead.ensures in
-    after_if (asked_seen c.args.asked.now) (opened_seen c.args.opened.now) c.args.start c.requires.start c.in-Some.status
+    after_if (asked_seen c.args.asked.now) (opened_seen c.args.opened.now) c.args.start c.requires.start c.in-Err-join_unless_refused.status
     (if_same _ (shape_of c.args.asked.now.conf c.args.opened.now.rows) (asked_seen c.args.asked.now)
     (with_dead c.needs_of-dead.result.excused c.deref.result.now) (with_dead (needs_of (asked_seen c.args.asked.now)).excused c.args.opened.now.columns.items)
-    c.deref.result.now c.args.opened.now.columns.items c.args.start
-    (Some c.in-Some.status) c.in-Ok.ensures.shape
+    c.deref.result.now c.args.opened.now.columns.items c.args.start c.in-Ok.ensures.shape
     (ap (λ (e : Option ℕ). with_dead e c.deref.result.now) dead ∙ ap (λ (l : List Column). with_dead (needs_of (asked_seen c.args.asked.now)).excused l) c.deref.ensures.value)
-    c.deref.ensures.value c.in-Some.ensures.refused)
+    c.deref.ensures.value c.in-Err-join_unless_refused.status c.in-Err-join_unless_refused.ensures.refused)
 
 pub returns-in-Ok-room_for-clause-may : goal.returns-in-Ok-room_for-clause-may
 returns-in-Ok-room_for-clause-may c =
     let dead : c.needs_of-dead.result.excused ≡ (needs_of (asked_seen c.args.asked.now)).excused = ap (λ (q : Needs). q.excused) c.needs_of-dead.ensures in
-    done_if (asked_seen c.args.asked.now) (opened_seen c.args.opened.now) c.args.start c.requires.start
-    (if_same _ (shape_of c.args.asked.now.conf c.args.opened.now.rows) (asked_seen c.args.asked.now)
+    let views = views_of c.in-Ok-join_unless_refused.joined.items in
+    done_if (asked_seen c.args.asked.now) (opened_seen c.args.opened.now) c.args.start c.requires.start views
+    (goes_same _ (shape_of c.args.asked.now.conf c.args.opened.now.rows) (asked_seen c.args.asked.now)
     (with_dead c.needs_of-dead.result.excused c.deref.result.now) (with_dead (needs_of (asked_seen c.args.asked.now)).excused c.args.opened.now.columns.items)
-    c.deref.result.now c.args.opened.now.columns.items c.args.start
-    None c.in-Ok.ensures.shape
+    c.deref.result.now c.args.opened.now.columns.items c.args.start c.in-Ok.ensures.shape
     (ap (λ (e : Option ℕ). with_dead e c.deref.result.now) dead ∙ ap (λ (l : List Column). with_dead (needs_of (asked_seen c.args.asked.now)).excused l) c.deref.ensures.value)
-    c.deref.ensures.value c.in-None.ensures.refused)
+    c.deref.ensures.value views c.in-Ok-join_unless_refused.ensures.goes)
 
 pub returns-in-Ok-room_for-clause-made : goal.returns-in-Ok-room_for-clause-made
 returns-in-Ok-room_for-clause-made c = record {
@@ -67,6 +66,6 @@ returns-in-Ok-room_for-clause-made c = record {
   drawn = c.in-Ok-draw.ensures.value ∙ ap (λ (n : ℕ). drawn_by (action_seen c.args.asked.now.command.action) n) (c.blocks-2.ensures ∙ ap (λ (y : Shape). blocks_in y) c.in-Ok.ensures.shape);
   asked = c.in-Ok-draw.ensures.asked;
   few = c.in-Ok-draw.ensures.few;
-  judge = subst (λ (y : Shape). IsFor y c.refusal.new.judge) c.in-Ok.ensures.shape c.in-None.ensures.judge;
+  judge = subst (λ (y : Shape). IsFor y c.join_unless_refused.new.judge) c.in-Ok.ensures.shape c.join_unless_refused.ensures.judge;
   room = omega (arith, c.in-Ok-room_for.ensures.room, shape-unit c.args.asked.now.conf c.args.opened.now.rows c.requires.asked.conf);
 }

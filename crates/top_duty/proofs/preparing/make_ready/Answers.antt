@@ -1,4 +1,4 @@
-use Rattle.std.specs.Prelude.{◌≡◌, ◌⊎◌, ◌<◌, ℕ, Some, Option, Err}
+use Rattle.std.specs.Prelude.{◌≡◌, ◌⊎◌, ◌<◌, ℕ, [], Some, Option, Err}
 use Rattle.std.proofs.Common.{◌∙◌, ap, arith, inl, subst, sym}
 use Rattle.top_bay.specs.Views.{asked_seen}
 use Rattle.top_open.specs.declared.plan.Needs.{Needs}
@@ -53,14 +53,14 @@ returns-in-Err-make-clause-refused c =
     let made : c.refuse.result ≡ record { status = c.in-Err-make.status; dead = dead_beside (needs_of k).excused o.columns c.in-Err-make.status } =
     c.refuse.ensures ∙ ap (λ (e : Option ℕ). record { status = c.in-Err-make.status; dead = dead_beside e o.columns c.in-Err-make.status }) dead in
     inl (subst (λ (r : Refused). IsWanted w (Err r) ⊎ WantsMemory w r) (sym made)
-    (refused_after w (admitted_with k o c.start_in-start.result) c.in-Err-make.status (array_is k c.args.sizes.now c.args.fronts.now o c.start_in-start.result c.in-Ok.ensures c.start_in-start.ensures) c.in-Err-make.ensures.refused))
+    (refused_after w (admitted_with k o c.start_in-start.result []) c.in-Err-make.status (array_is k c.args.sizes.now c.args.fronts.now o c.start_in-start.result c.in-Ok.ensures c.start_in-start.ensures) c.in-Err-make.ensures.refused))
 
 pub returns-in-Ok-make-clause-prepared : goal.returns-in-Ok-make-clause-prepared
 returns-in-Ok-make-clause-prepared c =
     let k = asked_seen c.args.asked.now in
     let o = opened_seen c.in-Ok.opened in
     record {
-      ready = record { opened = c.in-Ok.ensures; starts = c.start_in-start.ensures; kept = c.in-Ok-make.ensures.may.kept; found = c.in-Ok-make.ensures.may.found; bound = c.in-Ok-make.ensures.may.bound };
+      ready = record { opened = c.in-Ok.ensures; starts = c.start_in-start.ensures; may = c.in-Ok-make.ensures.may };
       failed = c.has_failed.ensures;
       rows = opened_rows k c.args.sizes.now c.args.fronts.now o c.requires.asked.conf c.in-Ok.ensures;
       made = c.in-Ok-make.ensures.made;

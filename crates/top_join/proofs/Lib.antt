@@ -1,0 +1,5 @@
+pub mod OneEnd
+pub mod Fitting
+pub mod Searching
+pub mod TwoSpans
+pub mod Lines

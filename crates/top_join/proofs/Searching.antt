@@ -1,0 +1,54 @@
+-- The search for the item that names a graph, item after item and client after client.
+use Rattle.std.proofs.Common.{◌≡◌, ℕ, ◌+◌, ◌<◌, ◌≤◌, Bool, true, false, List, [], drop, get_or, length, map, refl, sym, ap}
+use Rattle.std.specs.Prelude.{IfSome, Some, None, Vec, nat_eq, nat_le, option_map, if◌then◌else◌}
+use Rattle.std.specs.Bool.{then_some}
+use Rattle.std.specs.declared.alloc.Global.{Global}
+use Rattle.std.proofs.lemmas.Bool.{le-leb}
+use Rattle.std.proofs.lemmas.List.{drop_more}
+use Rattle.blk_plain.specs.declared.op.Span.{Span}
+use Rattle.blk_plain.specs.declared.op.Patches.{Patches}
+use Rattle.blk_plain.specs.declared.op.Op.TheVariants as op
+use Rattle.blk_plain.specs.Plain.{spans_of, used_of}
+use Rattle.eng_world.specs.declared.item.Item.{Item}
+use Rattle.raid_script.specs.Asked.{AskedPatch, Other, WritesAll, seen, seen_op, seen_patches}
+use Rattle.top_bound.proofs.Patched.{spans-seen}
+use Rattle.top_join.specs.Joining.{or_else, spans_by, spans_in, spans_in_row}
+
+-- ## One item
+
+pub by-number : (n named : ℕ) (patches : Patches) → patches.used ≤ 8 → option_map spans_of (then_some (nat_eq named n) patches) ≡ spans_by n (seen_op (op.Writes patches) (Some named))
+by-number n named patches few = go (nat_le patches.used 8) (le-leb patches.used 8 few)
+  where
+    one : (t : Bool) → option_map spans_of (then_some t patches) ≡ (if t then Some (map (λ (p : AskedPatch). p.span) (seen_patches patches)) else None)
+    one true = ap (λ (s : List Span). Some s) (sym (spans-seen (used_of patches)))
+    one false = refl
+
+    go : (b : Bool) → b ≡ true → option_map spans_of (then_some (nat_eq named n) patches) ≡ spans_by n (if b then WritesAll (seen_patches patches) (Some named) else Other)
+    go true h = one (nat_eq named n)
+    go false h = absurd (cc h)
+
+-- ## Rows
+
+pub row-step : (n : ℕ) (items : List Item) (i : ℕ) (d : Item) → i < length items
+    → spans_in_row n (map seen (drop i items)) ≡ or_else (spans_by n (seen (get_or items i d))) (spans_in_row n (map seen (drop (i + 1) items)))
+unfolding spans_in_row
+row-step n items i d l = ap (λ (xs : List Item). spans_in_row n (map seen xs)) (drop_more items i d l)
+
+pub row-none : (n : ℕ) → spans_in_row n [] ≡ None
+unfolding spans_in_row
+row-none n = refl
+
+pub rows-step : (n : ℕ) (rows : List (Vec Item Global)) (i : ℕ) (d : Vec Item Global) → i < length rows
+    → spans_in n (map (λ (row : Vec Item Global). map seen row.items) (drop i rows)) ≡ or_else (spans_in_row n (map seen (get_or rows i d).items)) (spans_in n (map (λ (row : Vec Item Global). map seen row.items) (drop (i + 1) rows)))
+unfolding spans_in
+rows-step n rows i d l = ap (λ (xs : List (Vec Item Global)). spans_in n (map (λ (row : Vec Item Global). map seen row.items) xs)) (drop_more rows i d l)
+
+pub rows-none : (n : ℕ) → spans_in n [] ≡ None
+unfolding spans_in
+rows-none n = refl
+
+-- ## Where there is one
+
+pub if-then : {X : Type 0} (b : Bool) (x : X) (P : X → Type 0) → P x → IfSome (then_some b x) P
+if-then true x P h = h
+if-then false x P h = tt
