@@ -26,6 +26,7 @@ use Rattle.top_acts.proofs.Counted.{counted_rounds}
 use Rattle.top_acts.proofs.Ended.{clean_none, no_loss}
 use Rattle.top_acts.proofs.Later.{Quiet, may_was, swept_first, swept_later, sync_later}
 use Rattle.top_acts.proofs.Named.{loses_of, named-as, named-counted, named-few, named-none, named-then}
+use Rattle.top_acts.proofs.Seated.{seats-kept, seats-then, seats_of_rounds}
 use Rattle.top_acts.proofs.Uncalled.{told-others, told-then, told-units}
 use Rattle.top_acts.proofs.Staged.{AreNone, more-writes, staged-as, staged-behind, staged-first, staged-labels, staged-sweep}
 
@@ -58,6 +59,7 @@ module _ {D : Type 0} (g : Ghosts D) (y : Shape) where
     none = λ e. refl;
     named = named-none g label columns after old new (loses_of g y columns after old new none s.dies);
     label_is = ap (λ o. with_round label label.counter (clean_in_end o label.clean) label.seats) (sym kept);
+    seated = inl refl;
     held = λ c d live was told. changes_sector g (MayRewrite g kind y columns old) old new d 0 s.frame told (λ m. omega (arith, m.sector.sector)) ∙ was told;
     frame = changes-more g (MaySweep g (Some kind) y columns old) (MayBegin g (Some kind) y columns old) old new (λ d m h. inr h) (sweep_frame kind columns after old new n most s);
     told = λ d. staged-as AreNone AreNone (AreLast lost) (Some kind) y (states_of y columns) d (calls_of g old d) (calls_of g new d) (λ calls h. subst (λ o. AreLast o calls) (sym kept) h)
@@ -80,6 +82,7 @@ module _ {D : Type 0} (g : Ghosts D) (y : Shape) where
         none = λ e. no_none e;
         named = named-then g 0 1 label label next columns mid after old dev new (MayRewrite g kind y columns old) (IsFirstInUse mid) s.frame r.frame (named-none g label columns mid old dev dies) (named-counted g 1 label next mid after dev new last);
         label_is = is;
+        seated = inr (seats-then g columns mid old dev new (MayRewrite g kind y columns old) (IsFirstInUse mid) s.frame r.frame next after dies (seats_of_rounds g label next mid h.0 after dev new r));
         held = λ c d live was. r.held c d live;
         frame = changes-then g (MayBegin g (Some kind) y columns old) old dev new
             (changes-more g (MaySweep g (Some kind) y columns old) (MayBegin g (Some kind) y columns old) old dev (λ d m f. inr f) (sweep_frame kind columns mid old dev n most s))
@@ -97,11 +100,11 @@ module _ {D : Type 0} (g : Ghosts D) (y : Shape) where
   unswept (Some kind) columns after old new e = no_none e
 
   -- and nothing behind it
-  pub begun_only : (sweep : Option Sweep) (label before next : Label) (columns mid after : List Column) (old new : List (Option D)) (lost : Option Loss) → before.counter ≡ label.counter → length columns ≤ 32 → (lost ≡ None → sweep ≡ None)
+  pub begun_only : (sweep : Option Sweep) (label before next : Label) (columns mid after : List Column) (old new : List (Option D)) (lost : Option Loss) → before ≡ record label { clean = 0 } → length columns ≤ 32 → (lost ≡ None → sweep ≡ None)
       → next ≡ with_round label next.counter 0 next.seats → AreRounds g before next columns mid after old new → HasBegun g sweep y label next columns after old new lost 0
   begun_only sweep label before next columns mid after old new lost same many none is r =
       let counted = counted_rounds g before next columns mid after old new r in
-      let named = named-as g 1 label before next columns after old new same (named-counted g 1 before next columns after old new counted) in
+      let named = named-as g 1 label before next columns after old new (ap (λ (l : Label). l.counter) same) (named-counted g 1 before next columns after old new counted) in
       record {
         rounds = 1;
         some = omega arith;
@@ -110,6 +113,7 @@ module _ {D : Type 0} (g : Ghosts D) (y : Shape) where
         named = named;
         bounded = omega (arith, named-few g 1 label next columns after old new named many);
         label_is = is;
+        seated = record { round = mid; seats = r.seats; came = r.began; went = r.ended };
         held = r.held;
         frame = changes-more g (IsFirstInUse columns) (MayBegin g sweep y columns old) old new (λ d m f. inl f) r.frame;
         others = λ e. r.others;
@@ -117,14 +121,19 @@ module _ {D : Type 0} (g : Ghosts D) (y : Shape) where
         uncalled = told-others g columns old new r.others;
         swept = λ e. unswept sweep columns after old new (none e);
         still = λ told h. sync_later g y (states_of y columns) (states_of y after) old new (died (LosesDevice g columns old new) y columns after counted.dies) (quiet_in_use columns old new r.frame) told h;
+        left = after;
+        dev = new;
+        first = next;
+        opens = (mid, subst (λ (l : Label). AreRounds g l next columns mid after old new) same r);
+        behind = told-others g after new new (λ d none. refl);
       }
 
   -- and a sweep behind it
-  pub begun_swept : IsLayout y → (kind : Sweep) (label before first next : Label) (columns mid after : List Column) (old dev new : List (Option D)) (lost : Option Loss) (n : ℕ) → InOrder (states_of y columns) → before.counter ≡ label.counter → length columns ≤ 32
+  pub begun_swept : IsLayout y → (kind : Sweep) (label before first next : Label) (columns mid after : List Column) (old dev new : List (Option D)) (lost : Option Loss) (n : ℕ) → InOrder (states_of y columns) → before ≡ record label { clean = 0 } → length columns ≤ 32
       → first ≡ with_round label first.counter 0 first.seats → AreRounds g before first columns mid mid old dev → SweepsLabelled g kind y first next mid after dev new lost n → HasBegun g (Some kind) y label next columns after old new lost n
   begun_swept layout kind label before first next columns mid after old dev new lost n order same many is r s =
       let counted = counted_rounds g before first columns mid mid old dev r in
-      let opened = named-as g 1 label before first columns mid old dev same (named-counted g 1 before first columns mid old dev counted) in
+      let opened = named-as g 1 label before first columns mid old dev (ap (λ (l : Label). l.counter) same) (named-counted g 1 before first columns mid old dev counted) in
       let named = named-then g 1 s.rounds label first next columns mid after old dev new (IsFirstInUse columns) (MayBegin g (Some kind) y mid dev) r.frame s.frame opened s.named in
       let back = died (LosesDevice g columns old dev) y columns mid counted.dies in
       let later = died (LosesDevice g mid dev new) y mid after s.named.dies in
@@ -138,6 +147,10 @@ module _ {D : Type 0} (g : Ghosts D) (y : Shape) where
         bounded = omega (arith, named-few g (1 + s.rounds) label next columns after old new named many, s.few);
         label_is = round_again label first next 0 next.counter 0 next.seats is
             (s.label_is ∙ ap (λ k. with_round first next.counter k next.seats) (ap (clean_in_end lost) (ap (λ (l : Label). l.clean) is) ∙ clean_none lost));
+        seated = elim s.seated [
+          | inl same ↦ seats-kept g columns mid old dev new (IsFirstInUse columns) (MayBegin g (Some kind) y mid dev) r.frame s.frame next after counted.dies (record { round = mid; seats = same ∙ r.seats; came = r.began; went = r.ended }) s.named.dies
+          | inr h ↦ seats-then g columns mid old dev new (IsFirstInUse columns) (MayBegin g (Some kind) y mid dev) r.frame s.frame next after counted.dies h
+        ];
         held = λ c d live. s.held c d live (r.held c d (live_before (LosesDevice g mid dev new) mid after c d s.named.dies live));
         frame = changes-then g (MayBegin g (Some kind) y columns old) old dev new
             (changes-more g (IsFirstInUse columns) (MayBegin g (Some kind) y columns old) old dev (λ d m f. inl f) r.frame)
@@ -151,4 +164,9 @@ module _ {D : Type 0} (g : Ghosts D) (y : Shape) where
         uncalled = told-then g (LosesDevice g columns old dev) columns mid old dev new counted.dies (told-others g columns old dev r.others) s.uncalled;
         swept = λ e. swept_first g y kind columns mid old dev back quiet layout order after new n later s.frame s.swept;
         still = λ told h. s.swept.in_sync told;
+        left = mid;
+        dev = dev;
+        first = first;
+        opens = (mid, subst (λ (l : Label). AreRounds g l first columns mid mid old dev) same r);
+        behind = s.uncalled;
       }

@@ -1,5 +1,5 @@
 -- Attempts to close an array, one behind the other.
-use Rattle.std.proofs.Common.{◌≡◌, ◌∙◌, ℕ, ◌+◌, ◌≤◌, List, [], length, Option, refl, ap, arith}
+use Rattle.std.proofs.Common.{◌≡◌, ◌∙◌, ℕ, ◌+◌, ◌≤◌, Bool, true, List, [], length, Option, refl, ap, arith}
 use Rattle.std.proofs.lemmas.List.Elements.{All-nil}
 use Rattle.std.proofs.lemmas.List.Sums.{count_by-le-length}
 use Rattle.std.specs.Prelude.{Some}
@@ -16,8 +16,10 @@ use Rattle.top_rounds.specs.Labels.{with_round}
 use Rattle.top_rounds.specs.Passes.{IsFirstInUse, LosesDevice}
 use Rattle.top_rounds.specs.Rounds.{IsInUse, clean_in_end}
 use Rattle.top_rounds.proofs.RoundLaws.{round_again}
-use Rattle.top_acts.specs.Closed.{AreCounted, IsBroken, ClosesLabelled}
+use Rattle.top_acts.specs.Closed.{AreCounted, CallInTurn, IsBroken, ClosesLabelled, settled_in_end}
 use Rattle.top_acts.proofs.Counted.{Behind, counted-then}
+use Rattle.top_acts.proofs.InTurn.{AreApart, in_turn-then}
+use Rattle.top_acts.proofs.Seated.{seats-then}
 use Rattle.top_acts.proofs.Staged.{closes-refl}
 
 pub still_held : (label before : Label) → before ≡ with_round label before.counter label.clean before.seats → IsHeld label → IsHeld before
@@ -56,11 +58,16 @@ module _ {D : Type 0} (g : Ghosts D) where
     pub label_again : (clean : ℕ) → next ≡ with_round before next.counter clean next.seats → next ≡ with_round label next.counter clean next.seats
     label_again clean is = round_again label before next label.clean next.counter clean next.seats same is
 
-    pub closed_then : (lost : Option Loss) → ClosesLabelled g before next mid after dev new lost → ClosesLabelled g label next columns after old new lost
-    closed_then lost h = record {
+    pub turns_again : (a : Bool) → AreApart columns → CallInTurn g a true columns mid old dev → IsBroken g before next mid after dev new → CallInTurn g a true columns after old new
+    turns_again a apart turns b = in_turn-then g (LosesDevice g columns old dev) (LosesDevice g mid dev new) a true true columns mid after old dev new apart was.dies b.counted.dies turns b.counted.others b.each
+
+    pub closed_then : (a : Bool) (lost : Option Loss) → AreApart columns → CallInTurn g a true columns mid old dev → ClosesLabelled g true before next mid after dev new lost → ClosesLabelled g a label next columns after old new lost
+    closed_then a lost apart turns h = record {
       counted = counted-then g 0 label before next columns mid after old dev new was (behind 1 before next mid after dev new h.counted) 1 (omega (arith, was.least, h.counted.least)) (omega (arith, was.most, h.counted.most));
       label_is = label_again (clean_in_end lost label.clean) (h.label_is ∙ ap (λ k. with_round before next.counter (clean_in_end lost k) next.seats) (ap (λ (l : Label). l.clean) same));
+      seated = seats-then g columns mid old dev new (IsFirstInUse columns) (IsFirstInUse mid) was.frame h.counted.frame next after was.dies h.seated;
       seats = h.seats;
       held = h.held;
       settled = h.settled;
+      each = in_turn-then g (LosesDevice g columns old dev) (LosesDevice g mid dev new) a true (settled_in_end lost) columns mid after old dev new apart was.dies h.counted.dies turns h.counted.others h.each;
     }

@@ -1,5 +1,5 @@
 -- The end of an array that is lost, and of one that is settled first.
-use Rattle.std.proofs.Common.{◌≡◌, ◌∙◌, ℕ, ◌≤◌, List, true, false, length, Option, Some, None, refl, sym, ap, arith}
+use Rattle.std.proofs.Common.{◌≡◌, ◌∙◌, ℕ, Bool, List, true, false, length, Option, Some, None, refl, sym, ap, arith}
 use Rattle.std.specs.Prelude.{is_some}
 use Rattle.blk_disk.specs.declared.disk.Disk.{Ghosts}
 use Rattle.lay_core.specs.Layout.{Shape}
@@ -12,10 +12,13 @@ use Rattle.top_close.specs.Ended.{IsLossBy, states_of}
 use Rattle.top_close.specs.Settled.{AreSettled}
 use Rattle.top_close.proofs.DyingLaws.{columns_die, lost_no_less}
 use Rattle.top_rounds.specs.Labels.{with_round}
+use Rattle.top_rounds.specs.Passes.{IsFirstInUse, LosesDevice}
 use Rattle.top_rounds.specs.Rounds.{AreRounds, HaveRounds, clean_in_end}
-use Rattle.top_acts.specs.Closed.{AreCounted, ClosesLabelled}
+use Rattle.top_acts.specs.Closed.{AreCounted, CallInTurn, ClosesLabelled}
 use Rattle.top_acts.proofs.Closes.{behind, counted-none}
 use Rattle.top_acts.proofs.Counted.{counted-then, counted_rounds}
+use Rattle.top_acts.proofs.InTurn.{AreApart, in_turn-then, in_turn-writes}
+use Rattle.top_acts.proofs.Seated.{seats-then, seats_of_rounds}
 use Rattle.top_acts.proofs.Settled.{settled}
 use Rattle.top_acts.proofs.Tried.{not_lost}
 
@@ -49,16 +52,19 @@ module _ {D : Type 0} (g : Ghosts D) where
   rounds_of (Some loss) label next columns after old new h = h
 
   -- one round of a lost array ends it
-  pub closed_lost : (lost : Option Loss) (label next : Label) (columns mid after : List Column) (old dev new : List (Option D)) → is_some lost ≡ true → AreCounted g 0 label label columns mid old dev → next ≡ with_round label next.counter 0 next.seats → HaveRounds g lost label next mid after dev new → ClosesLabelled g label next columns after old new lost
-  closed_lost None label next columns mid after old dev new some was is h = no_loss some
-  closed_lost (Some loss) label next columns mid after old dev new some was is h =
+  pub closed_lost : (a b : Bool) (lost : Option Loss) (label next : Label) (columns mid after : List Column) (old dev new : List (Option D)) → AreApart columns → CallInTurn g a b columns mid old dev → is_some lost ≡ true → AreCounted g 0 label label columns mid old dev → next ≡ with_round label next.counter 0 next.seats → HaveRounds g lost label next mid after dev new → ClosesLabelled g a label next columns after old new lost
+  closed_lost a b None label next columns mid after old dev new apart turns some was is h = no_loss some
+  closed_lost a b (Some loss) label next columns mid after old dev new apart turns some was is h =
       let rounds = h.1 in
+      let last = counted_rounds g label next mid h.0 after dev new rounds in
       record {
-        counted = counted-then g 0 label label next columns mid after old dev new was (behind g 1 label next mid after dev new (counted_rounds g label next mid h.0 after dev new rounds)) 1 (omega (arith, was.least, rounds.least)) (omega (arith, was.most, rounds.most));
+        counted = counted-then g 0 label label next columns mid after old dev new was (behind g 1 label next mid after dev new last) 1 (omega (arith, was.least, rounds.least)) (omega (arith, was.most, rounds.most));
         label_is = is;
+        seated = seats-then g columns mid old dev new (IsFirstInUse columns) (IsFirstInUse mid) was.frame rounds.frame next after was.dies (seats_of_rounds g label next mid h.0 after dev new rounds);
         seats = λ e. let z : Some loss ≡ None = e in absurd (let u : ⊥ = cc in u);
         held = rounds.held;
         settled = λ e. let z : Some loss ≡ None = e in absurd (let u : ⊥ = cc in u);
+        each = in_turn-then g (LosesDevice g columns old dev) (LosesDevice g mid dev new) a b false columns mid after old dev new apart was.dies last.dies turns rounds.others (in_turn-writes g b mid after dev new rounds.each);
       }
 
   -- devices were settled, and no round was written

@@ -6,9 +6,12 @@ pub mod Counted
 pub mod Ended
 pub mod Fails
 pub mod Having
+pub mod InTurn
+pub mod Kills
 pub mod Later
 pub mod Named
 pub mod Renews
+pub mod Seated
 pub mod Settled
 pub mod Staged
 pub mod Tried

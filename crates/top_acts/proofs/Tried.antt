@@ -1,6 +1,7 @@
 -- An array that is closed, or whose device failed as it was settled.
 use Rattle.std.proofs.Common.{◌≡◌, ◌≢◌, ◌∙◌, ℕ, zero, suc, ◌≤◌, Bool, true, false, cond, List, [], ◌∷◌, length, Option, Some, None, refl, sym, ap, subst, inl, inr, arith}
 use Rattle.std.specs.Prelude.{is_some, slice_get}
+use Rattle.std.proofs.lemmas.Option.{slice_get_within}
 use Rattle.std.proofs.lemmas.List.Elements.{All-cons, All-nil}
 use Rattle.std.proofs.lemmas.List.Sums.{sum_by-cons}
 use Rattle.blk_disk.specs.declared.disk.Disk.{Ghosts}
@@ -19,11 +20,14 @@ use Rattle.top_close.specs.Dying.{AnyCause}
 use Rattle.top_close.specs.Ended.{IsLossBy, states_of}
 use Rattle.top_close.specs.Settled.{AreSettled, FailsToSettle, HaveDevices, IsLiveOn, is_live}
 use Rattle.top_rounds.specs.Labels.{seats_of, with_round}
+use Rattle.top_rounds.specs.Passes.{IsFirstInUse, LosesDevice}
 use Rattle.top_rounds.specs.Rounds.{AreRounds, IsInUse, clean_in_end, live_count}
 use Rattle.top_rounds.proofs.PassLaws.{live_before}
 use Rattle.top_rounds.proofs.RoundLaws.{any_death, live_less}
-use Rattle.top_acts.specs.Closed.{IsBroken, ClosesLabelled, TriesToClose}
+use Rattle.top_acts.specs.Closed.{CallInTurn, IsBroken, ClosesLabelled, TriesToClose, settled_in_end}
 use Rattle.top_acts.proofs.Counted.{Behind, counted-then, counted_rounds}
+use Rattle.top_acts.proofs.InTurn.{AreApart, in_turn-settles, in_turn-then, in_turn-writes}
+use Rattle.top_acts.proofs.Seated.{seats-kept, seats_of_rounds}
 use Rattle.top_acts.proofs.Settled.{Death, death_of, settled}
 
 -- ## Lost or not
@@ -66,17 +70,29 @@ strict (x ∷ xs) (y ∷ ys) dies (suc i) live dead =
 
 module _ {D : Type 0} (g : Ghosts D) (y : Shape) (label next : Label) (columns mid after : List Column) (old dev new : List (Option D)) (lost : Option Loss)
     (rounds : AreRounds g label next columns mid mid old dev) (label_is : next ≡ with_round label next.counter label.clean next.seats) (have : HaveDevices mid dev) (kept : NotLost y (states_of y mid)) (lost_is : IsLossBy y None (states_of y after) lost)
-    (s : AreSettled g (length mid) mid after dev new) (last : (c d : ℕ) → IsLiveOn after c d → EndsSettled (calls_of g new d)) where
-  closed : after ≡ mid → ClosesLabelled g label next columns after old new lost
+    (apart : AreApart columns) (s : AreSettled g (length mid) mid after dev new) (last : (c d : ℕ) → IsLiveOn after c d → EndsSettled (calls_of g new d)) where
+  died : Dies (LosesDevice g columns old dev) columns mid
+  died = (counted_rounds g label next columns mid mid old dev rounds).dies
+
+  -- labels, and then a settle
+  turns : CallInTurn g true true columns after old new
+  turns =
+      let quiet = settled g (length mid) mid after dev new s refl in
+      in_turn-then g (LosesDevice g columns old dev) (LosesDevice g mid dev new) true false true columns mid after old dev new apart died quiet.dies (in_turn-writes g true columns mid old dev rounds.each) quiet.others
+      (in_turn-settles g mid after dev new (λ c d live. s.once c d (slice_get_within mid c _ live) live))
+
+  closed : after ≡ mid → ClosesLabelled g true label next columns after old new lost
   closed same =
       let none = not_lost y (states_of y after) lost lost_is (subst (λ l. NotLost y (states_of y l)) (sym same) kept) in
       let quiet = settled g (length mid) mid after dev new s refl in
       record {
         counted = counted-then g 1 label next next columns mid after old dev new (counted_rounds g label next columns mid mid old dev rounds) quiet 1 rounds.least (omega (arith, rounds.most));
         label_is = label_is ∙ ap (λ k. with_round label next.counter k next.seats) (sym (ap (λ o. clean_in_end o label.clean) none));
+        seated = seats-kept g columns mid old dev new (IsFirstInUse columns) (λ _ _. ⊥) rounds.frame s.frame next after died (seats_of_rounds g label next columns mid mid old dev rounds) quiet.dies;
         seats = λ _. rounds.seats ∙ ap seats_of (sym same);
         held = λ c d live told. changes_sector g (λ _ _. ⊥) dev new d 0 s.frame told (λ h. h) ∙ rounds.held c d (subst (λ l. IsLiveOn l c d) same live) told;
         settled = λ _. last;
+        each = subst (λ o. CallInTurn g true (settled_in_end o) columns after old new) (sym none) turns;
       }
 
   fewer : Death (FailsToSettle g mid dev new) after → suc (live_count after) ≤ live_count mid
@@ -109,6 +125,7 @@ module _ {D : Type 0} (g : Ghosts D) (y : Shape) (label next : Label) (columns m
     counted = counted-then g 1 label next next columns mid after old dev new (counted_rounds g label next columns mid mid old dev rounds) (broke death) 0 (omega (arith, rounds.least)) (omega (arith, rounds.most));
     label_is = label_is;
     fewer = omega (arith, fewer death, rounds.fewer);
+    each = turns;
   }
 
   pub tried : (b : Bool) → (b ≡ true → live_count after ≡ live_count mid) → (b ≡ false → live_count after ≢ live_count mid) → TriesToClose g label next columns after old new lost b

@@ -15,9 +15,9 @@ use Rattle.raid_recon.specs.Array.{states_of, IsArray}
 use Rattle.raid_recon.specs.Ends.{MayRewrite, ChecksHold, IsCounted}
 use Rattle.top_close.specs.Settled.{IsLiveOn}
 use Rattle.top_rounds.specs.Calls.{IsLabelWrite}
-use Rattle.top_rounds.specs.Labels.{with_round}
+use Rattle.top_rounds.specs.Labels.{seats_of, with_round}
 use Rattle.top_rounds.specs.Passes.{CanBeLabelled, HoldsLabel, IsFirstInUse, LosesDevice}
-use Rattle.top_rounds.specs.Rounds.{HaveFailed, IsInUse, IsUncalled, live_count}
+use Rattle.top_rounds.specs.Rounds.{AreRounds, HaveFailed, IsInUse, IsUncalled, live_count}
 use Rattle.top_rounds.specs.Settable.{IsSettable}
 use Rattle.top_acts.specs.Stages.{NoCalls, StagesOn}
 
@@ -43,6 +43,13 @@ module _ {D : Type 0} (g : Ghosts D) where
     pub most : next.counter ≤ label.counter + rounds + length rises
     pub dies : Dies (LosesDevice g columns old new) columns after
 
+  -- The seats are those of the columns with which the last round began: since `columns` some had died, and some may have died since.
+  pub record HasSeats (next : Label) (columns after : List Column) (old new : List (Option D)) : Type 0 where
+    pub round : List Column
+    pub seats : next.seats ≡ seats_of round
+    pub came : Dies (LosesDevice g columns old new) columns round
+    pub went : Dies (LosesDevice g columns old new) round after
+
   -- What a sweep did: it counted as it should, and each check unit holds the sum of its stripe's data units or what it held, and the units of each stripe that lacks none in the end sum to zero.
   pub record HasSwept (kind : Sweep) (y : Shape) (columns after : List Column) (old new : List (Option D)) (n : ℕ) : Type 0 where
     pub counted : y.checks ≡ 1 → IsCounted g kind y columns after old n
@@ -67,7 +74,7 @@ module _ {D : Type 0} (g : Ghosts D) where
   abbrev pub ToldNothing : List Column → List (Option D) → List (Option D) → Type 0
   ToldNothing columns old new = (d : ℕ) → ((c : ℕ) → IsLiveOn columns c d → ⊥) → NoCalls (calls_of g old d) (calls_of g new d)
 
-  -- The opening round was written, whose labels aren't clean; then, where that didn't lose the array, it was swept; and where the array is lost by that, the one round of a lost array was written. Each device in use in the end has the label of the last round. All is said by the columns and devices as they were before the opening round; n is what the sweep counted.
+  -- The opening round was written, whose labels aren't clean; then, where that didn't lose the array, it was swept; and where the array is lost by that, the one round of a lost array was written. Each device in use in the end has the label of the last round, whose seats are those of the columns then. `left`, `dev` and `first` are the columns, devices and label that the opening round left; no device that it left out of use was called behind it. All else is said by the columns and devices as they were before the opening round; n is what the sweep counted.
   pub record HasBegun (sweep : Option Sweep) (y : Shape) (label next : Label) (columns after : List Column) (old new : List (Option D)) (lost : Option Loss) (n : ℕ) : Type 0 where
     pub rounds : ℕ
     pub some : 1 ≤ rounds
@@ -76,6 +83,7 @@ module _ {D : Type 0} (g : Ghosts D) where
     pub named : CountsRounds rounds label next columns after old new
     pub bounded : next.counter ≤ label.counter + 34
     pub label_is : next ≡ with_round label next.counter 0 next.seats
+    pub seated : HasSeats next columns after old new
     pub held : (c d : ℕ) → IsLiveOn after c d → HoldsLabel g new next c d
     pub frame : Changes g (MayBegin sweep y columns old) old new
     pub others : sweep ≡ None → IsUncalled columns old new
@@ -83,6 +91,11 @@ module _ {D : Type 0} (g : Ghosts D) where
     pub uncalled : ToldNothing columns old new
     pub swept : lost ≡ None → SweepHas sweep y columns after old new n
     pub still : g.tells → InSync y (contents_of g old) (states_of y columns) → InSync y (contents_of g new) (states_of y after)
+    pub left : List Column
+    pub dev : List (Option D)
+    pub first : Label
+    pub opens : (round : List Column) × AreRounds g (record label { clean = 0 }) first columns round left old dev
+    pub behind : ToldNothing left dev new
 
   -- what can be acted on: its columns are as many as the layout's, and their devices are there, large enough, and can be labelled
   pub record CanAct (y : Shape) (columns : List Column) (devices : List (Option D)) : Type 0 where

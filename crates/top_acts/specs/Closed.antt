@@ -1,5 +1,5 @@
 -- The labels of an array's end.
-use Rattle.std.specs.Prelude.{◌≡◌, ◌≤◌, ◌+◌, ℕ, suc, List, length, Bool, true, false, Option, None, All}
+use Rattle.std.specs.Prelude.{◌≡◌, ◌≤◌, ◌+◌, ℕ, suc, List, length, Bool, true, false, Option, Some, None, All, slice_get}
 use Rattle.blk_disk.specs.declared.disk.Disk.{Ghosts}
 use Rattle.blk_disk.specs.Devices.{Changes, calls_of}
 use Rattle.eng_cols.specs.declared.column.Column.{Column}
@@ -7,13 +7,23 @@ use Rattle.eng_cols.specs.declared.spot.Loss.{Loss}
 use Rattle.eng_cols.specs.Deaths.{Dies}
 use Rattle.raid_label.specs.declared.label.Label.{Label}
 use Rattle.top_close.specs.Calls.{EndsSettled}
-use Rattle.top_close.specs.Settled.{IsLiveOn}
+use Rattle.top_close.specs.Settled.{AreSettled, IsLiveOn, is_live}
 use Rattle.top_rounds.specs.Labels.{seats_of, with_round}
 use Rattle.top_rounds.specs.Passes.{HoldsLabel, IsFirstInUse, LosesDevice}
 use Rattle.top_rounds.specs.Rounds.{HaveFailed, IsInUse, IsUncalled, clean_in_end, live_count}
-use Rattle.top_acts.specs.Stages.{ClosesOn}
+use Rattle.top_acts.specs.Begun.{HasSeats}
+use Rattle.top_acts.specs.Stages.{ClosesOn, InTurnOn}
+
+-- where the array isn't lost the last call of a device in use is a settle, else a label write
+abbrev pub settled_in_end : Option Loss → Bool
+settled_in_end None = true
+settled_in_end (Some loss) = false
 
 module _ {D : Type 0} (g : Ghosts D) where
+  -- The calls of each device in use came in turn, none behind one that failed; the last failed exactly where its column died.
+  abbrev pub CallInTurn : (was is : Bool) → List Column → List Column → List (Option D) → List (Option D) → Type 0
+  CallInTurn was is columns after old new = (c d : ℕ) → IsLiveOn columns c d → InTurnOn (is_live (slice_get after c)) was (calls_of g old d) (calls_of g new d) is
+
   -- Labels were written in rounds: so many, and at most one more for each of some devices that were in use, that failed, and that no column has now. No sector has changed but sector 0 of devices that were in use; a column has died where its device failed, and no other died; the calls are label writes and settles alone, and no other device was called.
   pub record AreCounted (rounds : ℕ) (label next : Label) (columns after : List Column) (old new : List (Option D)) : Type 0 where
     pub rises : List ℕ
@@ -28,21 +38,31 @@ module _ {D : Type 0} (g : Ghosts D) where
     pub dies : Dies (LosesDevice g columns old new) columns after
     pub told : (d : ℕ) → ClosesOn (calls_of g old d) (calls_of g new d)
 
-  -- One round is named. Each device in use in the end has its label, which isn't clean where the array is lost; else the seats are those of the columns in the end, and each device in use is settled, last of all its calls.
-  pub record ClosesLabelled (label next : Label) (columns after : List Column) (old new : List (Option D)) (lost : Option Loss) : Type 0 where
+  -- One round is named. Each device in use in the end has its label, which isn't clean where the array is lost; its seats are those of the columns of the last round, which are those in the end unless the array is lost. Each device in use was called in turn: label writes, and settles none of which comes right behind another, none behind a call that failed; `was` says whether its call before was a settle. Its last is a settle, or a label write where the array is lost.
+  pub record ClosesLabelled (was : Bool) (label next : Label) (columns after : List Column) (old new : List (Option D)) (lost : Option Loss) : Type 0 where
     pub counted : AreCounted 1 label next columns after old new
     pub label_is : next ≡ with_round label next.counter (clean_in_end lost label.clean) next.seats
+    pub seated : HasSeats g next columns after old new
     pub seats : lost ≡ None → next.seats ≡ seats_of after
     pub held : (c d : ℕ) → IsLiveOn after c d → HoldsLabel g new next c d
     pub settled : lost ≡ None → (c d : ℕ) → IsLiveOn after c d → EndsSettled (calls_of g new d)
+    pub each : CallInTurn was (settled_in_end lost) columns after old new
+
+  -- First each device in use was settled, once, before any label was written; a column died whose device failed. The array was then closed with the columns and devices that this left.
+  pub record ClosesSettled (label next : Label) (columns after : List Column) (old new : List (Option D)) (lost : Option Loss) : Type 0 where
+    pub mid : List Column
+    pub dev : List (Option D)
+    pub settles : AreSettled g (length columns) columns mid old dev
+    pub closes : ClosesLabelled true label next mid after dev new lost
 
   -- A device failed as it was settled, so that no label of before is the last.
   pub record IsBroken (label next : Label) (columns after : List Column) (old new : List (Option D)) : Type 0 where
     pub counted : AreCounted 0 label next columns after old new
     pub label_is : next ≡ with_round label next.counter label.clean next.seats
     pub fewer : suc (live_count after) ≤ live_count columns
+    pub each : CallInTurn true true columns after old new
 
   -- the array was closed, or a device failed as it was settled
   abbrev pub TriesToClose : Label → Label → List Column → List Column → List (Option D) → List (Option D) → Option Loss → Bool → Type 0
-  TriesToClose label next columns after old new lost true = ClosesLabelled label next columns after old new lost
+  TriesToClose label next columns after old new lost true = ClosesLabelled true label next columns after old new lost
   TriesToClose label next columns after old new lost false = IsBroken label next columns after old new

@@ -1,5 +1,5 @@
 -- The check units of an array were renewed: each was rewritten, or those whose stripes weren't in sync.
-use Rattle.std.specs.Prelude.{◌≡◌, ◌≤◌, ℕ, List, [], Option, Some, None, All}
+use Rattle.std.specs.Prelude.{◌≡◌, ◌≤◌, ℕ, List, [], length, Option, Some, None, All}
 use Rattle.blk_disk.specs.declared.disk.Disk.{Ghosts}
 use Rattle.blk_disk.specs.Devices.{Changes, calls_of}
 use Rattle.lay_core.specs.Layout.{Shape}
@@ -12,7 +12,7 @@ use Rattle.raid_recon.specs.declared.kind.Sweep.TheVariants as sweep
 use Rattle.raid_recon.specs.Array.{states_of}
 use Rattle.top_close.specs.Calls.{EndsSettled, IsSettle}
 use Rattle.top_close.specs.Ended.{IsLossBy}
-use Rattle.top_close.specs.Settled.{IsLiveOn}
+use Rattle.top_close.specs.Settled.{AreSettled, IsLiveOn}
 use Rattle.top_rounds.specs.Calls.{IsLabelWrite}
 use Rattle.top_rounds.specs.Labels.{seats_of, with_round}
 use Rattle.top_rounds.specs.Passes.{HoldsLabel, LosesDevice}
@@ -21,9 +21,12 @@ use Rattle.top_acts.specs.declared.done.Done.{Done}
 use Rattle.top_acts.specs.declared.done.Done.TheVariants as done
 use Rattle.top_acts.specs.declared.sweeping.Renewal.{Renewal}
 use Rattle.top_acts.specs.declared.sweeping.Renewal.TheVariants as renewal
-use Rattle.top_acts.specs.Begun.{CountsRounds, HasSwept, MayBegin, MaySweep, ToldNothing}
+use Rattle.top_acts.specs.Begun.{CountsRounds, HasBegun, HasSwept, MayBegin, MaySweep, ToldNothing}
+use Rattle.top_acts.specs.Closed.{ClosesSettled}
 use Rattle.top_acts.specs.Done.{unless_lost}
+use Rattle.top_acts.specs.Failed.{StaysBegun}
 use Rattle.top_acts.specs.Stages.{IsClosing, SettlesFirst, StagesOn}
+use Rattle.top_acts.specs.Sweeping.{DoesSweep}
 
 -- the sweep by which that is done
 abbrev pub sweep_of : Renewal → Sweep
@@ -36,7 +39,12 @@ renewed renewal.Init n = done.Init n
 renewed renewal.Rewrite n = done.Rewrite n
 
 module _ {D : Type 0} (g : Ghosts D) where
-  -- Of a labelled array: the opening round, the sweep, then each device in use settled, the closing round, and each settled again. Where the array is lost on the way, what is left of this isn't done, but for the one round of a lost array, and nothing is told. All is said by the columns and devices as they were before.
+  -- An array that isn't lost was closed, with labels that say so; one that is was left as it was begun, and stays lost by that.
+  abbrev pub ClosesBegun : Option Loss → Label → Label → List Column → List Column → List (Option D) → List (Option D) → Option Loss → Type 0
+  ClosesBegun None first next columns after old new lost = ClosesSettled g (record first { clean = 1 }) next columns after old new lost
+  ClosesBegun (Some loss) first next columns after old new lost = StaysBegun g first next columns after old new × (lost ≡ Some loss)
+
+  -- Of a labelled array: the opening round, the sweep, then each device in use settled, the closing round, and each settled again. Where the array is lost on the way, what is left of this isn't done, but for the one round of a lost array, and nothing is told. `mid`, `dev`, `first` and `before` are the columns, the devices, the label and the loss with which it was begun; all else is said by the columns and devices as they were before.
   pub record IsRenewed (kind : Renewal) (y : Shape) (label next : Label) (columns after : List Column) (old new : List (Option D)) (lost : Option Loss) (result : Done) : Type 0 where
     pub found : ℕ
     pub told : result ≡ unless_lost lost (renewed kind found)
@@ -55,8 +63,14 @@ module _ {D : Type 0} (g : Ghosts D) where
     pub calls : (d : ℕ) → StagesOn (All IsLabelWrite) (All IsClosing) (Some (sweep_of kind)) y (states_of y columns) d (calls_of g old d) (calls_of g new d)
     pub uncalled : ToldNothing g columns old new
     pub lost_is : IsLossBy y None (states_of y after) lost
+    pub mid : List Column
+    pub dev : List (Option D)
+    pub first : Label
+    pub before : Option Loss
+    pub begins : HasBegun g (Some (sweep_of kind)) y label first columns mid old dev before found
+    pub closes : ClosesBegun before first next mid after dev new lost
 
-  -- Of an array without labels: the sweep, then each device in use settled once, whether the array is lost or not.
+  -- Of an array without labels: the sweep, which left columns `mid` and devices `dev`, then each device in use settled once, whether the array is lost or not.
   pub record IsRenewedPlain (kind : Renewal) (y : Shape) (columns after : List Column) (old new : List (Option D)) (lost : Option Loss) (result : Done) : Type 0 where
     pub found : ℕ
     pub told : result ≡ unless_lost lost (renewed kind found)
@@ -67,3 +81,7 @@ module _ {D : Type 0} (g : Ghosts D) where
     pub calls : (d : ℕ) → StagesOn (λ calls. calls ≡ []) (All IsSettle) (Some (sweep_of kind)) y (states_of y columns) d (calls_of g old d) (calls_of g new d)
     pub uncalled : ToldNothing g columns old new
     pub lost_is : IsLossBy y None (states_of y after) lost
+    pub mid : List Column
+    pub dev : List (Option D)
+    pub sweeps : DoesSweep g (sweep_of kind) y columns mid old dev found
+    pub settles : AreSettled g (length mid) mid after dev new

@@ -1,5 +1,5 @@
 -- The calls of a device: labels, then a sweep, then labels and settles.
-use Rattle.std.specs.Prelude.{◌≡◌, ◌⊎◌, ℕ, List, [], ◌∷◌, ◌++◌, All, Bool, Option, Some, None}
+use Rattle.std.specs.Prelude.{◌≡◌, ◌⊎◌, ℕ, List, [], ◌∷◌, ◌++◌, All, Bool, true, false, Option, Some, None}
 use Rattle.blk_disk.specs.declared.disk.Call.{Call}
 use Rattle.blk_disk.specs.Disk.{call_of}
 use Rattle.lay_core.specs.Layout.{Shape}
@@ -18,6 +18,26 @@ abbrev pub ClosesOn : Option (List Call) → Option (List Call) → Type 0
 ClosesOn before None = Unit {0}
 ClosesOn None (Some now) = ⊥
 ClosesOn (Some before) (Some now) = (more : List Call) × (now ≡ before ++ more) × All IsClosing more
+
+-- Label writes and settles that all went well, no settle right behind another: `was` and `is` say whether the call before them, and the last of them, is a settle.
+abbrev pub AreInTurn : (was : Bool) → List Call → (is : Bool) → Type 0
+AreInTurn was [] is = was ≡ is
+AreInTurn was (c ∷ cs) is = ((c ≡ call_of 1 0 512 true) × AreInTurn false cs is) ⊎ ((was ≡ false) × (c ≡ call_of 2 0 0 true) × AreInTurn true cs is)
+
+-- such ones, and behind them one more in turn, which failed
+abbrev pub FailInTurn : (was : Bool) → List Call → Type 0
+FailInTurn was calls = (front : List Call) × (last : Call) × (is : Bool) × (calls ≡ front ++ last ∷ []) × AreInTurn was front is × ((last ≡ call_of 1 0 512 false) ⊎ ((is ≡ false) × (last ≡ call_of 2 0 0 false)))
+
+-- of a device that stays in use all went well, and of another the last failed
+abbrev pub EndInTurn : (stays was : Bool) → List Call → (is : Bool) → Type 0
+EndInTurn true was calls is = AreInTurn was calls is
+EndInTurn false was calls is = FailInTurn was calls
+
+-- Where the calls are told now, they were told before, and those that came are such.
+abbrev pub InTurnOn : (stays was : Bool) → Option (List Call) → Option (List Call) → (is : Bool) → Type 0
+InTurnOn stays was before None is = Unit {0}
+InTurnOn stays was None (Some now) is = ⊥
+InTurnOn stays was (Some before) (Some now) is = (more : List Call) × (now ≡ before ++ more) × EndInTurn stays was more is
 
 -- a settle, and label writes and settles behind it
 abbrev pub SettlesFirst : List Call → Type 0

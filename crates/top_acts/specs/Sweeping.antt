@@ -1,5 +1,5 @@
 -- A sweep of a whole array, as what it did is said by the columns and contents just before it.
-use Rattle.std.specs.Prelude.{◌≡◌, ◌≤◌, ℕ, List, [], Option, Some, None}
+use Rattle.std.specs.Prelude.{◌≡◌, ◌⊎◌, ◌≤◌, ℕ, List, [], Option, Some, None}
 use Rattle.blk_disk.specs.declared.disk.Disk.{Ghosts}
 use Rattle.blk_disk.specs.Devices.{Changes, calls_of, contents_of}
 use Rattle.lay_core.specs.Layout.{Shape}
@@ -15,7 +15,7 @@ use Rattle.top_close.specs.Settled.{IsLiveOn}
 use Rattle.top_rounds.specs.Labels.{with_round}
 use Rattle.top_rounds.specs.Passes.{HoldsLabel}
 use Rattle.top_rounds.specs.Rounds.{clean_in_end}
-use Rattle.top_acts.specs.Begun.{AreLast, CountsRounds, HasSwept, MayBegin, ToldNothing}
+use Rattle.top_acts.specs.Begun.{AreLast, CountsRounds, HasSeats, HasSwept, MayBegin, ToldNothing}
 use Rattle.top_acts.specs.Stages.{StagesOn}
 
 module _ {D : Type 0} (g : Ghosts D) (kind : Sweep) (y : Shape) where
@@ -36,6 +36,7 @@ module _ {D : Type 0} (g : Ghosts D) (kind : Sweep) (y : Shape) where
     pub none : lost ≡ None → rounds ≡ 0
     pub named : CountsRounds g rounds label next columns after old new
     pub label_is : next ≡ with_round label next.counter (clean_in_end lost label.clean) next.seats
+    pub seated : (next.seats ≡ label.seats) ⊎ HasSeats g next columns after old new
     pub held : (c d : ℕ) → IsLiveOn after c d → HoldsLabel g old label c d → HoldsLabel g new next c d
     pub frame : Changes g (MayBegin g (Some kind) y columns old) old new
     pub told : (d : ℕ) → StagesOn (λ calls. calls ≡ []) (AreLast lost) (Some kind) y (states_of y columns) d (calls_of g old d) (calls_of g new d)

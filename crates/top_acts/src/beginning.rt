@@ -14,18 +14,19 @@ use blk_disk::Disk;
 use eng_cols::Cols;
 use lay_core::Layout;
 use raid_label::Label;
-use raid_recon::Room;
+use raid_progress::Progress;
+use raid_recon::SweepRoom;
 use top_close::{Ending, deaths_bring_no_unit_back};
 use top_rounds::round;
 
 // The sweep behind the opening round, and the one round of an array that is lost by it.
-fn sweep_labelled<L: Layout, D: Disk>(
+fn sweep_labelled<L: Layout, D: Disk, P: Progress>(
     kind: Renewal,
     layout: &L,
     devices: &mut [Option<D>],
     ending: &mut Ending,
     label: &mut Label,
-    room: &mut Room,
+    room: &mut SweepRoom<P>,
     judge: &mut Cols,
 ) -> u64
     requires can { CanAct D.Disk (L.shape layout.now) ending.old.columns.items devices.old }
@@ -50,13 +51,13 @@ fn sweep_labelled<L: Layout, D: Disk>(
 
 /// The opening round, and the sweep behind that, if there is one to be made and the array isn't
 /// lost. All else is as in [`begin_labelled`].
-pub(crate) fn begin<L: Layout, D: Disk>(
+pub(crate) fn begin<L: Layout, D: Disk, P: Progress>(
     sweep: Option<Renewal>,
     layout: &L,
     devices: &mut [Option<D>],
     ending: &mut Ending,
     label: &mut Label,
-    room: &mut Room,
+    room: &mut SweepRoom<P>,
     judge: &mut Cols,
 ) -> u64
     requires can { CanAct D.Disk (L.shape layout.now) ending.old.columns.items devices.old }
@@ -94,13 +95,13 @@ pub(crate) fn begin<L: Layout, D: Disk>(
 /// `label` is the newest's, and in the end the label of the last round. The array isn't lost as it is
 /// opened. `room` has 1,024 bytes for each sector of a unit, and `judge` may hold any columns, as
 /// many as the layout has. No memory is taken.
-pub fn begin_labelled<L: Layout, D: Disk>(
+pub fn begin_labelled<L: Layout, D: Disk, P: Progress>(
     layout: &L,
     devices: &mut [Option<D>],
     ending: &mut Ending,
     label: &mut Label,
     dirty: bool,
-    room: &mut Room,
+    room: &mut SweepRoom<P>,
     judge: &mut Cols,
 ) -> u64
     requires can { CanAct D.Disk (L.shape layout.now) ending.old.columns.items devices.old }

@@ -10,7 +10,8 @@ use crate::judging::loss_of;
 use blk_disk::Disk;
 use eng_cols::Cols;
 use lay_core::Layout;
-use raid_recon::{Room, sweep_check};
+use raid_progress::Progress;
+use raid_recon::{SweepRoom, sweep_check};
 use top_close::{Ending, deaths_bring_no_unit_back};
 
 /// Counts the stripes that aren't in sync, of those that lack no unit. A column is dead whose device
@@ -19,11 +20,11 @@ use top_close::{Ending, deaths_bring_no_unit_back};
 /// No sector changes: no label is written, and nothing is settled. The array isn't lost as it is
 /// opened. `room` has 1,024 bytes for each sector of a unit, and `judge` may hold any columns, as
 /// many as the layout has. No memory is taken.
-pub fn check<L: Layout, D: Disk>(
+pub fn check<L: Layout, D: Disk, P: Progress>(
     layout: &L,
     devices: &mut [Option<D>],
     ending: &mut Ending,
-    room: &mut Room,
+    room: &mut SweepRoom<P>,
     judge: &mut Cols,
 ) -> Done
     requires array { IsArray D.Disk (L.shape layout.now) ending.old.columns.items devices.old }

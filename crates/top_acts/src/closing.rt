@@ -6,7 +6,7 @@ ghost use Rattle.top_rounds.specs.Settable.{IsSettable};
 ghost use Rattle.top_acts.specs.Closed.{ClosesLabelled, TriesToClose};
 ghost use Rattle.top_close.specs.Ended.{IsLossBy, states_of};
 ghost use Rattle.top_close.specs.Settled.{is_live};
-ghost use Rattle.std.specs.Prelude.{Some, None};
+ghost use Rattle.std.specs.Prelude.{true, Some, None};
 ghost use Rattle.top_rounds.specs.Passes.{CanBeLabelled};
 ghost use Rattle.top_rounds.specs.Rounds.{live_count};
 
@@ -89,7 +89,7 @@ pub fn close<L: Layout, D: Disk>(
     requires held { IsHeld label.old }
     requires counter { label.old.counter + 65 < 2 ^ 32 }
     requires judge { IsFor (L.shape layout.now) judge.old }
-    ensures closed { ClosesLabelled D.Disk label.old label.new ending.old.columns.items
+    ensures closed { ClosesLabelled D.Disk true label.old label.new ending.old.columns.items
         ending.new.columns.items devices.old devices.new ending.new.lost }
     ensures lost { IsLossBy (L.shape layout.now) None
         (states_of (L.shape layout.now) ending.new.columns.items) ending.new.lost }

@@ -1,13 +1,10 @@
 //! The end of what was done to a labelled array, lost or not.
-ghost use Rattle.std.specs.Prelude.{◌≡◌, ◌<◌, ◌+◌, ◌^◌, ℕ, true, None, is_some};
-ghost use Rattle.blk_disk.specs.Devices.{calls_of};
+ghost use Rattle.std.specs.Prelude.{◌≡◌, ◌<◌, ◌+◌, ◌^◌, true, false, None, is_some};
 ghost use Rattle.eng_cols.specs.Cols.{IsFor};
 ghost use Rattle.raid_label.specs.Bytes.{IsHeld};
 ghost use Rattle.top_rounds.specs.Settable.{IsSettable};
-ghost use Rattle.top_acts.specs.Closed.{ClosesLabelled};
-ghost use Rattle.top_acts.specs.Stages.{SettlesFirstOn};
+ghost use Rattle.top_acts.specs.Closed.{ClosesLabelled, ClosesSettled};
 ghost use Rattle.top_close.specs.Ended.{IsLossBy, states_of};
-ghost use Rattle.top_close.specs.Settled.{IsLiveOn};
 ghost use Rattle.top_rounds.specs.Labels.{with_round};
 ghost use Rattle.top_rounds.specs.Passes.{CanBeLabelled};
 ghost use Rattle.top_rounds.specs.Rounds.{HaveRounds};
@@ -64,10 +61,10 @@ fn settle_and_end<L: Layout, D: Disk>(
     requires held { IsHeld label.old }
     requires counter { label.old.counter + 65 < 2 ^ 32 }
     requires judge { IsFor (L.shape layout.now) judge.old }
-    ensures closed { ClosesLabelled D.Disk label.old label.new ending.old.columns.items
+    ensures closed { ClosesLabelled D.Disk false label.old label.new ending.old.columns.items
         ending.new.columns.items devices.old devices.new ending.new.lost }
-    ensures first { (c d : ℕ) → IsLiveOn ending.old.columns.items c d → SettlesFirstOn
-        (calls_of D.Disk devices.old d) (calls_of D.Disk devices.new d) }
+    ensures first { ClosesSettled D.Disk label.old label.new ending.old.columns.items
+        ending.new.columns.items devices.old devices.new ending.new.lost }
     ensures lost { IsLossBy (L.shape layout.now) None
         (states_of (L.shape layout.now) ending.new.columns.items) ending.new.lost }
     ensures judge { IsFor (L.shape layout.now) judge.new }
@@ -103,10 +100,11 @@ pub fn end_labelled<L: Layout, D: Disk>(
     requires held { IsHeld label.old }
     requires counter { label.old.counter + 65 < 2 ^ 32 }
     requires judge { IsFor (L.shape layout.now) judge.old }
-    ensures closed { ClosesLabelled D.Disk label.old label.new ending.old.columns.items
+    ensures closed { ClosesLabelled D.Disk false label.old label.new ending.old.columns.items
         ending.new.columns.items devices.old devices.new ending.new.lost }
-    ensures first { ending.old.lost ≡ None → (c d : ℕ) → IsLiveOn ending.old.columns.items c d →
-        SettlesFirstOn (calls_of D.Disk devices.old d) (calls_of D.Disk devices.new d) }
+    ensures first { ending.old.lost ≡ None →
+        ClosesSettled D.Disk label.old label.new ending.old.columns.items
+        ending.new.columns.items devices.old devices.new ending.new.lost }
     ensures lost { IsLossBy (L.shape layout.now) ending.old.lost
         (states_of (L.shape layout.now) ending.new.columns.items) ending.new.lost }
     ensures judge { IsFor (L.shape layout.now) judge.new }

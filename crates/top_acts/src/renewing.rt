@@ -16,7 +16,8 @@ use blk_disk::Disk;
 use eng_cols::{Cols, Loss};
 use lay_core::Layout;
 use raid_label::Label;
-use raid_recon::Room;
+use raid_progress::Progress;
+use raid_recon::SweepRoom;
 use top_close::{Ending, deaths_bring_no_unit_back, end_unlabelled};
 
 // What was done, of so many check units.
@@ -40,13 +41,13 @@ fn done(kind: Renewal, count: u64, lost: Option<Loss>) -> Done
 ///
 /// `label` is the newest's, and in the end the label of the last round. All else is as in
 /// [`begin_labelled`](crate::begin_labelled).
-pub fn renew<L: Layout, D: Disk>(
+pub fn renew<L: Layout, D: Disk, P: Progress>(
     kind: Renewal,
     layout: &L,
     devices: &mut [Option<D>],
     ending: &mut Ending,
     label: &mut Label,
-    room: &mut Room,
+    room: &mut SweepRoom<P>,
     judge: &mut Cols,
 ) -> Done
     requires can { CanAct D.Disk (L.shape layout.now) ending.old.columns.items devices.old }
@@ -75,12 +76,12 @@ pub fn renew<L: Layout, D: Disk>(
 ///
 /// The array isn't lost as it is opened. `room` has 1,024 bytes for each sector of a unit, and
 /// `judge` may hold any columns, as many as the layout has. No memory is taken.
-pub fn renew_unlabelled<L: Layout, D: Disk>(
+pub fn renew_unlabelled<L: Layout, D: Disk, P: Progress>(
     kind: Renewal,
     layout: &L,
     devices: &mut [Option<D>],
     ending: &mut Ending,
-    room: &mut Room,
+    room: &mut SweepRoom<P>,
     judge: &mut Cols,
 ) -> Done
     requires array { IsArray D.Disk (L.shape layout.now) ending.old.columns.items devices.old }

@@ -11,7 +11,8 @@ use crate::judging::loss_of;
 use blk_disk::Disk;
 use eng_cols::{Cols, Column};
 use lay_core::Layout;
-use raid_recon::{Room, sweep_init, sweep_sync};
+use raid_progress::Progress;
+use raid_recon::{SweepRoom, sweep_init, sweep_sync};
 use top_close::{Ending, deaths_bring_no_unit_back};
 
 /// Which check units are written, of the stripes that lack no unit.
@@ -24,12 +25,12 @@ pub enum Renewal {
 }
 
 // One sweep over the columns' stripes. Says how many check units were written.
-fn sweep<L: Layout, D: Disk>(
+fn sweep<L: Layout, D: Disk, P: Progress>(
     kind: Renewal,
     layout: &L,
     devices: &mut [Option<D>],
     columns: &mut [Column],
-    room: &mut Room,
+    room: &mut SweepRoom<P>,
 ) -> u64
     requires array { IsArray D.Disk (L.shape layout.now) columns.old devices.old }
     requires room { 1024 * (L.shape layout.now).unit_sectors ≤ room.old }
@@ -44,12 +45,12 @@ fn sweep<L: Layout, D: Disk>(
 }
 
 /// The same, and by what the array is lost behind it.
-pub(crate) fn sweep_and_judge<L: Layout, D: Disk>(
+pub(crate) fn sweep_and_judge<L: Layout, D: Disk, P: Progress>(
     kind: Renewal,
     layout: &L,
     devices: &mut [Option<D>],
     ending: &mut Ending,
-    room: &mut Room,
+    room: &mut SweepRoom<P>,
     judge: &mut Cols,
 ) -> u64
     requires array { IsArray D.Disk (L.shape layout.now) ending.old.columns.items devices.old }

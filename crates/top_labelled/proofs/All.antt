@@ -26,7 +26,7 @@ use Rattle.top_run.proofs.All.{runs, runs-kept, runs-now}
 use Rattle.top_labelled.specs.Begun.{BeginsLabelled, began_of, opened_as, without}
 use Rattle.top_labelled.specs.Between.{HasEnded}
 use Rattle.top_labelled.specs.Given.{RebuildsIf}
-use Rattle.top_labelled.specs.Ran.{HasFailedSince, LeavesLabelled, RanLabelled, line_of}
+use Rattle.top_labelled.specs.Ran.{HasFailedSince, IsRelabelled, LeavesLabelled, RanLabelled, line_of}
 use Rattle.top_labelled.proofs.Holding.{holding}
 use Rattle.top_labelled.proofs.Labels.{relabelled}
 use Rattle.top_labelled.proofs.Leaving.{dies, ends-so, leaves, since, stays}
@@ -95,11 +95,13 @@ module _ {L D : Type 0} (lay : LayoutGhosts L) (disk : DiskGhosts D) (old : Setu
     line = line-is;
     holds = holding disk a layout newest old.devices.items devices.items begun first began begins array kept-so run.start run.opens;
     leaves =
-        subst (λ (w : World). LeavesLabelled disk a newest old.devices.items v back began w) (sym run-over.1)
-        (leaves lay disk old asked began faulty devices columns begun closed newest first layout can begins named began_is given s v back e);
+        subst (λ (w : World). LeavesLabelled disk a newest old.devices.items v back began run.ends.kept w) (sym run-over.1)
+        (subst (λ (cs : List Column). LeavesLabelled disk a newest old.devices.items v back began cs s.now) (sym run-over.2)
+        (leaves lay disk old asked began faulty devices columns begun closed newest first layout can begins named began_is given s v back e));
     since = since lay disk old asked began faulty devices columns begun closed newest first layout can begins named began_is given s v back e;
     labels =
-        relabelled disk a newest old.devices.items devices.items closed.devices.items back begun closed.columns.items first e.last v (served.CoreMayChange lay disk (later old devices columns) began closed) begins
-        s.leaves.frame away (stays lay disk old asked began faulty devices columns begun closed newest first layout can begins named began_is given s v back e) e.closes;
+        subst (λ (cs : List Column). IsRelabelled disk a newest old.devices.items v back begun cs first e.last) (sym run-over.2)
+        (relabelled disk a newest old.devices.items devices.items closed.devices.items back begun closed.columns.items first e.last v (served.CoreMayChange lay disk (later old devices columns) began closed) begins
+        s.leaves.frame away (stays lay disk old asked began faulty devices columns begun closed newest first layout can begins named began_is given s v back e) e.closes);
     dies = dies lay disk old asked began faulty devices columns begun closed newest first layout can begins named began_is given s v back e run run-over.2;
   }

@@ -1,5 +1,5 @@
 -- The labels of an array that was begun, served and closed.
-use Rattle.std.proofs.Common.{◌≡◌, ◌≢◌, ◌⊎◌, inl, inr, ℕ, ◌<◌, ◌≤◌, ◌+◌, List, [], ◌++◌, length, get_or, Option, Some, None, refl, sym, ◌∙◌, ap, subst, arith}
+use Rattle.std.proofs.Common.{◌≡◌, ◌≢◌, ◌⊎◌, inl, inr, ℕ, ◌<◌, ◌≤◌, ◌+◌, false, List, [], ◌++◌, length, get_or, Option, Some, None, refl, sym, ◌∙◌, ap, subst, arith}
 use Rattle.std.specs.Prelude.{slice_get}
 use Rattle.std.specs.Option.{option_map_or}
 use Rattle.std.proofs.lemmas.List.{length-append}
@@ -9,23 +9,22 @@ use Rattle.blk_disk.specs.Devices.{size_of, sector_of, RisesOn, Changes}
 use Rattle.blk_disk.proofs.DeviceLaws.{changes-refl, changes_sector, changes_size, rises-wider}
 use Rattle.eng_cols.specs.declared.column.Column.{Column}
 use Rattle.eng_cols.specs.declared.column.Column.TheVariants as column
+use Rattle.eng_cols.specs.Deaths.{Dies}
+use Rattle.eng_cols.proofs.DeathLaws.{dies-more}
+use Rattle.raid_label.specs.Bytes.{bytes_of}
 use Rattle.raid_label.specs.declared.label.Label.{Label}
 use Rattle.raid_recon.specs.declared.kind.Sweep.{Sweep}
 use Rattle.top_acts.specs.Begun.{MayBegin, MaySweep}
 use Rattle.top_acts.specs.Closed.{ClosesLabelled}
 use Rattle.top_close.specs.Settled.{IsLiveOn}
-use Rattle.top_rounds.specs.Labels.{with_round}
-use Rattle.top_rounds.specs.Passes.{IsFirstInUse}
+use Rattle.top_rounds.specs.Labels.{for_column, with_round}
+use Rattle.top_rounds.specs.Passes.{IsFirstInUse, LosesDevice}
 use Rattle.top_rounds.specs.Rounds.{HaveFailed, IsInUse, clean_in_end}
 use Rattle.top_run.specs.Work.{Service, Work}
 use Rattle.top_labelled.specs.Begun.{BeginsLabelled, sweep_in}
 use Rattle.top_labelled.specs.Between.{closing_label}
-use Rattle.top_labelled.specs.Ran.{HoldsSome, IsRelabelled}
+use Rattle.top_labelled.specs.Ran.{IsRelabelled}
 use Rattle.top_labelled.proofs.Lists.{pairs-append, in-use-or-not}
-
--- a label of a round is one, whatever its fields
-as-round : (newest l : Label) (counter clean : ℕ) (seats : List ℕ) → l ≡ with_round newest counter clean seats → l ≡ with_round newest l.counter l.clean l.seats
-as-round newest l counter clean seats is = subst (λ (m : Label). m ≡ with_round newest m.counter m.clean m.seats) (sym is) refl
 
 same-device : (o : Option Column) (d e : ℕ) → o ≡ Some (column.Live d) → o ≡ Some (column.Live e) → d ≡ e
 same-device o d e one two = let z : Some (column.Live d) ≡ Some (column.Live e) = sym one ∙ two in cc
@@ -34,7 +33,7 @@ module _ {D : Type 0} (g : Ghosts D) (a : Work) (newest : Label) (taken opened s
     (begins : BeginsLabelled g a newest taken opened columns first None)
     (run : Changes g may opened served) (away : (d : ℕ) → 1 ≤ size_of g opened d → may d 0 → ⊥)
     (stays : (c d : ℕ) → IsLiveOn kept c d → IsInUse a.columns d → (k : ℕ) × IsLiveOn columns k d)
-    (closes : ClosesLabelled g (closing_label first) last kept s.ending.columns served back s.ending.lost) where
+    (closes : ClosesLabelled g false (closing_label first) last kept s.ending.columns served back s.ending.lost) where
   abbrev Begun : ℕ → ℕ → Type 0
   Begun = MayBegin g (sweep_in newest) a.layout a.columns taken
 
@@ -96,33 +95,6 @@ module _ {D : Type 0} (g : Ghosts D) (a : Work) (newest : Label) (taken opened s
 
   -- ## Other devices
 
-  -- the first round's label is older
-  holds-first : g.tells → (c d : ℕ) → IsLiveOn columns c d → sector_of g back d 0 ≡ sector_of g opened d 0 → HoldsSome g a newest taken s back last d
-  holds-first tells c d live same =
-      let one = begins.has.named.least in
-      let some = begins.has.some in
-      let two : first.counter + 1 ≤ last.counter = closes.counted.least in
-      record {
-        label = first;
-        col = c;
-        holds = same ∙ begins.has.held c d live tells;
-        label_is = as-round newest first first.counter 0 first.seats begins.has.label_is;
-        newer = omega (arith, one, some);
-        older = omega (arith, two);
-      }
-
-  holds-last : g.tells → (c d : ℕ) → IsLiveOn s.ending.columns c d → HoldsSome g a newest taken s back last d
-  holds-last tells c d live =
-      let two = two-rounds in
-      record {
-        label = last;
-        col = c;
-        holds = closes.held c d live tells;
-        label_is = as-round newest last last.counter (clean_in_end s.ending.lost 1) last.seats label-is;
-        newer = omega (arith, two);
-        older = omega arith;
-      }
-
   -- a column that was live on a device whose count didn't rise is live
   live-begun : (d : ℕ) → (RisesOn g taken back d → ⊥) → (c : ℕ) → IsLiveOn a.columns c d → IsLiveOn columns c d
   live-begun d quiet c live = elim (begins.has.named.dies.each c) [
@@ -158,25 +130,31 @@ module _ {D : Type 0} (g : Ghosts D) (a : Work) (newest : Label) (taken opened s
       ap (λ (x : Option D). option_map_or (λ (z : D). g.sector z 0) x []) (closes.counted.others d none)
       ∙ changes_sector g may opened served d 0 run tells (away d (omega (arith, size, sized)))
 
-  rest : g.tells → (d : ℕ) → 1 ≤ size_of g taken d → (RisesOn g taken back d → ⊥) → (sector_of g back d 0 ≡ sector_of g taken d 0) ⊎ HoldsSome g a newest taken s back last d
-  rest tells d sized quiet = elim (in-use-or-not kept d) [
-    | inl live ↦ inr (holds-last tells live.0 d (live-closed d quiet live.0 live.1))
+  rest : g.tells → (d : ℕ) → 1 ≤ size_of g taken d → ((c : ℕ) → IsLiveOn s.ending.columns c d → ⊥) → (RisesOn g taken back d → ⊥)
+      → (sector_of g back d 0 ≡ sector_of g taken d 0) ⊎ ((c : ℕ) × IsLiveOn columns c d × (sector_of g back d 0 ≡ bytes_of (for_column first c)))
+  rest tells d sized free quiet = elim (in-use-or-not kept d) [
+    | inl live ↦ absurd (free live.0 (live-closed d quiet live.0 live.1))
     | inr none ↦
         let same = not-called tells d sized none in
         elim (in-use-or-not a.columns d) [
-          | inl was ↦ inr (holds-first tells was.0 d (live-begun d quiet was.0 was.1) same)
+          | inl was ↦ let here = live-begun d quiet was.0 was.1 in inr (was.0, here, same ∙ begins.has.held was.0 d here tells)
           | inr never ↦ inl (same ∙ untouched tells d never)
         ]
   ]
 
-  pub relabelled : IsRelabelled g a newest taken s back last
+  closing : (from to : List Column) → Dies (LosesDevice g kept served back) from to → Dies (LosesDevice g kept taken back) from to
+  closing from to dies = dies-more (LosesDevice g kept served back) (LosesDevice g kept taken back) from to (λ c f. record { device = f.device; had = f.had; rose = rises-closed f.device f.rose }) dies
+
+  pub relabelled : IsRelabelled g a newest taken s back columns kept first last
   relabelled = record {
     rises = early ++ late;
     failed = failed;
     least = two-rounds;
     most = at-most;
+    later = closes.counted.least;
     label_is = label-is;
     seats = closes.seats;
+    seated = record { round = closes.seated.round; seats = closes.seated.seats; came = closing kept closes.seated.round closes.seated.came; went = closing closes.seated.round s.ending.columns closes.seated.went };
     held = closes.held;
     rest = rest;
   }

@@ -1,12 +1,13 @@
 -- What an array that was begun, served and closed leaves on its devices.
-use Rattle.std.proofs.Common.{◌≡◌, ◌⊎◌, inl, inr, ℕ, suc, ◌<◌, ◌≤◌, ◌*◌, List, ◌++◌, Bool, length, Option, Some, None, refl, sym, ◌∙◌, ap, subst, arith}
-use Rattle.std.specs.Prelude.{All, Vec, map, option_map, slice_get, slice_set}
+use Rattle.std.proofs.Common.{◌≡◌, ◌⊎◌, inl, inr, ℕ, suc, ◌<◌, ◌≤◌, ◌*◌, List, ◌∷◌, ◌++◌, Bool, false, length, Option, Some, None, refl, sym, ◌∙◌, ap, subst, arith}
+use Rattle.std.specs.Prelude.{Vec, map, option_and_then, option_map, slice_get, slice_set}
 use Rattle.std.proofs.lemmas.Bool.{cases_eq}
-use Rattle.std.proofs.lemmas.Option.{slice_get-map}
+use Rattle.std.proofs.lemmas.Option.{slice_get-map, slice_get_within}
 use Rattle.std.specs.declared.alloc.Global.{Global}
 use Rattle.std.proofs.Math.Nat.{mul-le-mul_right}
 use Rattle.blk_disk.specs.declared.disk.Call.{Call}
 use Rattle.blk_disk.specs.declared.disk.Disk.{Ghosts as DiskGhosts}
+use Rattle.blk_disk.specs.Disk.{call_of}
 use Rattle.blk_disk.specs.Devices.{calls_of, RisesOn, Changes}
 use Rattle.blk_disk.proofs.DeviceLaws.{changes-more, changes-refl, changes-then, changes_size, rises-wider}
 use Rattle.lay_core.specs.Layout.{Shape, IsLayout}
@@ -32,9 +33,11 @@ use Rattle.raid_recon.specs.declared.kind.Sweep.{Sweep}
 use Rattle.raid_recon.specs.Array.{IsCheckSector}
 use Rattle.raid_recon.proofs.Frames.{last-unit}
 use Rattle.top_acts.specs.Begun.{MayBegin, MaySweep}
-use Rattle.top_acts.specs.Stages.{ClosesOn, IsClosing}
+use Rattle.top_acts.specs.Closed.{settled_in_end}
+use Rattle.top_acts.specs.Stages.{EndInTurn, InTurnOn, SettlesFirstOn}
+use Rattle.top_acts.proofs.Staged.{settles-first}
 use Rattle.top_close.specs.Dying.{AnyCause, OnlyDie}
-use Rattle.top_close.specs.Settled.{IsLiveOn, FailsToSettle}
+use Rattle.top_close.specs.Settled.{IsLiveOn, FailsToSettle, is_live}
 use Rattle.top_close.proofs.DyingLaws.{columns_die}
 use Rattle.top_rounds.specs.Passes.{IsFirstInUse, LosesDevice}
 use Rattle.top_rounds.specs.Rounds.{IsInUse}
@@ -58,9 +61,19 @@ use Rattle.top_labelled.proofs.Restart.{rebuilds-within, target-alone}
 use Rattle.top_labelled.proofs.Without.{IsOf, began-asked, began-is, not-some, of-or-not, some-same, still-lives, without-dead, without-dies, without-other}
 
 -- calls that are told, behind those of the run
-closes-behind : {D : Type 0} (g : DiskGhosts D) (o : Option (List Call)) (calls told : List Call) → AreTold g o calls → ClosesOn o (Some told) → (closing : List Call) × (told ≡ calls ++ closing) × All IsClosing closing
-closes-behind g None calls told are on = absurd on
-closes-behind g (Some before) calls told are on = (on.0, on.1 ∙ ap (λ l. l ++ on.0) (sym are), on.2)
+turn-behind : {D : Type 0} (g : DiskGhosts D) (stays is : Bool) (o : Option (List Call)) (calls told : List Call) → AreTold g o calls → InTurnOn stays false o (Some told) is → (closing : List Call) × (told ≡ calls ++ closing) × EndInTurn stays false closing is
+turn-behind g stays is None calls told are on = absurd on
+turn-behind g stays is (Some before) calls told are on = (on.0, on.1 ∙ ap (λ l. l ++ on.0) (sym are), on.2)
+
+-- a settle first
+settle-behind : {D : Type 0} (g : DiskGhosts D) (o : Option (List Call)) (calls told : List Call) → AreTold g o calls → SettlesFirstOn o (Some told) → (good : Bool) × (more : List Call) × (told ≡ calls ++ call_of 2 0 0 good ∷ more)
+settle-behind g None calls told are on = absurd on
+settle-behind g (Some before) calls told are on = let f = on.2 in (f.0, f.1, on.1 ∙ (ap (λ l. before ++ l) f.2 ∙ ap (λ l. l ++ call_of 2 0 0 f.0 ∷ f.1) (sym are)))
+
+-- or none
+none-behind : {D : Type 0} (g : DiskGhosts D) (o : Option (List Call)) (calls told : List Call) → AreTold g o calls → o ≡ Some told → told ≡ calls
+none-behind g None calls told are is = let z : None ≡ Some told = is in absurd (let u : ⊥ = cc in u)
+none-behind g (Some before) calls told are is = let z : Some before ≡ Some told = is in let e : before ≡ told = cc in sym e ∙ sym are
 
 -- a column that has a device had it
 pub had-before : (old new : List ColumnState) → OnlyDie old new → (c d : ℕ) → HasDevice new c d → HasDevice old c d
@@ -292,13 +305,26 @@ module _ {L D : Type 0} (lay : LayoutGhosts L) (disk : DiskGhosts D) (old : Setu
   pub frame : Changes disk May taken back
   frame = changes-then disk May taken opened back (changes-more disk Begun May taken opened begun-may begins.has.frame) since
 
-  told-behind : (d : ℕ) (told : List Call) → calls_of disk back d ≡ Some told → (closing : List Call) × (told ≡ s.now.calls d ++ closing) × All IsClosing closing
-  told-behind d told is = closes-behind disk (calls_of disk closed.devices.items d) (s.now.calls d) told (s.leaves.calls d) (subst (λ o. ClosesOn (calls_of disk closed.devices.items d) o) is (e.closes.counted.told d))
+  calls : (c d : ℕ) (told : List Call) → IsLiveOn closed.columns.items c d → calls_of disk back d ≡ Some told → (closing : List Call) × (told ≡ s.now.calls d ++ closing) × EndInTurn (is_live (slice_get v.ending.columns c)) false closing (settled_in_end v.ending.lost)
+  calls c d told live is =
+      turn-behind disk (is_live (slice_get v.ending.columns c)) (settled_in_end v.ending.lost) (calls_of disk closed.devices.items d) (s.now.calls d) told (s.leaves.calls d)
+      (subst (λ o. InTurnOn (is_live (slice_get v.ending.columns c)) false (calls_of disk closed.devices.items d) o (settled_in_end v.ending.lost)) is (e.closes.each c d live))
 
-  pub leaves : LeavesLabelled disk a newest taken v back began s.now
+  first-settled : s.now.lost ≡ None → (c d : ℕ) (told : List Call) → IsLiveOn closed.columns.items c d → calls_of disk back d ≡ Some told → (good : Bool) × (more : List Call) × (told ≡ s.now.calls d ++ call_of 2 0 0 good ∷ more)
+  first-settled none c d told live is =
+      let f = e.first (s.tells.lost ∙ none) in
+      settle-behind disk (calls_of disk closed.devices.items d) (s.now.calls d) told (s.leaves.calls d) (subst (λ o. SettlesFirstOn (calls_of disk closed.devices.items d) o) is
+      (settles-first (is_live (slice_get f.mid c)) (calls_of disk closed.devices.items d) (calls_of disk f.dev d) (calls_of disk back d) (f.settles.once c d (slice_get_within closed.columns.items c _ live) live) (f.closes.counted.told d)))
+
+  others : (d : ℕ) (told : List Call) → ((c : ℕ) → IsLiveOn closed.columns.items c d → ⊥) → calls_of disk back d ≡ Some told → told ≡ s.now.calls d
+  others d told free is = none-behind disk (calls_of disk closed.devices.items d) (s.now.calls d) told (s.leaves.calls d) (ap (λ o. option_and_then disk.calls o) (sym (e.closes.counted.others d free)) ∙ is)
+
+  pub leaves : LeavesLabelled disk a newest taken v back began closed.columns.items s.now
   leaves = record {
     contents = λ tells d n k other kb. same-contents lay disk setup began closed given s v back so tells d n k other ∙ sym (s.leaves.contents tells d n k kb);
-    calls = told-behind;
+    calls = calls;
+    first = first-settled;
+    others = others;
     settled = λ none c d has. e.closes.settled none c d (live-in-end lay disk setup began closed given s v back so c d has);
     frame = frame;
   }

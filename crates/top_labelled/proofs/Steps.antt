@@ -17,7 +17,7 @@ use Rattle.raid_label.specs.declared.label.Label.{Label}
 use Rattle.raid_label.specs.Bytes.{IsHeld}
 use Rattle.raid_script.specs.Replies.{StandFor}
 use Rattle.top_acts.specs.Begun.{CanAct, MayBegin}
-use Rattle.top_acts.specs.Closed.{ClosesLabelled}
+use Rattle.top_acts.specs.Closed.{ClosesLabelled, ClosesSettled}
 use Rattle.top_acts.specs.Failed.{StaysBegun}
 use Rattle.top_close.specs.Dying.{AnyCause}
 use Rattle.top_close.specs.Ended.{states_of, IsLossBy}
@@ -214,13 +214,15 @@ module _ {L D : Type 0} (lay : LayoutGhosts L) (disk : DiskGhosts D) where
   within-closed b room closed can s = subst (λ n. IsColumnWithin b.asked n) (sym (s.causes.dies.count ∙ length-rebuilt b.began b.setup.columns.items)) can.within
 
   pub ended-so : (closed : Closed L D) (label last : Label) (asked : Option Start) (v : Service) (lent back : List (Option D)) → v ≡ service_of closed v.line v.ending → v.line ≡ line_of (lay.shape closed.layout) asked closed.columns.items → lent ≡ closed.devices.items
-      → ClosesLabelled disk (closing_label label) last closed.columns.items v.ending.columns lent back v.ending.lost
+      → ClosesLabelled disk false (closing_label label) last closed.columns.items v.ending.columns lent back v.ending.lost
+      → (closed.lost ≡ None → ClosesSettled disk (closing_label label) last closed.columns.items v.ending.columns lent back v.ending.lost)
       → IsLossBy (lay.shape closed.layout) closed.lost (states_of (lay.shape closed.layout) v.ending.columns) v.ending.lost
       → HasEnded lay disk closed label asked v back
-  ended-so closed label last asked v lent back told line is closes lost = record {
+  ended-so closed label last asked v lent back told line is closes first lost = record {
     last = last;
     told = told;
     line = line;
-    closes = subst (λ (ds : List (Option D)). ClosesLabelled disk (closing_label label) last closed.columns.items v.ending.columns ds back v.ending.lost) is closes;
+    closes = subst (λ (ds : List (Option D)). ClosesLabelled disk false (closing_label label) last closed.columns.items v.ending.columns ds back v.ending.lost) is closes;
+    first = λ none. subst (λ (ds : List (Option D)). ClosesSettled disk (closing_label label) last closed.columns.items v.ending.columns ds back v.ending.lost) is (first none);
     lost = lost;
   }

@@ -1,5 +1,5 @@
 -- An array with labels once it was begun, and once it was closed.
-use Rattle.std.specs.Prelude.{◌≡◌, ◌<◌, ◌+◌, ◌^◌, ℕ, List, length, Bool, Option, None, Vec}
+use Rattle.std.specs.Prelude.{◌≡◌, ◌<◌, ◌+◌, ◌^◌, ℕ, List, length, Bool, false, Option, None, Vec}
 use Rattle.std.specs.declared.alloc.Global.{Global}
 use Rattle.blk_disk.specs.declared.disk.Disk.{Ghosts as DiskGhosts}
 use Rattle.lay_core.specs.Layout.{Shape, IsLayout}
@@ -16,7 +16,7 @@ use Rattle.raid_label.specs.declared.label.Label.{Label}
 use Rattle.raid_label.specs.Bytes.{IsHeld}
 use Rattle.top_rounds.specs.Settable.{IsSettable}
 use Rattle.top_acts.specs.Begun.{CanAct, HasBegun}
-use Rattle.top_acts.specs.Closed.{ClosesLabelled}
+use Rattle.top_acts.specs.Closed.{ClosesLabelled, ClosesSettled}
 use Rattle.top_acts.specs.Failed.{EndsFailed}
 use Rattle.top_close.specs.Ended.{states_of, IsLossBy}
 use Rattle.top_rounds.specs.Passes.{CanBeLabelled}
@@ -66,12 +66,13 @@ module _ {L D : Type 0} (lay : LayoutGhosts L) (disk : DiskGhosts D) where
     pub held : IsHeld label
     pub counter : label.counter + 65 < 2 ^ 32
 
-  -- What was served was closed: what is told but for columns, loss and line is what was handed back; the line is that of the rebuild that was asked, by the columns as the core was closed; and the loss is that of before, or else of the columns in the end.
+  -- What was served was closed, each device in use being settled first unless the array was lost: what is told but for columns, loss and line is what was handed back; the line is that of the rebuild that was asked, by the columns as the core was closed; and the loss is that of before, or else of the columns in the end.
   pub record HasEnded (closed : Closed L D) (label : Label) (asked : Option Start) (s : Service) (back : List (Option D)) : Type 0 where
     pub last : Label
     pub told : s ≡ service_of closed s.line s.ending
     pub line : s.line ≡ line_of (lay.shape closed.layout) asked closed.columns.items
-    pub closes : ClosesLabelled disk (closing_label label) last closed.columns.items s.ending.columns closed.devices.items back s.ending.lost
+    pub closes : ClosesLabelled disk false (closing_label label) last closed.columns.items s.ending.columns closed.devices.items back s.ending.lost
+    pub first : closed.lost ≡ None → ClosesSettled disk (closing_label label) last closed.columns.items s.ending.columns closed.devices.items back s.ending.lost
     pub lost : IsLossBy (lay.shape closed.layout) closed.lost (states_of (lay.shape closed.layout) s.ending.columns) s.ending.lost
 
   -- what was begun can be served in the room, and closed

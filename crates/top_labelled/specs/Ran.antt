@@ -1,7 +1,8 @@
 -- What a run of clients over an array with labels is, and what it leaves.
-use Rattle.std.specs.Prelude.{◌≡◌, ◌≢◌, ◌⊎◌, ◌<◌, ◌≤◌, ◌+◌, ℕ, List, ◌++◌, length, Bool, true, Option, Some, None, All, slice_get}
+use Rattle.std.specs.Prelude.{◌≡◌, ◌≢◌, ◌⊎◌, ◌<◌, ◌≤◌, ◌+◌, ℕ, List, ◌∷◌, ◌++◌, length, Bool, true, false, Option, Some, None, slice_get}
 use Rattle.blk_disk.specs.declared.disk.Call.{Call}
 use Rattle.blk_disk.specs.declared.disk.Disk.{Ghosts}
+use Rattle.blk_disk.specs.Disk.{call_of}
 use Rattle.blk_disk.specs.Devices.{size_of, sector_of, contents_of, calls_of, RisesOn, Changes}
 use Rattle.lay_core.specs.Layout.{Shape}
 use Rattle.eng_array.specs.declared.start.Start.{Start}
@@ -18,11 +19,12 @@ use Rattle.eng_world.specs.Rows.{IsInRows}
 use Rattle.raid_label.specs.declared.label.Label.{Label}
 use Rattle.raid_label.specs.Bytes.{bytes_of}
 use Rattle.raid_recon.specs.Counts.{count_below, is_stripe_of}
-use Rattle.top_acts.specs.Begun.{MayBegin}
+use Rattle.top_acts.specs.Begun.{HasSeats, MayBegin}
+use Rattle.top_acts.specs.Closed.{settled_in_end}
 use Rattle.top_acts.specs.Failed.{EndsFailed}
-use Rattle.top_acts.specs.Stages.{IsClosing}
+use Rattle.top_acts.specs.Stages.{EndInTurn}
 use Rattle.top_close.specs.Calls.{EndsSettled}
-use Rattle.top_close.specs.Settled.{IsLiveOn}
+use Rattle.top_close.specs.Settled.{IsLiveOn, is_live}
 use Rattle.top_rounds.specs.Labels.{for_column, seats_of, with_round}
 use Rattle.top_rounds.specs.Passes.{HoldsLabel, LosesDevice}
 use Rattle.top_rounds.specs.Rounds.{HaveFailed, clean_in_end}
@@ -62,32 +64,28 @@ module _ {D : Type 0} (g : Ghosts D) (a : Work) (newest : Label) (taken : List (
     abbrev pub MayChangeLabelled : Option Start → ℕ → ℕ → Type 0
     MayChangeLabelled began d n = ((((c : ℕ) × HasDevice (states_in a) c d) ⊎ GoesOnto began d) × ((n ≡ 0) ⊎ IsInRows a.layout n)) ⊎ (size_of g taken d ≤ n)
 
-    -- Devices hold what they do at the run's end, but for labels, and have changed nowhere else since they were taken. Of the calls that they tell those behind the run's are settles and label writes; and where the array isn't lost each device of a column in the end has been settled last.
-    pub record LeavesLabelled (began : Option Start) (now : World) : Type 0 where
+    -- Devices hold what they do at the run's end, but for labels, and have changed nowhere else since they were taken. `kept` are the columns as the core was closed. Behind the run the device of each that was live was called in turn: label writes, and settles none of which comes right behind another, all of which went well, but that the last failed where the column isn't live in the end. Where the array wasn't lost in the run the first is a settle; where it isn't lost in the end the last of a device in use is one. No other device was called.
+    pub record LeavesLabelled (began : Option Start) (kept : List Column) (now : World) : Type 0 where
       pub contents : g.tells → (d n k : ℕ) → n ≢ 0 → k < 512 → contents_of g back d n k ≡ now.contents d n k
-      pub calls : (d : ℕ) (told : List Call) → calls_of g back d ≡ Some told → (closing : List Call) × (told ≡ now.calls d ++ closing) × All IsClosing closing
+      pub calls : (c d : ℕ) (told : List Call) → IsLiveOn kept c d → calls_of g back d ≡ Some told → (closing : List Call) × (told ≡ now.calls d ++ closing) × EndInTurn (is_live (slice_get s.ending.columns c)) false closing (settled_in_end s.ending.lost)
+      pub first : now.lost ≡ None → (c d : ℕ) (told : List Call) → IsLiveOn kept c d → calls_of g back d ≡ Some told → (good : Bool) × (more : List Call) × (told ≡ now.calls d ++ call_of 2 0 0 good ∷ more)
+      pub others : (d : ℕ) (told : List Call) → ((c : ℕ) → IsLiveOn kept c d → ⊥) → calls_of g back d ≡ Some told → told ≡ now.calls d
       pub settled : s.ending.lost ≡ None → (c d : ℕ) → HasDevice (states_of a.layout s.ending.columns) c d → EndsSettled (calls_of g back d)
       pub frame : Changes g (MayChangeLabelled began) taken back
 
-    -- sector 0 of the device holds a label that was written in this call, in a round no later than that of this label
-    pub record HoldsSome (last : Label) (d : ℕ) : Type 0 where
-      pub label : Label
-      pub col : ℕ
-      pub holds : sector_of g back d 0 ≡ bytes_of (for_column label col)
-      pub label_is : label ≡ with_round newest label.counter label.clean label.seats
-      pub newer : newest.counter + 1 ≤ label.counter
-      pub older : label.counter ≤ last.counter
-
-    -- Two rounds are named: the label of the last has a counter that is greater by two, and by at most one more for each device whose count of faults rose. It is clean unless the array is lost. Each device in use in the end has it; else the seats are those of the columns in the end. Another device whose count of faults didn't rise has what it had, or a label of this call.
-    pub record IsRelabelled (last : Label) : Type 0 where
+    -- Two rounds are named: the label of the last has a counter that is greater by two, and by at most one more for each device whose count of faults rose. It is clean unless the array is lost. Its seats are those of the columns of its round, which are those in the end unless the array is lost. Each device in use in the end has it. Another device whose count of faults didn't rise has what it had, or, of its own column, the label of the opening round, which is older.
+    pub record IsRelabelled (begun kept : List Column) (first last : Label) : Type 0 where
       pub rises : List ℕ
       pub failed : HaveFailed g taken back rises
       pub least : newest.counter + 2 ≤ last.counter
       pub most : last.counter ≤ newest.counter + 2 + length rises
+      pub later : first.counter + 1 ≤ last.counter
       pub label_is : last ≡ with_round newest last.counter (clean_in_end s.ending.lost 1) last.seats
       pub seats : s.ending.lost ≡ None → last.seats ≡ seats_of s.ending.columns
+      pub seated : HasSeats g last kept s.ending.columns taken back
       pub held : (c d : ℕ) → IsLiveOn s.ending.columns c d → HoldsLabel g back last c d
-      pub rest : g.tells → (d : ℕ) → 1 ≤ size_of g taken d → (RisesOn g taken back d → ⊥) → (sector_of g back d 0 ≡ sector_of g taken d 0) ⊎ HoldsSome last d
+      pub rest : g.tells → (d : ℕ) → 1 ≤ size_of g taken d → ((c : ℕ) → IsLiveOn s.ending.columns c d → ⊥) → (RisesOn g taken back d → ⊥)
+          → (sector_of g back d 0 ≡ sector_of g taken d 0) ⊎ ((c : ℕ) × IsLiveOn begun c d × (sector_of g back d 0 ≡ bytes_of (for_column first c)))
 
     -- the device onto which the rebuild goes was the column's own, and has failed as the array was begun
     pub record HasFailedSince (opened : List (Option D)) : Type 0 where
@@ -115,9 +113,9 @@ module _ {D : Type 0} (g : Ghosts D) (a : Work) (newest : Label) (taken : List (
       pub run : Runs g (opened_as a (without a.start begun) began) opened s back
       pub line : s.line ≡ line_of a.layout a.start run.ends.kept
       pub holds : HoldsBlocks g a newest taken opened begun run.start.blocks
-      pub leaves : LeavesLabelled began run.now
+      pub leaves : LeavesLabelled began run.ends.kept run.now
       pub since : Changes g (MayChangeLabelled began) opened back
-      pub labels : IsRelabelled last
+      pub labels : IsRelabelled begun run.ends.kept first last
       pub dies : Dies (λ c. WasFailed run.now c ⊎ (RisesAt g a taken s back c ⊎ IsToldUnbuilt c)) (with_rebuilt a.start a.columns) s.ending.columns
 
   -- ## No run

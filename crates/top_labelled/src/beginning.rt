@@ -9,6 +9,8 @@ use eng_array::{Loss, Setup, Start};
 use eng_cols::Cols;
 use lay_core::Layout;
 use raid_label::Label;
+use raid_progress::Progress;
+use raid_recon::SweepRoom;
 use top_close::Ending;
 
 /// An array that was begun: what is to be served over it, the label that was written last, what its
@@ -25,7 +27,10 @@ pub(crate) struct Started<L, D> {
 
 /// Writes the opening round, sweeps the check units where the newest label isn't clean, and lets the
 /// column die that is to be rebuilt.
-pub(crate) fn begun<L: Layout + Drop, D: Disk + Drop>(labelled: Labelled<L, D>) -> Started<L, D>
+pub(crate) fn begun<L: Layout + Drop, D: Disk + Drop, P: Progress>(
+    labelled: Labelled<L, D>,
+    progress: &P,
+) -> Started<L, D>
     requires { CanRunLabelled L.Layout D.Disk labelled }
     ensures { IsBegun L.Layout D.Disk labelled result }
 {
@@ -33,7 +38,7 @@ pub(crate) fn begun<L: Layout + Drop, D: Disk + Drop>(labelled: Labelled<L, D>) 
         setup,
         mut label,
         mut judge,
-        mut room,
+        room,
         start,
         failed,
     } = labelled;
@@ -49,6 +54,7 @@ pub(crate) fn begun<L: Layout + Drop, D: Disk + Drop>(labelled: Labelled<L, D>) 
         columns,
         lost: None,
     };
+    let mut room = SweepRoom::new(room, progress);
     let began = opened(
         AskedRebuild { start, failed },
         &layout,

@@ -14,7 +14,8 @@ use eng_array::Start;
 use eng_cols::Cols;
 use lay_core::Layout;
 use raid_label::Label;
-use raid_recon::Room;
+use raid_progress::Progress;
+use raid_recon::SweepRoom;
 use top_acts::{begin_labelled, fail_column};
 use top_close::Ending;
 
@@ -59,13 +60,13 @@ fn fail_asked<L: Layout, D: Disk>(
 /// Writes the opening round, and sweeps the check units where the newest label isn't clean. Then the
 /// column is dead that is to be rebuilt, and where the array is lost by that, its one round is
 /// written. Says what begins of the rebuild.
-pub(crate) fn opened<L: Layout, D: Disk>(
+pub(crate) fn opened<L: Layout, D: Disk, P: Progress>(
     asked: AskedRebuild,
     layout: &L,
     devices: &mut [Option<D>],
     ending: &mut Ending,
     label: &mut Label,
-    room: &mut Room,
+    room: &mut SweepRoom<P>,
     judge: &mut Cols,
 ) -> Option<Start>
     requires within { IsColumnWithin asked.start (length ending.old.columns.items) }

@@ -10,6 +10,7 @@ use crate::labelled::{Labelled, Outcome};
 use blk_disk::Disk;
 use eng_array::{CoreRoom, Setup};
 use lay_core::Layout;
+use raid_progress::Progress;
 use std::alloc::Global;
 use std::sync::Wait;
 use std::thread::Threads;
@@ -24,16 +25,24 @@ use top_serve::{room_for, serve_in};
 /// labels are written anew. Where the array is lost by its end, or was in the run, one round is
 /// written that isn't clean, and nothing is settled behind it.
 ///
+/// `progress` is told after each stripe how far the sweep is, and then how many items have a reply.
+///
 /// An array that is lost as it is begun, or as that column dies, isn't served: its last round isn't
 /// clean either.
 ///
 /// The only error is want of memory. All that the run takes is taken first, so that what was handed
 /// in then comes back as it was.
-pub fn run_labelled<L: Layout + Drop + Send, D: Disk + Drop + Send, R: Threads + Wait + Sync>(
+pub fn run_labelled<
+    L: Layout + Drop + Send,
+    D: Disk + Drop + Send,
+    R: Threads + Wait + Sync,
+    P: Progress + Sync,
+>(
     rt: &R,
     alloc: Global,
     labelled: Labelled<L, D>,
     workers: u32,
+    progress: &P,
 ) -> Result<(Outcome, Vec<Option<D>>), Labelled<L, D>>
     requires workers { workers ≤ 16 }
     requires can { CanRunLabelled L.Layout D.Disk labelled }
@@ -45,11 +54,11 @@ pub fn run_labelled<L: Layout + Drop + Send, D: Disk + Drop + Send, R: Threads +
     let Some(room) = room_for(alloc, &labelled.setup) else {
         return Err(labelled);
     };
-    let started = begun(labelled);
+    let started = begun(labelled, progress);
     if started.lost.is_some() {
         return Ok(lost(started));
     }
-    let (service, devices) = served(rt, alloc, started, room, workers);
+    let (service, devices) = served(rt, alloc, started, room, workers, progress);
     Ok((Outcome::Ran(service), devices))
 }
 
@@ -67,12 +76,18 @@ fn lost<L: Layout + Drop, D: Disk + Drop>(started: Started<L, D>) -> (Outcome, V
 }
 
 // What was begun is served in the room, and closed.
-fn served<L: Layout + Drop + Send, D: Disk + Drop + Send, R: Threads + Wait + Sync>(
+fn served<
+    L: Layout + Drop + Send,
+    D: Disk + Drop + Send,
+    R: Threads + Wait + Sync,
+    P: Progress + Sync,
+>(
     rt: &R,
     alloc: Global,
     started: Started<L, D>,
     room: CoreRoom<D>,
     workers: u32,
+    progress: &P,
 ) -> (Service, Vec<Option<D>>)
     requires workers { workers ≤ 16 }
     requires can { CanServe L.Layout D.Disk started room }
@@ -87,6 +102,6 @@ fn served<L: Layout + Drop + Send, D: Disk + Drop + Send, R: Threads + Wait + Sy
         began,
         ..
     } = started;
-    let closed = serve_in(rt, alloc, setup, room, began, workers);
+    let closed = serve_in(rt, alloc, setup, room, began, workers, progress);
     ended(closed, label, judge, asked)
 }

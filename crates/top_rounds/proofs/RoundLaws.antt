@@ -1,6 +1,7 @@
 -- Rounds that follow one another.
-use Rattle.std.proofs.Common.{◌≡◌, ◌≢◌, ◌⊎◌, ◌∙◌, ℕ, suc, ◌+◌, ◌≤◌, true, false, cond, List, [], ◌∷◌, ◌++◌, length, get_or, Option, Some, None, refl, sym, ap, subst, inl, inr, arith, append-nil, take, drop}
-use Rattle.std.specs.Prelude.{All, IsSome, count_by, is_some, set, slice_get}
+use Rattle.std.proofs.Common.{◌≡◌, ◌≢◌, ◌⊎◌, ◌∙◌, ℕ, suc, ◌+◌, ◌<◌, ◌≤◌, true, false, cond, List, [], ◌∷◌, ◌++◌, length, get_or, Option, Some, None, refl, sym, ap, subst, inl, inr, arith, append-nil, take, drop}
+use Rattle.std.specs.Prelude.{All, IsSome, count_by, is_some, option_and_then, set, slice_get}
+use Rattle.std.proofs.lemmas.Bool.{cases_lt}
 use Rattle.std.proofs.lemmas.List.{drop_all, length-append, take_all}
 use Rattle.std.proofs.lemmas.List.Elements.{All-from_get_or, All-get_or, All-nil, All-push, All-weaker}
 use Rattle.std.proofs.lemmas.List.Quantifiers.{all_pairs_push}
@@ -24,9 +25,9 @@ use Rattle.top_close.specs.Settled.{HaveDevices, IsLiveOn, is_live}
 use Rattle.top_rounds.specs.Labels.{IsNumbered, seats_of, with_round}
 use Rattle.top_rounds.specs.Passes.{AreLabelled, CanBeLabelled, EndsByDeath, EndsPass, IsFirstInUse, LosesDevice}
 use Rattle.top_rounds.specs.Rounds.{AreRounds, HaveRounds, HaveTried, IsInUse, IsUncalled, clean_in_end, live_count}
-use Rattle.top_rounds.specs.Calls.{WritesOn}
+use Rattle.top_rounds.specs.Calls.{WritesOn, WritesTo, WritesUntil}
 use Rattle.top_rounds.specs.Settable.{IsSettable}
-use Rattle.top_rounds.proofs.CallLaws.{writes_on-refl, writes_on-then}
+use Rattle.top_rounds.proofs.CallLaws.{to-until, well-none, well-to, writes_on-refl, writes_on-then}
 use Rattle.top_rounds.proofs.PassLaws.{live_before, set_here}
 
 -- ## Columns that die
@@ -119,9 +120,11 @@ module _ {D : Type 0} (g : Ghosts D) where
     others = λ d none. refl;
     dies = dies-refl (LosesDevice g columns ds ds) columns;
     told = λ d. writes_on-refl (calls_of g ds d);
+    each = λ c d live. subst (λ b. WritesUntil b (calls_of g ds d) (calls_of g ds d)) (sym (ap is_live live)) (well-none (calls_of g ds d));
   }
 
-  module _ (label before next : Label) (columns mid after : List Column) (old dev new : List (Option D)) (tried : HaveTried g label before columns mid old dev) (n : ℕ) (pass : AreLabelled g n next mid after dev new) where
+  module _ (label before next : Label) (columns mid after : List Column) (old dev new : List (Option D)) (tried : HaveTried g label before columns mid old dev) (n : ℕ) (pass : AreLabelled g n next mid after dev new)
+      (apart : (c k d : ℕ) → IsLiveOn columns c d → IsLiveOn columns k d → c ≡ k) where
     in_use : Changes g (IsFirstInUse columns) dev new
     in_use = changes-more g (IsFirstInUse mid) (IsFirstInUse columns) dev new (λ d m h. record { col = h.col; live = live_before (LosesDevice g columns old dev) columns mid h.col d tried.dies h.live; first = h.first }) pass.frame
 
@@ -146,6 +149,50 @@ module _ {D : Type 0} (g : Ghosts D) where
     told : (d : ℕ) → WritesOn (calls_of g old d) (calls_of g new d)
     told d = writes_on-then (calls_of g old d) (calls_of g dev d) (calls_of g new d) (tried.told d) (pass.told d)
 
+    abbrev To : ℕ → ℕ → Type 0
+    To c d = WritesTo (is_live (slice_get after c)) (calls_of g old d) (calls_of g new d)
+
+    -- the column of a live one is dead behind the rounds that were tried, and so in the end
+    dead_in_end : (c : ℕ) → slice_get mid c ≡ Some column.Dead → slice_get after c ≡ Some column.Dead
+    dead_in_end c dead = elim (pass.dies.each c) [ inl same ↦ same ∙ dead | inr gone ↦ gone.0 ]
+
+    -- a device whose column died as rounds were tried isn't called any more
+    each_dead : (c d : ℕ) → IsLiveOn columns c d → slice_get mid c ≡ Some column.Dead → WritesTo false (calls_of g old d) (calls_of g dev d) → To c d
+    each_dead c d live dead was =
+        let free : (k : ℕ) → k < n → IsLiveOn mid k d → ⊥ = λ k below other.
+        let same : c ≡ k = apart c k d live (live_before (LosesDevice g columns old dev) columns mid k d tried.dies other) in
+        let z : true ≡ false = ap is_live (sym other ∙ (ap (slice_get mid) (sym same) ∙ dead)) in absurd (let u : ⊥ = cc in u) in
+        subst (λ b. WritesTo b (calls_of g old d) (calls_of g new d)) (sym (ap is_live (dead_in_end c dead)))
+        (subst (λ o. WritesTo false (calls_of g old d) o) (ap (λ o. option_and_then g.calls o) (sym (pass.others d free))) was)
+
+    each_called : (c d : ℕ) → IsLiveOn columns c d → c < n → To c d
+    each_called c d live below = elim (tried.dies.each c) [
+      | inr dead ↦ each_dead c d live dead.0 (subst (λ b. WritesUntil b (calls_of g old d) (calls_of g dev d)) (ap is_live dead.0) (tried.each c d live))
+      | inl same ↦
+          let here : IsLiveOn mid c d = same ∙ live in
+          well-to (is_live (slice_get after c)) (calls_of g old d) (calls_of g dev d) (calls_of g new d) (subst (λ b. WritesUntil b (calls_of g old d) (calls_of g dev d)) (ap is_live here) (tried.each c d live)) (pass.once c d below here)
+    ]
+
+    -- behind the pass
+    each_passed : (c d : ℕ) → IsLiveOn columns c d → n ≤ c → WritesUntil (is_live (slice_get after c)) (calls_of g old d) (calls_of g new d)
+    each_passed c d live past = elim (tried.dies.each c) [
+      | inr dead ↦ to-until (is_live (slice_get after c)) (calls_of g old d) (calls_of g new d)
+          (each_dead c d live dead.0 (subst (λ b. WritesUntil b (calls_of g old d) (calls_of g dev d)) (ap is_live dead.0) (tried.each c d live)))
+      | inl same ↦
+          let here : IsLiveOn mid c d = same ∙ live in
+          let end : is_live (slice_get after c) ≡ is_live (slice_get mid c) = ap is_live (pass.left c past) in
+          let free : (k : ℕ) → k < n → IsLiveOn mid k d → ⊥ = λ k below other.
+          let equal : c ≡ k = apart c k d live (live_before (LosesDevice g columns old dev) columns mid k d tried.dies other) in omega (arith, below, past, equal) in
+          subst (λ b. WritesUntil b (calls_of g old d) (calls_of g new d)) (sym end)
+          (subst (λ o. WritesUntil (is_live (slice_get mid c)) (calls_of g old d) o) (ap (λ o. option_and_then g.calls o) (sym (pass.others d free))) (tried.each c d live))
+    ]
+
+    each_until : (c d : ℕ) → IsLiveOn columns c d → WritesUntil (is_live (slice_get after c)) (calls_of g old d) (calls_of g new d)
+    each_until c d live = elim (cases_lt c n) [
+      | inl below ↦ to-until (is_live (slice_get after c)) (calls_of g old d) (calls_of g new d) (each_called c d live below)
+      | inr past ↦ each_passed c d live past
+    ]
+
     -- one round more, of all columns
     pub rounds_are : n ≡ length mid → next.counter ≡ before.counter + 1 → next.seats ≡ seats_of mid → AreRounds g label next columns mid after old new
     rounds_are all counter seats = record {
@@ -163,6 +210,7 @@ module _ {D : Type 0} (g : Ghosts D) where
       began = died_before;
       ended = died_behind;
       told = told;
+      each = λ c d live. each_called c d live (omega (arith, all, tried.dies.count, slice_get_within columns c _ live));
     }
 
     -- one round more, that ended by a death
@@ -189,6 +237,7 @@ module _ {D : Type 0} (g : Ghosts D) where
           others = others;
           dies = dies-then (LosesDevice g columns old new) columns mid after died_before died_behind;
           told = told;
+          each = each_until;
         }
 
     -- one round more, and no write failed

@@ -1,5 +1,5 @@
 -- Rounds of labels, one behind the other, until one is whole or the array is lost.
-use Rattle.std.specs.Prelude.{◌≡◌, ◌≢◌, ◌≤◌, ◌+◌, ℕ, List, length, Option, Some, None, All, AllPairs, count_by}
+use Rattle.std.specs.Prelude.{◌≡◌, ◌≢◌, ◌≤◌, ◌+◌, ℕ, List, length, Option, Some, None, All, AllPairs, count_by, slice_get}
 use Rattle.blk_disk.specs.declared.disk.Disk.{Ghosts}
 use Rattle.blk_disk.specs.Devices.{device_at, calls_of, RisesOn, Changes}
 use Rattle.eng_cols.specs.declared.column.Column.{Column}
@@ -7,7 +7,7 @@ use Rattle.eng_cols.specs.declared.spot.Loss.{Loss}
 use Rattle.eng_cols.specs.Deaths.{Dies}
 use Rattle.raid_label.specs.declared.label.Label.{Label}
 use Rattle.top_close.specs.Settled.{IsLiveOn, is_live}
-use Rattle.top_rounds.specs.Calls.{WritesOn}
+use Rattle.top_rounds.specs.Calls.{WritesOn, WritesTo, WritesUntil}
 use Rattle.top_rounds.specs.Labels.{seats_of}
 use Rattle.top_rounds.specs.Passes.{HoldsLabel, IsFirstInUse, LosesDevice}
 
@@ -35,7 +35,7 @@ module _ {D : Type 0} (g : Ghosts D) where
     pub apart : AllPairs (λ d e. d ≢ e) rises
     pub rose : All (RisesOn g old new) rises
 
-  -- Rounds were tried, and each ended by a failed write: the counter is greater by one for each, and the devices that failed were in use and are no column's now.
+  -- Rounds were tried, and each ended by a failed write: the counter is greater by one for each, and the devices that failed were in use and are no column's now. A device that was in use had no call behind one that failed.
   pub record HaveTried (label next : Label) (columns mid : List Column) (old new : List (Option D)) : Type 0 where
     pub rises : List ℕ
     pub counter : next.counter ≡ label.counter + length rises
@@ -47,8 +47,9 @@ module _ {D : Type 0} (g : Ghosts D) where
     pub others : IsUncalled columns old new
     pub dies : Dies (LosesDevice g columns old new) columns mid
     pub told : (d : ℕ) → WritesOn (calls_of g old d) (calls_of g new d)
+    pub each : (c d : ℕ) → IsLiveOn columns c d → WritesUntil (is_live (slice_get mid c)) (calls_of g old d) (calls_of g new d)
 
-  -- Rounds were written. The counter is greater by at least 1, and by at most 1 more for each device that was in use, whose count of faults rose, and that is no column's in the end. The last round began with the columns `mid`, and each column that is live in the end has its label.
+  -- Rounds were written. The counter is greater by at least 1, and by at most 1 more for each device that was in use, whose count of faults rose, and that is no column's in the end. The last round began with the columns `mid`, and each column that is live in the end has its label. Each device that was in use had some call; of these all went well but the last, which did exactly where the column is live in the end.
   pub record AreRounds (label next : Label) (columns mid after : List Column) (old new : List (Option D)) : Type 0 where
     pub rises : List ℕ
     pub failed : HaveFailed old new rises
@@ -64,6 +65,7 @@ module _ {D : Type 0} (g : Ghosts D) where
     pub began : Dies (LosesDevice g columns old new) columns mid
     pub ended : Dies (LosesDevice g columns old new) mid after
     pub told : (d : ℕ) → WritesOn (calls_of g old d) (calls_of g new d)
+    pub each : (c d : ℕ) → IsLiveOn columns c d → WritesTo (is_live (slice_get after c)) (calls_of g old d) (calls_of g new d)
 
   -- the last round of an array that isn't lost began with the columns of the end; that of a lost one with some that it may have left dead
   abbrev pub HaveRounds : Option Loss → Label → Label → List Column → List Column → List (Option D) → List (Option D) → Type 0

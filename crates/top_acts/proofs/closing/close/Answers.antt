@@ -1,13 +1,14 @@
-use Rattle.std.proofs.Common.{◌∙◌, ap, refl, arith}
+use Rattle.std.proofs.Common.{◌∙◌, ap, refl, true, arith}
 use Rattle.raid_label.specs.declared.label.Label.{Label}
 use Rattle.top_rounds.specs.Labels.{with_round}
 use Rattle.top_rounds.specs.Passes.{IsFirstInUse, LosesDevice}
 use Rattle.top_rounds.proofs.RoundLaws.{any_death, can-after, settable_after}
-use Rattle.top_acts.proofs.Closes.{broken_again, closed_then, counted-none, few, label_again, still_held}
+use Rattle.top_acts.proofs.Closes.{broken_again, closed_then, counted-none, few, label_again, still_held, turns_again}
+use Rattle.top_acts.proofs.InTurn.{in_turn-none}
 use Rattle.top_acts.proofs.closing.close.Goals as goal
 
 pub loop-init : goal.loop-init
-loop-init g c = record { counted = counted-none g.D.Disk c.args.label.now c.args.ending.now.columns.items c.args.devices.now; same = refl; judge = c.requires.judge }
+loop-init g c = record { counted = counted-none g.D.Disk c.args.label.now c.args.ending.now.columns.items c.args.devices.now; each = in_turn-none g.D.Disk true c.args.ending.now.columns.items c.args.devices.now; same = refl; judge = c.requires.judge }
 
 pub try_close-requires-clause-array : goal.try_close-requires-clause-array
 try_close-requires-clause-array g c =
@@ -35,6 +36,7 @@ loop-preserved g c =
     let was = c.loop.invariant.counted in
     record {
       counted = broken_again g.D.Disk c.args.label.now l.label c.try_close.new.label c.args.ending.now.columns.items l.ending.columns.items c.try_close.new.ending.columns.items c.args.devices.now l.devices c.try_close.new.devices was l.invariant.same b;
+      each = turns_again g.D.Disk c.args.label.now l.label c.try_close.new.label c.args.ending.now.columns.items l.ending.columns.items c.try_close.new.ending.columns.items c.args.devices.now l.devices c.try_close.new.devices was l.invariant.same true c.requires.array.have.apart l.invariant.each b;
       same = label_again g.D.Disk c.args.label.now l.label c.try_close.new.label c.args.ending.now.columns.items l.ending.columns.items c.try_close.new.ending.columns.items c.args.devices.now l.devices c.try_close.new.devices was l.invariant.same c.args.label.now.clean
           (b.label_is ∙ ap (λ k. with_round l.label c.try_close.new.label.counter k c.try_close.new.label.seats) (ap (λ (x : Label). x.clean) l.invariant.same));
       judge = c.loop-test.ensures.judge;
@@ -45,4 +47,4 @@ loop-smaller g c = c.loop-test.ensures.tried.fewer
 
 pub returns-clause-closed : goal.returns-clause-closed
 returns-clause-closed g c =
-    closed_then g.D.Disk c.args.label.now c.loop.label c.try_close.new.label c.args.ending.now.columns.items c.loop.ending.columns.items c.try_close.new.ending.columns.items c.args.devices.now c.loop.devices c.try_close.new.devices c.loop.invariant.counted c.loop.invariant.same c.try_close.new.ending.lost c.loop-test.ensures.tried
+    closed_then g.D.Disk c.args.label.now c.loop.label c.try_close.new.label c.args.ending.now.columns.items c.loop.ending.columns.items c.try_close.new.ending.columns.items c.args.devices.now c.loop.devices c.try_close.new.devices c.loop.invariant.counted c.loop.invariant.same true c.try_close.new.ending.lost c.requires.array.have.apart c.loop.invariant.each c.loop-test.ensures.tried

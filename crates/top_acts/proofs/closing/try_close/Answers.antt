@@ -8,6 +8,7 @@ use Rattle.top_rounds.proofs.RoundLaws.{can-after}
 use Rattle.top_acts.proofs.Closes.{counted-none}
 use Rattle.top_acts.proofs.Counted.{counted_rounds}
 use Rattle.top_acts.proofs.Ended.{clean_lost, closed_lost, rounds_of}
+use Rattle.top_acts.proofs.InTurn.{in_turn-none}
 use Rattle.top_acts.proofs.Tried.{none_of, tried}
 use Rattle.top_acts.proofs.closing.try_close.Goals as goal
 
@@ -28,7 +29,7 @@ returns-clause-tried g c =
     let can = can-after g.D.Disk (LosesDevice g.D.Disk columns old dev) (IsFirstInUse columns) columns mid old dev rounds.began rounds.frame c.requires.array in
     tried g.D.Disk y label next columns mid after old dev c.end_unlabelled.new.devices c.end_unlabelled.new.ending.lost rounds is can.have kept
     (subst (λ o. IsLossBy y o (states_of y after) c.end_unlabelled.new.ending.lost) none c.end_unlabelled.ensures.lost)
-    c.end_unlabelled.ensures.settled c.end_unlabelled.ensures.last _
+    c.requires.array.have.apart c.end_unlabelled.ensures.settled c.end_unlabelled.ensures.last _
     (λ e. omega (arith, eqb-true c.count_live.result c.count_live-live.result e, c.count_live.ensures, c.count_live-live.ensures, ap live_count c.deref.ensures.value, ap live_count c.deref-2.ensures.value))
     (λ e same.
     let equal : c.count_live.result ≡ c.count_live-live.result = omega (arith, same, c.count_live.ensures, c.count_live-live.ensures, ap live_count c.deref.ensures.value, ap live_count c.deref-2.ensures.value) in
@@ -42,7 +43,7 @@ returns-then-is_some-clause-tried g c =
     let columns = c.args.ending.now.columns.items in
     let old = c.args.devices.now in
     let some = sym c.is_some.ensures ∙ c.if-is_some.true in
-    closed_lost g.D.Disk lost label next columns columns c.round.new.ending.columns.items old old c.round.new.devices some (counted-none g.D.Disk label columns old)
+    closed_lost g.D.Disk true true lost label next columns columns c.round.new.ending.columns.items old old c.round.new.devices c.requires.array.have.apart (in_turn-none g.D.Disk true columns old) some (counted-none g.D.Disk label columns old)
     (c.round.ensures.label ∙ ap (λ k. with_round label next.counter k next.seats) (clean_lost lost label.clean some)) c.round.ensures.rounds
 
 pub end_unlabelled-requires-clause-devices : goal.end_unlabelled-requires-clause-devices

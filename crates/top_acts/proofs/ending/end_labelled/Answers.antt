@@ -1,9 +1,10 @@
-use Rattle.std.proofs.Common.{◌∙◌, ap, sym}
+use Rattle.std.proofs.Common.{◌∙◌, ap, sym, false}
 use Rattle.std.specs.Prelude.{is_some}
 use Rattle.top_close.specs.Ended.{states_of}
 use Rattle.top_rounds.specs.Labels.{with_round}
 use Rattle.top_acts.proofs.Closes.{counted-none}
 use Rattle.top_acts.proofs.Ended.{clean_lost, closed_lost, kept_loss, no_loss}
+use Rattle.top_acts.proofs.InTurn.{in_turn-none}
 use Rattle.top_acts.proofs.ending.end_labelled.Goals as goal
 
 pub returns-then-is_some-clause-closed : goal.returns-then-is_some-clause-closed
@@ -15,7 +16,7 @@ returns-then-is_some-clause-closed g c =
     let after = c.round.new.ending.columns.items in
     let old = c.args.devices.now in
     let some = kept_loss (g.L.Layout.shape c.args.layout.now) (states_of (g.L.Layout.shape c.args.layout.now) after) c.args.ending.now.lost lost (sym c.is_some.ensures ∙ c.if-is_some.true) c.round.ensures.lost in
-    closed_lost g.D.Disk lost label next columns columns after old old c.round.new.devices some (counted-none g.D.Disk label columns old)
+    closed_lost g.D.Disk false false lost label next columns columns after old old c.round.new.devices c.requires.array.have.apart (in_turn-none g.D.Disk false columns old) some (counted-none g.D.Disk label columns old)
     (c.round.ensures.label ∙ ap (λ k. with_round label next.counter k next.seats) (clean_lost lost label.clean some)) c.round.ensures.rounds
 
 pub returns-then-is_some-clause-first : goal.returns-then-is_some-clause-first

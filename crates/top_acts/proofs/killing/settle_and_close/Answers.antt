@@ -1,8 +1,8 @@
-use Rattle.std.proofs.Common.{refl, inl, length, arith}
+use Rattle.std.proofs.Common.{◌∙◌, ap, length, refl}
+use Rattle.std.specs.Prelude.{not}
 use Rattle.top_rounds.specs.Passes.{IsFirstInUse, LosesDevice}
 use Rattle.top_rounds.proofs.RoundLaws.{can-after}
-use Rattle.top_acts.proofs.Closes.{closed_then, counted-none}
-use Rattle.top_acts.proofs.Counted.{counted-then}
+use Rattle.top_acts.proofs.Kills.{ends_closed, ends_left}
 use Rattle.top_acts.proofs.Settled.{settled}
 use Rattle.top_acts.proofs.killing.settle_and_close.Goals as goal
 
@@ -15,11 +15,11 @@ close-requires-clause-array g c =
 
 pub returns-then-is_none-clause-ends : goal.returns-then-is_none-clause-ends
 returns-then-is_none-clause-ends g c =
-    let label = c.args.label.now in
-    let columns = c.args.ending.now.columns.items in
-    let mid = c.end_unlabelled.new.ending.columns.items in
-    let old = c.args.devices.now in
-    let dev = c.end_unlabelled.new.devices in
-    let quiet = settled g.D.Disk (length columns) columns mid old dev c.end_unlabelled.ensures.settled refl in
-    let was = counted-then g.D.Disk 0 label label label columns columns mid old old dev (counted-none g.D.Disk label columns old) quiet 0 (omega arith) (omega arith) in
-    inl (closed_then g.D.Disk label label c.close.new.label columns mid c.close.new.ending.columns.items old dev c.close.new.devices was refl c.close.new.ending.lost c.close.ensures.closed)
+    let e = c.end_unlabelled in
+    ends_closed g.D.Disk (g.L.Layout.shape c.args.layout.now) c.args.label.now c.close.new.label c.args.ending.now.columns.items e.new.ending.columns.items c.close.new.ending.columns.items c.args.devices.now e.new.devices c.close.new.devices e.new.ending.lost c.close.new.ending.lost
+    e.ensures.settled e.ensures.lost (c.is_none.ensures ∙ ap not c.if-is_none.true) c.close.ensures.closed
+
+pub returns-else-is_none-clause-ends : goal.returns-else-is_none-clause-ends
+returns-else-is_none-clause-ends g c =
+    let e = c.end_unlabelled in
+    ends_left g.D.Disk (g.L.Layout.shape c.args.layout.now) c.args.label.now c.args.ending.now.columns.items e.new.ending.columns.items c.args.devices.now e.new.devices e.new.ending.lost e.ensures.settled e.ensures.lost (c.is_none.ensures ∙ ap not c.if-is_none.false)

@@ -31,4 +31,4 @@ returns-clause-renewed g c =
     let none : b.new.ending.lost ≡ None = none_of b.new.ending.lost (sym c.is_some.ensures ∙ c.if-is_some.false) in
     let lost_is = subst (λ o. IsLossBy y o (states_of y e.new.ending.columns.items) e.new.ending.lost) none e.ensures.lost in
     renewed_closed g.D.Disk c.args.kind y c.args.label.now first (record first { clean = 1 }) e.new.label c.args.ending.now.columns.items b.new.ending.columns.items e.new.ending.columns.items c.args.devices.now b.new.devices e.new.devices b.new.ending.lost e.new.ending.lost b.result c.done.result
-    none refl c.done.ensures lost_is b.ensures.begun e.ensures.closed (e.ensures.first none)
+    none refl refl c.done.ensures lost_is b.ensures.begun e.ensures.closed (e.ensures.first none)

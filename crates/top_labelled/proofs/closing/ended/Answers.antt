@@ -23,4 +23,4 @@ returns g c =
       ending = record { columns = c.end_labelled.new.ending.columns.items; lost = c.end_labelled.new.ending.lost };
     } in
     subst (λ back. HasEnded g.L.Layout g.D.Disk c.args.closed c.args.label c.args.asked v back) (sym (lent-back devices.items new devices.len a))
-    (ended-so g.L.Layout g.D.Disk c.args.closed c.args.label c.end_labelled.new.label c.args.asked v c.as_mut_slice.result.now new refl line c.as_mut_slice.ensures.value c.end_labelled.ensures.closed c.end_labelled.ensures.lost)
+    (ended-so g.L.Layout g.D.Disk c.args.closed c.args.label c.end_labelled.new.label c.args.asked v c.as_mut_slice.result.now new refl line c.as_mut_slice.ensures.value c.end_labelled.ensures.closed c.end_labelled.ensures.first c.end_labelled.ensures.lost)

@@ -38,5 +38,5 @@ returns-clause-rounds g c =
     let lost : NotLost y (states_of y c.last_round.new.columns) → ⊥ = λ kept. c.if-try_rounds.ensures.lost refl (c.deaths_bring_no_unit_back.ensures.lost y (states_of y c.try_rounds.new.columns) (states_of y c.last_round.new.columns) die kept) in
     let is = c.last_round.ensures.label in
     rounds_lost g.D.Disk y (states_of y c.last_round.new.columns) c.loss_of.result c.args.label.now c.last_round.new.label c.args.columns.now c.try_rounds.new.columns c.last_round.new.columns c.args.devices.now c.last_round.new.devices c.loss_of.ensures.lost lost
-    (rounds_are g.D.Disk c.args.label.now c.try_rounds.new.label c.last_round.new.label c.args.columns.now c.try_rounds.new.columns c.last_round.new.columns c.args.devices.now c.try_rounds.new.devices c.last_round.new.devices t _ c.last_round.ensures.pass
+    (rounds_are g.D.Disk c.args.label.now c.try_rounds.new.label c.last_round.new.label c.args.columns.now c.try_rounds.new.columns c.last_round.new.columns c.args.devices.now c.try_rounds.new.devices c.last_round.new.devices t _ c.last_round.ensures.pass c.requires.array.have.apart
     refl (ap (λ (l : Label). l.counter) is) (ap (λ (l : Label). l.seats) is))

@@ -17,7 +17,7 @@ returns-then-try_round-clause-whole g c = λ good.
     let pass = c.if-try_round.ensures.pass in
     let is = c.if-try_round.ensures.label in
     rounds_whole g.D.Disk c.args.label.now c.loop-devices.label c.try_round.new.label c.args.columns.now c.loop-devices.columns c.try_round.new.columns c.args.devices.now c.loop-devices.devices c.try_round.new.devices
-    c.loop-devices.invariant.tried pass.taken pass.labelled pass.ends (ap (λ (l : Label). l.counter) is) (ap (λ (l : Label). l.seats) is)
+    c.loop-devices.invariant.tried pass.taken pass.labelled c.requires.array.have.apart pass.ends (ap (λ (l : Label). l.counter) is) (ap (λ (l : Label). l.seats) is)
 
 pub loop-devices-smaller : goal.loop-devices-smaller
 loop-devices-smaller g c =
@@ -32,7 +32,7 @@ loop-devices-preserved g c =
     let can = can-after g.D.Disk (LosesDevice g.D.Disk c.args.columns.now c.args.devices.now c.loop-devices.devices) (IsFirstInUse c.args.columns.now) c.args.columns.now c.loop-devices.columns c.args.devices.now c.loop-devices.devices t.dies t.frame c.requires.array in
     record {
       tried = tried-more g.D.Disk c.args.label.now c.loop-devices.label c.try_round.new.label c.args.columns.now c.loop-devices.columns c.try_round.new.columns c.args.devices.now c.loop-devices.devices c.try_round.new.devices
-          t pass.taken pass.labelled can.have (ap (λ (l : Label). l.counter) is) pass.ends;
+          t pass.taken pass.labelled c.requires.array.have.apart can.have (ap (λ (l : Label). l.counter) is) pass.ends;
       same = round_kept c.args.label.now c.loop-devices.label c.try_round.new.label _ _ c.loop-devices.invariant.same is;
       judge = c.loop-devices-test.ensures.judge;
     }
