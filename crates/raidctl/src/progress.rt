@@ -1,0 +1,118 @@
+//! How far a long call is, on a terminal.
+use raid_progress::Progress;
+use std::io::IsTerminal;
+use std::sync::atomic::{AtomicU64, Ordering};
+use std::time::{Duration, Instant};
+
+// The clock is looked at each so many times that it is told.
+const LOOK: u64 = 16;
+
+// So many milliseconds from the start on the line is shown,
+const FIRST: u64 = 1000;
+
+// and drawn anew behind so many more.
+const AGAIN: u64 = 200;
+
+/// Shows in one line of standard error how many of all are done, and what is left of the time, where standard error is a
+/// terminal. Nothing is shown in the first second; then the line is drawn at most five times a second, until it is wiped
+/// out at the end. What standard error or the clock refuses changes nothing.
+#[derive(Drop)]
+pub struct TerminalProgress<'a> {
+    rt: &'a HostRuntime,
+    // When it began; None where nothing is shown.
+    start: Option<Instant>,
+    // How often it was told.
+    told: AtomicU64,
+    // In milliseconds from the start: when the line was drawn last, 0 where it isn't there,
+    drawn: AtomicU64,
+    // and when it was first seen told of as many in all.
+    began: AtomicU64,
+    all: AtomicU64,
+}
+
+impl<'a> TerminalProgress<'a> {
+    /// Begins now.
+    pub fn new(rt: &'a HostRuntime) -> TerminalProgress<'a> {
+        let start = if rt.stderr().is_terminal() {
+            Instant::now(rt).ok()
+        } else {
+            None
+        };
+        TerminalProgress {
+            rt,
+            start,
+            told: AtomicU64::new(0),
+            drawn: AtomicU64::new(0),
+            began: AtomicU64::new(0),
+            all: AtomicU64::new(0),
+        }
+    }
+
+    // How long as many in all have been told of, now that so many milliseconds have passed.
+    fn since(&self, passed: u64, all: u64) -> u64 {
+        if self.all.swap(all, Ordering::SeqCst) != all {
+            self.began.store(passed, Ordering::SeqCst);
+        }
+        passed.saturating_sub(self.began.load(Ordering::SeqCst))
+    }
+
+    // Whether the line is due, and this thread's to draw.
+    fn is_due(&self, passed: u64) -> bool {
+        let drawn = self.drawn.load(Ordering::SeqCst);
+        passed >= FIRST
+            && passed >= drawn.saturating_add(AGAIN)
+            && self
+                .drawn
+                .compare_exchange(drawn, passed, Ordering::SeqCst, Ordering::SeqCst)
+                .is_ok()
+    }
+
+    fn draw(&self, since: u64, done: u64, all: u64) {
+        let left = seconds_left(since, done, all);
+        let (minutes, seconds) = (left / 60, left % 60);
+        match eprint!(self.rt; "\r{done} of {all} done, {minutes}:{seconds:02} left    ") {
+            Ok(()) | Err(_) => {}
+        }
+    }
+}
+
+impl<'a> Progress for TerminalProgress<'a> {
+    fn tell(&self, done: u64, all: u64) {
+        let Some(start) = self.start else { return };
+        if self.told.fetch_add(1, Ordering::SeqCst) % LOOK != 0 {
+            return;
+        }
+        let Ok(passed) = start.elapsed(self.rt) else {
+            return
+        };
+        let passed = milliseconds(passed);
+        let since = self.since(passed, all);
+        if self.is_due(passed) {
+            self.draw(since, done, all);
+        }
+    }
+
+    fn end(&self) {
+        if self.drawn.swap(0, Ordering::SeqCst) == 0 {
+            return;
+        }
+        match eprint!(self.rt; "\r{:72}\r", "") {
+            Ok(()) | Err(_) => {}
+        }
+    }
+}
+
+fn milliseconds(passed: Duration) -> u64 {
+    passed
+        .as_secs()
+        .saturating_mul(1000)
+        .saturating_add(u64::from(passed.subsec_millis()))
+}
+
+// What is left of the time, where it goes on as it went since then.
+fn seconds_left(since: u64, done: u64, all: u64) -> u64 {
+    if done == 0 {
+        return 0;
+    }
+    since.saturating_mul(all.saturating_sub(done)) / done / 1000
+}

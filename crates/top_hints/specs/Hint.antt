@@ -1,0 +1,100 @@
+-- Which sentence stands on standard error for which status.
+use Rattle.std.specs.Prelude.{ℕ, List, [], ◌∷◌, Option, Some, None, codes, decimal, if◌then◌else◌, nat_eq}
+use Rattle.raid_text.specs.Text.{Text}
+use Rattle.top_status.specs.declared.status.Status.{Status}
+use Rattle.top_status.specs.declared.status.Status.TheVariants as status
+use Rattle.top_words.specs.Misuse.{misuse_of}
+use Rattle.top_hints.specs.Line.{shown, hint_line}
+use Rattle.top_hints.specs.Tables.{conf_words, script_words, graph_words}
+use Rattle.top_hints.specs.Words.{texts_of, usage_hint}
+
+-- what could not be had or written to, and what the system said
+pub record Trouble : Type 0 where
+  pub name : Text
+  pub cause : Text
+
+-- a line of a text that isn't in its form
+unfoldable pub line_hint : Text → ℕ → List ℕ → List ℕ
+line_hint name number words = hint_line (shown name ∷ codes ", line " ∷ decimal number ∷ codes ": " ∷ words ∷ [])
+
+-- a script, or its trace, which has no line
+unfoldable pub script_hint : Text → ℕ → ℕ → List ℕ
+script_hint name number code =
+    if nat_eq code 8
+    then hint_line (shown name ∷ codes ": the trace might have more than 1048576 events: fewer items, or no --trace" ∷ [])
+    else line_hint name number (script_words code)
+
+-- something of a name
+abbrev pub name_hint : Text → List ℕ → List ℕ
+name_hint name words = hint_line (shown name ∷ codes ": " ∷ words ∷ [])
+
+-- there is nothing of that name
+abbrev pub missing_hint : Text → List ℕ
+missing_hint name = name_hint name (codes "no such file; names are relative to the working directory, not to CONF")
+
+-- there is no spare to rebuild onto
+unfoldable pub no_spare_hint : List ℕ
+no_spare_hint = hint_line (codes "no free spare (each is used, failed or small: see -s); -f fails the column alone, -R rebuilds it on its own disk" ∷ [])
+
+-- what is known of a trouble, or else these words
+unfoldable pub trouble_hint : Option Trouble → List ℕ → List ℕ
+trouble_hint (Some trouble) words = name_hint trouble.name (shown trouble.cause)
+trouble_hint None words = hint_line (words ∷ [])
+
+-- a stripe that lacks a unit, where there is no check unit
+unfoldable pub unit_hint : (column stripe : ℕ) → List ℕ
+unit_hint column stripe = hint_line (codes "the array is lost: stripe " ∷ decimal stripe ∷ codes " lacks the unit of column " ∷ decimal column ∷ codes "; see docs/ADMIN.md, 'A lost array'" ∷ [])
+
+-- a stripe that lacks two
+unfoldable pub units_hint : (first second stripe : ℕ) → List ℕ
+units_hint first second stripe = hint_line (codes "the array is lost: stripe " ∷ decimal stripe ∷ codes " lacks the units of columns " ∷ decimal first ∷ codes " and " ∷ decimal second ∷ codes "; see docs/ADMIN.md, 'A lost array'" ∷ [])
+
+-- of a stripe that lacks one the column stands there twice
+unfoldable pub lost_hint : (first second stripe : ℕ) → List ℕ
+lost_hint first second stripe =
+    if nat_eq first second then unit_hint first stripe else units_hint first second stripe
+
+-- what a label has that is compared
+unfoldable pub label_words : ℕ → List ℕ
+label_words code =
+    if nat_eq code 2 then codes " has serial number "
+    else (if nat_eq code 4 then codes " is of an array of another shape: it has "
+    else codes " has version ")
+
+-- a number of a label that isn't the one wanted
+unfoldable pub compared_hint : ℕ → List ℕ → (found wanted : ℕ) → List ℕ
+compared_hint column words found wanted = hint_line (codes "the label of column " ∷ decimal column ∷ words ∷ decimal found ∷ codes " where " ∷ decimal wanted ∷ codes " is wanted" ∷ [])
+
+-- a label, by its code
+unfoldable pub label_hint : (column code found wanted : ℕ) → List ℕ
+label_hint column code found wanted =
+    if nat_eq code 1 then hint_line (codes "column " ∷ decimal column ∷ codes " has no label: -I SERIAL writes the first ones of an array, -R COMP that of a new disk" ∷ [])
+    else (if nat_eq code 3 then hint_line (codes "the disk at column " ∷ decimal column ∷ codes " is that of column " ∷ decimal found ∷ [])
+    else (if nat_eq code 6 then hint_line (codes "the newest label has counter " ∷ decimal found ∷ codes ", and labels are written up to " ∷ decimal wanted ∷ [])
+    else compared_hint column (label_words code) found wanted))
+
+-- a disk that is too small
+unfoldable pub small_hint : (column has needs : ℕ) → List ℕ
+small_hint column has needs = hint_line (codes "the disk of column " ∷ decimal column ∷ codes " has " ∷ decimal has ∷ codes " sectors, and " ∷ decimal needs ∷ codes " are needed" ∷ [])
+
+-- the sentence for a status; none where all is well
+abbrev pub hint_of : List Text → Status → Option Trouble → List ℕ
+hint_of words status.Ok trouble = []
+hint_of words (status.Usage case) trouble = usage_hint case (misuse_of words)
+hint_of words (status.Conf line code) trouble = line_hint (texts_of words).conf line (conf_words code)
+hint_of words (status.Script line code) trouble = script_hint (texts_of words).script line code
+hint_of words (status.GraphText line code) trouble = line_hint (texts_of words).graphs line (graph_words code)
+hint_of words status.BayFault trouble = trouble_hint trouble (codes "a file could not be read, opened or locked")
+hint_of words (status.NoFile name) trouble = missing_hint name
+hint_of words status.SinkFault trouble = trouble_hint trouble (codes "standard output failed")
+hint_of words (status.Lost first second stripe) trouble = lost_hint first second stripe
+hint_of words (status.Label column code found wanted) trouble = label_hint column code found wanted
+hint_of words (status.Small column has needs) trouble = small_hint column has needs
+hint_of words (status.NotInSync count) trouble = hint_line (decimal count ∷ codes " stripes aren't in sync; -P rewrites their check units from the data" ∷ [])
+hint_of words status.NoSpare trouble = no_spare_hint
+hint_of words (status.LongText name) trouble = name_hint name (codes "longer than 16777216 bytes")
+hint_of words status.Memory trouble = hint_line (codes "not enough memory; nothing was written" ∷ [])
+
+-- a component of which a call failed, beside whatever the status says
+unfoldable pub warning_of : Trouble → List ℕ
+warning_of trouble = hint_line (codes "warning: " ∷ shown trouble.name ∷ codes " failed in this call: " ∷ shown trouble.cause ∷ [])

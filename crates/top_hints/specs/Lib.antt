@@ -1,0 +1,5 @@
+pub mod Line
+pub mod Tables
+pub mod Words
+pub mod Hint
+pub mod Views

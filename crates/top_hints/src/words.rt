@@ -1,0 +1,183 @@
+//! What the words of a call name, and what is wrong with them.
+ghost use Rattle.std.specs.Prelude.{◌≡◌, [], ◌∷◌, ◌++◌, IfOk, codes, option_map};
+ghost use Rattle.top_help.specs.declared.TheConstants.{HELP};
+ghost use Rattle.top_words.specs.Judged.{invocation_of};
+ghost use Rattle.top_words.specs.Misuse.{misuse_of};
+ghost use Rattle.top_words.specs.Views.{beside_seen, misuse_seen};
+ghost use Rattle.top_hints.specs.Line.{hint_line};
+ghost use Rattle.top_hints.specs.Views.{texts_seen};
+ghost use Rattle.top_hints.specs.Words.{component_hint, misuse_hint, number_hint, only_conf, queue_hint, texts_of, texts_with, unformed, usage_hint};
+
+use crate::piece::{Piece, line};
+use crate::sentences::plain;
+use raid_bay::Name;
+use std::alloc::{AllocError, Global};
+use top_help::HELP;
+use top_words::{Beside, Invocation, Misuse, WordsFault, misuse_of, read_words};
+
+/// The names of the texts that a call reads; empty where it doesn't read one.
+#[derive(Clone, Copy)]
+pub(crate) struct Texts<'a> {
+    pub conf: &'a str,
+    pub script: &'a str,
+    pub graphs: &'a str,
+}
+
+// A text that stands in the place of CONF, and nothing beside it.
+fn only_conf(name: &str) -> Texts<'_>
+    ensures { texts_seen result ≡ only_conf name.entry.now }
+{
+    Texts {
+        conf: name,
+        script: "",
+        graphs: "",
+    }
+}
+
+// CONF, and what goes with a script where there is one.
+fn texts_with<'a>(name: &'a str, beside: Option<Beside<'a>>) -> Texts<'a>
+    ensures { texts_seen result ≡ texts_with name.entry.now (option_map beside_seen beside.entry) }
+{
+    match beside {
+        None => only_conf(name),
+        Some(beside) => Texts {
+            conf: name,
+            script: beside.script,
+            graphs: beside.graphs.unwrap_or(""),
+        },
+    }
+}
+
+/// The texts that the words name.
+pub(crate) fn texts_of<'a>(alloc: Global, words: &'a [Name]) -> Result<Texts<'a>, AllocError>
+    ensures { IfOk result (λ texts. texts_seen texts ≡ texts_of words.entry.now) }
+{
+    match read_words(alloc, words) {
+        Ok(Invocation::Tell { .. }) | Err(WordsFault::Usage(_)) => Ok(only_conf("")),
+        Ok(Invocation::OnArray { command }) => {
+            Ok(texts_with(command.conf, command.action.beside()))
+        }
+        Ok(Invocation::Scan { list }) => Ok(only_conf(list)),
+        Ok(Invocation::Simulate { requests, .. }) => Ok(only_conf(requests)),
+        Err(WordsFault::Memory) => Err(AllocError),
+    }
+}
+
+// The words are of no form.
+#[tactic(auto, unfolding(crate::specs::Words::unformed))]
+fn unformed(alloc: Global) -> Result<Vec<u8>, AllocError>
+    ensures { IfOk result (λ line. line.items ≡ unformed) }
+{
+    plain(
+        alloc,
+        "the words can't be taken apart: an unknown word or option, one given twice, one without its value, or no CONF",
+    )
+}
+
+// An option without what it goes with.
+#[tactic(auto, unfolding(crate::specs::Line::hint_line))]
+fn apart(alloc: Global, option: &'static str, with: &'static str) -> Result<Vec<u8>, AllocError>
+    ensures { IfOk result (λ line. line.items
+        ≡ hint_line (option.entry.now ∷ codes " needs " ∷ with.entry.now ∷ [])) }
+{
+    let needs = Piece::Words(" needs ");
+    line(alloc, &[Piece::Words(option), needs, Piece::Words(with)])
+}
+
+// The word behind an option isn't a number of that range.
+#[tactic(auto, unfolding(crate::specs::Line::hint_line, crate::specs::Words::number_hint))]
+fn no_number(
+    alloc: Global,
+    option: &'static str,
+    word: &str,
+    low: u32,
+    high: u32,
+) -> Result<Vec<u8>, AllocError>
+    ensures { IfOk result (λ line. line.items ≡ number_hint option.entry.now word.now low high) }
+{
+    line(
+        alloc,
+        &[
+            Piece::Words(option),
+            Piece::Words(" "),
+            Piece::Shown(word),
+            Piece::Words(": not a number from "),
+            Piece::Number(u64::from(low)),
+            Piece::Words(" to "),
+            Piece::Number(u64::from(high)),
+        ],
+    )
+}
+
+// The word behind an option is no component that it may be.
+#[tactic(auto, unfolding(crate::specs::Line::hint_line, crate::specs::Words::component_hint))]
+fn no_component(alloc: Global, option: &'static str, word: &str) -> Result<Vec<u8>, AllocError>
+    ensures { IfOk result (λ line. line.items ≡ component_hint option.entry.now word.now) }
+{
+    line(
+        alloc,
+        &[
+            Piece::Words(option),
+            Piece::Words(" "),
+            Piece::Shown(word),
+            Piece::Words(": not a name of the configuration's disks"),
+        ],
+    )
+}
+
+// Which word is wrong.
+#[tactic(auto, unfolding(crate::specs::Words::misuse_hint))]
+fn misused(alloc: Global, misuse: Misuse<'_>) -> Result<Vec<u8>, AllocError>
+    ensures { IfOk result (λ line. line.items ≡ misuse_hint (misuse_seen misuse.entry)) }
+{
+    match misuse {
+        Misuse::NoForm => unformed(alloc),
+        Misuse::NoAction => plain(
+            alloc,
+            "no action: one of --io, --sweep, --scan, --sim and the letters is wanted",
+        ),
+        Misuse::ManyActions => plain(
+            alloc,
+            "more than one action: only --io goes beside another, -F or -R",
+        ),
+        Misuse::Apart { option, with } => apart(alloc, option, with),
+        Misuse::Number {
+            option,
+            word,
+            low,
+            high,
+        } => no_number(alloc, option, word, low, high),
+        Misuse::Component { option, word } => no_component(alloc, option, word),
+    }
+}
+
+// The queue is wrong.
+#[tactic(auto, unfolding(crate::specs::Words::queue_hint))]
+fn no_queue(alloc: Global) -> Result<Vec<u8>, AllocError>
+    ensures { IfOk result (λ line. line.items ≡ queue_hint) }
+{
+    plain(alloc, "--sim: the queue is fifo, sstf or scan")
+}
+
+// Words of no form, and the help.
+fn helped(alloc: Global) -> Result<Vec<u8>, AllocError>
+    ensures { IfOk result (λ text. text.items ≡ unformed ++ HELP.now) }
+{
+    let mut text = unformed(alloc)?;
+    text.extend_from_slice(HELP.as_bytes())?;
+    Ok(text)
+}
+
+/// The words are refused by this case.
+#[tactic(auto, unfolding(crate::specs::Words::usage_hint))]
+pub(crate) fn refused(alloc: Global, case: u8, words: &[Name]) -> Result<Vec<u8>, AllocError>
+    ensures { IfOk result (λ text. text.items ≡ usage_hint case (misuse_of words.now)) }
+{
+    if case == 0 {
+        return helped(alloc);
+    }
+    match misuse_of(alloc, words)? {
+        Some(misuse) => misused(alloc, misuse),
+        None => no_queue(alloc),
+    }
+}
