@@ -4,7 +4,7 @@ use Rattle.std.proofs.Common.{refl, sym, ap, subst, inl, inr, ◌∙◌}
 use Rattle.blk_disk.specs.declared.disk.Disk.{Ghosts}
 use Rattle.blk_disk.specs.Devices.{AreNamed, Changes}
 use Rattle.raid_text.specs.Text.{Text}
-use Rattle.top_bay.specs.Asked.{Asked, names_for}
+use Rattle.top_bay.specs.Asked.{Asked, asked_in, names_for}
 use Rattle.top_bay.specs.Lent.{AreBack, AreOut}
 use Rattle.top_fetch.specs.Told.{Told}
 use Rattle.top_open.specs.declared.fronts.Front.{Front}
@@ -18,14 +18,16 @@ use Rattle.top_duty.specs.Duty.{Duty, IsWanted, asked_of, duty_in}
 use Rattle.top_duty.specs.Opening.{reads_fronts}
 use Rattle.top_duty.specs.Taken.{DevicesAreTaken, Reads, RefusedFor, WasRead}
 use Rattle.top_duty.specs.Views as views
+use Rattle.top_duty.proofs.Returning.{others_home}
 use Rattle.top_duty.specs.Views.{duty_seen}
 use Rattle.raid_top.specs.Acted.{Acted}
 use Rattle.raid_top.specs.Outcome.{Outcome}
 use Rattle.raid_top.specs.Refused.{IsRefusedOf}
 use Rattle.raid_top.specs.Served.{IsPerformed, IsMemory}
-use Rattle.raid_top.proofs.Backs.{back_are_named, home_as_it_was, others_same}
+use Rattle.raid_top.proofs.Backs.{back_are_named, home_as_it_was}
+use Rattle.raid_top.proofs.Losing.{loses_gone}
 use Rattle.raid_top.proofs.Reading.{reads_still}
-use Rattle.raid_top.proofs.Wanted.{asked_is, is_made}
+use Rattle.raid_top.proofs.Wanted.{asked_is, asked_made, wants_memory}
 
 -- ## The call
 
@@ -50,27 +52,34 @@ module _ {D : Type 0} (g : Ghosts D) (b : Told D) (command : Command) (mid : Tex
         before = λ t. subst (λ (x : Asked). AreNamed b.home (names_for x) taken.taken) (sym same) (taken.named t);
         after = λ t. subst (λ (x : Asked). AreNamed b.after (names_for x) d.back) (sym same) (back_are_named mid b.after (names_for k) d.back (d.count ∙ many) d.there (d.put t));
         others = λ t. subst (λ (x : Asked). (n : Text) → (Contains (names_for x) n → ⊥) → b.after n ≡ b.home n) (sym same)
-            (others_same b.home mid b.after (names_for k) (length taken.taken) d.back (d.count ∙ still.count) (taken.others t) (d.put t));
+            (others_home b.home mid b.after (names_for k) taken.taken d.back (d.count ∙ still.count) (taken.others t) (d.put t));
         does = d.does;
+        loses = loses_gone g duty fronts old d.back o d.does;
       }
+
+  -- they are back as they were looked at
+  was_read : b.tells → AreBack mid b.after (names_for k) old → length old ≡ length (names_for k) → (is_out : Text → Type 0) → AreOut is_out (names_for k) old → WasRead g b k fronts
+  was_read t back many is_out out = record {
+    taken = taken.taken;
+    back = old;
+    before = taken.named t;
+    after = back_are_named mid b.after (names_for k) old many out.there back;
+    others = others_home b.home mid b.after (names_for k) taken.taken old still.count (taken.others t) back;
+    read = taken.read;
+  }
 
   -- why it was refused
   for_memory : (r : Refused) → b.tells → AreBack mid b.after (names_for k) old → length old ≡ length (names_for k) → (is_out : Text → Type 0) → AreOut is_out (names_for k) old → IsMemory duty r → RefusedFor g b command r
-  for_memory r t back many is_out out (inl plain) = inr (inr (inl plain))
+  for_memory r t back many is_out out (inl plain) =
+      let asks : asked_in b command ≡ Ok k = asked_made g b command fronts duty (wanted t) ∙ ap (λ (x : Asked). Ok x) same in
+      inr (inr (inl (plain, inr (k, asks, fronts, was_read t back many is_out out))))
   for_memory r t back many is_out out (inr at) =
-      let made = is_made (duty_in g.size b command fronts) duty (wanted t) in
       inr (inr (inr (record {
         fronts = fronts;
-        wanted = (at.0, made.is ∙ ap (λ (d : Duty). Ok d) at.1, at.2);
+        wanted = wants_memory (duty_in g.size b command fronts) duty r at.0 (wanted t) at.1 at.2;
         read = λ x asks.
-            let one : k ≡ x = sym same ∙ asked_is g.size b command fronts x duty asks made.is in
-            subst (λ (z : Asked). WasRead g b z fronts) one (record {
-              taken = taken.taken;
-              back = old;
-              before = taken.named t;
-              after = back_are_named mid b.after (names_for k) old many out.there back;
-              read = taken.read;
-            });
+            let one : k ≡ x = sym same ∙ asked_is g.size b command fronts x duty asks (wanted t) in
+            subst (λ (z : Asked). WasRead g b z fronts) one (was_read t back many is_out out);
       })))
 
   memory_kind : (r : Refused) → IsMemory duty r → r.status ≡ status.Memory

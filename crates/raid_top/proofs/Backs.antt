@@ -1,9 +1,8 @@
 -- Devices that are put back after a run.
-use Rattle.std.specs.Prelude.{◌≡◌, ◌↔◌, ◌<◌, ℕ, List, [], ◌∷◌, length, get_or, Option, Some, None, IsSome, is_some, slice_get, Contains}
+use Rattle.std.specs.Prelude.{◌≡◌, ◌↔◌, ◌<◌, ℕ, List, [], ◌∷◌, length, get_or, Option, Some, None, IsSome, is_some, slice_get}
 use Rattle.std.proofs.Common.{arith, refl, sym, ap, subst, ◌∙◌, ⊎_elim}
 use Rattle.std.proofs.lemmas.Bool.{cases_lt}
-use Rattle.std.proofs.lemmas.Option.{get_or_from_slice_get, slice_get-get_or, slice_get_past, slice_get_within}
-use Rattle.std.proofs.lemmas.List.Elements.{Contains-get_or}
+use Rattle.std.proofs.lemmas.Option.{slice_get-get_or, slice_get_past}
 use Rattle.blk_disk.specs.declared.disk.Disk.{Ghosts}
 use Rattle.blk_disk.specs.Devices.{AreNamed, Changes, StaysIf, at_home, device_at}
 use Rattle.blk_disk.proofs.DeviceLaws.{stays-refl}
@@ -42,14 +41,6 @@ back_are_named {D} mid after names ds many there back = record { count = many; e
     inside d lt None e = let some : slice_get names d ≡ Some (get_or names d []) = slice_get-get_or names d [] (omega (arith, lt, many)) in cc (some, e)
     inside d lt (Some []) e = none_is (device_at ds d) (λ some. (there d [] lt e).0 some refl)
     inside d lt (Some (b ∷ n)) e = sym (back.each d (b ∷ n) lt ((there d (b ∷ n) lt e).1 (λ empty. cc empty)) e)
-
--- and other names have what they had
-pub others_same : {D : Type 0} (home mid after : Text → Option D) (names : List Text) (many : ℕ) (back : List (Option D)) → length back ≡ many
-    → ((n : Text) → (IsMeant names many n → ⊥) → mid n ≡ home n) → AreBack mid after names back
-    → (n : Text) → (Contains names n → ⊥) → after n ≡ home n
-others_same home mid after names many back count lent put n away =
-    let apart : (k : ℕ) → IsMeant names k n → ⊥ = λ k m. away (subst (λ (x : Text). Contains names x) (get_or_from_slice_get names m.at n n m.is) (Contains-get_or names m.at n (slice_get_within names m.at n m.is))) in
-    put.others n (apart (length back)) ∙ lent n (apart many)
 
 -- ## Devices that were looked at alone
 

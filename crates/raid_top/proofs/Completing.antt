@@ -1,5 +1,5 @@
--- A call by which all that is asked for is right ends well, or for want of memory.
-use Rattle.std.specs.Prelude.{◌≡◌, ℕ, List, Result, Ok}
+-- A call by which all that is asked for is right is done and ends well, or memory was wanted.
+use Rattle.std.specs.Prelude.{◌≡◌, ◌++◌, ℕ, List, Result, Ok}
 use Rattle.std.proofs.Common.{inl, inr, sym, ap, subst, ◌∙◌}
 use Rattle.blk_disk.specs.Devices.{AreNamed}
 use Rattle.blk_disk.specs.declared.disk.Disk.{Ghosts}
@@ -16,20 +16,20 @@ use Rattle.top_words.specs.Asked.{Command}
 use Rattle.top_words.specs.Judged.{Invocation, Tell, OnArray, Scan, Simulate, invocation_of}
 use Rattle.blk_disk.proofs.DeviceLaws.{changes-refl}
 use Rattle.raid_top.specs.Acted.{Acted, CommandEndsWell, IsRightCommand, MayRead, SurvivesCall}
-use Rattle.raid_top.specs.Calls.{CallOutcome, OfArray, OfScan, OfSimulation, OfTopic, Refuses, call_status}
-use Rattle.raid_top.specs.Ends.{Acts, Answers, EndsWell, Followed, Follows, IsRight, IsRightFor}
+use Rattle.raid_top.specs.Calls.{CallOutcome, OfArray, OfScan, OfSimulation, OfTopic, Refuses, call_status, call_text}
+use Rattle.raid_top.specs.Ends.{Acts, Answers, EndsWell, Followed, Follows, IsDone, IsDoneWell, IsRight, IsRightFor}
 use Rattle.raid_top.specs.Outcome.{Outcome, status_of}
 use Rattle.raid_top.specs.Refused.{IsRefusedAs, RefusedBy}
+use Rattle.raid_top.proofs.Answered.{is_answered}
 use Rattle.raid_top.proofs.Frames.{AnySector, due_moves}
 use Rattle.raid_top.proofs.Reading.{may_read, reads_still}
-use Rattle.raid_top.proofs.Wanted.{asked_is, due_or_refused, is_made, is_named, one_duty}
+use Rattle.raid_top.proofs.Wanted.{asked_is, due_or_refused, is_named, one_duty}
 use Rattle.raid_top.proofs.Well.{due_well}
 
 module _ {D : Type 0} (g : Ghosts D) (b : Told D) (command : Command) (told : b.tells) (right : IsRightCommand g b command) (sound : b.rose → ⊥) where
   acted_well : (o : Outcome) → Acted g b command o → CommandEndsWell command (status_of o)
   acted_well o acted =
-      let made = is_made (duty_in g.size b command acted.fronts) acted.duty (acted.asked told) in
-      let same : asked_of acted.duty ≡ right.asked = asked_is g.size b command acted.fronts right.asked acted.duty right.asks made.is in
+      let same : asked_of acted.duty ≡ right.asked = asked_is g.size b command acted.fronts right.asked acted.duty right.asks (acted.asked told) in
       let before = subst (λ (k : Asked). AreNamed b.home (names_for k) acted.taken) same (acted.before told) in
       let after = subst (λ (k : Asked). AreNamed b.after (names_for k) acted.back) same (acted.after told) in
       let moves = due_moves g acted.duty acted.fronts acted.old acted.back o acted.does in
@@ -40,7 +40,7 @@ module _ {D : Type 0} (g : Ghosts D) (b : Told D) (command : Command) (told : b.
       let survives = subst (λ (d : Duty). SurvivesCall g d acted.taken acted.back) one due.survives in
       due_well g command acted.duty acted.fronts acted.taken acted.old acted.back o
       (reads_still g acted.taken acted.old acted.back acted.fronts (reads_fronts (asked_of acted.duty).command.action) acted.read)
-      survives acted.command_is (is_named g.size b command acted.fronts acted.duty made.is) acted.does
+      survives acted.command_is (is_named g.size b command acted.fronts acted.duty (acted.asked told)) acted.does
 
   refused_at : (r : Refused) → RefusedAt g b command r → ⊥
   refused_at r at =
@@ -52,7 +52,7 @@ module _ {D : Type 0} (g : Ghosts D) (b : Told D) (command : Command) (told : b.
   command_refused : (r : Refused) → RefusedFor g b command r → r.status ≡ status.Memory
   command_refused r (inl at) = absurd (refused_at r at)
   command_refused r (inr (inl bay)) = absurd (sound bay.1)
-  command_refused r (inr (inr (inl memory))) = ap (λ (x : Refused). x.status) memory
+  command_refused r (inr (inr (inl memory))) = ap (λ (x : Refused). x.status) memory.0
   command_refused r (inr (inr (inr at))) = ap (λ (x : Refused). x.status) at.wanted.2
 
 -- where what is wanted isn't refused, it is memory that was wanted
@@ -106,7 +106,7 @@ module _ {D : Type 0} (g : Ghosts D) (b : Told D) (words : List Text) (told : b.
   refused_well (Tell topic) r right h = absurd h
   refused_well (OnArray command) r right h = command_refused g b command told right sound r h
   refused_well (Scan list) r right h = wanted_refused b.rose _ right.0 r sound right.1 h
-  refused_well (Simulate name order) r right h = wanted_refused b.rose _ right.0 r sound right.1 h
+  refused_well (Simulate name order) r right h = wanted_refused b.rose _ right.0 r sound right.1 h.0
 
   module _ (right : IsRight g b words) where
     followed : (o : CallOutcome) → Followed g b words o → EndsWell words (call_status o)
@@ -114,15 +114,28 @@ module _ {D : Type 0} (g : Ghosts D) (b : Told D) (words : List Text) (told : b.
         let same : right.invocation ≡ f.invocation = (let both : ◌≡◌ {A = Result Invocation ℕ} (Ok right.invocation) (Ok f.invocation) = sym right.words_are ∙ f.words_are in cc both) in
         follows_well f.invocation o f.words_are (subst (λ (i : Invocation). IsRightFor g b i) same right.right) f.follows
 
-    ended : (o : CallOutcome) → Acts g b words o → EndsWell words (call_status o)
-    ended (OfArray o) acts = followed (OfArray o) acts
-    ended (OfScan text) acts = followed (OfScan text) acts
-    ended (OfSimulation text) acts = followed (OfSimulation text) acts
-    ended (OfTopic text) acts = followed (OfTopic text) acts
-    ended (Refuses r) is = subst (λ (s : Status). EndsWell words s) (sym (refused_well right.invocation r right.right (is.cause told right.invocation right.words_are))) tt
+    done_well : (o : CallOutcome) (f : Followed g b words o) (sink_tells : Type 0) (answer : Status) (old new : List ℕ) → answer ≡ call_status o → (sink_tells → new ≡ old ++ call_text o) → IsDoneWell g b words sink_tells answer old new
+    done_well o f sink_tells answer old new same printed =
+        let well = followed o f in
+        record {
+          outcome = o;
+          followed = f;
+          status = same;
+          well = subst (λ (s : Status). EndsWell words s) (sym same) well;
+          answered = is_answered g b words f.invocation o f.follows well;
+          printed = printed;
+        }
 
-    pub complete_of : (sink_tells sink_rose : Type 0) (answer : Status) (old new : List ℕ) → Answers g b words sink_tells sink_rose answer old new → (sink_rose → ⊥) → EndsWell words answer
+    ended : (o : CallOutcome) → Acts g b words o → (sink_tells : Type 0) (answer : Status) (old new : List ℕ) → answer ≡ call_status o → (sink_tells → new ≡ old ++ call_text o) → IsDone g b words sink_tells answer old new
+    ended (OfArray o) acts sink_tells answer old new same printed = inl (done_well (OfArray o) acts sink_tells answer old new same printed)
+    ended (OfScan text) acts sink_tells answer old new same printed = inl (done_well (OfScan text) acts sink_tells answer old new same printed)
+    ended (OfSimulation text) acts sink_tells answer old new same printed = inl (done_well (OfSimulation text) acts sink_tells answer old new same printed)
+    ended (OfTopic text) acts sink_tells answer old new same printed = inl (done_well (OfTopic text) acts sink_tells answer old new same printed)
+    ended (Refuses r) is sink_tells answer old new same printed = inr (same ∙ refused_well right.invocation r right.right (is.cause told right.invocation right.words_are))
+
+    pub complete_of : (sink_tells sink_rose : Type 0) (answer : Status) (old new : List ℕ) → Answers g b words sink_tells sink_rose answer old new → (sink_rose → ⊥) → IsDone g b words sink_tells answer old new
     complete_of sink_tells sink_rose answer old new a quiet = elim a.printed [
-      | inl whole ↦ subst (λ (s : Status). EndsWell words s) (sym (whole.0 ∙ a.ends.status)) (ended a.ends.outcome a.ends.acts)
+      | inl whole ↦ ended a.ends.outcome a.ends.acts sink_tells answer old new (whole.0 ∙ a.ends.status)
+          (λ t. whole.1 t ∙ ap (λ (l : List ℕ). old ++ l) a.ends.text)
       | inr cut ↦ absurd (quiet cut.1)
     ]

@@ -1,5 +1,5 @@
 -- What comes of a list of components, or of requests to a simulated disk, is what the words ask for, or is refused so.
-use Rattle.std.specs.Prelude.{◌≡◌, List, Result, Ok}
+use Rattle.std.specs.Prelude.{◌≡◌, Result, Ok}
 use Rattle.std.proofs.Common.{refl, inl, inr}
 use Rattle.blk_disk.specs.Devices.{StaysIf}
 use Rattle.blk_disk.specs.declared.disk.Disk.{Ghosts}
@@ -16,7 +16,9 @@ use Rattle.top_sim.specs.declared.simulating.Simulated.{Simulated}
 use Rattle.top_status.specs.declared.status.Status.{Status}
 use Rattle.top_status.specs.declared.status.Status.TheVariants as status
 use Rattle.top_status.specs.Refusals.{Refused, only}
+use Rattle.top_duty.specs.Taken.{AreUntouched}
 use Rattle.top_duty.specs.Views.{IsRefusal}
+use Rattle.top_duty.proofs.Returning.{same_stays}
 use Rattle.top_words.specs.Judged.{Scan, Simulate}
 use Rattle.raid_top.specs.Ends.{Follows}
 use Rattle.raid_top.specs.Finished.{told_of_scan, told_of_simulation}
@@ -100,10 +102,10 @@ module _ {D : Type 0} (g : Ghosts D) (b : Told D) where
   }
 
   pub simulation_refused : (name : Text) (order : Queue) (s : Status) → IsEarly s → (s ≡ status.BayFault → b.rose) → (b.tells → RefusedAs s (workload_in b.texts name))
-      → (b.tells → (n : Text) → StaysIf g (λ _. ⊥) (b.home n) (b.after n)) → IsRefusedOf g b (Simulate name order) (only s)
+      → (b.tells → AreUntouched g b) → IsRefusedOf g b (Simulate name order) (only s)
   simulation_refused name order s early cause wanted same = record {
     kind = early_is b.rose s early cause;
     told = λ topic. topic;
-    cause = λ told. refused_as b.rose s (workload_in b.texts name) early cause (wanted told);
-    same = same;
+    cause = λ told. (refused_as b.rose s (workload_in b.texts name) early cause (wanted told), same told);
+    same = λ told n. same_stays g (b.home n) (b.after n) (same told n);
   }

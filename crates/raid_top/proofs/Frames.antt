@@ -1,13 +1,15 @@
 -- What was done to devices: sizes stay, counts of faults don't fall, and calls come behind those of before.
-use Rattle.std.specs.Prelude.{ℕ, Bool, List, [], ◌∷◌, Option, Some, None}
-use Rattle.std.proofs.Common.{inl, inr, sym, subst}
+use Rattle.std.specs.Prelude.{ℕ, Bool, List, [], ◌∷◌, Option, Some, None, slice_set}
+use Rattle.std.proofs.Common.{sym, subst}
 use Rattle.blk_disk.specs.declared.disk.Disk.{Ghosts}
 use Rattle.blk_disk.specs.Devices.{Changes}
 use Rattle.blk_disk.proofs.DeviceLaws.{changes-more, changes-refl}
 use Rattle.lay_core.specs.Layout.{Shape}
 use Rattle.eng_cols.specs.declared.column.Column.{Column}
+use Rattle.eng_cols.specs.declared.column.Column.TheVariants as column
 use Rattle.eng_cols.specs.declared.spot.Loss.{Loss}
 use Rattle.raid_label.specs.declared.label.Label.{Label}
+use Rattle.top_acts.proofs.Kills.{alive_frame}
 use Rattle.top_acts.specs.declared.done.Done.{Done}
 use Rattle.top_acts.specs.declared.sweeping.Renewal.{Renewal}
 use Rattle.top_rounds.specs.Rounds.{HaveRounds}
@@ -45,10 +47,7 @@ module _ {D : Type 0} (g : Ghosts D) where
     pub order_moves : (o : Order) → DoesOrder g y columns old back act e o → Moves old back
     order_moves order.Check h = moved _ old back h.frame
     order_moves (order.Renew kind newest) h = renewal_moves kind newest h
-    order_moves (order.Kill c l) h = elim (h.1).ends [
-      | inl closed ↦ moved _ old back closed.counted.frame
-      | inr left ↦ moved _ old back left.frame
-    ]
+    order_moves (order.Kill c l) h = moved _ old back (alive_frame g y l h.0 (slice_set columns c column.Dead) e.columns old back e.lost (h.1).ends)
     order_moves (order.Label l) h = rounds_move e.lost _ h.0 e.columns (h.1).rounds
 
   module _ (a : Admitted) (failed : Bool) (old back : List (Option D)) where

@@ -8,11 +8,15 @@ mod Setups
 mod Works
 mod Backs
 mod Well
+mod Answered
 mod Completing
+mod Consequences
 mod Labels
 mod Orders
 mod Runs
 mod Keeping
+mod Gone
+mod Losing
 mod Acting
 mod Refusing
 mod Following

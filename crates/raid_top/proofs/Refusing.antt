@@ -1,9 +1,10 @@
 -- What the words ask for is refused, or the words are, and so the call is.
 use Rattle.std.specs.Prelude.{◌≡◌, ℕ, List, Result, Ok, Err}
 use Rattle.std.proofs.Common.{inl, inr, refl, sym, ap, subst, ◌∙◌}
-use Rattle.blk_disk.specs.Devices.{StaysIf}
 use Rattle.blk_disk.specs.declared.disk.Disk.{Ghosts}
 use Rattle.raid_text.specs.Text.{Text}
+use Rattle.top_duty.specs.Taken.{AreUntouched}
+use Rattle.top_duty.proofs.Returning.{same_stays}
 use Rattle.top_fetch.specs.Told.{Told}
 use Rattle.top_status.specs.declared.status.Status.TheVariants as status
 use Rattle.top_status.specs.Refusals.{Refused, only}
@@ -30,26 +31,26 @@ module _ {D : Type 0} (g : Ghosts D) (b : Told D) where
   }
 
   -- want of memory is a refusal of whatever is asked for, but of the program's own texts
-  by_memory : (words : List Text) (i : Invocation) → ((topic : Topic) → invocation_of words ≡ Ok (Tell topic) → ⊥) → invocation_of words ≡ Ok i → RefusedBy g b i (only status.Memory)
-  by_memory words (Tell topic) told is = told topic is
-  by_memory words (OnArray command) told is = inr (inr (inl refl))
-  by_memory words (Scan list) told is = inr (inr refl)
-  by_memory words (Simulate name order) told is = inr (inr refl)
+  by_memory : (words : List Text) (i : Invocation) → AreUntouched g b → ((topic : Topic) → invocation_of words ≡ Ok (Tell topic) → ⊥) → invocation_of words ≡ Ok i → RefusedBy g b i (only status.Memory)
+  by_memory words (Tell topic) same told is = told topic is
+  by_memory words (OnArray command) same told is = inr (inr (inl (refl, inl same)))
+  by_memory words (Scan list) same told is = inr (inr refl)
+  by_memory words (Simulate name order) same told is = (inr (inr refl), same)
 
   -- the words are refused by themselves, or there was no memory to read them
   pub words_refused : (words : List Text) (f : WordsFault) → ((i : ℕ) → f ≡ fault.Usage i → invocation_of words ≡ Err i) → ((topic : Topic) → invocation_of words ≡ Ok (Tell topic) → ⊥)
-      → (b.tells → (n : Text) → StaysIf g (λ _. ⊥) (b.home n) (b.after n)) → CallIsRefused g b words (refusal_of f)
+      → AreUntouched g b → CallIsRefused g b words (refusal_of f)
   words_refused words (fault.Usage i) usage told same = record {
     kind = tt;
     usage = λ j e. inl (let case : i ≡ j = (let both : ◌≡◌ {A = Result Invocation ℕ} (Err i) (Err j) = sym (usage i refl) ∙ e in cc both) in ap (λ (k : ℕ). only (status.Usage k)) case);
     told = told;
     cause = λ t other is. absurd (let z : ⊥ = cc (is, usage i refl) in z);
-    same = same;
+    same = λ t n. same_stays g (b.home n) (b.after n) (same n);
   }
   words_refused words fault.Memory usage told same = record {
     kind = tt;
     usage = λ j e. inr refl;
     told = told;
-    cause = λ t other is. by_memory words other told is;
-    same = same;
+    cause = λ t other is. by_memory words other same told is;
+    same = λ t n. same_stays g (b.home n) (b.after n) (same n);
   }

@@ -18,6 +18,7 @@ use Rattle.top_bound.specs.Laws.{asked_of}
 use Rattle.top_bound.proofs.Limits.{few-have-room}
 use Rattle.top_duty.specs.Duty.{Admitted, admitted_with, clients_by, layout_of}
 use Rattle.top_duty.specs.Start.{start_by, start_in}
+use Rattle.graph_mean.specs.Graph.{View}
 use Rattle.top_duty.specs.Views.{drawn_by}
 use Rattle.top_duty.proofs.Drawing.{either_few}
 use Rattle.top_duty.proofs.Tables.{some_blocks}
@@ -54,10 +55,10 @@ drawn_are seed clients ops workers scripted blocks = refl
 no_start : (action : Action) (comp : Option ℕ) (conf : Conf) (o : Opened) (sizes : List ℕ) (fronts : List Front) (seed clients ops workers : ℕ) → action ≡ Sweep seed clients ops workers → start_by action comp conf o sizes fronts ≡ None
 no_start action comp conf o sizes fronts seed clients ops workers is = ap (λ (x : Action). start_by x comp conf o sizes fronts) is
 
-module _ {D : Type 0} (g : Ghosts D) (k : Asked) (o : Opened) (start : Option Start) (failed : Bool) (sizes : List ℕ) (fronts : List Front) (starts : start ≡ start_in k o sizes fronts)
+module _ {D : Type 0} (g : Ghosts D) (k : Asked) (o : Opened) (start : Option Start) (failed : Bool) (sizes : List ℕ) (fronts : List Front) (starts : start ≡ start_in k o sizes fronts) (views : List View)
     (old back : List (Option D)) (within : IsWithinLimits k) (law : IsLayout (shape_of k.conf o.rows)) (units : SparesLieByUnits (shape_of k.conf o.rows)) where
   abbrev a : Admitted
-  a = admitted_with k o start
+  a = admitted_with k o start views
 
   unstarted : (seed clients ops workers : ℕ) → k.command.action ≡ Sweep seed clients ops workers → start ≡ None
   unstarted seed clients ops workers is = starts ∙ no_start k.command.action k.comp k.conf o sizes fronts seed clients ops workers is

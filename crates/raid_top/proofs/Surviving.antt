@@ -1,5 +1,5 @@
 -- An array that outlives the call isn't lost in the end.
-use Rattle.std.specs.Prelude.{◌≡◌, ◌≤◌, ℕ, zero, suc, List, [], ◌∷◌, length, set, slice_set, Option, Some, None, Ok, map, slice_get}
+use Rattle.std.specs.Prelude.{◌≡◌, ◌≤◌, ℕ, zero, suc, List, [], ◌∷◌, length, set, slice_set, Option, Some, None, map, slice_get}
 use Rattle.std.proofs.Common.{arith, refl, sym, ap, subst, inl, inr, ◌∙◌}
 use Rattle.std.proofs.lemmas.Bool.{cases_lt}
 use Rattle.blk_disk.specs.declared.disk.Disk.{Ghosts}
@@ -22,6 +22,7 @@ use Rattle.top_acts.specs.declared.done.Done.TheVariants as done
 use Rattle.top_acts.specs.declared.sweeping.Renewal.{Renewal}
 use Rattle.top_acts.specs.Done.{unless_lost}
 use Rattle.top_acts.specs.Killed.{EndsAlive, IsKilled}
+use Rattle.top_acts.proofs.Kills.{alive_died}
 use Rattle.top_acts.specs.Labelled.{IsFirstLabelled}
 use Rattle.top_acts.specs.Checked.{IsChecked}
 use Rattle.top_rounds.specs.Passes.{LosesDevice}
@@ -97,9 +98,8 @@ module _ {D : Type 0} (g : Ghosts D) (a : Admitted) (taken old back : List (Opti
     renewed kind None e act h = kept e.columns e.lost (losing e.columns h.dies) h.lost_is
     renewed kind (Some l) e act h = kept e.columns e.lost (losing e.columns h.1.named.dies) h.1.lost_is
 
-    killed_by : (mid : List Column) (l next : Label) (e : Ending) → Dies may (columns_of a) mid → EndsAlive g l next mid e.columns old back e.lost → Dies may (columns_of a) e.columns
-    killed_by mid l next e one (inl closed) = losing_behind mid e.columns one closed.counted.dies
-    killed_by mid l next e one (inr left) = losing_behind mid e.columns one left.dies
+    killed_by : (mid : List Column) (l next : Label) (e : Ending) → Dies may (columns_of a) mid → EndsAlive g (layout_of a) l next mid e.columns old back e.lost → Dies may (columns_of a) e.columns
+    killed_by mid l next e one ends = losing_behind mid e.columns one (alive_died g (layout_of a) l next mid e.columns old back e.lost ends)
 
     pub killed : (c : ℕ) (l next : Label) (e : Ending) (act : Done) → (needs_of a.asked).excused ≡ Some c → IsKilled g (layout_of a) c l next (columns_of a) e.columns old back e.lost act → e.lost ≡ None
     killed c l next e act named h =

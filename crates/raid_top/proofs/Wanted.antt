@@ -1,106 +1,181 @@
 -- What is wanted is one: a duty, or one refusal.
-use Rattle.std.specs.Prelude.{◌≡◌, ℕ, Bool, true, false, List, Option, Some, None, Result, Ok, Err, if◌then◌else◌}
+use Rattle.std.specs.Prelude.{◌≡◌, ℕ, Bool, true, false, List, [], ◌∷◌, length, Option, Some, None, Result, Ok, Err, if◌then◌else◌}
 use Rattle.std.proofs.Common.{refl, sym, ap, subst, ◌∙◌}
+use Rattle.blk_disk.specs.declared.disk.Disk.{Ghosts}
 use Rattle.eng_array.specs.Starts.{column_of}
 use Rattle.eng_array.specs.declared.start.Start.{Start}
 use Rattle.eng_array.specs.declared.start.Start.TheVariants as start
 use Rattle.eng_cols.specs.declared.spot.Loss.{Loss}
 use Rattle.eng_cols.proofs.Losing.{lost-excludes}
 use Rattle.raid_conf.specs.declared.conf.Conf.{Conf}
+use Rattle.graph_mean.specs.Graph.{View}
+use Rattle.graph_text.specs.Format.{At}
 use Rattle.raid_text.specs.Text.{Text}
 use Rattle.top_bay.specs.Asked.{Asked, asked_in, names_for}
 use Rattle.top_fetch.specs.Told.{Told}
+use Rattle.top_join.proofs.OneEnd.{one_end}
 use Rattle.top_open.specs.Opening.{Opened}
 use Rattle.top_open.specs.declared.fronts.Front.{Front}
 use Rattle.top_status.specs.declared.status.Status.TheVariants as status
 use Rattle.top_status.specs.Refusals.{Refused, ◌then◌, only}
 use Rattle.top_words.specs.Asked.{Action, Command, Io, Sweep, Show, Init, Check, Rewrite, Print, Fail, ShowLabel, Label as Labels, Rebuild}
-use Rattle.top_duty.specs.Duty.{Admitted, Duty, OnArray, Shows, OneLabel, PrintConf, IsWanted, LossIs, admitted_with, asked_of, beside_dead, duty_by, duty_for, duty_in, is_past_bound, is_short, judged, judged_states, layout_of, unless_lost, unless_past, unless_short}
+use Rattle.top_duty.specs.Duty.{Admitted, ComesOfJoins, Duty, OnArray, Shows, OneLabel, PrintConf, IsWanted, LossIs, WantsMemory, admitted_with, asked_of, beside_dead, duty_by, duty_for, duty_in, first_of, if_apart, if_past, is_past_bound, is_short, judged, judged_states, layout_of, unless, with_joined}
 use Rattle.top_duty.specs.Opening.{kind_of, needs_for, needs_of, opened_by, sizes_in}
 use Rattle.top_duty.specs.Start.{free_spare, has_places, onto_spare, rebuild_if, start_by, start_in}
 use Rattle.top_words.specs.declared.profile.Kind.{Kind}
+use Rattle.top_duty.proofs.Sized.{duty_err}
 use Rattle.top_words.specs.declared.profile.Kind.TheVariants as kind
 
--- an array that something is done to isn't lost by the columns as the action makes them, there is somewhere to rebuild a column to that is to be, and its trace has room
-abbrev pub IsKept : Duty → Type 0
-IsKept (OnArray a) = LossIs (layout_of a) (judged_states a) None × (is_short a ≡ false) × (is_past_bound a ≡ false)
-IsKept (Shows k o) = Unit {0}
-IsKept (OneLabel k) = Unit {0}
-IsKept (PrintConf k) = Unit {0}
+-- An array is judged well: it isn't lost by the columns as the action makes them, there is somewhere to rebuild a column to that is to be, graphs are joined, and its trace has room.
+record IsKept (a : Admitted) (d : Duty) : Type 0 where
+  views : List View
+  is : OnArray (record a { joined = views }) ≡ d
+  loss : LossIs (layout_of a) (judged_states a) None
+  found : is_short a ≡ false
+  joins : ComesOfJoins a (Ok views)
+  bound : is_past_bound (record a { joined = views }) ≡ false
+
+abbrev IsJudged : Duty → Duty → Type 0
+IsJudged (OnArray a) d = IsKept a d
+IsJudged (Shows k o) d = Shows k o ≡ d
+IsJudged (OneLabel k) d = OneLabel k ≡ d
+IsJudged (PrintConf k) d = PrintConf k ≡ d
 
 -- What is due is what is wanted.
-pub record IsMade (w : Result Duty Refused) (d : Duty) : Type 0 where
-  pub is : w ≡ Ok d
-  pub kept : IsKept d
+record IsMade (w : Result Duty Refused) (d : Duty) : Type 0 where
+  due : Duty
+  is : w ≡ Ok due
+  judged_so : IsJudged due d
 
 -- what is done if the trace has room, or not
-past_or : (b : Bool) (a : Admitted) (d : Duty) (r : Refused) → Ok d ≡ ((if b then Err r else Ok a) then λ bound. Ok (OnArray bound)) → (b ≡ false) × (OnArray a ≡ d)
-past_or true a d r e = absurd (let z : ⊥ = cc in z)
-past_or false a d r e = (refl, cc e)
+past_or : (b : Bool) (d e : Duty) (r : Refused) → Ok d ≡ unless (first_of ((if b then Some r else None) ∷ [])) e → (b ≡ false) × (e ≡ d)
+past_or true d e r h = absurd (let z : ⊥ = cc h in z)
+past_or false d e r h = (refl, cc h)
+
+-- and if graphs are joined, or aren't
+module _ (a : Admitted) (d : Duty) (loss : LossIs (layout_of a) (judged_states a) None) (found : is_short a ≡ false) where
+  apart_or : (joined : Result (List View) At) → ComesOfJoins a joined
+      → Ok d ≡ unless (first_of (if_apart a joined ∷ if_past (with_joined a joined) ∷ [])) (OnArray (with_joined a joined)) → IsKept a d
+  apart_or (Err at) comes h = absurd (let z : ⊥ = cc h in z)
+  apart_or (Ok views) comes h =
+      let last = past_or (is_past_bound (record a { joined = views })) d (OnArray (record a { joined = views })) (beside_dead (record a { joined = views }) (status.Script 0 8)) h in
+      record { views = views; is = last.1; loss = loss; found = found; joins = comes; bound = last.0 }
 
 -- and if there is somewhere to rebuild to, or not
-short_or : (b : Bool) (a : Admitted) (d : Duty) (r : Refused) → Ok d ≡ ((if b then Err r else Ok a) then λ starts. unless_past starts then λ bound. Ok (OnArray bound)) → (b ≡ false) × (is_past_bound a ≡ false) × (OnArray a ≡ d)
-short_or true a d r e = absurd (let z : ⊥ = cc in z)
-short_or false a d r e = let past = past_or (is_past_bound a) a d (beside_dead a (status.Script 0 8)) e in (refl, past.0, past.1)
+short_or : (a : Admitted) (d : Duty) (joined : Result (List View) At) → LossIs (layout_of a) (judged_states a) None → (is_short a ≡ false → ComesOfJoins a joined) → (b : Bool) → is_short a ≡ b
+    → Ok d ≡ unless (first_of ((if b then Some (only status.NoSpare) else None) ∷ if_apart a joined ∷ if_past (with_joined a joined) ∷ [])) (OnArray (with_joined a joined)) → IsKept a d
+short_or a d joined loss comes true is h = absurd (let z : ⊥ = cc h in z)
+short_or a d joined loss comes false is h = apart_or a d loss is joined (comes is) h
 
 -- and if it isn't lost
-kept_or : (l : Option Loss) (a : Admitted) (d : Duty) → Ok d ≡ (unless_lost a l then λ kept. unless_short kept then λ starts. unless_past starts then λ bound. Ok (OnArray bound)) → (l ≡ None) × (is_short a ≡ false) × (is_past_bound a ≡ false) × (OnArray a ≡ d)
-kept_or None a d e = let short = short_or (is_short a) a d (only status.NoSpare) e in (refl, short.0, short.1, short.2)
-kept_or (Some loss) a d e = absurd (let z : ⊥ = cc in z)
+kept_or : (a : Admitted) (d : Duty) (joined : Result (List View) At) (l : Option Loss) → LossIs (layout_of a) (judged_states a) l → (l ≡ None → is_short a ≡ false → ComesOfJoins a joined)
+    → Ok d ≡ judged (OnArray a) l joined → IsKept a d
+kept_or a d joined None loss comes h = short_or a d joined loss (comes refl) (is_short a) refl h
+kept_or a d joined (Some x) loss comes h = absurd (let z : ⊥ = cc h in z)
 
 made_from : (w x : Result Duty Refused) (d : Duty) → IsWanted w (Ok d) → x ≡ w → IsMade w d
 made_from w (Err r) d h same =
-    let e : Ok d ≡ (Err r then λ k. judged k h.loss) = subst (λ (y : Result Duty Refused). Ok d ≡ (y then λ k. judged k h.loss)) (sym same) h.is in
-    absurd (let z : ⊥ = cc in z)
+    let e : Ok d ≡ (Err r then λ k. judged k h.loss h.joined) = subst (λ (y : Result Duty Refused). Ok d ≡ (y then λ k. judged k h.loss h.joined)) (sym same) h.is in
+    absurd (let z : ⊥ = cc e in z)
 made_from w (Ok (OnArray a)) d h same =
-    let e : Ok d ≡ (Ok (OnArray a) then λ k. judged k h.loss) = subst (λ (y : Result Duty Refused). Ok d ≡ (y then λ k. judged k h.loss)) (sym same) h.is in
-    let all = kept_or h.loss a d e in
-    let loss : LossIs (layout_of a) (judged_states a) None = subst (λ (l : Option Loss). LossIs (layout_of a) (judged_states a) l) all.0 (h.is_loss a (sym same)) in
-    record { is = sym same ∙ ap (λ (x : Duty). Ok x) all.3; kept = subst IsKept all.3 (loss, all.1, all.2) }
+    let e : Ok d ≡ (Ok (OnArray a) then λ k. judged k h.loss h.joined) = subst (λ (y : Result Duty Refused). Ok d ≡ (y then λ k. judged k h.loss h.joined)) (sym same) h.is in
+    record { due = OnArray a; is = sym same; judged_so = kept_or a d h.joined h.loss (h.is_loss a (sym same)) (h.is_joined a (sym same)) e }
 made_from w (Ok (Shows k o)) d h same =
-    let e : Ok d ≡ (Ok (Shows k o) then λ k. judged k h.loss) = subst (λ (y : Result Duty Refused). Ok d ≡ (y then λ k. judged k h.loss)) (sym same) h.is in
-    let one : Shows k o ≡ d = cc e in
-    record { is = sym same ∙ ap (λ (x : Duty). Ok x) one; kept = subst IsKept one tt }
+    let e : Ok d ≡ (Ok (Shows k o) then λ k. judged k h.loss h.joined) = subst (λ (y : Result Duty Refused). Ok d ≡ (y then λ k. judged k h.loss h.joined)) (sym same) h.is in
+    record { due = Shows k o; is = sym same; judged_so = (let one : Shows k o ≡ d = cc e in one) }
 made_from w (Ok (OneLabel k)) d h same =
-    let e : Ok d ≡ (Ok (OneLabel k) then λ k. judged k h.loss) = subst (λ (y : Result Duty Refused). Ok d ≡ (y then λ k. judged k h.loss)) (sym same) h.is in
-    let one : OneLabel k ≡ d = cc e in
-    record { is = sym same ∙ ap (λ (x : Duty). Ok x) one; kept = subst IsKept one tt }
+    let e : Ok d ≡ (Ok (OneLabel k) then λ k. judged k h.loss h.joined) = subst (λ (y : Result Duty Refused). Ok d ≡ (y then λ k. judged k h.loss h.joined)) (sym same) h.is in
+    record { due = OneLabel k; is = sym same; judged_so = (let one : OneLabel k ≡ d = cc e in one) }
 made_from w (Ok (PrintConf k)) d h same =
-    let e : Ok d ≡ (Ok (PrintConf k) then λ k. judged k h.loss) = subst (λ (y : Result Duty Refused). Ok d ≡ (y then λ k. judged k h.loss)) (sym same) h.is in
-    let one : PrintConf k ≡ d = cc e in
-    record { is = sym same ∙ ap (λ (x : Duty). Ok x) one; kept = subst IsKept one tt }
+    let e : Ok d ≡ (Ok (PrintConf k) then λ k. judged k h.loss h.joined) = subst (λ (y : Result Duty Refused). Ok d ≡ (y then λ k. judged k h.loss h.joined)) (sym same) h.is in
+    record { due = PrintConf k; is = sym same; judged_so = (let one : PrintConf k ≡ d = cc e in one) }
 
-pub is_made : (w : Result Duty Refused) (d : Duty) → IsWanted w (Ok d) → IsMade w d
+is_made : (w : Result Duty Refused) (d : Duty) → IsWanted w (Ok d) → IsMade w d
 is_made w d h = made_from w w d h refl
 
 -- one duty at most is wanted
+one_joined : (a : Admitted) (views others : List View) → ComesOfJoins a (Ok views) → ComesOfJoins a (Ok others) → views ≡ others
+one_joined a views others h k =
+    let same : ◌≡◌ {A = Result (List View) At} (Ok views) (Ok others) = one_end (layout_of a) a.asked.book a.asked.clients (length a.asked.book) a.asked.joins (Ok views) (Ok others) h k in
+    cc same
+
+one_judged : (due d e : Duty) → IsJudged due d → IsJudged due e → d ≡ e
+one_judged (OnArray a) d e one two =
+    sym one.is ∙ (ap (λ (vs : List View). OnArray (record a { joined = vs })) (one_joined a one.views two.views one.joins two.joins) ∙ two.is)
+one_judged (Shows k o) d e one two = sym one ∙ two
+one_judged (OneLabel k) d e one two = sym one ∙ two
+one_judged (PrintConf k) d e one two = sym one ∙ two
+
 pub one_duty : (w : Result Duty Refused) (d e : Duty) → IsWanted w (Ok d) → IsWanted w (Ok e) → d ≡ e
-one_duty w d e one two = let same : Ok d ≡ Ok e = sym (is_made w d one).is ∙ (is_made w e two).is in cc same
+one_duty w d e one two =
+    let first = is_made w d one in
+    let second = is_made w e two in
+    let same : first.due ≡ second.due = (let both : Ok first.due ≡ Ok second.due = sym first.is ∙ second.is in cc both) in
+    one_judged second.due d e (subst (λ (x : Duty). IsJudged x d) same first.judged_so) second.judged_so
 
-refused_not : (a : Admitted) (r : Refused) (l : Option Loss) → LossIs (layout_of a) (judged_states a) None → is_short a ≡ false → is_past_bound a ≡ false → LossIs (layout_of a) (judged_states a) l
-    → Err r ≡ (unless_lost a l then λ kept. unless_short kept then λ starts. unless_past starts then λ bound. Ok (OnArray bound)) → ⊥
-refused_not a r None kept short bound loss e = go (is_short a) short e
-  where
-    past : (b : Bool) → b ≡ false → Err r ≡ ((if b then Err (beside_dead a (status.Script 0 8)) else Ok a) then λ bound. Ok (OnArray bound)) → ⊥
-    past true one two = cc one
-    past false one two = cc two
+-- ## What is due isn't refused
 
-    go : (b : Bool) → b ≡ false → Err r ≡ ((if b then Err (only status.NoSpare) else Ok a) then λ starts. unless_past starts then λ bound. Ok (OnArray bound)) → ⊥
-    go true one two = cc one
-    go false one two = past (is_past_bound a) bound two
-refused_not a r (Some loss) kept short bound is e = lost-excludes (layout_of a) (judged_states a) loss is kept
+refused_past : (b : Bool) (e : Duty) (r x : Refused) → b ≡ false → Err r ≡ unless (first_of ((if b then Some x else None) ∷ [])) e → ⊥
+refused_past true e r x is h = cc is
+refused_past false e r x is h = cc h
 
-not_refused : (d : Duty) (r : Refused) (l : Option Loss) → IsKept d → ((a : Admitted) → d ≡ OnArray a → LossIs (layout_of a) (judged_states a) l) → Err r ≡ judged d l → ⊥
-not_refused (OnArray a) r l kept loss e = refused_not a r l kept.0 kept.1 kept.2 (loss a refl) e
-not_refused (Shows k o) r l kept loss e = cc e
-not_refused (OneLabel k) r l kept loss e = cc e
-not_refused (PrintConf k) r l kept loss e = cc e
+module _ (a : Admitted) (d : Duty) (r : Refused) (kept : IsKept a d) where
+  refused_apart : (joined : Result (List View) At) → Ok kept.views ≡ joined
+      → Err r ≡ unless (first_of (if_apart a joined ∷ if_past (with_joined a joined) ∷ [])) (OnArray (with_joined a joined)) → ⊥
+  refused_apart (Err at) is h = cc is
+  refused_apart (Ok views) is h =
+      let same : kept.views ≡ views = cc is in
+      refused_past (is_past_bound (record a { joined = views })) (OnArray (record a { joined = views })) r (beside_dead (record a { joined = views }) (status.Script 0 8))
+      (subst (λ (vs : List View). is_past_bound (record a { joined = vs }) ≡ false) same kept.bound) h
+
+  refused_short : (joined : Result (List View) At) → Ok kept.views ≡ joined → (b : Bool) → b ≡ false
+      → Err r ≡ unless (first_of ((if b then Some (only status.NoSpare) else None) ∷ if_apart a joined ∷ if_past (with_joined a joined) ∷ [])) (OnArray (with_joined a joined)) → ⊥
+  refused_short joined is true found h = cc found
+  refused_short joined is false found h = refused_apart joined is h
+
+  refused_not : (joined : Result (List View) At) (l : Option Loss) → LossIs (layout_of a) (judged_states a) l → (l ≡ None → is_short a ≡ false → ComesOfJoins a joined)
+      → Err r ≡ judged (OnArray a) l joined → ⊥
+  refused_not joined None is comes h =
+      refused_short joined
+      (one_end (layout_of a) a.asked.book a.asked.clients (length a.asked.book) a.asked.joins (Ok kept.views) joined kept.joins (comes refl kept.found))
+      (is_short a) kept.found h
+  refused_not joined (Some loss) is comes h = lost-excludes (layout_of a) (judged_states a) loss is kept.loss
+
+not_refused : (due d : Duty) (r : Refused) (l : Option Loss) (joined : Result (List View) At) → IsJudged due d
+    → ((a : Admitted) → due ≡ OnArray a → LossIs (layout_of a) (judged_states a) l)
+    → ((a : Admitted) → due ≡ OnArray a → l ≡ None → is_short a ≡ false → ComesOfJoins a joined)
+    → Err r ≡ judged due l joined → ⊥
+not_refused (OnArray a) d r l joined kept loss comes e = refused_not a d r kept joined l (loss a refl) (comes a refl) e
+not_refused (Shows k o) d r l joined kept loss comes e = cc e
+not_refused (OneLabel k) d r l joined kept loss comes e = cc e
+not_refused (PrintConf k) d r l joined kept loss comes e = cc e
 
 -- and what is due isn't refused
 pub due_or_refused : (w : Result Duty Refused) (d : Duty) (r : Refused) → IsWanted w (Ok d) → IsWanted w (Err r) → ⊥
 due_or_refused w d r one two =
     let made = is_made w d one in
-    not_refused d r two.loss made.kept (λ a e. two.is_loss a (made.is ∙ ap (λ (x : Duty). Ok x) e)) (subst (λ (y : Result Duty Refused). Err r ≡ (y then λ k. judged k two.loss)) made.is two.is)
+    not_refused made.due d r two.loss two.joined made.judged_so
+    (λ a e. two.is_loss a (made.is ∙ ap (λ (x : Duty). Ok x) e))
+    (λ a e. two.is_joined a (made.is ∙ ap (λ (x : Duty). Ok x) e))
+    (subst (λ (y : Result Duty Refused). Err r ≡ (y then λ k. judged k two.loss two.joined)) made.is two.is)
+
+-- ## Want of memory
+
+memory_of : (due d : Duty) (a : Admitted) → IsJudged due d → d ≡ OnArray a → (b : Admitted) × (due ≡ OnArray b) × (beside_dead a status.Memory ≡ beside_dead b status.Memory)
+memory_of (OnArray b) d a kept e =
+    let both : OnArray (record b { joined = kept.views }) ≡ OnArray a = kept.is ∙ e in
+    let same : record b { joined = kept.views } ≡ a = cc both in
+    (b, refl, sym (ap (λ (x : Admitted). beside_dead x status.Memory) same))
+memory_of (Shows k o) d a is e = let both : Shows k o ≡ OnArray a = is ∙ e in absurd (let z : ⊥ = cc both in z)
+memory_of (OneLabel k) d a is e = let both : OneLabel k ≡ OnArray a = is ∙ e in absurd (let z : ⊥ = cc both in z)
+memory_of (PrintConf k) d a is e = let both : PrintConf k ≡ OnArray a = is ∙ e in absurd (let z : ⊥ = cc both in z)
+
+-- what is wanted beside an array is wanted as it was opened
+pub wants_memory : (w : Result Duty Refused) (d : Duty) (r : Refused) (a : Admitted) → IsWanted w (Ok d) → d ≡ OnArray a → r ≡ beside_dead a status.Memory → WantsMemory w r
+wants_memory w d r a h e is =
+    let made = is_made w d h in
+    let of = memory_of made.due d a made.judged_so e in
+    (of.0, made.is ∙ ap (λ (x : Duty). Ok x) of.1, is ∙ of.2)
 
 -- ## What was asked
 
@@ -109,7 +184,7 @@ opened_asked k f (Ok o) d each e = let same : f o ≡ d = cc e in sym (ap asked_
 opened_asked k f (Err r) d each e = cc e
 
 duty_asked : (kd : Kind) (k : Asked) (sizes : List ℕ) (fronts : List Front) (d : Duty) → duty_for kd k sizes fronts ≡ Ok d → asked_of d ≡ k
-duty_asked kind.Array k sizes fronts d e = opened_asked k (λ o. OnArray (admitted_with k o (start_in k o sizes fronts))) (opened_by k sizes fronts) d (λ o. refl) e
+duty_asked kind.Array k sizes fronts d e = opened_asked k (λ o. OnArray (admitted_with k o (start_in k o sizes fronts) [])) (opened_by k sizes fronts) d (λ o. refl) e
 duty_asked kind.Shown k sizes fronts d e = opened_asked k (λ o. Shows k o) (opened_by k sizes fronts) d (λ o. refl) e
 duty_asked kind.Label k sizes fronts d e = let same : OneLabel k ≡ d = cc e in sym (ap asked_of same)
 duty_asked kind.Conf k sizes fronts d e = let same : PrintConf k ≡ d = cc e in sym (ap asked_of same)
@@ -118,12 +193,31 @@ by_asked : (k : Asked) (sizes : List ℕ) (fronts : List Front) (d : Duty) → d
 unfolding duty_by
 by_asked k sizes fronts d e = duty_asked (kind_of k.command.action) k sizes fronts d e
 
--- a duty is of what was asked
-pub asked_is : {D : Type 0} (size : D → ℕ) (b : Told D) (command : Command) (fronts : List Front) (k : Asked) (d : Duty) → asked_in b command ≡ Ok k → duty_in size b command fronts ≡ Ok d → asked_of d ≡ k
+of_due : {D : Type 0} (size : D → ℕ) (b : Told D) (command : Command) (fronts : List Front) (k : Asked) (d : Duty) → asked_in b command ≡ Ok k → duty_in size b command fronts ≡ Ok d → asked_of d ≡ k
 unfolding duty_in
-asked_is size b command fronts k d asks e =
+of_due size b command fronts k d asks e =
     by_asked k (sizes_in size b.home (names_for k)) fronts d
     (subst (λ (r : Result Asked Refused). (r then λ x. duty_by x (sizes_in size b.home (names_for x)) fronts) ≡ Ok d) asks e)
+
+same_asked : (due d : Duty) → IsJudged due d → asked_of due ≡ asked_of d
+same_asked (OnArray a) d kept = ap asked_of kept.is
+same_asked (Shows k o) d is = ap asked_of is
+same_asked (OneLabel k) d is = ap asked_of is
+same_asked (PrintConf k) d is = ap asked_of is
+
+-- a duty is of what was asked
+pub asked_is : {D : Type 0} (size : D → ℕ) (b : Told D) (command : Command) (fronts : List Front) (k : Asked) (d : Duty) → asked_in b command ≡ Ok k → IsWanted (duty_in size b command fronts) (Ok d) → asked_of d ≡ k
+asked_is size b command fronts k d asks h =
+    let made = is_made (duty_in size b command fronts) d h in
+    sym (same_asked made.due d made.judged_so) ∙ of_due size b command fronts k made.due asks made.is
+
+-- where something is due, texts and names are right
+pub asked_made : {D : Type 0} (g : Ghosts D) (b : Told D) (command : Command) (fronts : List Front) (d : Duty) → IsWanted (duty_in g.size b command fronts) (Ok d) → asked_in b command ≡ Ok (asked_of d)
+asked_made g b command fronts d h = go (asked_in b command) refl
+  where
+    go : (r : Result Asked Refused) → asked_in b command ≡ r → asked_in b command ≡ Ok (asked_of d)
+    go (Ok k) e = e ∙ ap (λ (x : Asked). Ok x) (sym (asked_is g.size b command fronts k d e h))
+    go (Err r) e = let made = is_made (duty_in g.size b command fronts) d h in absurd (let z : ⊥ = cc (made.is, duty_err g b command r fronts e) in z)
 
 -- ## What is rebuilt
 
@@ -157,9 +251,9 @@ start_named (Fail name) comp conf o sizes fronts s e = cc e
 start_named (ShowLabel name) comp conf o sizes fronts s e = cc e
 start_named (Labels serial) comp conf o sizes fronts s e = cc e
 
-array_named : (k : Asked) (sizes : List ℕ) (fronts : List Front) (r : Result Opened Refused) (d : Duty) → (r then λ o. Ok (OnArray (admitted_with k o (start_in k o sizes fronts)))) ≡ Ok d → IsNamed d
+array_named : (k : Asked) (sizes : List ℕ) (fronts : List Front) (r : Result Opened Refused) (d : Duty) → (r then λ o. Ok (OnArray (admitted_with k o (start_in k o sizes fronts) []))) ≡ Ok d → IsNamed d
 array_named k sizes fronts (Ok o) d e =
-    let same : OnArray (admitted_with k o (start_in k o sizes fronts)) ≡ d = cc e in
+    let same : OnArray (admitted_with k o (start_in k o sizes fronts) []) ≡ d = cc e in
     subst IsNamed same (λ s is. start_named k.command.action k.comp k.conf o sizes fronts s is)
 array_named k sizes fronts (Err r) d e = cc e
 
@@ -181,9 +275,20 @@ asked_named : (r : Result Asked Refused) (sizes : Asked → List ℕ) (fronts : 
 asked_named (Ok k) sizes fronts d e = by_named k (sizes k) fronts d e
 asked_named (Err r) sizes fronts d e = cc e
 
-pub is_named : {D : Type 0} (size : D → ℕ) (b : Told D) (command : Command) (fronts : List Front) (d : Duty) → duty_in size b command fronts ≡ Ok d → IsNamed d
+named_due : {D : Type 0} (size : D → ℕ) (b : Told D) (command : Command) (fronts : List Front) (d : Duty) → duty_in size b command fronts ≡ Ok d → IsNamed d
 unfolding duty_in
-is_named size b command fronts d e = asked_named (asked_in b command) (λ k. sizes_in size b.home (names_for k)) fronts d e
+named_due size b command fronts d e = asked_named (asked_in b command) (λ k. sizes_in size b.home (names_for k)) fronts d e
+
+judged_named : (due d : Duty) → IsJudged due d → IsNamed due → IsNamed d
+judged_named (OnArray a) d kept named = subst IsNamed kept.is named
+judged_named (Shows k o) d is named = subst IsNamed is named
+judged_named (OneLabel k) d is named = subst IsNamed is named
+judged_named (PrintConf k) d is named = subst IsNamed is named
+
+pub is_named : {D : Type 0} (size : D → ℕ) (b : Told D) (command : Command) (fronts : List Front) (d : Duty) → IsWanted (duty_in size b command fronts) (Ok d) → IsNamed d
+is_named size b command fronts d h =
+    let made = is_made (duty_in size b command fronts) d h in
+    judged_named made.due d made.judged_so (named_due size b command fronts made.due made.is)
 
 -- it goes by the command, texts, devices at home and fronts alone
 pub duty_same : {D : Type 0} (size : D → ℕ) (tells rose now_rose : Type 0) (texts : Text → Option Text) (home after now_after : Text → Option D) (command : Command) (fronts : List Front)

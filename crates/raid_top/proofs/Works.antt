@@ -10,7 +10,7 @@ use Rattle.eng_parts.specs.declared.setup.Setup.{Setup}
 use Rattle.raid_script.specs.Asked.{Asked as Item, seen}
 use Rattle.top_run.specs.Work.{Work}
 use Rattle.top_run.specs.Works as run
-use Rattle.top_duty.specs.Duty.{Admitted, columns_of, layout_of, traces}
+use Rattle.top_duty.specs.Duty.{Admitted, columns_of, graphs_of, layout_of, traces}
 use Rattle.raid_top.specs.Works.{work_of}
 
 abbrev made : Shape → List Column → List (List Item) → List View → Bool → Option Start → Work
@@ -28,8 +28,8 @@ same_made y z cols columns rows clients book graphs t u s v one two three four f
 
 module _ {L D : Type 0} (lay : LayoutGhosts L) (setup : Setup L D) (start : Option Start) (a : Admitted) where
   pub work_same : lay.shape setup.layout ≡ layout_of a → setup.columns.items ≡ columns_of a → map (λ items. map seen items.items) setup.clients.items ≡ a.clients
-      → map (λ g. g.drawn) setup.graphs.items ≡ map (λ named. named.graph) a.asked.book → setup.trace ≡ traces a.asked.command.action → start ≡ a.start
+      → map (λ g. g.drawn) setup.graphs.items ≡ graphs_of a → setup.trace ≡ traces a.asked.command.action → start ≡ a.start
       → run.work_of lay setup start ≡ work_of a
   work_same layout columns clients graphs trace starts =
       same_made (lay.shape setup.layout) (layout_of a) setup.columns.items (columns_of a) (map (λ items. map seen items.items) setup.clients.items) a.clients
-      (map (λ g. g.drawn) setup.graphs.items) (map (λ named. named.graph) a.asked.book) setup.trace (traces a.asked.command.action) start a.start layout columns clients graphs trace starts
+      (map (λ g. g.drawn) setup.graphs.items) (graphs_of a) setup.trace (traces a.asked.command.action) start a.start layout columns clients graphs trace starts

@@ -1,6 +1,6 @@
 -- What was done of a command on the array of a configuration, and when that ends well.
-use Rattle.std.specs.Prelude.{◌≡◌, ◌⊎◌, ℕ, List, length, Bool, true, false, Option, Some, Ok, Contains}
-use Rattle.blk_disk.specs.Devices.{AreNamed, RisesOn}
+use Rattle.std.specs.Prelude.{◌≡◌, ◌⊎◌, ℕ, List, Bool, Option, Some, Ok, Contains}
+use Rattle.blk_disk.specs.Devices.{AreNamed, Changes, RisesOn}
 use Rattle.blk_disk.specs.declared.disk.Disk.{Ghosts}
 use Rattle.eng_cols.specs.declared.column.Column.{Column}
 use Rattle.eng_cols.specs.Cols.{HasDevice}
@@ -11,14 +11,14 @@ use Rattle.top_fetch.specs.Told.{Told}
 use Rattle.top_bay.specs.Asked.{Asked, asked_in, names_for}
 use Rattle.top_status.specs.declared.status.Status.{Status}
 use Rattle.top_status.specs.declared.status.Status.TheVariants as status
-use Rattle.top_open.specs.Fronts.{AreFronts}
 use Rattle.top_open.specs.declared.fronts.Front.{Front}
 use Rattle.top_words.specs.Asked.{Check, Command}
 use Rattle.top_duty.specs.Duty.{Admitted, Duty, OnArray, Shows, OneLabel, PrintConf, IsWanted, asked_of, columns_of, duty_in, layout_of, states_in, states_of}
-use Rattle.top_duty.specs.Opening.{needs_of, reads_fronts, unread}
+use Rattle.top_duty.specs.Opening.{needs_of, reads_fronts}
 use Rattle.top_duty.specs.Taken.{Reads}
 use Rattle.top_run.specs.Outliving.{HasFail}
 use Rattle.raid_top.specs.Does.{Does}
+use Rattle.raid_top.specs.Losses.{LosesGone}
 use Rattle.raid_top.specs.Outcome.{Outcome}
 use Rattle.raid_top.specs.Works.{work_of}
 
@@ -40,6 +40,7 @@ module _ {D : Type 0} (g : Ghosts D) (b : Told D) (command : Command) where
     pub others : b.tells → (n : Text) → (Contains (names_for (asked_of duty)) n → ⊥)
         → b.after n ≡ b.home n
     pub does : Does g duty fronts old back o
+    pub loses : LosesGone duty o
 
 -- ## Completeness
 
@@ -61,10 +62,13 @@ module _ {D : Type 0} (g : Ghosts D) where
   SurvivesCall (OneLabel k) taken back = Unit {0}
   SurvivesCall (PrintConf k) taken back = Unit {0}
 
-  -- sector 0 of each device may have been read so, between these; or none was
-  abbrev pub MayRead : Bool → (taken back : List (Option D)) → List Front → Type 0
-  MayRead true taken back fronts = AreFronts g taken back fronts
-  MayRead false taken back fronts = fronts ≡ unread (length taken)
+  -- Sector 0 of each device may have been read so on the way from the one to the other, by its first
+  -- call, where the action reads it. So a device that tells its calls, of which the first went well,
+  -- was read, though its count rose later.
+  pub record MayRead (reads : Bool) (taken back : List (Option D)) (fronts : List Front) : Type 0 where
+    pub looked : List (Option D)
+    pub read : Reads g reads taken looked fronts
+    pub later : Changes g (λ _ _. Unit {0}) looked back
 
   -- By these fronts all that is asked for is right, and its array outlives the call.
   pub record IsDue (b : Told D) (command : Command)

@@ -36,7 +36,7 @@ IsNewest None = Unit {0}
 IsNewest (Some l) = HasRounds l
 
 -- Its columns have devices of their own, on which a label has place; none is filling and at most one spread; and what is held beside them is as large as it has to be.
-pub record IsSoundArray {L D : Type 0} (lay : LayoutGhosts L) (g : Ghosts D) (a : Array L) (devices : List (Option D)) : Type 0 where
+pub record IsSoundArray {L D P : Type 0} (lay : LayoutGhosts L) (g : Ghosts D) (a : Array L P) (devices : List (Option D)) : Type 0 where
   pub columns : IsSettable (lay.shape a.layout) a.ending.columns.items
   pub labels : CanBeLabelled g a.ending.columns.items devices
   pub judge : IsFor (lay.shape a.layout) a.judge

@@ -73,6 +73,17 @@ module _ {D : Type 0} (g : Ghosts D) where
     abbrev pub DoesArray : Action → Outcome → Type 0
     DoesArray action o = DoesDeed (profile_of action).deed (order_of action) o
 
+    -- each item of its clients has the reply that it ought to have; nothing but a run has clients
+    abbrev pub IsRunAnswered : (newest : Option Label) (o : Outcome) → DoesRun newest o → Type 0
+    IsRunAnswered None (Ran action s) h = AllAnswered g (work_of a) old back s (run.runs_of g (work_of a) old s back h.1.ran)
+    IsRunAnswered (Some newest) (Ran action s) h =
+        AllAnswered g (opened_as (work_of a) (without a.start h.1.ran.begun) h.1.ran.began) h.1.ran.opened back s h.1.ran.run
+    IsRunAnswered newest o h = Unit {0}
+
+    abbrev pub IsDeedAnswered : (d : Deed) (order : Option Order) (o : Outcome) → DoesDeed d order o → Type 0
+    IsDeedAnswered deed.Serves order o h = IsRunAnswered a.opened.newest o h
+    IsDeedAnswered d order o h = Unit {0}
+
   -- something is said, and no device was called
   abbrev pub Says : (old back : List (Option D)) → List ℕ → Outcome → Type 0
   Says old back said (Looked text) = (text ≡ said) × (back ≡ old)
@@ -89,3 +100,9 @@ module _ {D : Type 0} (g : Ghosts D) where
   Does (Shows k opened) fronts old back o = Says old back (show_text k.conf opened (sizes_of g.size old) fronts) o
   Does (OneLabel k) fronts old back o = SaysLabel old back fronts o
   Does (PrintConf k) fronts old back o = Says old back (conf_text k.conf) o
+
+  -- and so has each item of all its clients, where it has any
+  abbrev pub AreItemsAnswered : (duty : Duty) (fronts : List Front) (old back : List (Option D)) (o : Outcome) → Does duty fronts old back o → Type 0
+  AreItemsAnswered (OnArray a) fronts old back o h =
+      IsDeedAnswered a (has_failed a.start fronts) old back (profile_of a.asked.command.action).deed (order_of a (has_failed a.start fronts) old back a.asked.command.action) o h
+  AreItemsAnswered duty fronts old back o h = Unit {0}

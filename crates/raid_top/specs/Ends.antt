@@ -22,6 +22,7 @@ use Rattle.top_words.specs.Asked.{Check, Command}
 use Rattle.top_words.specs.Judged.{Invocation, Tell, OnArray, Scan, Simulate, invocation_of}
 use Rattle.raid_top.specs.Acted.{Acted, IsRightCommand}
 use Rattle.raid_top.specs.Calls.{CallOutcome, OfArray, OfScan, OfSimulation, OfTopic, Refuses, call_status, call_text}
+use Rattle.raid_top.specs.Does.{AreItemsAnswered}
 use Rattle.raid_top.specs.Refused.{CallIsRefused}
 
 module _ {D : Type 0} (g : Ghosts D) (b : Told D) where
@@ -55,6 +56,11 @@ module _ {D : Type 0} (g : Ghosts D) (b : Told D) where
   Follows (Scan list) (OfScan text) = Scans list text
   Follows (Simulate name order) (OfSimulation text) = Simulates name order text
   Follows invocation outcome = ⊥
+
+  -- each item of its clients has the reply that it ought to have, where it has any
+  abbrev pub IsAnswered : (invocation : Invocation) (o : CallOutcome) → Follows invocation o → Type 0
+  IsAnswered (OnArray command) (OfArray o) h = AreItemsAnswered g h.duty h.fronts h.old h.back o h.does
+  IsAnswered invocation o h = Unit {0}
 
   module _ (words : List Text) where
     -- what the words ask for came of them
@@ -109,3 +115,18 @@ EndsWell words status.Memory = Unit {0}
 EndsWell words (status.NotInSync n) =
     (c : Command) × (invocation_of words ≡ Ok (OnArray c)) × (c.action ≡ Check)
 EndsWell words _ = ⊥
+
+module _ {D : Type 0} (g : Ghosts D) (b : Told D) (words : List Text) (sink_tells : Type 0) (answer : Status) (old new : List ℕ) where
+  -- What the words ask for was done, and ended well: its status is the answer, each item of its
+  -- clients has the reply that it ought to have, and all that is told of it was printed.
+  pub record IsDoneWell : Type 0 where
+    pub outcome : CallOutcome
+    pub followed : Followed g b words outcome
+    pub status : answer ≡ call_status outcome
+    pub well : EndsWell words answer
+    pub answered : IsAnswered g b followed.invocation outcome followed.follows
+    pub printed : sink_tells → new ≡ old ++ call_text outcome
+
+  -- that, or memory was wanted
+  abbrev pub IsDone : Type 0
+  IsDone = IsDoneWell ⊎ (answer ≡ status.Memory)

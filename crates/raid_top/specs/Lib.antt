@@ -6,8 +6,10 @@ pub mod Works
 pub mod Does
 pub mod Views
 pub mod Served
+pub mod Losses
 pub mod Acted
 pub mod Calls
 pub mod Finished
 pub mod Refused
 pub mod Ends
+pub mod Laws

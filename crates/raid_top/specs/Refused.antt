@@ -6,7 +6,7 @@ use Rattle.raid_text.specs.Text.{Text}
 use Rattle.top_fetch.specs.Told.{Told}
 use Rattle.top_status.specs.declared.status.Status.TheVariants as status
 use Rattle.top_status.specs.Refusals.{Refused, only}
-use Rattle.top_duty.specs.Taken.{RefusedFor}
+use Rattle.top_duty.specs.Taken.{AreUntouched, RefusedFor}
 use Rattle.top_duty.specs.Views.{IsRefusal}
 use Rattle.top_scan.specs.Scanned.{names_in}
 use Rattle.top_sim.specs.Simulated.{workload_in}
@@ -23,12 +23,13 @@ IsTopic (Tell topic) = Unit {0}
 IsTopic invocation = ⊥
 
 module _ {D : Type 0} (g : Ghosts D) (b : Told D) where
-  -- why what was asked for is refused; none of the program's own texts is
+  -- why what was asked for is refused, and how devices were called before; none of the program's own
+  -- texts is refused, and no device is called for a simulated disk
   abbrev pub RefusedBy : Invocation → Refused → Type 0
   RefusedBy (Tell topic) r = ⊥
   RefusedBy (OnArray command) r = RefusedFor g b command r
   RefusedBy (Scan list) r = IsRefusedAs b.rose (names_in b.texts b.home list) r
-  RefusedBy (Simulate name order) r = IsRefusedAs b.rose (workload_in b.texts name) r
+  RefusedBy (Simulate name order) r = IsRefusedAs b.rose (workload_in b.texts name) r × AreUntouched g b
 
   -- It is refused so: for what texts, names, sizes and first sectors call for, or for want of
   -- memory, or for a fault of the bay, only where its count rose. Each device is at home again, and

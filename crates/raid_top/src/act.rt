@@ -20,6 +20,7 @@ use crate::came::Ended;
 use crate::performing::{Performed, perform};
 use crate::running::Served;
 use raid_bay::Bay;
+use raid_progress::Progress;
 use std::alloc::Global;
 use std::sync::Wait;
 use std::thread::Threads;
@@ -29,11 +30,12 @@ use top_status::Refusal;
 use top_words::Command;
 
 // Does what is due, and puts the devices back.
-fn end<'a, B: Bay, R: Threads + Wait + Sync>(
+fn end<'a, B: Bay, R: Threads + Wait + Sync, P: Progress + Sync>(
     rt: &R,
     alloc: Global,
     admitted: Admitted<'a, B::D>,
     bay: &mut B,
+    progress: &P,
 ) -> Result<Ended<'a>, Refusal>
 where
     B::D: Send + Drop,
@@ -55,7 +57,7 @@ where
         action,
         conf,
         served,
-    } = perform(rt, alloc, admitted);
+    } = perform(rt, alloc, admitted, progress);
     let Served { came, devices } = served;
     put_all(bay, &conf, action, devices);
     match came {
@@ -65,11 +67,12 @@ where
 }
 
 /// Does what a command asks for, and puts the devices back.
-pub(crate) fn act<'a, B: Bay, R: Threads + Wait + Sync>(
+pub(crate) fn act<'a, B: Bay, R: Threads + Wait + Sync, P: Progress + Sync>(
     rt: &R,
     alloc: Global,
     command: Command<'a>,
     bay: &mut B,
+    progress: &P,
 ) -> Result<Ended<'a>, Refusal>
 where
     B::D: Send + Drop,
@@ -95,7 +98,7 @@ where
     ensures later { B.faults bay.old ≤ B.faults bay.new }
 {
     match admit(alloc, command, bay) {
-        Ok(admitted) => end(rt, alloc, admitted, bay),
+        Ok(admitted) => end(rt, alloc, admitted, bay, progress),
         Err(refusal) => Err(refusal),
     }
 }

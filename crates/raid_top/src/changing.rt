@@ -11,14 +11,17 @@ use crate::array::{Array, Order};
 use crate::came::Came;
 use crate::doing::alter;
 use blk_disk::Disk;
+use raid_progress::Progress;
+use raid_recon::SweepRoom;
 use top_close::Ending;
 use top_duty::Ready;
 
 /// Does something to the array, and says what came of it, with its devices. No memory is taken.
-pub(crate) fn change<D: Disk>(
+pub(crate) fn change<D: Disk, P: Progress>(
     order: Order,
     ready: Ready,
     mut devices: Vec<Option<D>>,
+    progress: &P,
 ) -> (Came, Vec<Option<D>>)
     requires columns { IsSettable (shape_in ready.layout) ready.opened.columns.items }
     requires labels { CanBeLabelled D.Disk ready.opened.columns.items devices.items }
@@ -43,7 +46,7 @@ pub(crate) fn change<D: Disk>(
         layout,
         ending,
         judge,
-        room,
+        room: SweepRoom::new(room, progress),
     };
     let act = alter(order, devices.as_mut_slice(), &mut array);
     (Came::Did(act, array.ending), devices)

@@ -6,14 +6,15 @@ use crate::array::{Array, Order};
 use blk_disk::Disk;
 use lay_core::Layout;
 use raid_label::Label;
+use raid_progress::Progress;
 use top_acts::{Done, Renewal, check, kill, label, renew, renew_unlabelled};
 
 // Rewrites the check units, and the labels where there are any.
-fn rewrite<L: Layout, D: Disk>(
+fn rewrite<L: Layout, D: Disk, P: Progress>(
     kind: Renewal,
     newest: Option<Label>,
     devices: &mut [Option<D>],
-    array: &mut Array<L>,
+    array: &mut Array<L, P>,
 ) -> Done
     requires sound { IsSoundArray L.Layout D.Disk array.old devices.old }
     requires large { IsArray D.Disk (L.shape array.old.layout) array.old.ending.columns.items devices.old }
@@ -32,10 +33,10 @@ fn rewrite<L: Layout, D: Disk>(
 }
 
 /// Does something to an array. No memory is taken.
-pub(crate) fn alter<L: Layout, D: Disk>(
+pub(crate) fn alter<L: Layout, D: Disk, P: Progress>(
     order: Order,
     devices: &mut [Option<D>],
-    array: &mut Array<L>,
+    array: &mut Array<L, P>,
 ) -> Done
     requires sound { IsSoundArray L.Layout D.Disk array.old devices.old }
     requires may { MayDo D.Disk (L.shape array.old.layout) array.old.ending.columns.items order devices.old }

@@ -12,6 +12,7 @@ ghost use Rattle.raid_top.specs.Refused.{CallIsRefused, IsRefusedOf};
 use crate::act::act;
 use crate::finished::Finished;
 use raid_bay::{Bay, Name};
+use raid_progress::Progress;
 use sim_queue::Queue;
 use std::alloc::Global;
 use std::sync::Wait;
@@ -22,11 +23,12 @@ use top_status::{Refusal, Status};
 use top_words::{Command, Invocation, WordsFault, read_words};
 
 // An action on an array.
-fn act_on<'a, B: Bay, R: Threads + Wait + Sync>(
+fn act_on<'a, B: Bay, R: Threads + Wait + Sync, P: Progress + Sync>(
     rt: &R,
     alloc: Global,
     command: Command<'a>,
     bay: &mut B,
+    progress: &P,
 ) -> Result<Finished<'a>, Refusal>
 where
     B::D: Send + Drop,
@@ -50,7 +52,7 @@ where
         }) (OnArray (command_seen command.entry))) }
     ensures later { B.faults bay.old ≤ B.faults bay.new }
 {
-    match act(rt, alloc, command, bay) {
+    match act(rt, alloc, command, bay, progress) {
         Ok(ended) => Ok(Finished::OfArray(ended)),
         Err(refusal) => Err(refusal),
     }
@@ -116,11 +118,12 @@ fn simulate_in<'a, B: Bay>(
 }
 
 // What was asked for.
-fn follow<'a, B: Bay, R: Threads + Wait + Sync>(
+fn follow<'a, B: Bay, R: Threads + Wait + Sync, P: Progress + Sync>(
     rt: &R,
     alloc: Global,
     invocation: Invocation<'a>,
     bay: &mut B,
+    progress: &P,
 ) -> Result<Finished<'a>, Refusal>
 where
     B::D: Send + Drop,
@@ -146,7 +149,7 @@ where
 {
     match invocation {
         Invocation::Tell { topic } => Ok(Finished::OfTopic(topic)),
-        Invocation::OnArray { command } => act_on(rt, alloc, command, bay),
+        Invocation::OnArray { command } => act_on(rt, alloc, command, bay, progress),
         Invocation::Scan { list } => scan_list(alloc, list, bay),
         Invocation::Simulate { requests, order } => simulate_in(alloc, requests, order, bay),
     }
@@ -164,11 +167,12 @@ fn refuse(alloc: Global, fault: WordsFault) -> Refusal
 
 /// Does what the words ask for: one of the program's own texts, an action on an array, a list of
 /// components, or requests to a simulated disk. Each device that was taken is put back.
-pub(crate) fn invoke<'a, B: Bay, R: Threads + Wait + Sync>(
+pub(crate) fn invoke<'a, B: Bay, R: Threads + Wait + Sync, P: Progress + Sync>(
     rt: &R,
     alloc: Global,
     words: &'a [Name],
     bay: &mut B,
+    progress: &P,
 ) -> Result<Finished<'a>, Refusal>
 where
     B::D: Send + Drop,
@@ -192,7 +196,7 @@ where
     ensures later { B.faults bay.old ≤ B.faults bay.new }
 {
     match read_words(alloc, words) {
-        Ok(invocation) => follow(rt, alloc, invocation, bay),
+        Ok(invocation) => follow(rt, alloc, invocation, bay, progress),
         Err(fault) => Err(refuse(alloc, fault)),
     }
 }

@@ -16,6 +16,7 @@ mod changing;
 mod doing;
 mod finished;
 mod invoking;
+mod laws;
 mod order;
 mod paging;
 mod performing;
@@ -25,5 +26,9 @@ mod running;
 mod setup;
 mod top;
 
+pub use laws::{
+    a_device_that_fails_late_was_read, both_columns_of_a_loss_are_gone,
+    what_is_refused_changes_nothing, what_is_right_is_answered,
+};
 pub use top::run;
 pub use top_status::Status;

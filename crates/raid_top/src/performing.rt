@@ -3,10 +3,10 @@ ghost use Rattle.std.specs.Prelude.{◌≡◌, List, [], ◌∷◌, length, IfOk
 ghost use Rattle.raid_conf.specs.Form.{IsConf};
 ghost use Rattle.top_bay.specs.Asked.{names_for, names_of};
 ghost use Rattle.top_bay.specs.Views.{IsWithinLimits, asked_seen};
-ghost use Rattle.top_duty.specs.Duty.{admitted_with, beside_dead};
+ghost use Rattle.top_duty.specs.Duty.{beside_dead};
 ghost use Rattle.top_duty.specs.Fit.{IsFit, IsStartIf};
 ghost use Rattle.top_duty.specs.Opening.{kind_of, sizes_of};
-ghost use Rattle.top_duty.specs.Views.{IsDutyOver, IsFitFor, IsPrepared, duty_seen};
+ghost use Rattle.top_duty.specs.Views.{IsDutyOver, IsFitFor, IsPrepared, admitted_by, duty_seen};
 ghost use Rattle.top_open.specs.Opening.{opened_seen};
 ghost use Rattle.top_status.specs.Refusals.{only};
 ghost use Rattle.top_open.specs.declared.fronts.Front.{Front};
@@ -20,9 +20,10 @@ use crate::came::Came;
 use crate::changing::change;
 use crate::order::order_of;
 use crate::running::{Served, serve};
-use crate::setup::{work_of, workers_of};
+use crate::setup::{Unserved, work_of, workers_of};
 use blk_disk::Disk;
 use raid_conf::Conf;
+use raid_progress::Progress;
 use std::alloc::Global;
 use std::sync::Wait;
 use std::thread::Threads;
@@ -41,12 +42,13 @@ pub(crate) struct Performed<'a, D> {
 }
 
 // Serves the clients that are asked for.
-fn run_array<'a, D: Disk + Drop + Send, R: Threads + Wait + Sync>(
+fn run_array<'a, D: Disk + Drop + Send, R: Threads + Wait + Sync, P: Progress + Sync>(
     rt: &R,
     alloc: Global,
     asked: Asked<'a>,
     ready: Ready,
     devices: Vec<Option<D>>,
+    progress: &P,
 ) -> Performed<'a, D>
     requires within { IsWithinLimits (asked_seen asked) }
     requires ready { (fronts : List Front) × IsPrepared (asked_seen asked) (sizes_of D.size devices.items) fronts ready }
@@ -57,12 +59,12 @@ fn run_array<'a, D: Disk + Drop + Send, R: Threads + Wait + Sync>(
     ensures action { result.action ≡ asked.entry.command.action }
     ensures conf { result.conf ≡ asked.entry.conf }
     ensures does { IfOk result.served.came (λ came. DoesRun D.Disk
-        (admitted_with (asked_seen asked.entry) (opened_seen ready.opened) ready.start)
+        (admitted_by (asked_seen asked.entry) ready)
         ready.failed devices.items result.served.devices.items ready.opened.newest
         (outcome_seen (action_seen result.action) result.conf came)) }
     ensures printed { IfOk result.served.came CanBePrinted }
     ensures memory { IfErr result.served.came (λ r. r ≡ beside_dead
-        (admitted_with (asked_seen asked.entry) (opened_seen ready.opened) ready.start) Status.Memory) }
+        (admitted_by (asked_seen asked.entry) ready) Status.Memory) }
     ensures same { OnErr result.served.came (result.served.devices ≡ devices) }
 {
     let Asked {
@@ -73,21 +75,32 @@ fn run_array<'a, D: Disk + Drop + Send, R: Threads + Wait + Sync>(
         ..
     } = asked;
     let action = command.action;
-    let work = work_of(action, book, clients, ready, devices);
+    let work = match work_of(action, book, clients, ready, devices) {
+        Ok(work) => work,
+        Err(Unserved { columns, devices }) => {
+            let came = Err(Refusal::beside(columns, Status::Memory));
+            return Performed {
+                action,
+                conf,
+                served: Served { came, devices },
+            };
+        }
+    };
     Performed {
         action,
         conf,
-        served: serve(rt, alloc, work, workers_of(action)),
+        served: serve(rt, alloc, work, workers_of(action), progress),
     }
 }
 
 // Does something to the array, or serves the clients that are asked for.
-fn act_on_array<'a, D: Disk + Drop + Send, R: Threads + Wait + Sync>(
+fn act_on_array<'a, D: Disk + Drop + Send, R: Threads + Wait + Sync, P: Progress + Sync>(
     rt: &R,
     alloc: Global,
     asked: Asked<'a>,
     ready: Ready,
     devices: Vec<Option<D>>,
+    progress: &P,
 ) -> Performed<'a, D>
     requires within { IsWithinLimits (asked_seen asked) }
     requires ready { (fronts : List Front) × IsPrepared (asked_seen asked) (sizes_of D.size devices.items) fronts ready }
@@ -98,19 +111,19 @@ fn act_on_array<'a, D: Disk + Drop + Send, R: Threads + Wait + Sync>(
     ensures action { result.action ≡ asked.entry.command.action }
     ensures conf { result.conf ≡ asked.entry.conf }
     ensures does { IfOk result.served.came (λ came. DoesArray D.Disk
-        (admitted_with (asked_seen asked.entry) (opened_seen ready.opened) ready.start)
+        (admitted_by (asked_seen asked.entry) ready)
         ready.failed devices.items result.served.devices.items (action_seen result.action)
         (outcome_seen (action_seen result.action) result.conf came)) }
     ensures printed { IfOk result.served.came CanBePrinted }
     ensures memory { IfErr result.served.came (λ r. r ≡ beside_dead
-        (admitted_with (asked_seen asked.entry) (opened_seen ready.opened) ready.start) Status.Memory) }
+        (admitted_by (asked_seen asked.entry) ready) Status.Memory) }
     ensures same { OnErr result.served.came (result.served.devices ≡ devices) }
 {
     let action = asked.command.action;
     let opened = &ready.opened;
     match order_of(action, asked.comp, opened.newest, &asked.conf, opened.rows) {
         Some(order) => {
-            let (came, devices) = change(order, ready, devices);
+            let (came, devices) = change(order, ready, devices, progress);
             Performed {
                 action,
                 conf: asked.conf,
@@ -120,7 +133,7 @@ fn act_on_array<'a, D: Disk + Drop + Send, R: Threads + Wait + Sync>(
                 },
             }
         }
-        None => run_array(rt, alloc, asked, ready, devices),
+        None => run_array(rt, alloc, asked, ready, devices, progress),
     }
 }
 
@@ -165,10 +178,11 @@ fn print_conf(alloc: Global, conf: &Conf) -> Result<Came, Refusal>
 }
 
 /// Does what is due. The only refusal is want of memory, and the devices are then what they were.
-pub(crate) fn perform<'a, D: Disk + Drop + Send, R: Threads + Wait + Sync>(
+pub(crate) fn perform<'a, D: Disk + Drop + Send, R: Threads + Wait + Sync, P: Progress + Sync>(
     rt: &R,
     alloc: Global,
     admitted: Admitted<'a, D>,
+    progress: &P,
 ) -> Performed<'a, D>
     requires within { IsWithinLimits (asked_seen admitted.asked) }
     requires duty { IsDutyOver (asked_seen admitted.asked) (sizes_of D.size admitted.devices.items) admitted.fronts.items admitted.duty }
@@ -194,7 +208,7 @@ pub(crate) fn perform<'a, D: Disk + Drop + Send, R: Threads + Wait + Sync>(
         duty,
     } = admitted;
     match duty {
-        Duty::OnArray(ready) => act_on_array(rt, alloc, asked, ready, devices),
+        Duty::OnArray(ready) => act_on_array(rt, alloc, asked, ready, devices, progress),
         Duty::Shows(opened) => say(asked, Ok(Came::Shows(opened, sizes, fronts)), devices),
         Duty::OneLabel => say(asked, Ok(Came::ShowsLabel(only_front(fronts))), devices),
         Duty::PrintConf => {

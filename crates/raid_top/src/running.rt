@@ -13,6 +13,7 @@ use blk_disk::Disk;
 use eng_array::Setup;
 use lay_core::Layout;
 use raid_conf::AnyLayout;
+use raid_progress::Progress;
 use std::alloc::Global;
 use std::sync::Wait;
 use std::thread::Threads;
@@ -38,12 +39,12 @@ fn status_of(fault: ServeFault) -> Status
 }
 
 // Serves the clients over an array without labels.
-fn run_plain<L: Layout + Drop + Send, D: Disk + Drop + Send, R: Threads + Wait + Sync>(
-    rt: &R,
-    alloc: Global,
-    setup: Setup<L, D>,
-    workers: u32,
-) -> Served<D>
+fn run_plain<
+    L: Layout + Drop + Send,
+    D: Disk + Drop + Send,
+    R: Threads + Wait + Sync,
+    P: Progress + Sync,
+>(rt: &R, alloc: Global, setup: Setup<L, D>, workers: u32, progress: &P) -> Served<D>
     requires workers { workers ≤ 16 }
     requires may { MayServe L.Layout D.Disk setup }
     ensures came { IfOk result.came (ComesPlain D.Disk (work_of L.Layout setup None)
@@ -52,7 +53,7 @@ fn run_plain<L: Layout + Drop + Send, D: Disk + Drop + Send, R: Threads + Wait +
     ensures memory { IfErr result.came (λ r. r ≡ record { status = Status.Memory; dead = dead_columns setup.columns.items }) }
     ensures same { OnErr result.came (result.devices ≡ setup.devices) }
 {
-    match run_clients(rt, alloc, setup, workers) {
+    match run_clients(rt, alloc, setup, workers, progress) {
         Ok((service, devices)) => Served {
             came: Ok(Came::Ran(service)),
             devices,
@@ -74,12 +75,12 @@ fn came_of(outcome: Outcome) -> Came
     }
 }
 
-fn run_with_labels<L: Layout + Drop + Send, D: Disk + Drop + Send, R: Threads + Wait + Sync>(
-    rt: &R,
-    alloc: Global,
-    labelled: Labelled<L, D>,
-    workers: u32,
-) -> Served<D>
+fn run_with_labels<
+    L: Layout + Drop + Send,
+    D: Disk + Drop + Send,
+    R: Threads + Wait + Sync,
+    P: Progress + Sync,
+>(rt: &R, alloc: Global, labelled: Labelled<L, D>, workers: u32, progress: &P) -> Served<D>
     requires workers { workers ≤ 16 }
     requires may { MayServe L.Layout D.Disk labelled.setup }
     requires label { MayLabel L.Layout D.Disk labelled.setup labelled.start labelled.label }
@@ -91,7 +92,7 @@ fn run_with_labels<L: Layout + Drop + Send, D: Disk + Drop + Send, R: Threads + 
     ensures memory { IfErr result.came (λ r. r ≡ record { status = Status.Memory; dead = dead_columns labelled.setup.columns.items }) }
     ensures same { OnErr result.came (result.devices ≡ labelled.setup.devices) }
 {
-    match run_labelled(rt, alloc, labelled, workers) {
+    match run_labelled(rt, alloc, labelled, workers, progress) {
         Ok((outcome, devices)) => Served {
             came: Ok(came_of(outcome)),
             devices,
@@ -104,11 +105,12 @@ fn run_with_labels<L: Layout + Drop + Send, D: Disk + Drop + Send, R: Threads + 
 }
 
 /// Serves the clients, with so many workers. The only refusal is want of memory, and the devices are then what they were.
-pub(crate) fn serve<D: Disk + Drop + Send, R: Threads + Wait + Sync>(
+pub(crate) fn serve<D: Disk + Drop + Send, R: Threads + Wait + Sync, P: Progress + Sync>(
     rt: &R,
     alloc: Global,
     work: Work<D>,
     workers: u32,
+    progress: &P,
 ) -> Served<D>
     requires workers { workers ≤ 16 }
     requires may { MayServe ⟦<AnyLayout as Layout>⟧ D.Disk work.setup }
@@ -130,7 +132,7 @@ pub(crate) fn serve<D: Disk + Drop + Send, R: Threads + Wait + Sync>(
         failed,
     } = work;
     match newest {
-        None => run_plain(rt, alloc, setup, workers),
+        None => run_plain(rt, alloc, setup, workers, progress),
         Some(label) => {
             let labelled = Labelled {
                 setup,
@@ -140,7 +142,7 @@ pub(crate) fn serve<D: Disk + Drop + Send, R: Threads + Wait + Sync>(
                 start,
                 failed,
             };
-            run_with_labels(rt, alloc, labelled, workers)
+            run_with_labels(rt, alloc, labelled, workers, progress)
         }
     }
 }

@@ -2,7 +2,7 @@
 ghost use Rattle.std.specs.Prelude.{◌≡◌, ◌≤◌, OnOk, OnErr};
 ghost use Rattle.blk_disk.specs.Disk.{Rose};
 ghost use Rattle.top_fetch.specs.Told.{Told};
-ghost use Rattle.raid_top.specs.Ends.{Answers, EndsWell, IsRight};
+ghost use Rattle.raid_top.specs.Ends.{Answers, IsDone, IsRight};
 
 use crate::finished::status_finished;
 use crate::invoking::invoke;
@@ -10,6 +10,7 @@ use crate::paging::Telling;
 use blk_disk::Failed;
 use put_line::{page_room, put_by_pages};
 use raid_bay::{Bay, Name, Sink};
+use raid_progress::Progress;
 use std::alloc::Global;
 use std::sync::Wait;
 use std::thread::Threads;
@@ -31,14 +32,17 @@ fn answer_of(status: Status, printed: Result<(), Failed>) -> Status
 ///
 /// What came of the words is printed by pages, for which room is taken first; where there is none, line by line.
 ///
+/// `progress` is told how far it is, by numbers alone: nothing that is done or printed rests on that.
+///
 /// Memory that is wanted behind the opening of the core is wanted before any device is written. On every path each device
 /// that was taken is put back.
-pub fn run<B: Bay, K: Sink, R: Threads + Wait + Sync>(
+pub fn run<B: Bay, K: Sink, R: Threads + Wait + Sync, P: Progress + Sync>(
     rt: &R,
     alloc: Global,
     words: &[Name],
     bay: &mut B,
     out: &mut K,
+    progress: &P,
 ) -> Status
 where
     B::D: Send + Drop,
@@ -59,12 +63,21 @@ where
           home = B.home bay.old;
           after = B.home bay.new;
         }) words.now → ¬ Rose (B.faults bay.old) (B.faults bay.new) → ¬ Rose (K.faults out.old) (K.faults out.new) →
-        EndsWell words.now result }
+        IsDone B.D.Disk
+        (record {
+          tells = B.tells;
+          rose = Rose (B.faults bay.old) (B.faults bay.new);
+          texts = B.text_of bay.old;
+          home = B.home bay.old;
+          after = B.home bay.new;
+        }) words.now K.tells result (K.output out.old) (K.output out.new) }
     ensures bay_later { B.faults bay.old ≤ B.faults bay.new }
     ensures sink_later { K.faults out.old ≤ K.faults out.new }
 {
     let room = page_room(alloc).ok();
-    match invoke(rt, alloc, words, bay) {
+    let came = invoke(rt, alloc, words, bay, progress);
+    progress.end();
+    match came {
         Ok(finished) => {
             let status = status_finished(&finished);
             let told = Telling {

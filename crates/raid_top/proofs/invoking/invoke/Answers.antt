@@ -1,4 +1,4 @@
-use Rattle.std.proofs.Common.{ap, subst, sym}
+use Rattle.std.proofs.Common.{ap, refl, subst, sym}
 use Rattle.std.proofs.lemmas.Result.{IfErr-weaker, IfOk-weaker}
 use Rattle.std.specs.Prelude.{Err}
 use Rattle.blk_disk.specs.Disk.{Rose}
@@ -6,7 +6,6 @@ use Rattle.top_fetch.specs.Told.{Told}
 use Rattle.top_status.specs.Refusals.{Refused}
 use Rattle.top_words.specs.Views.{invocation_seen}
 use Rattle.raid_top.specs.Refused.{CallIsRefused}
-use Rattle.raid_top.proofs.Backs.{stays_as_it_is}
 use Rattle.raid_top.proofs.Refusing.{call_refused, words_refused}
 use Rattle.raid_top.proofs.invoking.invoke.Goals as goal
 
@@ -25,4 +24,4 @@ returns-in-Err-clause-refused g c =
     let told : Told _ = record { tells = B.tells; rose = Rose (B.faults c.args.bay.now) (B.faults c.args.bay.now); texts = B.text_of c.args.bay.now; home = B.home c.args.bay.now; after = B.home c.args.bay.now } in
     let e = c.in-Err.ensures in
     subst (λ (r : Refused). CallIsRefused g.B.D.Disk told c.args.words.now r) (sym c.refuse.ensures)
-    (words_refused g.B.D.Disk told c.args.words.now c.in-Err.fault (λ i is. e.usage i (ap (λ f. Err f) is)) e.told (λ t n. stays_as_it_is g.B.D.Disk (B.home c.args.bay.now n)))
+    (words_refused g.B.D.Disk told c.args.words.now c.in-Err.fault (λ i is. e.usage i (ap (λ f. Err f) is)) e.told (λ n. refl))

@@ -1,10 +1,8 @@
 use Rattle.std.proofs.Common.{Err, ap, subst, sym}
 use Rattle.blk_disk.specs.Disk.{Rose}
-use Rattle.blk_disk.specs.Devices.{StaysIf}
 use Rattle.top_fetch.specs.Told.{Told}
 use Rattle.top_words.specs.Judged.{Simulate}
 use Rattle.raid_top.specs.Refused.{IsRefusedOf}
-use Rattle.raid_top.proofs.Backs.{stays_as_it_is}
 use Rattle.raid_top.proofs.Following.{simulation_follows, simulation_refused}
 use Rattle.raid_top.proofs.invoking.simulate_in.Goals as goal
 
@@ -24,4 +22,4 @@ returns-in-Err-clause-refused g c =
     let e = c.in-Err.ensures in
     subst (λ r. IsRefusedOf D told (Simulate c.args.requests.now c.args.order) r) (sym c.only.ensures)
     (simulation_refused D told c.args.requests.now c.args.order c.in-Err.status e.kind (λ is. e.cause (ap (λ s. Err s) is)) e.answer
-    (λ t n. subst (λ d. StaysIf D (λ _. ⊥) (home n) d) (sym (c.simulate.ensures.read.homes t n)) (stays_as_it_is D (home n))))
+    c.simulate.ensures.read.homes)

@@ -2,7 +2,7 @@ use Rattle.std.proofs.Common.{sym, refl, subst, ◌∙◌}
 use Rattle.std.proofs.lemmas.Result.{IfOk-weaker}
 use Rattle.raid_conf.specs.Layouts.{shape_in}
 use Rattle.top_bay.specs.Views.{asked_seen}
-use Rattle.top_duty.specs.Duty.{admitted_with}
+use Rattle.top_duty.specs.Views.{admitted_by}
 use Rattle.top_duty.specs.Opening.{sizes_of}
 use Rattle.top_duty.proofs.Fits.{fit_labelled}
 use Rattle.top_open.specs.Opening.{opened_seen}
@@ -34,7 +34,7 @@ returns-in-Some-clause-does g c =
     let o = opened_seen c.args.ready.opened in
     let came = c.change-came.result.0 in
     let back = c.change-came.result.1.items in
-    order_does g.D.Disk (admitted_with k o c.args.ready.start) c.args.ready.failed c.args.devices.items back k.command.action c.args.asked.conf c.in-Some.order came (sym c.order_of.ensures ∙ c.in-Some.is)
+    order_does g.D.Disk (admitted_by k c.args.ready) c.args.ready.failed c.args.devices.items back k.command.action c.args.asked.conf c.in-Some.order came (sym c.order_of.ensures ∙ c.in-Some.is)
     (subst (λ y. ComesOfOrder g.D.Disk y o.columns c.args.devices.items back c.in-Some.order came) c.requires.ready.1.made.shape c.change-came.ensures)
 
 pub run_array-requires-clause-run : goal.run_array-requires-clause-run
@@ -54,5 +54,5 @@ returns-clause-does g c =
     (λ need. has_labels k (sizes_of g.D.Disk.size c.args.devices.items) c.requires.ready.0 o c.requires.ready.1.ready.opened need)
     (sym c.order_of.ensures ∙ c.in-None.is) in
     IfOk-weaker r.served.came _ _ (λ x h.
-    run_does g.D.Disk (admitted_with k o c.args.ready.start) c.args.ready.failed c.args.devices.items r.served.devices.items (action_seen r.action) (outcome_seen (action_seen r.action) r.conf x)
+    run_does g.D.Disk (admitted_by k c.args.ready) c.args.ready.failed c.args.devices.items r.served.devices.items (action_seen r.action) (outcome_seen (action_seen r.action) r.conf x)
     (subst (λ a. IsRun (action_seen a)) (sym c.run_array.ensures.action) run) h) c.run_array.ensures.does

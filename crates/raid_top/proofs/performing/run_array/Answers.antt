@@ -7,7 +7,7 @@ use Rattle.raid_conf.proofs.ByUnits.{spares_by_units}
 use Rattle.raid_conf.specs.contracts.layouts.AnyLayoutLayout.TheImpl as any
 use Rattle.raid_script.specs.Asked.{AreFew, IsAsked}
 use Rattle.top_bay.specs.Views.{asked_seen}
-use Rattle.top_duty.specs.Duty.{admitted_with}
+use Rattle.top_duty.specs.Views.{admitted_by, graphs_with, views_of}
 use Rattle.top_duty.specs.Fit.{IsFit, IsStartIf}
 use Rattle.top_duty.specs.Opening.{sizes_of}
 use Rattle.top_open.specs.Opening.{opened_seen}
@@ -25,15 +25,15 @@ pub serve-requires-clause-may : goal.serve-requires-clause-may
 serve-requires-clause-may g c κs w =
     let k = asked_seen c.args.asked in
     let o = opened_seen c.args.ready.opened in
-    let made = c.work_of-work.ensures in
+    let made = c.in-Ok.ensures in
     let p = c.requires.ready.1 in
-    may_serve any.ghosts g.D.Disk c.work_of-work.result.setup k o c.args.ready.start (sizes_of g.D.Disk.size c.args.devices.items) c.requires.ready.0 c.requires.within p.ready
+    may_serve any.ghosts g.D.Disk c.in-Ok.work.setup k o c.args.ready.start (views_of c.args.ready.joined.items) (sizes_of g.D.Disk.size c.args.devices.items) c.requires.ready.0 c.requires.within p.ready
     (subst (λ ds. IsFit g.D.Disk k o ds.items) (sym made.devices) c.requires.fit)
     (ap (λ l. any.ghosts.shape l) made.layout ∙ p.made.shape)
     (ap (λ v. v.items) made.columns)
     (ap (λ v. length v.items) made.devices ∙ c.requires.many)
     (made.clients (blocks_in (shape_of k.conf o.rows)) p.made.drawn)
-    (subst (λ rows. All (All (IsAsked k.conf.columns (length k.book))) rows) p.made.drawn (p.made.asked k.conf.columns (length k.book)))
+    (subst (λ rows. All (All (IsAsked k.conf.columns (length (graphs_with k (views_of c.args.ready.joined.items))))) rows) p.made.drawn (p.made.asked k.conf.columns (length (graphs_with k (views_of c.args.ready.joined.items)))))
     (subst (λ rows. AreFew rows) p.made.drawn p.made.few)
     made.graphs
     made.trace
@@ -42,20 +42,20 @@ pub serve-requires-clause-label : goal.serve-requires-clause-label
 serve-requires-clause-label g c κs w =
     let k = asked_seen c.args.asked in
     let o = opened_seen c.args.ready.opened in
-    let made = c.work_of-work.ensures in
+    let made = c.in-Ok.ensures in
     let p = c.requires.ready.1 in
     let sizes = sizes_of g.D.Disk.size c.args.devices.items in
     let fit = subst (λ ds. IsFit g.D.Disk k o ds.items) (sym made.devices) c.requires.fit in
-    subst (λ s. MayLabelIf any.ghosts g.D.Disk c.work_of-work.result.setup s c.work_of-work.result.newest) (sym made.start)
-    (may_label any.ghosts g.D.Disk c.work_of-work.result.setup k o c.args.ready.start c.work_of-work.result.newest c.requires.within fit
+    subst (λ s. MayLabelIf any.ghosts g.D.Disk c.in-Ok.work.setup s c.in-Ok.work.newest) (sym made.start)
+    (may_label any.ghosts g.D.Disk c.in-Ok.work.setup k o c.args.ready.start c.in-Ok.work.newest c.requires.within fit
     (run_writes k.command.action k.comp c.requires.run)
-    (ap (λ v. v.items) made.columns) (sym made.newest)
-    (may_rebuild_if any.ghosts g.D.Disk c.work_of-work.result.setup k o c.args.ready.start sizes c.requires.ready.0 c.requires.within p.ready fit
+    (ap (λ v. v.items) made.columns) (sym made.parts.0)
+    (may_rebuild_if any.ghosts g.D.Disk c.in-Ok.work.setup k o c.args.ready.start (views_of c.args.ready.joined.items) sizes c.requires.ready.0 c.requires.within p.ready fit
     (subst (λ ds. IsStartIf g.D.Disk k o ds.items c.args.ready.start) (sym made.devices) c.requires.start)
     (ap (λ l. any.ghosts.shape l) made.layout ∙ p.made.shape)
     (ap (λ v. v.items) made.columns)
     (made.clients (blocks_in (shape_of k.conf o.rows)) p.made.drawn)
-    (subst (λ rows. All (All (IsAsked k.conf.columns (length k.book))) rows) p.made.drawn (p.made.asked k.conf.columns (length k.book)))
+    (subst (λ rows. All (All (IsAsked k.conf.columns (length (graphs_with k (views_of c.args.ready.joined.items))))) rows) p.made.drawn (p.made.asked k.conf.columns (length (graphs_with k (views_of c.args.ready.joined.items)))))
     (subst (λ rows. AreFew rows) p.made.drawn p.made.few)
     made.graphs
     made.trace)
@@ -65,22 +65,22 @@ pub returns-clause-does : goal.returns-clause-does
 returns-clause-does g c =
     let k = asked_seen c.args.asked in
     let o = opened_seen c.args.ready.opened in
-    let made = c.work_of-work.ensures in
-    let work = c.work_of-work.result in
+    let made = c.in-Ok.ensures in
+    let work = c.in-Ok.work in
     let setup = work.setup in
     let p = c.requires.ready.1 in
     let back = c.serve.result.devices.items in
-    let same = work_same any.ghosts setup work.start (admitted_with k o c.args.ready.start)
+    let same = work_same any.ghosts setup work.start (admitted_by k c.args.ready)
     (ap (λ l. any.ghosts.shape l) made.layout ∙ p.made.shape)
     (ap (λ v. v.items) made.columns)
     (made.clients (blocks_in (shape_of k.conf o.rows)) p.made.drawn)
     made.graphs made.trace made.start in
     IfOk-weaker c.serve.result.came _ _ (λ x h.
-    came_does g.D.Disk k o c.args.ready.start c.args.ready.failed (sizes_of g.D.Disk.size c.args.devices.items) c.requires.ready.0 p.ready.starts c.args.devices.items back c.requires.within
+    came_does g.D.Disk k o c.args.ready.start c.args.ready.failed (sizes_of g.D.Disk.size c.args.devices.items) c.requires.ready.0 p.ready.starts (views_of c.args.ready.joined.items) c.args.devices.items back c.requires.within
     (subst (λ y. IsLayout y) p.made.shape (shape_lawful c.args.ready.layout))
     (subst (λ y. SparesLieByUnits y) p.made.shape (spares_by_units c.args.ready.layout))
     o.newest (action_seen c.args.asked.command.action) c.args.asked.conf x refl
     (subst (λ w. CameOf g.D.Disk w o.newest c.args.ready.failed c.args.devices.items back x) same
     (subst (λ f. CameOf g.D.Disk (run_works.work_of any.ghosts setup work.start) o.newest f c.args.devices.items back x) made.failed
-    (subst (λ n. CameOf g.D.Disk (run_works.work_of any.ghosts setup work.start) n work.failed c.args.devices.items back x) made.newest
+    (subst (λ n. CameOf g.D.Disk (run_works.work_of any.ghosts setup work.start) n work.failed c.args.devices.items back x) made.parts.0
     (subst (λ ds. CameOf g.D.Disk (run_works.work_of any.ghosts setup work.start) work.newest work.failed ds.items back x) made.devices h))))) c.serve.ensures.came
