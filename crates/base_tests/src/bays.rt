@@ -4,6 +4,7 @@ use blk_disk::{Disk, Failed, MemDisk};
 use raid_bay::*;
 use std::alloc::Global;
 use std::fs;
+use std::io::ErrorKind;
 use std::process::Abort;
 use std::test::Fail;
 
@@ -150,9 +151,87 @@ fn files_are_texts_and_devices(rt: HostRuntime) -> Result<(), Fail> {
     Ok(())
 }
 
+// The file of the bay's last fault, and whether it was in use.
+fn last_fault(bay: &FileBay) -> Option<(&str, bool)> {
+    let fault = bay.fault()?;
+    let in_use = fault.error.kind() == ErrorKind::ResourceBusy;
+    Some((fault.name.text(), in_use))
+}
+
 #[test]
-fn standard_output_takes_bytes(rt: HostRuntime) -> Result<(), Fail> {
+fn a_file_serves_one_component(rt: HostRuntime) -> Result<(), Fail> {
+    let alloc = rt.alloc();
+    let mut bay = FileBay::new(rt.clone()?);
+    fs::write(&rt, "one_file", vec![in alloc; 1u8; 1024]?.as_slice())?;
+    fs::hard_link(&rt, "one_file", "its_other_name")?;
+    let disk = bay.take(alloc, "one_file")?;
+    lends(
+        &rt,
+        alloc,
+        &mut bay,
+        "its_other_name",
+        Err(TakeFault::Fault),
+    );
+    same(&rt, last_fault(&bay), Some(("its_other_name", true)));
+    bay.put("one_file", disk);
+    lends(&rt, alloc, &mut bay, "its_other_name", Ok(2));
+    fs::remove_file(&rt, "one_file")?;
+    fs::remove_file(&rt, "its_other_name")?;
+    Ok(())
+}
+
+// The files that the bay lent, with whether a call of them failed for the file's end.
+fn failed(alloc: Global, bay: &FileBay) -> Result<Vec<(&str, bool)>, Fail> {
+    let mut files = Vec::new(alloc);
+    for file in bay.lent() {
+        let kind = file.cause.map(|error| error.kind());
+        files.push((file.name.text(), kind == Some(ErrorKind::UnexpectedEof)))?;
+    }
+    Ok(files)
+}
+
+// Reads sector 0, if there is one.
+fn read_first<D: Disk>(disk: &mut D) -> Option<Result<(), Failed>> {
+    if disk.sectors() == 0 {
+        return None;
+    }
+    Some(disk.read(0, &mut [0; 512]))
+}
+
+#[test]
+fn a_file_that_fails_keeps_why(rt: HostRuntime) -> Result<(), Fail> {
+    let alloc = rt.alloc();
+    let mut bay = FileBay::new(rt.clone()?);
+    fs::write(&rt, "sound", vec![in alloc; 1u8; 512]?.as_slice())?;
+    fs::write(&rt, "cut", vec![in alloc; 1u8; 512]?.as_slice())?;
+    lends(&rt, alloc, &mut bay, "sound", Ok(1));
+    let mut disk = bay.take(alloc, "cut")?;
+    fs::write(&rt, "cut", "short")?;
+    same(&rt, read_first(&mut disk), Some(Err(Failed)));
+    bay.put("cut", disk);
+    let files = failed(alloc, &bay)?;
+    same(&rt, files.as_slice(), &[("sound", false), ("cut", true)]);
+    fs::remove_file(&rt, "sound")?;
+    fs::remove_file(&rt, "cut")?;
+    Ok(())
+}
+
+// How many bytes the process has written so far, by the system's count.
+fn written(rt: &HostRuntime) -> Result<u64, Fail> {
+    let counts = fs::read_to_string(rt, "/proc/self/io")?;
+    for line in counts.lines() {
+        if let Some(count) = line.strip_prefix("wchar: ") {
+            return Ok(count.parse::<u64>()?);
+        }
+    }
+    Err("the system counts no bytes".into())
+}
+
+#[test]
+fn standard_output_takes_all_bytes(rt: HostRuntime) -> Result<(), Fail> {
+    let before = written(&rt)?;
     let mut out = OutSink::new(rt.clone()?);
     same(&rt, out.put(b"status ok\n"), Ok(()));
+    same(&rt, written(&rt)?, before.saturating_add(10));
     Ok(())
 }

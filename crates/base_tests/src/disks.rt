@@ -128,6 +128,17 @@ fn a_file_keeps_what_is_written_and_its_remainder(rt: HostRuntime) -> Result<(),
     Ok(())
 }
 
+// The null device has nowhere to keep what is settled, so that the system refuses to.
+#[test]
+fn a_file_is_settled_by_the_system(rt: HostRuntime) -> Result<(), Fail> {
+    let mut disk = FileDisk::new(File::open(&rt, "/dev/null")?)?;
+    same(&rt, disk.sectors(), 0);
+    same(&rt, disk.cause().is_some(), false);
+    same(&rt, disk.settle(), Err(Failed));
+    same(&rt, disk.cause().is_some(), true);
+    Ok(())
+}
+
 // A device of four zero sectors on one side of the gate, whose sector 1 passes it.
 fn gated(rt: &HostRuntime, gate: &Arc<Gate>, side: u32) -> Result<GateDisk, Fail> {
     let bytes = vec![in rt.alloc(); 0; 4 * SECTOR]?;

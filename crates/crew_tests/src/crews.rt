@@ -11,6 +11,7 @@ use eng_array::{Closed, Column, Core, Item, Reply};
 use eng_crew::{drain, run_crew};
 use lay_core::Layout;
 use lay_plain::Raid5;
+use raid_progress::Silent;
 use std::alloc::{AllocError, Global};
 use std::process::Abort;
 use std::sync::Wait;
@@ -18,8 +19,10 @@ use std::test::Fail;
 use std::thread::Threads;
 
 mod opened;
+mod slow;
 
 use opened::opened;
+use slow::SlowDisk;
 
 const LIVE: [Column; 2] = [Column::Live { device: 0 }, Column::Live { device: 1 }];
 
@@ -61,10 +64,10 @@ fn served<D: Disk + Drop + Send, R: Threads + Wait + Sync>(
     requires workers { (1 ≤ workers) × (workers ≤ 16) }
     requires servable { IsServable ⟦<Raid5 as Layout>⟧ D.Disk core.array }
 {
-    let Ok(mut core) = run_crew(rt, alloc, core, workers) else {
+    let Ok(mut core) = run_crew(rt, alloc, core, workers, &Silent, 0) else {
         return Err(Fail::from("no memory"))
     };
-    drain(&mut core);
+    drain(&mut core, &Silent, 0);
     Ok(core.close())
 }
 
@@ -190,5 +193,28 @@ fn two_workers_perform_at_the_same_time(rt: HostRuntime) -> Result<(), Fail> {
             None => same(&rt, false, true),
         }
     }
+    Ok(())
+}
+
+// A read of which each device takes a while, and a write as above. The worker that doesn't read finds nothing to do meanwhile,
+// however often it looks, and is needed afterwards.
+#[test]
+fn a_worker_that_finds_nothing_looks_again(rt: HostRuntime) -> Result<(), Fail> {
+    let alloc = rt.alloc();
+    let gate = Gate::new(alloc)?;
+    let first = GateDisk::new(device(alloc, 0, &[])?, gate.clone()?, 0, 64);
+    let second = GateDisk::new(device(alloc, 0, &[])?, gate, 1, 64);
+    let clients = vec![in alloc; vec![in alloc; read(1, 1), write(0, 1)]?]?;
+    let core = opened(alloc, SlowDisk::new(first), SlowDisk::new(second), clients)?;
+    let closed = served(&rt, alloc, core, 2)?;
+    same(&rt, closed.replies.len(), 1);
+    for replies in closed.replies.iter() {
+        same(
+            &rt,
+            replies.as_slice(),
+            [Reply::Data, Reply::Done].as_slice(),
+        );
+    }
+    same(&rt, closed.columns.as_slice(), LIVE.as_slice());
     Ok(())
 }

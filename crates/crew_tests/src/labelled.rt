@@ -10,6 +10,7 @@ use blk_disk::{Disk, MemDisk, SECTOR};
 use eng_array::{Column, Item, Loss, Reply};
 use lay_core::Layout;
 use lay_plain::Raid5;
+use raid_progress::Silent;
 use std::alloc::{AllocError, Global};
 use std::process::Abort;
 use std::sync::Wait;
@@ -67,7 +68,7 @@ fn ran<R: Threads + Wait + Sync>(
     requires workers { workers ≤ 16 }
     requires can { CanRunLabelled ⟦<Raid5 as Layout>⟧ ⟦<MemDisk as Disk>⟧ labelled }
 {
-    match run_labelled(rt, alloc, labelled, workers) {
+    match run_labelled(rt, alloc, labelled, workers, &Silent) {
         Ok((outcome, devices)) => match outcome {
             Outcome::Ran(service) => Ok((service, devices)),
             Outcome::Lost(_ending) => Err(Fail::from("lost")),
@@ -154,7 +155,7 @@ fn a_lost_array_is_served_no_more(rt: HostRuntime) -> Result<(), Fail> {
         let first = device(alloc, 9, &[call])?;
         let second = device(alloc, 9, &[call])?;
         let labelled = ready(alloc, first, second, clients(alloc)?, 1)?;
-        match run_labelled(&rt, alloc, labelled, 0) {
+        match run_labelled(&rt, alloc, labelled, 0, &Silent) {
             Ok((outcome, _devices)) => match outcome {
                 Outcome::Lost(ending) => {
                     same(&rt, call, 0);

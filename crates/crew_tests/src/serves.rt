@@ -8,6 +8,7 @@ use crate::judging::same;
 use blk_disk::{MemDisk, SECTOR};
 use eng_array::{Closed, Column, Item, Loss, Reply};
 use lay_plain::Raid5;
+use raid_progress::Silent;
 use std::alloc::{AllocError, Global};
 use std::process::Abort;
 use std::test::Fail;
@@ -70,7 +71,7 @@ fn all_is_served_by_any_number_of_workers(rt: HostRuntime) -> Result<(), Fail> {
             device(alloc, 0, &[])?,
             clients(alloc)?,
         )?;
-        match serve(&rt, alloc, setup, workers) {
+        match serve(&rt, alloc, setup, workers, &Silent) {
             Ok(closed) => {
                 all_replied(&rt, &closed);
                 same(&rt, closed.history.len(), 4);
@@ -93,7 +94,7 @@ fn a_device_that_fails_leaves_its_column_dead(rt: HostRuntime) -> Result<(), Fai
         device(alloc, 0, &[0])?,
         clients(alloc)?,
     )?;
-    match serve(&rt, alloc, setup, 4) {
+    match serve(&rt, alloc, setup, 4, &Silent) {
         Ok(closed) => {
             all_replied(&rt, &closed);
             holds(&rt, closed.devices.first());
@@ -113,7 +114,7 @@ fn a_device_that_fails_leaves_its_column_dead(rt: HostRuntime) -> Result<(), Fai
 fn a_lost_array_comes_back(rt: HostRuntime) -> Result<(), Fail> {
     let alloc = rt.alloc();
     let setup = lost(alloc, device(alloc, 0, &[])?, device(alloc, 0, &[])?)?;
-    match serve(&rt, alloc, setup, 1) {
+    match serve(&rt, alloc, setup, 1, &Silent) {
         Ok(_) => same(&rt, false, true),
         Err(refused) => {
             let loss = Loss {

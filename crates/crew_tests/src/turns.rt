@@ -15,6 +15,15 @@ fn four_passes_count_every_unit(rt: HostRuntime) -> Result<(), Fail> {
     Ok(())
 }
 
+// Each of two passes holds the value for a while, and has then nothing to do: the one that comes second waits, and goes on only
+// where the first wakes it.
+#[test]
+fn a_pass_that_waits_is_woken(rt: HostRuntime) -> Result<(), Fail> {
+    let sum = count(&rt, rt.alloc(), 0, 2).ok_or("no memory")?;
+    same(&rt, sum, 0);
+    Ok(())
+}
+
 // A turn closes with its value once the second pass is joined, and with nothing where it isn't.
 #[test]
 fn closes_with_every_share_alone(rt: HostRuntime) -> Result<(), Fail> {

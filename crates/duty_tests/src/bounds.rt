@@ -114,7 +114,7 @@ fn fits(
     if !are_asked(&row) {
         panic!(rt; "a script may not hold an item");
     }
-    Ok(trace_fits(&layout, &book, 5, &[row], 0))
+    Ok(trace_fits(&layout, &book, &[], 5, &[row], 0))
 }
 
 // A write of a block touches one stripe of four data units, so 9 * 3 + 2 = 29 nodes are counted, and
@@ -157,8 +157,8 @@ fn all_stripes_of_a_long_span_are_counted(rt: HostRuntime) -> Result<(), Fail> {
 fn rebuilds_are_counted_beside_the_items(rt: HostRuntime) {
     let layout = Raid5::new(5, 32, 64).expect(&rt, "a layout");
     let book = read_graphs(rt.alloc(), b"".as_slice()).expect(&rt, "no graph");
-    holds(&rt, trace_fits(&layout, &book, 5, &[], 8738));
-    holds(&rt, !trace_fits(&layout, &book, 5, &[], 8739));
+    holds(&rt, trace_fits(&layout, &book, &[], 5, &[], 8738));
+    holds(&rt, !trace_fits(&layout, &book, &[], 5, &[], 8739));
 }
 
 #[test]

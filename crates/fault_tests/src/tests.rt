@@ -2,6 +2,7 @@
 use crate::judging::same_at;
 use blk_disk::{MemDisk, SECTOR};
 use raid_bay::{MemBay, MemSink, Name};
+use raid_progress::Silent;
 use raid_top::run;
 use std::alloc::Global;
 use std::process::Abort;
@@ -113,7 +114,7 @@ fn ended<R: Threads + Wait + Sync>(
     out: &mut MemSink,
 ) -> Result<u8, Fail> {
     let words = names_of(alloc, words)?;
-    Ok(run(rt, alloc, &words, bay, out).number())
+    Ok(run(rt, alloc, &words, bay, out, &Silent).number())
 }
 
 // These words end with this number and print this; what is wrong is told beside this fault.

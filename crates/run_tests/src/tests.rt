@@ -2,6 +2,7 @@
 use crate::judging::same_at;
 use blk_disk::{Call, Disk, MemDisk, SECTOR};
 use raid_bay::{Bay, MemBay, MemSink, Name};
+use raid_progress::{Progress, Silent};
 use raid_top::run;
 use std::alloc::Global;
 use std::process::Abort;
@@ -11,8 +12,10 @@ use std::thread::Threads;
 
 mod crews;
 mod faults;
+mod joined;
 mod letters;
 mod levels;
+mod progress;
 mod rebuilds;
 mod refused;
 mod rows;
@@ -47,6 +50,8 @@ enum Step {
     Copy(&'static str, &'static str),
     /// Its sector of this number is filled with this byte.
     Spoil(&'static str, u16, u8),
+    /// The bay has it no more.
+    Lose(&'static str),
 }
 
 /// A configuration `r5`, a script `s1` and other texts `t1` and `t2`; how many sectors each component has; which calls of which
@@ -119,17 +124,28 @@ fn names_of(alloc: Global, words: &str) -> Result<Vec<Name>, Fail> {
     Ok(names)
 }
 
-// The exit number of these words, and what they print.
+// The exit number of these words, and what they print; this is told how far they are.
+fn answer_telling<D: Disk + Drop + Send, R: Threads + Wait + Sync, P: Progress + Sync>(
+    rt: &R,
+    alloc: Global,
+    bay: &mut MemBay<D>,
+    words: &str,
+    progress: &P,
+) -> Result<(u8, Vec<u8>), Fail> {
+    let mut out = MemSink::new(alloc, 16_384, Vec::new(alloc))?;
+    let words = names_of(alloc, words)?;
+    let status = run(rt, alloc, &words, bay, &mut out, progress);
+    Ok((status.number(), out.bytes().to_vec(alloc)?))
+}
+
+// The same, where nobody is told.
 fn answer<D: Disk + Drop + Send, R: Threads + Wait + Sync>(
     rt: &R,
     alloc: Global,
     bay: &mut MemBay<D>,
     words: &str,
 ) -> Result<(u8, Vec<u8>), Fail> {
-    let mut out = MemSink::new(alloc, 16_384, Vec::new(alloc))?;
-    let words = names_of(alloc, words)?;
-    let status = run(rt, alloc, &words, bay, &mut out);
-    Ok((status.number(), out.bytes().to_vec(alloc)?))
+    answer_telling(rt, alloc, bay, words, &Silent)
 }
 
 fn is_filled(bytes: &[u8], byte: u8) -> bool {
@@ -181,6 +197,14 @@ fn calls_of(alloc: Global, disk: &MemDisk) -> Result<String, Fail> {
         lines.push_str(&line)?;
     }
     Ok(lines)
+}
+
+// The bay has this component no more.
+fn lose(alloc: Global, bay: &mut MemBay<MemDisk>, name: &str) -> Result<(), Fail> {
+    match bay.take(alloc, name) {
+        Ok(_) => Ok(()),
+        Err(_) => Err("no component of that name".into()),
+    }
 }
 
 // Puts a component of these bytes in the place of this one.
@@ -271,6 +295,7 @@ fn act_out<R: Abort + Threads + Wait + Sync>(
         Step::Resize(name, sectors) => resize(alloc, bay, name, sectors)?,
         Step::Copy(from, to) => copy(alloc, bay, from, to)?,
         Step::Spoil(name, sector, byte) => spoil(alloc, bay, name, sector, byte)?,
+        Step::Lose(name) => lose(alloc, bay, name)?,
     }
     Ok(())
 }

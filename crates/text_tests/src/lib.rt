@@ -1,4 +1,5 @@
-//! Tests of what reads and prints texts: lines, configurations, graph files, scripts and the words of the command line.
+//! Tests of what reads and prints texts: lines, configurations, graph files, scripts, the words of the
+//! command line, and what is told beside a status.
 //!
 //! They stand in a crate of their own, since a crate with tests is proved twice.
 #![tactic(auto)]
@@ -7,6 +8,8 @@
 mod conf;
 #[cfg(test)]
 mod graphs;
+#[cfg(test)]
+mod hints;
 #[cfg(test)]
 mod judging;
 #[cfg(test)]

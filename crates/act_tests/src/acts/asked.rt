@@ -13,7 +13,8 @@ use eng_cols::{Cols, Column, Loss};
 use lay_core::Layout;
 use lay_plain::Raid5;
 use raid_label::Label;
-use raid_recon::Room;
+use raid_progress::Silent;
+use raid_recon::{Room, SweepRoom};
 use std::alloc::Global;
 use std::process::Abort;
 use std::test::Fail;
@@ -157,7 +158,8 @@ pub(crate) fn acted_on<L: Layout>(
     if !can_act(layout, &columns, devices) || columns.len() != 3 {
         return Err("no array".into());
     }
-    let mut room = Room::open(alloc, 1024 * layout.unit_sectors())?;
+    let room = Room::open(alloc, 1024 * layout.unit_sectors())?;
+    let mut room = SweepRoom::new(room, Silent);
     let mut judge = Cols::with_room(alloc, layout.columns(), layout.stripes())?;
     let mut ending = Ending {
         columns,

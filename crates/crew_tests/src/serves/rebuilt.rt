@@ -9,6 +9,7 @@ use crate::judging::same;
 use blk_disk::MemDisk;
 use eng_array::{Closed, Column, Start};
 use lay_plain::Raid5;
+use raid_progress::Silent;
 use std::alloc::Global;
 use std::sync::Wait;
 use std::test::Fail;
@@ -38,7 +39,7 @@ fn rebuilt<R: Threads + Wait + Sync>(
         column: 1,
         device: 1,
     };
-    Ok(serve_in(rt, alloc, setup, room, Some(start), workers))
+    Ok(serve_in(rt, alloc, setup, room, Some(start), workers, &Silent))
 }
 
 #[test]

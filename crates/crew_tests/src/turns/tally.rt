@@ -6,9 +6,10 @@ ghost use Rattle.eng_turn.specs.Tally.{IsReady, HasNoneLeft};
 
 use eng_turn::{Pass, Turn, TurnRule};
 use std::alloc::Global;
+use std::hint::spin_loop;
 use std::sync::Wait;
 use std::thread;
-use std::thread::Threads;
+use std::thread::{Threads, yield_now};
 
 // The value is the number of units left and the number counted. The ticket says whether the pass has a unit in hand.
 pub struct Tally;
@@ -40,13 +41,39 @@ impl TurnRule for Tally {
     ghost after_step = { λ _ _ _ _ step. step };
 }
 
-// Takes a unit in one turn and counts it in another, until none is left.
+// How long the value is held.
+const LOOKS: u32 = 1_048_576;
+
+// Lets time pass, and now and then another thread run.
+fn pass_time() {
+    for look in 0..LOOKS {
+        if look % 65_536 == 0 {
+            yield_now();
+        } else {
+            spin_loop();
+        }
+    }
+}
+
+// Holds the value for a while, and changes nothing. Who comes meanwhile has to wait, and is to be woken.
+fn hold<W: Wait>(rt: &W, turn: &Turn<Tally>, pass: &mut Pass<Tally>)
+    requires { IsReady turn.now pass.old }
+    ensures ready { IsReady turn.now pass.new }
+    ensures share { share_of pass.new ≡ share_of pass.old }
+{
+    let value = turn.enter(rt, pass);
+    pass_time();
+    turn.leave(pass, value, &false);
+}
+
+// Holds the value for a while, and then takes a unit in one turn and counts it in another, until none is left.
 fn work<W: Wait>(rt: &W, turn: &Turn<Tally>, pass: &mut Pass<Tally>)
     requires { IsReady turn.now pass.old }
     ensures ready { IsReady turn.now pass.new }
     ensures share { share_of pass.new ≡ share_of pass.old }
     ensures none_left { HasNoneLeft pass.new }
 {
+    hold(rt, turn, pass);
     for _ in rt.forever() {
         let (left, counted) = turn.enter(rt, pass);
         if left == 0 {

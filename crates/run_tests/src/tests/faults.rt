@@ -7,9 +7,10 @@ const TWO_ABSENT: &str =
     "START array\n1 3 0\nSTART disks\nabsent\nd1\nabsent\nSTART layout\n1 1 1 5\n";
 
 // The read of column 1's first sector fails, so that it is dead as the array is opened. Its next call, a read, fails before
-// the commit: the operation is planned anew without it, and the read of block 0 needs no other column. The first write of
-// column 0 fails behind the commit: the block is then made from the other two. The settle of column 2 fails last. Two
-// columns that fail lose the array.
+// the commit: the operation is planned anew without it, by a graph of seven nodes that reads the block and the check unit, and
+// the read of block 0 needs no other column. The first write of column 0 fails behind the commit: the write of the check unit
+// and the terminator come still, and the block is then made from the other two. The settle of column 2 fails last. Two columns
+// that fail lose the array.
 #[test]
 fn columns_that_fail_are_dead(rt: HostRuntime) -> Result<(), Fail> {
     let sessions = [
@@ -24,16 +25,27 @@ fn columns_that_fail_are_dead(rt: HostRuntime) -> Result<(), Fail> {
         },
         Session {
             fails: &[("d1", 1)],
-            script: "0 write 0 1 a5\n",
             steps: &[
                 Step::Run(
-                    "r5 --io s1 -w 0 --trace",
+                    "r5 --io s1 -w 0",
                     0,
-                    "reply 0.0 done\ncommit 0.0\nbegin 0.0\ntake 0.0\nfire 0.0 0\nbad 0.0 0\nback 0.0\nfire 0.0 0\ngood 0.0 0\nfire 0.0 1\ngood 0.0 1\nfire 0.0 2\ngood 0.0 2\nfire 0.0 3\ngood 0.0 3\nfire 0.0 4\ngood 0.0 4\nfire 0.0 5\ngood 0.0 5\nfire 0.0 6\ngood 0.0 6\ndead 1\nstatus ok\n",
+                    "reply 0.0 done\nreply 0.1 data\nblock 0 1 a5\ncommit 0.0\ncommit 0.1\ndead 1\nstatus ok\n",
                 ),
                 Step::Holds("d0", "64 a5\n"),
                 Step::Holds("d2", "64 a5\n"),
+                Step::Calls("d0", "read 0 1\nread 64 1\nwrite 64 1\nread 64 1\nsettle\n"),
+                Step::Calls("d1", "read 0 1\nread 64 1 bad\n"),
+                Step::Calls("d2", "read 0 1\nread 64 1\nwrite 64 1\nsettle\n"),
             ],
+            ..PLAIN
+        },
+        Session {
+            fails: &[("d1", 1)],
+            steps: &[Step::Run(
+                "r5 --io s1 -w 0 --trace",
+                0,
+                "reply 0.0 done\nreply 0.1 data\nblock 0 1 a5\ncommit 0.0\ncommit 0.1\nbegin 0.0\ntake 0.0\nfire 0.0 0\nbad 0.0 0\nback 0.0\nfire 0.0 0\ngood 0.0 0\nfire 0.0 1\ngood 0.0 1\nfire 0.0 2\ngood 0.0 2\nfire 0.0 3\ngood 0.0 3\nfire 0.0 4\ngood 0.0 4\nfire 0.0 5\ngood 0.0 5\nfire 0.0 6\ngood 0.0 6\nbegin 0.1\ntake 0.1\nfire 0.1 0\ngood 0.1 0\nfire 0.1 1\ngood 0.1 1\nfire 0.1 2\ngood 0.1 2\ndead 1\nstatus ok\n",
+            )],
             ..PLAIN
         },
         Session {
@@ -44,8 +56,21 @@ fn columns_that_fail_are_dead(rt: HostRuntime) -> Result<(), Fail> {
                     0,
                     "reply 0.0 done\nreply 0.1 data\nblock 0 1 a5\ncommit 0.0\ncommit 0.1\ndead 0\nstatus ok\n",
                 ),
+                Step::Holds("d1", ""),
                 Step::Holds("d2", "64 a5\n"),
+                Step::Calls("d0", "read 0 1\nwrite 64 1 bad\n"),
+                Step::Calls("d1", "read 0 1\nread 64 1\nread 64 1\nsettle\n"),
+                Step::Calls("d2", "read 0 1\nwrite 64 1\nread 64 1\nsettle\n"),
             ],
+            ..PLAIN
+        },
+        Session {
+            fails: &[("d0", 1)],
+            steps: &[Step::Run(
+                "r5 --io s1 -w 0 --trace",
+                0,
+                "reply 0.0 done\nreply 0.1 data\nblock 0 1 a5\ncommit 0.0\ncommit 0.1\nbegin 0.0\ntake 0.0\nfire 0.0 0\ngood 0.0 0\nfire 0.0 1\ngood 0.0 1\nfire 0.0 2\ngood 0.0 2\nfire 0.0 3\nbad 0.0 3\nfire 0.0 4\ngood 0.0 4\nfire 0.0 5\ngood 0.0 5\nbegin 0.1\ntake 0.1\nfire 0.1 0\ngood 0.1 0\nfire 0.1 1\ngood 0.1 1\nfire 0.1 2\ngood 0.1 2\nfire 0.1 3\ngood 0.1 3\nfire 0.1 4\ngood 0.1 4\ndead 0\nstatus ok\n",
+            )],
             ..PLAIN
         },
         Session {

@@ -2,12 +2,15 @@
 use super::*;
 use crate::judging::same;
 
-const MISSING: &str = "START array\n1 3 0\nSTART disks\nd0\nd1\nd9\nSTART layout\n1 1 1 5\n";
-
 const SECOND: &str = "START array\n1 3 0\nSTART disks\nd0\nd1\nd2\nSTART layout\n1 2 1 5\n";
 
-// Words that are no command; texts that aren't in their form; components that are too small or not there; the bay's call of the
-// script, and that of the third component, which fail. Where d1 has 65 sectors there is one stripe, of two blocks.
+// Objects 0 and 3 stand together in no tuple.
+const NO_DESIGN: &str =
+    "START array\n1 7 0\nSTART disks\nd0\nd1\nd2\nd3\nd4\nd5\nd6\nSTART layout\n1 1 1 T\ndesign 7 7 3 3 1\n1 2 3\n0 1 4\n2 3 5\n3 4 6\n0 4 5\n1 5 6\n0 2 6\n";
+
+// Words that are no command; texts that aren't in their form, and tuples that are no design; components that are too small or not
+// there; the bay's call of the script, and that of the second component, which fail. Where d1 has 65 sectors there is one stripe,
+// of two blocks.
 #[test]
 fn what_is_refused_changes_nothing(rt: HostRuntime) -> Result<(), Fail> {
     let sessions = [
@@ -35,13 +38,22 @@ fn what_is_refused_changes_nothing(rt: HostRuntime) -> Result<(), Fail> {
             ..PLAIN
         },
         Session {
-            conf: MISSING,
-            steps: &[Step::Run("r5 --io s1", 6, "status nofile d9\n")],
+            steps: &[
+                Step::Lose("d2"),
+                Step::Run("r5 --io s1", 6, "status nofile d2\n"),
+                Step::Holds("d0", ""),
+                Step::Holds("d1", ""),
+            ],
             ..PLAIN
         },
         Session {
             conf: SECOND,
             steps: &[Step::Run("r5 --io s1", 2, "status conf 8 9\n")],
+            ..PLAIN
+        },
+        Session {
+            conf: NO_DESIGN,
+            steps: &[Step::Run("r5 --io s1", 2, "status conf 13 12\n")],
             ..PLAIN
         },
         Session {
@@ -67,10 +79,11 @@ fn what_is_refused_changes_nothing(rt: HostRuntime) -> Result<(), Fail> {
             ..PLAIN
         },
         Session {
-            faults: &[4],
+            faults: &[3],
             steps: &[
                 Step::Run("r5 --io s1", 5, "status bay\n"),
                 Step::Holds("d0", ""),
+                Step::Holds("d1", ""),
                 Step::Holds("d2", ""),
             ],
             ..PLAIN
@@ -106,16 +119,18 @@ fn a_long_text_is_refused(rt: HostRuntime) -> Result<(), Fail> {
     Ok(())
 }
 
+// The components hold what they would, and have had the same calls.
 #[test]
 fn a_sink_that_fails_hides_the_output_alone(rt: HostRuntime) -> Result<(), Fail> {
     let alloc = rt.alloc();
     let mut bay = bay_of(alloc, &PLAIN)?;
     let mut out = MemSink::new(alloc, 4096, vec![in alloc; 0]?)?;
     let words = names_of(alloc, "r5 --io s1 -w 0")?;
-    let status = run(&rt, alloc, &words, &mut bay, &mut out);
+    let status = run(&rt, alloc, &words, &mut bay, &mut out, &Silent);
     same(&rt, status.number(), 7);
     same(&rt, out.bytes(), b"".as_slice());
-    let held = held_by(alloc, found(&bay, "d2")?)?;
-    same(&rt, held.as_str(), "64 a5\n");
+    for step in rows::WRITTEN {
+        act_out(&rt, alloc, &mut bay, step)?;
+    }
     Ok(())
 }

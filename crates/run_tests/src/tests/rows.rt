@@ -8,6 +8,17 @@ const FOUR: &str = "START array\n1 4 0\nSTART disks\nd0\nd1\nd2\nd3\nSTART layou
 
 const UNITS_OF_FOUR: &str = "START array\n1 3 0\nSTART disks\nd0\nd1\nd2\nSTART layout\n4 1 1 5\n";
 
+// What the components hold behind a write of block 0 and a read of it, and which calls they have had: column 1 is read for the
+// sum, and column 2 has the check unit.
+pub(super) const WRITTEN: [Step; 6] = [
+    Step::Holds("d0", "64 a5\n"),
+    Step::Holds("d1", ""),
+    Step::Holds("d2", "64 a5\n"),
+    Step::Calls("d0", "read 0 1\nwrite 64 1\nread 64 1\nsettle\n"),
+    Step::Calls("d1", "read 0 1\nread 64 1\nsettle\n"),
+    Step::Calls("d2", "read 0 1\nwrite 64 1\nsettle\n"),
+];
+
 // Without an item; the last block and the one behind it; stripes that are made in step, and one that there isn't; a span
 // over 17 stripes. What was written is read.
 #[test]
@@ -20,12 +31,12 @@ fn scripts_are_run_by_their_items(rt: HostRuntime) -> Result<(), Fail> {
                     0,
                     "reply 0.0 done\nreply 0.1 data\nblock 0 1 a5\ncommit 0.0\ncommit 0.1\nstatus ok\n",
                 ),
-                Step::Holds("d0", "64 a5\n"),
-                Step::Holds("d1", ""),
-                Step::Holds("d2", "64 a5\n"),
-                Step::Calls("d0", "read 0 1\nwrite 64 1\nread 64 1\nsettle\n"),
-                Step::Calls("d1", "read 0 1\nread 64 1\nsettle\n"),
-                Step::Calls("d2", "read 0 1\nwrite 64 1\nsettle\n"),
+                WRITTEN[0],
+                WRITTEN[1],
+                WRITTEN[2],
+                WRITTEN[3],
+                WRITTEN[4],
+                WRITTEN[5],
             ],
             ..PLAIN
         },
@@ -79,6 +90,8 @@ fn writes_read_the_fewest(rt: HostRuntime) -> Result<(), Fail> {
                     "reply 0.0 done\ncommit 0.0\nbegin 0.0\ntake 0.0\nfire 0.0 0\ngood 0.0 0\nfire 0.0 1\ngood 0.0 1\nfire 0.0 2\ngood 0.0 2\nfire 0.0 3\ngood 0.0 3\nfire 0.0 4\ngood 0.0 4\nfire 0.0 5\ngood 0.0 5\nfire 0.0 6\ngood 0.0 6\nfire 0.0 7\ngood 0.0 7\nstatus ok\n",
                 ),
                 Step::Holds("d0", "64 3c\n"),
+                Step::Holds("d1", "64 3c\n"),
+                Step::Holds("d2", "64 3c\n"),
                 Step::Holds("d3", "64 3c\n"),
                 Step::Holds("d4", ""),
                 Step::Calls("d4", "read 0 1\nwrite 64 1\nsettle\n"),

@@ -4,7 +4,7 @@ use crate::judging::{holds, same, same_at};
 use blk_plain::{Op, Patch, Patches, Pattern, Span};
 use eng_world::Item;
 use graph_text::{Book, read_graphs};
-use raid_script::{Memory, ScriptFault, generate, read_script};
+use raid_script::{Join, Memory, ScriptFault, generate, read_script};
 use std::alloc::Global;
 use std::process::Abort;
 use std::test::Fail;
@@ -188,6 +188,42 @@ fn a_name_is_that_of_a_graph(rt: HostRuntime) -> Result<(), Fail> {
     let clients = items(&rt, rt.alloc(), text, &both, 2);
     same(&rt, clients.len(), 16);
     see(&rt, &clients, 0, &[read(0, 1, None), read(0, 1, Some(1))]);
+    Ok(())
+}
+
+// The items of join lines name the graphs behind those of the file, in the order of the lines.
+#[test]
+fn join_lines_name_graphs_behind_those_of_the_file(rt: HostRuntime) -> Result<(), Fail> {
+    let book = graphs::read(&rt, rt.alloc(), b"graph f\nend\ngraph g\nend");
+    let text =
+        b"1 join g 4 2 a5 f 9 1 b6\n# nothing\n0 read 0 1\n2 join f 0 1 00 f 7 1 11\n".as_slice();
+    let script = read_script(rt.alloc(), text, &book, 2).expect(&rt, "a script");
+    let joins = [
+        Join {
+            line: 1,
+            first: 1,
+            second: 0,
+        },
+        Join {
+            line: 4,
+            first: 0,
+            second: 0,
+        },
+    ];
+    same(&rt, script.joins(), joins.as_slice());
+    let clients = script.clients();
+    same(&rt, clients.len(), 16);
+    see(&rt, &clients, 0, &[read(0, 1, None)]);
+    let first = [
+        patch(4, 2, pattern(0xa5, None)),
+        patch(9, 1, pattern(0xb6, None)),
+    ];
+    see_spans(&rt, &clients, 1, Some(2), &first);
+    let second = [
+        patch(0, 1, pattern(0, None)),
+        patch(7, 1, pattern(0x11, None)),
+    ];
+    see_spans(&rt, &clients, 2, Some(3), &second);
     Ok(())
 }
 

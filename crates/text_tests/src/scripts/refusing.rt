@@ -32,7 +32,7 @@ fn see(rt: &impl Abort, alloc: Global, rows: &[(&[u8], u8)]) {
 
 // Lines that have not the words of their kind.
 fn see_kinds(rt: &impl Abort, alloc: Global) {
-    let rows: [(&[u8], u8); 26] = [
+    let rows: [(&[u8], u8); 32] = [
         (b"0", 1),
         (b"0 erase 0 1", 1),
         (b"0 Read 0 1", 1),
@@ -59,6 +59,12 @@ fn see_kinds(rt: &impl Abort, alloc: Global) {
         (b"0 use g sync 0", 1),
         (b"0 use g fail 0", 1),
         (b"0 use g use g read 0 1", 1),
+        (b"0 join", 1),
+        (b"0 join g 0 1 aa", 1),
+        (b"0 join g 0 1 aa g", 1),
+        (b"0 join g 0 1 aa g 1 1", 1),
+        (b"0 join g 0 1 aa g 1 1 bb g", 1),
+        (b"0 use join write 0 1", 6),
         (b"0 use g read 0 1 2", 1),
         (b"0 read 0 1\r\r", 1),
         (b"0 read 0 1 \x7f", 1),
@@ -68,7 +74,7 @@ fn see_kinds(rt: &impl Abort, alloc: Global) {
 
 // Lines with a word out of its range.
 fn see_ranges(rt: &impl Abort, alloc: Global) {
-    let rows: [(&[u8], u8); 29] = [
+    let rows: [(&[u8], u8); 36] = [
         (b"x read 0 1", 2),
         (b"-1 read 0 1", 2),
         (b"0 read x 1", 2),
@@ -98,6 +104,13 @@ fn see_ranges(rt: &impl Abort, alloc: Global) {
         (b"0 writes 0 2 11 1 1 22", 9),
         (b"0 use g writes 1 1 22 0 2 11", 9),
         (b"0 writes 3 1 00 0 1 11 7 9 22 3 1 33", 9),
+        (b"0 join g x 1 aa g 1 1 bb", 2),
+        (b"0 join g 0 1 aa g 1 0 bb", 2),
+        (b"0 join g 0 1 0g g 1 1 bb", 4),
+        (b"0 join g 0 1 aa g 1 1 b", 4),
+        (b"0 join h 0 1 aa g 1 1 bb", 6),
+        (b"0 join g 0 1 aa h 1 1 bb", 6),
+        (b"0 join g 0 2 aa g 1 1 bb", 9),
     ];
     see(rt, alloc, &rows);
 }
@@ -110,7 +123,7 @@ fn each_code_has_its_lines(rt: HostRuntime) {
 
 #[test]
 fn of_two_faults_the_first_word_is_judged_first(rt: HostRuntime) {
-    let rows: [(&[u8], u8); 33] = [
+    let rows: [(&[u8], u8); 37] = [
         // a byte that no word has, before all words
         (b"16 read 0 0 \x01", 1),
         (b"x \x01", 1),
@@ -153,6 +166,10 @@ fn of_two_faults_the_first_word_is_judged_first(rt: HostRuntime) {
         (b"0 use h write 0 1 0g", 6),
         (b"0 use h writes 0 2 11 1 1 22", 6),
         (b"0 use g erase 0 0", 1),
+        (b"0 join h 0 0 aa g 1 1 bb", 6),
+        (b"0 join g 0 0 aa h 1 1 bb", 2),
+        (b"0 join g 0 2 aa g 1 1 bb x", 1),
+        (b"0 join g 1 1 aa g 0 2", 1),
         // the limits, behind the whole line
         (b"0 read 0 262145 1", 1),
         (b"0 use h read 0 262145", 6),
@@ -201,6 +218,36 @@ fn there_are_at_most_65536_items(rt: HostRuntime) -> Result<(), Fail> {
         (b"1 writes 0 1 11 1 1 22", 65_537, 7),
     ] {
         let text = many_lines(rt.alloc(), 65_536, last)?;
+        same(&rt, refusal(&rt, rt.alloc(), &text, &book), (line, code));
+    }
+    Ok(())
+}
+
+// So many lines that join two graphs, and a line behind them.
+fn many_joins(alloc: Global, count: u32, last: &[u8]) -> Result<Vec<u8>, AllocError> {
+    let mut text = Vec::new(alloc);
+    for _i in 0..count {
+        text.extend_from_slice(b"0 join g 0 1 aa g 1 1 bb\n")?;
+    }
+    text.extend_from_slice(last)?;
+    Ok(text)
+}
+
+// The 65th is judged behind the words and the spans of its line, and before the limits of items and sectors.
+#[test]
+fn there_are_at_most_64_join_lines(rt: HostRuntime) -> Result<(), Fail> {
+    let book = one_graph(&rt, rt.alloc());
+    for (last, line, code) in [
+        (b"".as_slice(), 0, 0),
+        (b"1 writes 0 1 aa 1 1 bb", 0, 0),
+        (b"1 join g 0 1 aa g 1 1 bb", 65, 13),
+        (b"1 join g 0 1 aa g 1 1 bb g", 65, 1),
+        (b"1 join g 0 1 aa h 1 1 bb", 65, 6),
+        (b"1 join g 0 1 aa g 0 1 bb", 65, 9),
+        (b"0 read 0 262144\n1 join g 0 1 aa g 1 1 bb", 66, 13),
+        (b"0 read 0 262144\n0 read 0 1", 66, 7),
+    ] {
+        let text = many_joins(rt.alloc(), 64, last)?;
         same(&rt, refusal(&rt, rt.alloc(), &text, &book), (line, code));
     }
     Ok(())

@@ -1,0 +1,267 @@
+//! What is told beside each status. The statuses are those of the formats, with what each is about.
+use crate::judging::same_at;
+use raid_bay::Name;
+use std::alloc::Global;
+use std::process::Abort;
+use std::test::Fail;
+use top_help::HELP;
+use top_hints::{Trouble, hint, warning};
+use top_status::Status;
+
+fn names(alloc: Global, words: &[&str]) -> Result<Vec<Name>, Fail> {
+    let mut names = Vec::new(alloc);
+    for word in words {
+        names.push(Name::new(alloc, *word)?)?;
+    }
+    Ok(names)
+}
+
+// a call with these words that ended so is told by this sentence
+fn says(
+    rt: &impl Abort,
+    alloc: Global,
+    words: &[&str],
+    status: &Status,
+    sentence: &str,
+) -> Result<(), Fail> {
+    let names = names(alloc, words)?;
+    let trouble = Trouble {
+        name: "d1",
+        cause: "Permission denied",
+    };
+    let text = hint(alloc, &names, status, Some(trouble))?;
+    same_at(rt, sentence, text.as_slice(), sentence.as_bytes());
+    Ok(())
+}
+
+#[test]
+fn each_refused_word_is_named(rt: HostRuntime) -> Result<(), Fail> {
+    let alloc = rt.alloc();
+    let unformed = format!(in alloc;
+        "raidctl: the words can't be taken apart: an unknown word or option, one given twice, one without its value, or no CONF\n{HELP}"
+    )?;
+    let rows: [(&[&str], u8, &str); 11] = [
+        (&[], 0, unformed.as_str()),
+        (
+            &["CONF"],
+            1,
+            "raidctl: no action: one of --io, --sweep, --scan, --sim and the letters is wanted\n",
+        ),
+        (
+            &["CONF", "-s", "-p"],
+            1,
+            "raidctl: more than one action: only --io goes beside another, -F or -R\n",
+        ),
+        (
+            &["CONF", "-s", "--trace"],
+            2,
+            "raidctl: --trace needs --io\n",
+        ),
+        (
+            &["CONF", "-i", "-w", "2"],
+            2,
+            "raidctl: -w needs --io, --sweep, -F or -R\n",
+        ),
+        (
+            &["CONF", "--sweep", "1"],
+            2,
+            "raidctl: --sweep needs --clients and --ops\n",
+        ),
+        (
+            &["CONF", "--io", "S", "-w", "17"],
+            3,
+            "raidctl: -w 17: not a number from 0 to 16\n",
+        ),
+        (
+            &["CONF", "-I", "0x10"],
+            3,
+            "raidctl: -I 0x10: not a number from 0 to 4294967295\n",
+        ),
+        (
+            &["CONF", "-f", "nope"],
+            3,
+            "raidctl: -f nope: not a name of the configuration's disks\n",
+        ),
+        (
+            &["CONF", "-g", "a\u{1b}b"],
+            3,
+            "raidctl: -g a?b: not a name of the configuration's disks\n",
+        ),
+        (
+            &["CONF", "--sim", "lifo"],
+            3,
+            "raidctl: --sim: the queue is fifo, sstf or scan\n",
+        ),
+    ];
+    for (words, case, sentence) in rows {
+        says(&rt, alloc, words, &Status::Usage(case), sentence)?;
+    }
+    Ok(())
+}
+
+// the statuses of a call that has a configuration, a script and a file of graphs
+fn rows(alloc: Global) -> Result<Vec<(Status, &'static str)>, Fail> {
+    Ok(vec![in alloc;
+        (Status::Ok, ""),
+        (
+            Status::Conf(3, 8),
+            "raidctl: CONF, line 3: the level isn't 0, 1, 4, 5, C, T or D\n"
+        ),
+        (
+            Status::Script(2, 5),
+            "raidctl: S, line 2: the array has no such column\n"
+        ),
+        (
+            Status::Script(0, 8),
+            "raidctl: S: the trace might have more than 1048576 events: fewer items, or no --trace\n"
+        ),
+        (
+            Status::GraphText(7, 6),
+            "raidctl: G, line 7: the text ends within a graph\n"
+        ),
+        (Status::BayFault, "raidctl: d1: Permission denied\n"),
+        (
+            Status::NoFile(Name::new(alloc, "x\ny")?),
+            "raidctl: x?y: no such file; names are relative to the working directory, not to CONF\n"
+        ),
+        (Status::SinkFault, "raidctl: d1: Permission denied\n"),
+        (
+            Status::Lost {
+                first: 1,
+                second: 2,
+                stripe: 9
+            },
+            "raidctl: the array is lost: stripe 9 lacks the units of columns 1 and 2; see docs/ADMIN.md, 'A lost array'\n"
+        ),
+        (
+            Status::Lost {
+                first: 1,
+                second: 1,
+                stripe: 9
+            },
+            "raidctl: the array is lost: stripe 9 lacks the unit of column 1; see docs/ADMIN.md, 'A lost array'\n"
+        ),
+        (
+            Status::Label {
+                column: 3,
+                code: 1,
+                found: 0,
+                wanted: 0
+            },
+            "raidctl: column 3 has no label: -I SERIAL writes the first ones of an array, -R COMP that of a new disk\n"
+        ),
+        (
+            Status::Label {
+                column: 3,
+                code: 2,
+                found: 8,
+                wanted: 7
+            },
+            "raidctl: the label of column 3 has serial number 8 where 7 is wanted\n"
+        ),
+        (
+            Status::Label {
+                column: 3,
+                code: 3,
+                found: 1,
+                wanted: 3
+            },
+            "raidctl: the disk at column 3 is that of column 1\n"
+        ),
+        (
+            Status::Label {
+                column: 3,
+                code: 4,
+                found: 4,
+                wanted: 5
+            },
+            "raidctl: the label of column 3 is of an array of another shape: it has 4 where 5 is wanted\n"
+        ),
+        (
+            Status::Label {
+                column: 3,
+                code: 5,
+                found: 2,
+                wanted: 1
+            },
+            "raidctl: the label of column 3 has version 2 where 1 is wanted\n"
+        ),
+        (
+            Status::Label {
+                column: 0,
+                code: 6,
+                found: 4294901761,
+                wanted: 4294901760
+            },
+            "raidctl: the newest label has counter 4294901761, and labels are written up to 4294901760\n"
+        ),
+        (
+            Status::Small {
+                column: 1,
+                has: 117,
+                needs: 128
+            },
+            "raidctl: the disk of column 1 has 117 sectors, and 128 are needed\n"
+        ),
+        (
+            Status::NotInSync(3),
+            "raidctl: 3 stripes aren't in sync; -P rewrites their check units from the data\n"
+        ),
+        (
+            Status::NoSpare,
+            "raidctl: no free spare (each is used, failed or small: see -s); -f fails the column alone, -R rebuilds it on its own disk\n"
+        ),
+        (
+            Status::LongText(Name::new(alloc, "big")?),
+            "raidctl: big: longer than 16777216 bytes\n"
+        ),
+        (
+            Status::Memory,
+            "raidctl: not enough memory; nothing was written\n"
+        ),
+    ]?)
+}
+
+#[test]
+fn each_status_has_a_sentence(rt: HostRuntime) -> Result<(), Fail> {
+    let alloc = rt.alloc();
+    let words = ["CONF", "--io", "S", "--graphs", "G", "--trace"];
+    for (status, sentence) in rows(alloc)? {
+        says(&rt, alloc, &words, &status, sentence)?;
+    }
+    Ok(())
+}
+
+// a call with these words is told of line 4 of that text
+fn names_the_text(
+    rt: &impl Abort,
+    alloc: Global,
+    words: &[&str],
+    sentence: &str,
+) -> Result<(), Fail> {
+    says(rt, alloc, words, &Status::Conf(4, 7), sentence)
+}
+
+#[test]
+fn lists_and_requests_stand_in_the_place_of_a_configuration(rt: HostRuntime) -> Result<(), Fail> {
+    let alloc = rt.alloc();
+    let said =
+        "raidctl: L, line 4: a name that stands already, is longer than 255 bytes, or is absent as a spare\n";
+    names_the_text(&rt, alloc, &["L", "--scan"], said)?;
+    names_the_text(&rt, alloc, &["L", "--sim", "scan"], said)?;
+    names_the_text(&rt, alloc, &["L", "-s"], said)
+}
+
+#[test]
+fn a_component_that_failed_is_named(rt: HostRuntime) -> Result<(), Fail> {
+    let text = warning(
+        rt.alloc(),
+        Trouble {
+            name: "d1",
+            cause: "Input/output error (os error 5)",
+        },
+    )?;
+    let wanted = "raidctl: warning: d1 failed in this call: Input/output error (os error 5)\n";
+    same_at(&rt, "d1", text.as_slice(), wanted.as_bytes());
+    Ok(())
+}
