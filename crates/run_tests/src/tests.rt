@@ -12,6 +12,7 @@ use std::thread::Threads;
 
 mod crews;
 mod faults;
+mod join_lines;
 mod joined;
 mod letters;
 mod levels;

@@ -3,3 +3,5 @@ pub mod Fitting
 pub mod Searching
 pub mod TwoSpans
 pub mod Lines
+pub mod Both
+pub mod OneItem

@@ -1,2 +1,4 @@
 pub mod Joining
 pub mod Answers
+pub mod Both
+pub mod Lines

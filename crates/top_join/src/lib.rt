@@ -14,4 +14,7 @@ mod written;
 
 pub use fault::JoinFault;
 pub use joining::join_all;
-pub use laws::{joined_graphs_fit_the_pool, joining_has_one_end};
+pub use laws::{
+    joined_graph_writes_both_spans, joined_graphs_fit_the_pool, joining_has_one_end,
+    lines_have_their_items,
+};
