@@ -1,4 +1,7 @@
 //! How far a long call is, on a terminal.
+ghost use Rattle.std.specs.Prelude.{◌≡◌};
+ghost use Rattle.raidctl.specs.Progress.{is_time, seconds_left};
+
 use raid_progress::Progress;
 use std::io::IsTerminal;
 use std::sync::atomic::{AtomicU64, Ordering};
@@ -14,8 +17,9 @@ const FIRST: u64 = 1000;
 const AGAIN: u64 = 200;
 
 /// Shows in one line of standard error how many of all are done, and what is left of the time, where standard error is a
-/// terminal. Nothing is shown in the first second; then the line is drawn at most five times a second, until it is wiped
-/// out at the end. What standard error or the clock refuses changes nothing.
+/// terminal. Nothing is shown in the first second, nor in the first fifth of one in which as many in all are told of; then
+/// the line is drawn at most five times a second, until it is wiped out at the end. What standard error or the clock
+/// refuses changes nothing.
 #[derive(Drop)]
 pub struct TerminalProgress<'a> {
     rt: &'a HostRuntime,
@@ -57,10 +61,9 @@ impl<'a> TerminalProgress<'a> {
     }
 
     // Whether the line is due, and this thread's to draw.
-    fn is_due(&self, passed: u64) -> bool {
+    fn is_due(&self, passed: u64, since: u64) -> bool {
         let drawn = self.drawn.load(Ordering::SeqCst);
-        passed >= FIRST
-            && passed >= drawn.saturating_add(AGAIN)
+        is_time(passed, since, drawn)
             && self
                 .drawn
                 .compare_exchange(drawn, passed, Ordering::SeqCst, Ordering::SeqCst)
@@ -87,7 +90,7 @@ impl<'a> Progress for TerminalProgress<'a> {
         };
         let passed = milliseconds(passed);
         let since = self.since(passed, all);
-        if self.is_due(passed) {
+        if self.is_due(passed, since) {
             self.draw(since, done, all);
         }
     }
@@ -109,8 +112,20 @@ fn milliseconds(passed: Duration) -> u64 {
         .saturating_add(u64::from(passed.subsec_millis()))
 }
 
+// Whether a line is drawn so many milliseconds from the start, and so many since as many in all are told of, where the one
+// before was drawn at that time, which is 0 where there is none. So early the pace says nothing of what is left.
+#[tactic(auto, unfolding(crate::specs::Progress::is_time))]
+fn is_time(passed: u64, since: u64, drawn: u64) -> bool
+    ensures { result ≡ is_time passed since drawn }
+{
+    passed >= FIRST && since >= AGAIN && passed.saturating_sub(drawn) >= AGAIN
+}
+
 // What is left of the time, where it goes on as it went since then.
-fn seconds_left(since: u64, done: u64, all: u64) -> u64 {
+#[tactic(auto, unfolding(crate::specs::Progress::seconds_left))]
+fn seconds_left(since: u64, done: u64, all: u64) -> u64
+    ensures { result ≡ seconds_left since done all }
+{
     if done == 0 {
         return 0;
     }

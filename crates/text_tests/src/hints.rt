@@ -38,14 +38,14 @@ fn says(
 fn each_refused_word_is_named(rt: HostRuntime) -> Result<(), Fail> {
     let alloc = rt.alloc();
     let unformed = format!(in alloc;
-        "raidctl: the words can't be taken apart: an unknown word or option, one given twice, one without its value, or no CONF\n{HELP}"
+        "raidctl: the words can't be taken apart: an option twice or without its value, a word too many, one that isn't UTF-8, or no CONF\n{HELP}"
     )?;
     let rows: [(&[&str], u8, &str); 11] = [
-        (&[], 0, unformed.as_str()),
+        (&["CONF", "-f"], 0, unformed.as_str()),
         (
             &["CONF"],
             1,
-            "raidctl: no action: one of --io, --sweep, --scan, --sim and the letters is wanted\n",
+            "raidctl: no action: one of --io, --sweep, --scan, --sim and the letters is wanted; see raidctl --help\n",
         ),
         (
             &["CONF", "-s", "-p"],
@@ -85,16 +85,50 @@ fn each_refused_word_is_named(rt: HostRuntime) -> Result<(), Fail> {
         (
             &["CONF", "-g", "a\u{1b}b"],
             3,
-            "raidctl: -g a?b: not a name of the configuration's disks\n",
+            "raidctl: -g a?b: not a name of the configuration's disks and spares\n",
         ),
         (
             &["CONF", "--sim", "lifo"],
             3,
-            "raidctl: --sim: the queue is fifo, sstf or scan\n",
+            "raidctl: --sim lifo: the queue is fifo, sstf or scan\n",
         ),
     ];
     for (words, case, sentence) in rows {
         says(&rt, alloc, words, &Status::Usage(case), sentence)?;
+    }
+    Ok(())
+}
+
+#[test]
+fn an_option_that_there_isnt_is_named(rt: HostRuntime) -> Result<(), Fail> {
+    let alloc = rt.alloc();
+    let unformed = format!(in alloc;
+        "raidctl: the words can't be taken apart: an option twice or without its value, a word too many, one that isn't UTF-8, or no CONF\n{HELP}"
+    )?;
+    let rows: [(&[&str], &str); 14] = [
+        (&["-v", "-i", "CONF"], "-v"),
+        (&["CONF", "-B"], "-B"),
+        (&["CONF", "--copyback", "-S"], "--copyback"),
+        (&["CONF", "--ops=3", "--ioo=S"], "--ioo=S"),
+        (&["CONF", "--i", "S"], "--i"),
+        (&["CONF", "-f", "-d1"], "-d1"),
+        (&[], ""),
+        (&["--io", "S", "--graphs", "G", "--trace", "-w", "4"], ""),
+        (&["--sweep", "1", "--clients", "2", "--ops", "3"], ""),
+        (&["-s", "-i", "-p", "-P", "-G", "-f", "d0", "-g", "d1"], ""),
+        (&["-I", "7", "-F", "d2", "-R", "d3"], ""),
+        (&["--scan", "--sim", "fifo"], ""),
+        (&["CONF", "--", "-S"], ""),
+        (&["CONF", "-", "-sS"], ""),
+    ];
+    for (words, option) in rows {
+        let named = format!(in alloc; "raidctl: {option}: there is no such option\n{HELP}")?;
+        let sentence = if option.is_empty() {
+            unformed.as_str()
+        } else {
+            named.as_str()
+        };
+        says(&rt, alloc, words, &Status::Usage(0), sentence)?;
     }
     Ok(())
 }
@@ -205,7 +239,7 @@ fn rows(alloc: Global) -> Result<Vec<(Status, &'static str)>, Fail> {
         ),
         (
             Status::NotInSync(3),
-            "raidctl: 3 stripes aren't in sync; -P rewrites their check units from the data\n"
+            "raidctl: stripes that aren't in sync: 3; -P rewrites their check units from the data\n"
         ),
         (
             Status::NoSpare,
@@ -230,6 +264,51 @@ fn each_status_has_a_sentence(rt: HostRuntime) -> Result<(), Fail> {
         says(&rt, alloc, &words, &status, sentence)?;
     }
     Ok(())
+}
+
+#[test]
+fn each_code_of_a_script_has_words(rt: HostRuntime) -> Result<(), Fail> {
+    let alloc = rt.alloc();
+    let rows = [
+        (9, "two spans of the item share a block"),
+        (
+            10,
+            "a graph can't be half of a joined one, or the first has a stripe that its span doesn't touch",
+        ),
+        (
+            11,
+            "the stripes of the first span aren't all before those of the second",
+        ),
+        (12, "the two graphs are too large together"),
+        (13, "more than 64 joins"),
+    ];
+    for (code, words) in rows {
+        let sentence = format!(in alloc; "raidctl: S, line 6: {words}\n")?;
+        says(
+            &rt,
+            alloc,
+            &["CONF", "--io", "S"],
+            &Status::Script(6, code),
+            sentence.as_str(),
+        )?;
+    }
+    Ok(())
+}
+
+#[test]
+fn a_component_that_an_array_cant_lose_is_told_apart(rt: HostRuntime) -> Result<(), Fail> {
+    let lost = Status::Lost {
+        first: 1,
+        second: 2,
+        stripe: 0,
+    };
+    says(
+        &rt,
+        rt.alloc(),
+        &["CONF", "-f", "d2"],
+        &lost,
+        "raidctl: the array is lost, or would be without the component: stripe 0 lacks the units of columns 1 and 2; see docs/ADMIN.md, 'A lost array'\n",
+    )
 }
 
 // a call with these words is told of line 4 of that text

@@ -3,7 +3,7 @@ use Rattle.std.specs.Prelude.{ℕ, List, [], ◌∷◌, Option, Some, None, code
 use Rattle.raid_text.specs.Text.{Text}
 use Rattle.top_status.specs.declared.status.Status.{Status}
 use Rattle.top_status.specs.declared.status.Status.TheVariants as status
-use Rattle.top_words.specs.Misuse.{misuse_of}
+use Rattle.top_words.specs.Misuse.{Misuse, Component, misuse_of}
 use Rattle.top_hints.specs.Line.{shown, hint_line}
 use Rattle.top_hints.specs.Tables.{conf_words, script_words, graph_words}
 use Rattle.top_hints.specs.Words.{texts_of, usage_hint}
@@ -41,18 +41,23 @@ unfoldable pub trouble_hint : Option Trouble → List ℕ → List ℕ
 trouble_hint (Some trouble) words = name_hint trouble.name (shown trouble.cause)
 trouble_hint None words = hint_line (words ∷ [])
 
+-- the array is lost; a call that fails a component is refused where it would be
+abbrev pub is_lost : Option Misuse → List ℕ
+is_lost (Some (Component option word among)) = codes "the array is lost, or would be without the component: stripe "
+is_lost misuse = codes "the array is lost: stripe "
+
 -- a stripe that lacks a unit, where there is no check unit
-unfoldable pub unit_hint : (column stripe : ℕ) → List ℕ
-unit_hint column stripe = hint_line (codes "the array is lost: stripe " ∷ decimal stripe ∷ codes " lacks the unit of column " ∷ decimal column ∷ codes "; see docs/ADMIN.md, 'A lost array'" ∷ [])
+unfoldable pub unit_hint : Option Misuse → (column stripe : ℕ) → List ℕ
+unit_hint misuse column stripe = hint_line (is_lost misuse ∷ decimal stripe ∷ codes " lacks the unit of column " ∷ decimal column ∷ codes "; see docs/ADMIN.md, 'A lost array'" ∷ [])
 
 -- a stripe that lacks two
-unfoldable pub units_hint : (first second stripe : ℕ) → List ℕ
-units_hint first second stripe = hint_line (codes "the array is lost: stripe " ∷ decimal stripe ∷ codes " lacks the units of columns " ∷ decimal first ∷ codes " and " ∷ decimal second ∷ codes "; see docs/ADMIN.md, 'A lost array'" ∷ [])
+unfoldable pub units_hint : Option Misuse → (first second stripe : ℕ) → List ℕ
+units_hint misuse first second stripe = hint_line (is_lost misuse ∷ decimal stripe ∷ codes " lacks the units of columns " ∷ decimal first ∷ codes " and " ∷ decimal second ∷ codes "; see docs/ADMIN.md, 'A lost array'" ∷ [])
 
 -- of a stripe that lacks one the column stands there twice
-unfoldable pub lost_hint : (first second stripe : ℕ) → List ℕ
-lost_hint first second stripe =
-    if nat_eq first second then unit_hint first stripe else units_hint first second stripe
+unfoldable pub lost_hint : Option Misuse → (first second stripe : ℕ) → List ℕ
+lost_hint misuse first second stripe =
+    if nat_eq first second then unit_hint misuse first stripe else units_hint misuse first second stripe
 
 -- what a label has that is compared
 unfoldable pub label_words : ℕ → List ℕ
@@ -73,6 +78,10 @@ label_hint column code found wanted =
     else (if nat_eq code 6 then hint_line (codes "the newest label has counter " ∷ decimal found ∷ codes ", and labels are written up to " ∷ decimal wanted ∷ [])
     else compared_hint column (label_words code) found wanted))
 
+-- so many stripes that aren't in sync
+unfoldable pub out_of_sync_hint : ℕ → List ℕ
+out_of_sync_hint count = hint_line (codes "stripes that aren't in sync: " ∷ decimal count ∷ codes "; -P rewrites their check units from the data" ∷ [])
+
 -- a disk that is too small
 unfoldable pub small_hint : (column has needs : ℕ) → List ℕ
 small_hint column has needs = hint_line (codes "the disk of column " ∷ decimal column ∷ codes " has " ∷ decimal has ∷ codes " sectors, and " ∷ decimal needs ∷ codes " are needed" ∷ [])
@@ -87,10 +96,10 @@ hint_of words (status.GraphText line code) trouble = line_hint (texts_of words).
 hint_of words status.BayFault trouble = trouble_hint trouble (codes "a file could not be read, opened or locked")
 hint_of words (status.NoFile name) trouble = missing_hint name
 hint_of words status.SinkFault trouble = trouble_hint trouble (codes "standard output failed")
-hint_of words (status.Lost first second stripe) trouble = lost_hint first second stripe
+hint_of words (status.Lost first second stripe) trouble = lost_hint (misuse_of words) first second stripe
 hint_of words (status.Label column code found wanted) trouble = label_hint column code found wanted
 hint_of words (status.Small column has needs) trouble = small_hint column has needs
-hint_of words (status.NotInSync count) trouble = hint_line (decimal count ∷ codes " stripes aren't in sync; -P rewrites their check units from the data" ∷ [])
+hint_of words (status.NotInSync count) trouble = out_of_sync_hint count
 hint_of words status.NoSpare trouble = no_spare_hint
 hint_of words (status.LongText name) trouble = name_hint name (codes "longer than 16777216 bytes")
 hint_of words status.Memory trouble = hint_line (codes "not enough memory; nothing was written" ∷ [])

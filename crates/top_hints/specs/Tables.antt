@@ -32,7 +32,11 @@ script_words code =
     else (if nat_eq code 5 then codes "the array has no such column"
     else (if nat_eq code 6 then codes "no graph of the file behind --graphs has this name"
     else (if nat_eq code 7 then codes "more than 65536 items, or more than 262144 blocks in all reads together"
-    else codes "two spans of the item share a block"))))))
+    else (if nat_eq code 9 then codes "two spans of the item share a block"
+    else (if nat_eq code 10 then codes "a graph can't be half of a joined one, or the first has a stripe that its span doesn't touch"
+    else (if nat_eq code 11 then codes "the stripes of the first span aren't all before those of the second"
+    else (if nat_eq code 12 then codes "the two graphs are too large together"
+    else codes "more than 64 joins"))))))))))
 
 -- of a file of graphs
 unfoldable pub graph_words : ℕ → List ℕ

@@ -5,7 +5,7 @@ use Rattle.raid_text.specs.Text.{Text}
 use Rattle.top_help.specs.declared.TheConstants.{HELP}
 use Rattle.top_words.specs.Asked.{Beside, beside_of}
 use Rattle.top_words.specs.Judged.{Invocation, Tell, OnArray, Scan, Simulate, invocation_of}
-use Rattle.top_words.specs.Misuse.{Misuse, NoForm, NoAction, ManyActions, Apart, Number, Component}
+use Rattle.top_words.specs.Misuse.{Misuse, Unknown, NoForm, NoAction, ManyActions, Apart, Number, Queue, Component}
 use Rattle.top_hints.specs.Line.{shown, hint_line}
 
 -- the names of the texts that a call reads; empty where it doesn't read one
@@ -37,31 +37,41 @@ texts_by (Err case) = only_conf []
 abbrev pub texts_of : List Text → Texts
 texts_of words = texts_by (invocation_of words)
 
--- the words are of no form
+-- the word begins as an option that there isn't
+unfoldable pub unknown_hint : Text → List ℕ
+unknown_hint word = hint_line (shown word ∷ codes ": there is no such option" ∷ [])
+
+-- the words are of no form otherwise
 unfoldable pub unformed : List ℕ
-unformed = hint_line (codes "the words can't be taken apart: an unknown word or option, one given twice, one without its value, or no CONF" ∷ [])
+unformed = hint_line (codes "the words can't be taken apart: an option twice or without its value, a word too many, one that isn't UTF-8, or no CONF" ∷ [])
 
 -- the word behind an option isn't a number of that range
 unfoldable pub number_hint : (option word : Text) (low high : ℕ) → List ℕ
 number_hint option word low high = hint_line (option ∷ codes " " ∷ shown word ∷ codes ": not a number from " ∷ decimal low ∷ codes " to " ∷ decimal high ∷ [])
 
+-- the word behind `--sim` is no queue
+unfoldable pub queue_hint : Text → List ℕ
+queue_hint word = hint_line (codes "--sim " ∷ shown word ∷ codes ": the queue is fifo, sstf or scan" ∷ [])
+
 -- the word behind an option is no component that it may be
-unfoldable pub component_hint : (option word : Text) → List ℕ
-component_hint option word = hint_line (option ∷ codes " " ∷ shown word ∷ codes ": not a name of the configuration's disks" ∷ [])
+unfoldable pub component_hint : (option word among : Text) → List ℕ
+component_hint option word among = hint_line (option ∷ codes " " ∷ shown word ∷ codes ": not a name of the configuration's " ∷ among ∷ [])
 
 -- which word is wrong
 unfoldable pub misuse_hint : Misuse → List ℕ
+misuse_hint (Unknown word) = unknown_hint word
 misuse_hint NoForm = unformed
-misuse_hint NoAction = hint_line (codes "no action: one of --io, --sweep, --scan, --sim and the letters is wanted" ∷ [])
+misuse_hint NoAction = hint_line (codes "no action: one of --io, --sweep, --scan, --sim and the letters is wanted; see raidctl --help" ∷ [])
 misuse_hint ManyActions = hint_line (codes "more than one action: only --io goes beside another, -F or -R" ∷ [])
 misuse_hint (Apart option with) = hint_line (option ∷ codes " needs " ∷ with ∷ [])
 misuse_hint (Number option word low high) = number_hint option word low high
-misuse_hint (Component option word) = component_hint option word
-
--- of all words that can be wrong the queue alone is no misuse
-unfoldable pub queue_hint : List ℕ
-queue_hint = hint_line (codes "--sim: the queue is fifo, sstf or scan" ∷ [])
+misuse_hint (Queue word) = queue_hint word
+misuse_hint (Component option word among) = component_hint option word among
 
 -- the help stands behind words of no form, and nowhere else
+abbrev pub helped : ℕ → List ℕ → List ℕ
+helped case line = if nat_eq case 0 then line ++ HELP.now else line
+
+-- what is wrong with words that are refused by this case
 unfoldable pub usage_hint : ℕ → Option Misuse → List ℕ
-usage_hint case misuse = if nat_eq case 0 then unformed ++ HELP.now else option_map_or misuse_hint misuse queue_hint
+usage_hint case misuse = helped case (option_map_or misuse_hint misuse unformed)

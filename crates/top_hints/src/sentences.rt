@@ -1,13 +1,15 @@
 //! Sentences on texts, columns and stripes.
-ghost use Rattle.std.specs.Prelude.{◌≡◌, [], ◌∷◌, IfOk, codes, decimal, option_map};
-ghost use Rattle.top_hints.specs.Hint.{line_hint, lost_hint, missing_hint, name_hint, no_spare_hint, script_hint, small_hint, trouble_hint, unit_hint, units_hint};
+ghost use Rattle.std.specs.Prelude.{◌≡◌, [], ◌∷◌, IfOk, option_map};
+ghost use Rattle.top_hints.specs.Hint.{is_lost, line_hint, lost_hint, missing_hint, name_hint, no_spare_hint, out_of_sync_hint, script_hint, small_hint, trouble_hint, unit_hint, units_hint};
 ghost use Rattle.top_hints.specs.Line.{hint_line};
 ghost use Rattle.top_hints.specs.Views.{trouble_seen};
+ghost use Rattle.top_words.specs.Views.{misuse_seen};
 
 use crate::piece::{Piece, line};
 use crate::tables::script_words;
 use crate::trouble::Trouble;
 use std::alloc::{AllocError, Global};
+use top_words::Misuse;
 
 /// These words alone.
 #[tactic(auto, unfolding(crate::specs::Line::hint_line))]
@@ -90,15 +92,35 @@ pub(crate) fn troubled(
     }
 }
 
+// That the array is lost; a call that fails a component is refused where it would be.
+fn is_lost(misuse: Option<Misuse<'_>>) -> &'static str
+    ensures { result.now ≡ is_lost (option_map misuse_seen misuse.entry) }
+{
+    match misuse {
+        Some(Misuse::Component { .. }) =>
+            "the array is lost, or would be without the component: stripe ",
+        None
+        | Some(Misuse::Unknown { .. } | Misuse::NoForm | Misuse::NoAction | Misuse::ManyActions)
+        | Some(Misuse::Apart { .. } | Misuse::Number { .. } | Misuse::Queue { .. }) =>
+            "the array is lost: stripe ",
+    }
+}
+
 // A stripe that lacks a unit, where there is no check unit.
 #[tactic(auto, unfolding(crate::specs::Line::hint_line, crate::specs::Hint::unit_hint))]
-fn lost_unit(alloc: Global, column: u32, stripe: u32) -> Result<Vec<u8>, AllocError>
-    ensures { IfOk result (λ line. line.items ≡ unit_hint column stripe) }
+fn lost_unit(
+    alloc: Global,
+    misuse: Option<Misuse<'_>>,
+    column: u32,
+    stripe: u32,
+) -> Result<Vec<u8>, AllocError>
+    ensures { IfOk result (λ line. line.items
+        ≡ unit_hint (option_map misuse_seen misuse.entry) column stripe) }
 {
     line(
         alloc,
         &[
-            Piece::Words("the array is lost: stripe "),
+            Piece::Words(is_lost(misuse)),
             Piece::Number(u64::from(stripe)),
             Piece::Words(" lacks the unit of column "),
             Piece::Number(u64::from(column)),
@@ -109,13 +131,20 @@ fn lost_unit(alloc: Global, column: u32, stripe: u32) -> Result<Vec<u8>, AllocEr
 
 // A stripe that lacks two units.
 #[tactic(auto, unfolding(crate::specs::Line::hint_line, crate::specs::Hint::units_hint))]
-fn lost_units(alloc: Global, first: u32, second: u32, stripe: u32) -> Result<Vec<u8>, AllocError>
-    ensures { IfOk result (λ line. line.items ≡ units_hint first second stripe) }
+fn lost_units(
+    alloc: Global,
+    misuse: Option<Misuse<'_>>,
+    first: u32,
+    second: u32,
+    stripe: u32,
+) -> Result<Vec<u8>, AllocError>
+    ensures { IfOk result (λ line. line.items
+        ≡ units_hint (option_map misuse_seen misuse.entry) first second stripe) }
 {
     line(
         alloc,
         &[
-            Piece::Words("the array is lost: stripe "),
+            Piece::Words(is_lost(misuse)),
             Piece::Number(u64::from(stripe)),
             Piece::Words(" lacks the units of columns "),
             Piece::Number(u64::from(first)),
@@ -126,20 +155,23 @@ fn lost_units(alloc: Global, first: u32, second: u32, stripe: u32) -> Result<Vec
     )
 }
 
-/// A stripe that lacks too much: two units, or one where both columns are the same.
+/// A stripe that lacks too much: two units, or one where both columns are the same. What the words name is what
+/// `misuse_of` says of them.
 #[tactic(auto, unfolding(crate::specs::Hint::lost_hint))]
 pub(crate) fn lost(
     alloc: Global,
+    misuse: Option<Misuse<'_>>,
     first: u32,
     second: u32,
     stripe: u32,
 ) -> Result<Vec<u8>, AllocError>
-    ensures { IfOk result (λ line. line.items ≡ lost_hint first second stripe) }
+    ensures { IfOk result (λ line. line.items
+        ≡ lost_hint (option_map misuse_seen misuse.entry) first second stripe) }
 {
     if first == second {
-        lost_unit(alloc, first, stripe)
+        lost_unit(alloc, misuse, first, stripe)
     } else {
-        lost_units(alloc, first, second, stripe)
+        lost_units(alloc, misuse, first, second, stripe)
     }
 }
 
@@ -163,16 +195,16 @@ pub(crate) fn small(alloc: Global, column: u32, has: u64, needs: u64) -> Result<
 }
 
 /// Stripes that aren't in sync.
-#[tactic(auto, unfolding(crate::specs::Line::hint_line))]
+#[tactic(auto, unfolding(crate::specs::Line::hint_line, crate::specs::Hint::out_of_sync_hint))]
 pub(crate) fn out_of_sync(alloc: Global, count: u64) -> Result<Vec<u8>, AllocError>
-    ensures { IfOk result (λ line. line.items ≡ hint_line (decimal count
-        ∷ codes " stripes aren't in sync; -P rewrites their check units from the data" ∷ [])) }
+    ensures { IfOk result (λ line. line.items ≡ out_of_sync_hint count) }
 {
     line(
         alloc,
         &[
+            Piece::Words("stripes that aren't in sync: "),
             Piece::Number(count),
-            Piece::Words(" stripes aren't in sync; -P rewrites their check units from the data"),
+            Piece::Words("; -P rewrites their check units from the data"),
         ],
     )
 }

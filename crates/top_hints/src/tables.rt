@@ -42,7 +42,12 @@ pub(crate) fn script_words(code: u8) -> &'static str
         5 => "the array has no such column",
         6 => "no graph of the file behind --graphs has this name",
         7 => "more than 65536 items, or more than 262144 blocks in all reads together",
-        _ => "two spans of the item share a block",
+        9 => "two spans of the item share a block",
+        10 =>
+            "a graph can't be half of a joined one, or the first has a stripe that its span doesn't touch",
+        11 => "the stripes of the first span aren't all before those of the second",
+        12 => "the two graphs are too large together",
+        _ => "more than 64 joins",
     }
 }
 

@@ -14,6 +14,7 @@ use crate::words::{refused, texts_of};
 use raid_bay::Name;
 use std::alloc::{AllocError, Global};
 use top_status::Status;
+use top_words::misuse_of;
 
 /// The sentence for the status by which a call with these words ended, with what the system refused where the status is
 /// a fault of the bay or of the sink; nothing where it is ok. Behind words of no form stands the help.
@@ -57,7 +58,7 @@ pub fn hint(
             first,
             second,
             stripe,
-        } => lost(alloc, *first, *second, *stripe),
+        } => lost(alloc, misuse_of(alloc, words)?, *first, *second, *stripe),
         Status::Label {
             column,
             code,

@@ -1,12 +1,13 @@
 //! What the words of a call name, and what is wrong with them.
-ghost use Rattle.std.specs.Prelude.{◌≡◌, [], ◌∷◌, ◌++◌, IfOk, codes, option_map};
+ghost use Rattle.std.specs.Prelude.{◌≡◌, [], ◌∷◌, IfOk, codes, option_map};
+ghost use Rattle.std.specs.Option.{option_map_or};
 ghost use Rattle.top_help.specs.declared.TheConstants.{HELP};
 ghost use Rattle.top_words.specs.Judged.{invocation_of};
 ghost use Rattle.top_words.specs.Misuse.{misuse_of};
 ghost use Rattle.top_words.specs.Views.{beside_seen, misuse_seen};
 ghost use Rattle.top_hints.specs.Line.{hint_line};
 ghost use Rattle.top_hints.specs.Views.{texts_seen};
-ghost use Rattle.top_hints.specs.Words.{component_hint, misuse_hint, number_hint, only_conf, queue_hint, texts_of, texts_with, unformed, usage_hint};
+ghost use Rattle.top_hints.specs.Words.{component_hint, misuse_hint, number_hint, only_conf, queue_hint, texts_of, texts_with, unformed, unknown_hint, usage_hint};
 
 use crate::piece::{Piece, line};
 use crate::sentences::plain;
@@ -63,14 +64,28 @@ pub(crate) fn texts_of<'a>(alloc: Global, words: &'a [Name]) -> Result<Texts<'a>
     }
 }
 
-// The words are of no form.
+// The word begins as an option that there isn't.
+#[tactic(auto, unfolding(crate::specs::Line::hint_line, crate::specs::Words::unknown_hint))]
+fn unknown(alloc: Global, word: &str) -> Result<Vec<u8>, AllocError>
+    ensures { IfOk result (λ line. line.items ≡ unknown_hint word.now) }
+{
+    line(
+        alloc,
+        &[
+            Piece::Shown(word),
+            Piece::Words(": there is no such option"),
+        ],
+    )
+}
+
+// The words are of no form otherwise.
 #[tactic(auto, unfolding(crate::specs::Words::unformed))]
 fn unformed(alloc: Global) -> Result<Vec<u8>, AllocError>
     ensures { IfOk result (λ line. line.items ≡ unformed) }
 {
     plain(
         alloc,
-        "the words can't be taken apart: an unknown word or option, one given twice, one without its value, or no CONF",
+        "the words can't be taken apart: an option twice or without its value, a word too many, one that isn't UTF-8, or no CONF",
     )
 }
 
@@ -109,10 +124,31 @@ fn no_number(
     )
 }
 
+// The word behind `--sim` is no queue.
+#[tactic(auto, unfolding(crate::specs::Line::hint_line, crate::specs::Words::queue_hint))]
+fn no_queue(alloc: Global, word: &str) -> Result<Vec<u8>, AllocError>
+    ensures { IfOk result (λ line. line.items ≡ queue_hint word.now) }
+{
+    line(
+        alloc,
+        &[
+            Piece::Words("--sim "),
+            Piece::Shown(word),
+            Piece::Words(": the queue is fifo, sstf or scan"),
+        ],
+    )
+}
+
 // The word behind an option is no component that it may be.
 #[tactic(auto, unfolding(crate::specs::Line::hint_line, crate::specs::Words::component_hint))]
-fn no_component(alloc: Global, option: &'static str, word: &str) -> Result<Vec<u8>, AllocError>
-    ensures { IfOk result (λ line. line.items ≡ component_hint option.entry.now word.now) }
+fn no_component(
+    alloc: Global,
+    option: &'static str,
+    word: &str,
+    among: &'static str,
+) -> Result<Vec<u8>, AllocError>
+    ensures { IfOk result (λ line. line.items
+        ≡ component_hint option.entry.now word.now among.entry.now) }
 {
     line(
         alloc,
@@ -120,7 +156,8 @@ fn no_component(alloc: Global, option: &'static str, word: &str) -> Result<Vec<u
             Piece::Words(option),
             Piece::Words(" "),
             Piece::Shown(word),
-            Piece::Words(": not a name of the configuration's disks"),
+            Piece::Words(": not a name of the configuration's "),
+            Piece::Words(among),
         ],
     )
 }
@@ -131,10 +168,11 @@ fn misused(alloc: Global, misuse: Misuse<'_>) -> Result<Vec<u8>, AllocError>
     ensures { IfOk result (λ line. line.items ≡ misuse_hint (misuse_seen misuse.entry)) }
 {
     match misuse {
+        Misuse::Unknown { word } => unknown(alloc, word),
         Misuse::NoForm => unformed(alloc),
         Misuse::NoAction => plain(
             alloc,
-            "no action: one of --io, --sweep, --scan, --sim and the letters is wanted",
+            "no action: one of --io, --sweep, --scan, --sim and the letters is wanted; see raidctl --help",
         ),
         Misuse::ManyActions => plain(
             alloc,
@@ -147,25 +185,24 @@ fn misused(alloc: Global, misuse: Misuse<'_>) -> Result<Vec<u8>, AllocError>
             low,
             high,
         } => no_number(alloc, option, word, low, high),
-        Misuse::Component { option, word } => no_component(alloc, option, word),
+        Misuse::Queue { word } => no_queue(alloc, word),
+        Misuse::Component {
+            option,
+            word,
+            among,
+        } => no_component(alloc, option, word, among),
     }
 }
 
-// The queue is wrong.
-#[tactic(auto, unfolding(crate::specs::Words::queue_hint))]
-fn no_queue(alloc: Global) -> Result<Vec<u8>, AllocError>
-    ensures { IfOk result (λ line. line.items ≡ queue_hint) }
+// What is wrong with the words, as far as they tell it.
+fn told(alloc: Global, words: &[Name]) -> Result<Vec<u8>, AllocError>
+    ensures { IfOk result (λ text. text.items
+        ≡ option_map_or misuse_hint (misuse_of words.now) unformed) }
 {
-    plain(alloc, "--sim: the queue is fifo, sstf or scan")
-}
-
-// Words of no form, and the help.
-fn helped(alloc: Global) -> Result<Vec<u8>, AllocError>
-    ensures { IfOk result (λ text. text.items ≡ unformed ++ HELP.now) }
-{
-    let mut text = unformed(alloc)?;
-    text.extend_from_slice(HELP.as_bytes())?;
-    Ok(text)
+    match misuse_of(alloc, words)? {
+        Some(misuse) => misused(alloc, misuse),
+        None => unformed(alloc),
+    }
 }
 
 /// The words are refused by this case.
@@ -173,11 +210,9 @@ fn helped(alloc: Global) -> Result<Vec<u8>, AllocError>
 pub(crate) fn refused(alloc: Global, case: u8, words: &[Name]) -> Result<Vec<u8>, AllocError>
     ensures { IfOk result (λ text. text.items ≡ usage_hint case (misuse_of words.now)) }
 {
+    let mut text = told(alloc, words)?;
     if case == 0 {
-        return helped(alloc);
+        text.extend_from_slice(HELP.as_bytes())?;
     }
-    match misuse_of(alloc, words)? {
-        Some(misuse) => misused(alloc, misuse),
-        None => no_queue(alloc),
-    }
+    Ok(text)
 }

@@ -10,7 +10,7 @@ use Rattle.clap.specs.declared.parser.matches.ArgMatches.{ArgMatches}
 use Rattle.raid_text.specs.Text.{Text}
 use Rattle.top_words.specs.App.{raid_app, refusals, rows_in}
 use Rattle.top_words.specs.Given.{Given, given_of}
-use Rattle.top_words.specs.Misuse.{NoForm, misuse_of, misused, misused_if_taken}
+use Rattle.top_words.specs.Misuse.{misuse_of, misused, misused_if_taken, unformed}
 use Rattle.top_words.proofs.OfTheApp.{is_exact, simple}
 
 -- the first of two is seen as the first of what is seen
@@ -28,19 +28,20 @@ taken_is : (words : List Text) (m : ArgMatches) → fault_of raid_app words ≡ 
     → misuse_of words ≡ misused (given_of (rows_of (found_of m)))
 unfolding misuse_of refusals rows_in
 taken_is words m none has =
-    ap (λ (kinds : Kinds). misused_if_taken kinds (given_of (matches_of raid_app words))) none
+    ap (λ (kinds : Kinds). misused_if_taken kinds words (given_of (matches_of raid_app words))) none
     ∙ ap (λ rows. misused (given_of rows)) (sym (has simple).0)
 
-some_refused : (k : ErrorKind) (kinds : Kinds) (g : Given) → IsAmong k kinds → misused_if_taken kinds g ≡ Some NoForm
-some_refused k [] g h = absurd h
-some_refused k (x ∷ kinds) g h = refl
+some_refused : (k : ErrorKind) (kinds : Kinds) (words : List Text) (g : Given) → IsAmong k kinds
+    → misused_if_taken kinds words g ≡ Some (unformed words)
+some_refused k [] words g h = absurd h
+some_refused k (x ∷ kinds) words g h = refl
 
 -- an error that isn't want of memory comes only of words that it refuses
-refused_is : (e : Error) (words : List Text) → HasKind (fault_of raid_app words) e → (kind_of e ≡ kind.OutOfMemory → ⊥) → misuse_of words ≡ Some NoForm
+refused_is : (e : Error) (words : List Text) → HasKind (fault_of raid_app words) e → (kind_of e ≡ kind.OutOfMemory → ⊥) → misuse_of words ≡ Some (unformed words)
 unfolding misuse_of refusals
 refused_is e words h other = elim h [
   | inl memory ↦ absurd (other memory)
-  | inr among ↦ some_refused (kind_of e) (fault_of raid_app words) (given_of (rows_in words)) among
+  | inr among ↦ some_refused (kind_of e) (fault_of raid_app words) words (given_of (rows_in words)) among
 ]
 
 -- the same of a parse of an app that is this one, of words that are these
@@ -52,7 +53,7 @@ taken_by a words texts m is same none has =
     (subst (λ (w : List Text). HasMatchesOf raid_app w m) same (subst (λ (b : App). HasMatchesOf b texts m) is has))
 
 pub refused_by : (a : App) (words texts : List Text) (e : Error) → a ≡ raid_app → texts ≡ words
-    → (is_simple_and_free a ≡ true → HasKind (fault_of a texts) e) → (kind_of e ≡ kind.OutOfMemory → ⊥) → misuse_of words ≡ Some NoForm
+    → (is_simple_and_free a ≡ true → HasKind (fault_of a texts) e) → (kind_of e ≡ kind.OutOfMemory → ⊥) → misuse_of words ≡ Some (unformed words)
 refused_by a words texts e is same kinds other =
     refused_is e words
     (subst (λ (k : Kinds). HasKind k e) (ap₂ fault_of is same) (kinds (ap is_simple_and_free is ∙ is_exact))) other

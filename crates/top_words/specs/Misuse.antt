@@ -6,9 +6,12 @@ use Rattle.raid_text.specs.Text.{Text}
 use Rattle.top_words.specs.App.{refusals, rows_in}
 use Rattle.top_words.specs.Asked.{actions_of, has_one_action, has_sweep_alone, has_workers_apart, number_within}
 use Rattle.top_words.specs.Given.{Given, given_of}
+use Rattle.top_words.specs.Judged.{queue_of}
+use Rattle.top_words.specs.Unknown.{unknown_in}
 
 pub data Misuse : Type 0 where
-  -- they are of no form
+  -- they are of no form: one of them is an option that there isn't, or something else
+  Unknown : (word : Text) → Misuse
   NoForm : Misuse
   -- not one action: none, or several
   NoAction : Misuse
@@ -17,8 +20,10 @@ pub data Misuse : Type 0 where
   Apart : (option with : Text) → Misuse
   -- the word behind an option isn't a number of that range
   Number : (option word : Text) (low high : ℕ) → Misuse
-  -- the component behind an option, of words that are a command
-  Component : (option word : Text) → Misuse
+  -- the word behind `--sim` is no queue
+  Queue : (word : Text) → Misuse
+  -- the component behind an option that takes one of these, of words that are a command
+  Component : (option word among : Text) → Misuse
 
 -- not one action
 unfoldable pub not_one : Given → Misuse
@@ -54,25 +59,37 @@ wrong_number g = option_or (option_or (option_or (option_or
     (wrong (codes "--ops") g.ops 0 2048))
     (wrong (codes "-I") g.label 0 4294967295)
 
+-- the word behind `--sim`, where it is no queue
+unfoldable pub wrong_queue : Option Text → Option Misuse
+wrong_queue None = None
+wrong_queue (Some word) = option_map_or (λ order. None) (queue_of word) (Some (Queue word))
+
+-- a component that is one of the columns' disks
+abbrev pub of_disks : (option comp : Text) → Option Misuse
+of_disks option comp = Some (Component option comp (codes "disks"))
+
 -- the component
 unfoldable pub component_in : Given → Option Misuse
-component_in g = option_map_or (λ comp. Some (Component (codes "-f") comp)) g.fail
-    (option_map_or (λ comp. Some (Component (codes "-F") comp)) g.rebuild
-    (option_map_or (λ comp. Some (Component (codes "-R") comp)) g.in_place
-    (option_map_or (λ comp. Some (Component (codes "-g") comp)) g.show_label None)))
+component_in g = option_map_or (λ comp. of_disks (codes "-f") comp) g.fail
+    (option_map_or (λ comp. of_disks (codes "-F") comp) g.rebuild
+    (option_map_or (λ comp. of_disks (codes "-R") comp) g.in_place
+    (option_map_or (λ comp. Some (Component (codes "-g") comp (codes "disks and spares"))) g.show_label None)))
 
 -- what is given, in the order in which it is judged
 unfoldable pub misused : Given → Option Misuse
 misused g =
     if has_one_action g
-    then option_or (option_or (apart_in g) (wrong_number g)) (component_in g)
+    then option_or (option_or (option_or (apart_in g) (wrong_number g)) (wrong_queue g.sim)) (component_in g)
     else Some (not_one g)
 
--- of words that the command doesn't take there is no more to say
-abbrev pub misused_if_taken : Kinds → Given → Option Misuse
-misused_if_taken [] g = misused g
-misused_if_taken (kind ∷ kinds) g = Some NoForm
+-- which way words are of no form
+unfoldable pub unformed : List Text → Misuse
+unformed words = option_map_or (λ word. Unknown word) (unknown_in words) NoForm
+
+abbrev pub misused_if_taken : Kinds → List Text → Given → Option Misuse
+misused_if_taken [] words g = misused g
+misused_if_taken (kind ∷ kinds) words g = Some (unformed words)
 
 -- what is wrong with the words; where nothing is, the component that they name
 unfoldable pub misuse_of : List Text → Option Misuse
-misuse_of words = misused_if_taken (refusals words) (given_of (rows_in words))
+misuse_of words = misused_if_taken (refusals words) words (given_of (rows_in words))

@@ -1,13 +1,14 @@
 //! What is wrong with words that are refused.
 ghost use Rattle.std.specs.Prelude.{◌≡◌, IfOk, option_map};
-ghost use Rattle.top_words.specs.Misuse.{apart_in, component_in, lone, misuse_of, misused, not_one, wrong, wrong_number};
+ghost use Rattle.top_words.specs.Misuse.{apart_in, component_in, lone, misuse_of, misused, not_one, unformed, wrong, wrong_number, wrong_queue};
 ghost use Rattle.top_words.specs.Views.{given_seen, misuse_seen, text_of};
 
 use crate::app;
 use crate::given::{Given, given_by};
 use crate::judge::{
-    actions, has_one_action, has_sweep_alone, has_workers_apart, number_within, stands,
+    actions, has_one_action, has_sweep_alone, has_workers_apart, number_within, queue_of, stands,
 };
+use crate::unknown::unknown_in;
 use blk_plain::limits;
 use clap::error::ErrorKind;
 use raid_bay::Name;
@@ -16,7 +17,12 @@ use std::alloc::{AllocError, Global};
 /// What is wrong with words that are refused, as far as they tell it.
 #[derive(Clone, Copy)]
 pub enum Misuse<'a> {
-    /// They are of no form.
+    /// They are of no form: this one begins as an option that there isn't.
+    Unknown {
+        word: &'a str,
+    },
+    /// They are of no form: an option twice or without its value, no name of what is read, or a word
+    /// too many.
     NoForm,
     /// No action stands there.
     NoAction,
@@ -34,10 +40,15 @@ pub enum Misuse<'a> {
         low: u32,
         high: u32,
     },
-    /// Nothing is: they are a command, with this component behind an option.
+    /// The word behind `--sim` is no queue.
+    Queue {
+        word: &'a str,
+    },
+    /// Nothing is: they are a command, with this component behind an option that takes one of these.
     Component {
         option: &'static str,
         word: &'a str,
+        among: &'static str,
     },
 }
 
@@ -51,8 +62,19 @@ pub fn misuse_of<'a>(alloc: Global, words: &'a [Name]) -> Result<Option<Misuse<'
         Ok(matches) => Ok(misused(given_by(&matches))),
         Err(error) => match error.kind() {
             ErrorKind::OutOfMemory => Err(AllocError),
-            _ => Ok(Some(Misuse::NoForm)),
+            _ => Ok(Some(unformed(words))),
         },
+    }
+}
+
+// Which way the words are of no form.
+#[tactic(auto, unfolding(crate::specs::Misuse::unformed))]
+fn unformed<'a>(words: &'a [Name]) -> Misuse<'a>
+    ensures { misuse_seen result ≡ unformed words.entry.now }
+{
+    match unknown_in(words) {
+        Some(word) => Misuse::Unknown { word },
+        None => Misuse::NoForm,
     }
 }
 
@@ -64,7 +86,10 @@ fn misused<'a>(given: Given<'a>) -> Option<Misuse<'a>>
     if !has_one_action(given) {
         return Some(not_one(given));
     }
-    apart(given).or(wrong_number(given)).or(component(given))
+    apart(given)
+        .or(wrong_number(given))
+        .or(wrong_queue(given.sim))
+        .or(component(given))
 }
 
 // Which way it isn't one action.
@@ -143,19 +168,37 @@ fn wrong_number<'a>(given: Given<'a>) -> Option<Misuse<'a>>
         .or(wrong("-I", given.label, 0, u32::MAX))
 }
 
+// The word behind `--sim`, where it is no queue.
+#[tactic(auto, unfolding(crate::specs::Misuse::wrong_queue))]
+fn wrong_queue<'a>(word: Option<&'a str>) -> Option<Misuse<'a>>
+    ensures { option_map misuse_seen result ≡ wrong_queue (text_of word.entry) }
+{
+    let Some(word) = word else {
+        return None;
+    };
+    match queue_of(word) {
+        Some(_) => None,
+        None => Some(Misuse::Queue { word }),
+    }
+}
+
 // The component that stands there.
 #[tactic(auto, unfolding(crate::specs::Misuse::component_in))]
 fn component<'a>(given: Given<'a>) -> Option<Misuse<'a>>
     ensures { option_map misuse_seen result ≡ component_in (given_seen given.entry) }
 {
-    let (option, word) = if let Some(word) = given.fail {
-        ("-f", word)
+    let (option, word, among) = if let Some(word) = given.fail {
+        ("-f", word, "disks")
     } else if let Some(word) = given.rebuild {
-        ("-F", word)
+        ("-F", word, "disks")
     } else if let Some(word) = given.in_place {
-        ("-R", word)
+        ("-R", word, "disks")
     } else {
-        ("-g", given.show_label?)
+        ("-g", given.show_label?, "disks and spares")
     };
-    Some(Misuse::Component { option, word })
+    Some(Misuse::Component {
+        option,
+        word,
+        among,
+    })
 }

@@ -1,4 +1,4 @@
-use Rattle.std.proofs.Common.{◌≡◌, ◌∙◌, Ok, Err, Result, sym}
+use Rattle.std.proofs.Common.{◌∙◌, Ok, Err, Result, sym}
 use Rattle.std.specs.Prelude.{OnErr}
 use Rattle.top_words.proofs.Topics.{not_told}
 use Rattle.top_words.proofs.invocation.read_words.Goals as goal

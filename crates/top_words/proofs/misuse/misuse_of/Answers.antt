@@ -1,4 +1,4 @@
-use Rattle.std.proofs.Common.{◌∙◌, sym, ap, map}
+use Rattle.std.proofs.Common.{◌∙◌, Some, sym, ap, map}
 use Rattle.std.proofs.lemmas.List.{map-id}
 use Rattle.clap.specs.Words.{app_of}
 use Rattle.raid_text.specs.Text.{Text}
@@ -14,5 +14,6 @@ returns-in-Ok c =
 
 pub returns : goal.returns
 returns c =
+    ap (λ m. Some m) c.unformed.ensures ∙
     sym (refused_by (app_of c.in_ok-app.app) c.args.words.now (map (λ (n : Text). n) c.args.words.now) c.in-Err.error
     c.in_ok-app.ensures (map-id c.args.words.now) c.in-Err.ensures.kinds (λ h. c.in_default.not-OutOfMemory (c.kind.ensures ∙ h)))
