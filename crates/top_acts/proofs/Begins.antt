@@ -15,7 +15,8 @@ use Rattle.raid_recon.specs.Array.{states_of}
 use Rattle.raid_recon.specs.Ends.{MayRewrite}
 use Rattle.top_rounds.specs.Calls.{IsLabelWrite}
 use Rattle.top_rounds.specs.Labels.{with_round}
-use Rattle.top_rounds.specs.Passes.{IsFirstInUse, LosesDevice}
+use Rattle.top_rounds.specs.Passes.{IsFirstInUse}
+use Rattle.top_close.specs.Settled.{LosesDevice}
 use Rattle.top_rounds.specs.Rounds.{AreRounds, HaveRounds, clean_in_end}
 use Rattle.top_rounds.proofs.PassLaws.{live_before}
 use Rattle.top_rounds.proofs.RoundLaws.{round_again}

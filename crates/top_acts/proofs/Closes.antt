@@ -11,9 +11,9 @@ use Rattle.eng_cols.specs.declared.spot.Loss.{Loss}
 use Rattle.eng_cols.proofs.DeathLaws.{dies-refl}
 use Rattle.raid_label.specs.declared.label.Label.{Label}
 use Rattle.raid_label.specs.Bytes.{IsHeld}
-use Rattle.top_close.specs.Settled.{IsLiveOn, is_live}
+use Rattle.top_close.specs.Settled.{IsLiveOn, is_live, LosesDevice}
 use Rattle.top_rounds.specs.Labels.{with_round}
-use Rattle.top_rounds.specs.Passes.{IsFirstInUse, LosesDevice}
+use Rattle.top_rounds.specs.Passes.{IsFirstInUse}
 use Rattle.top_rounds.specs.Rounds.{IsInUse, clean_in_end}
 use Rattle.top_rounds.proofs.RoundLaws.{round_again}
 use Rattle.top_acts.specs.Closed.{AreCounted, CallInTurn, IsBroken, ClosesLabelled, settled_in_end}

@@ -11,8 +11,8 @@ use Rattle.eng_cols.specs.declared.column.Column.{Column}
 use Rattle.eng_cols.specs.Deaths.{Dies}
 use Rattle.eng_cols.proofs.DeathLaws.{dies-more, dies-then}
 use Rattle.raid_label.specs.declared.label.Label.{Label}
-use Rattle.top_close.specs.Settled.{IsLiveOn}
-use Rattle.top_rounds.specs.Passes.{IsFirstInUse, LosesDevice}
+use Rattle.top_close.specs.Settled.{IsLiveOn, LosesDevice}
+use Rattle.top_rounds.specs.Passes.{IsFirstInUse}
 use Rattle.top_rounds.specs.Rounds.{AreRounds, HaveFailed, IsInUse, IsUncalled, live_count}
 use Rattle.top_rounds.proofs.PassLaws.{live_before}
 use Rattle.top_acts.specs.Closed.{AreCounted}

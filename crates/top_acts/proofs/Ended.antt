@@ -9,10 +9,10 @@ use Rattle.eng_cols.specs.Cols.{ColumnState}
 use Rattle.eng_cols.specs.Deaths.{Dies}
 use Rattle.raid_label.specs.declared.label.Label.{Label}
 use Rattle.top_close.specs.Ended.{IsLossBy, states_of}
-use Rattle.top_close.specs.Settled.{AreSettled}
+use Rattle.top_close.specs.Settled.{AreSettled, LosesDevice}
 use Rattle.top_close.proofs.DyingLaws.{columns_die, lost_no_less}
 use Rattle.top_rounds.specs.Labels.{with_round}
-use Rattle.top_rounds.specs.Passes.{IsFirstInUse, LosesDevice}
+use Rattle.top_rounds.specs.Passes.{IsFirstInUse}
 use Rattle.top_rounds.specs.Rounds.{AreRounds, HaveRounds, clean_in_end}
 use Rattle.top_acts.specs.Closed.{AreCounted, CallInTurn, ClosesLabelled}
 use Rattle.top_acts.proofs.Closes.{behind, counted-none}

@@ -10,9 +10,9 @@ use Rattle.eng_cols.specs.declared.spot.Loss.{Loss}
 use Rattle.eng_cols.specs.Deaths.{Dies}
 use Rattle.raid_label.specs.declared.label.Label.{Label}
 use Rattle.top_close.specs.Ended.{IsLossBy, states_of}
-use Rattle.top_close.specs.Settled.{AreSettled}
+use Rattle.top_close.specs.Settled.{AreSettled, LosesDevice}
 use Rattle.top_acts.specs.Closed.{ClosesLabelled}
-use Rattle.top_rounds.specs.Passes.{IsFirstInUse, LosesDevice}
+use Rattle.top_rounds.specs.Passes.{IsFirstInUse}
 use Rattle.top_rounds.proofs.PassLaws.{live_before}
 use Rattle.top_acts.specs.Killed.{ClosesUnless, EndsAlive}
 use Rattle.top_acts.proofs.Counted.{Behind}

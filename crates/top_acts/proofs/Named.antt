@@ -16,8 +16,7 @@ use Rattle.eng_cols.specs.Deaths.{Dies}
 use Rattle.eng_cols.proofs.DeathLaws.{dies-more, dies-then}
 use Rattle.raid_label.specs.declared.label.Label.{Label}
 use Rattle.raid_recon.specs.Array.{states_of, Failed}
-use Rattle.top_close.specs.Settled.{IsLiveOn, is_live}
-use Rattle.top_rounds.specs.Passes.{LosesDevice}
+use Rattle.top_close.specs.Settled.{IsLiveOn, is_live, LosesDevice}
 use Rattle.top_rounds.specs.Rounds.{IsInUse}
 use Rattle.top_rounds.proofs.PassLaws.{live_before}
 use Rattle.top_rounds.proofs.RoundLaws.{live_less}

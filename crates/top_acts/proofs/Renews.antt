@@ -15,10 +15,10 @@ use Rattle.raid_recon.specs.Array.{states_of}
 use Rattle.raid_recon.specs.Ends.{MayRewrite}
 use Rattle.top_close.specs.Calls.{EndsSettled, IsSettle}
 use Rattle.top_close.specs.Ended.{IsLossBy}
-use Rattle.top_close.specs.Settled.{AreSettled, IsLiveOn, is_live}
+use Rattle.top_close.specs.Settled.{AreSettled, IsLiveOn, is_live, LosesDevice}
 use Rattle.top_rounds.specs.Calls.{IsLabelWrite}
 use Rattle.top_rounds.specs.Labels.{with_round}
-use Rattle.top_rounds.specs.Passes.{IsFirstInUse, LosesDevice}
+use Rattle.top_rounds.specs.Passes.{IsFirstInUse}
 use Rattle.top_rounds.specs.Rounds.{clean_in_end}
 use Rattle.top_rounds.proofs.PassLaws.{live_before}
 use Rattle.top_rounds.proofs.RoundLaws.{round_again}
@@ -120,7 +120,7 @@ module _ {D : Type 0} (g : Ghosts D) (kind : Renewal) (y : Shape) where
       → DoesSweep g (sweep_of kind) y columns mid old dev n → AreSettled g (length mid) mid after dev new → ((c d : ℕ) → IsLiveOn after c d → EndsSettled (calls_of g new d)) → IsRenewedPlain g kind y columns after old new ended result
   renewed_plain columns mid after old dev new ended n result most none told is s settled last =
       let quiet = changes-more g (λ _ _. ⊥) (λ d m. m ≡ 0) dev new (λ d m f. absurd f) settled.frame in
-      let dies = dies-more (Rattle.top_close.specs.Settled.FailsToSettle g mid dev new) (LosesDevice g mid dev new) mid after (λ c f. record { device = f.device; had = f.had; rose = f.rose }) settled.dies in
+      let dies = dies-more (Rattle.top_close.specs.Settled.LosesDevice g mid dev new) (LosesDevice g mid dev new) mid after (λ c f. record { device = f.device; had = f.had; rose = f.rose }) settled.dies in
       record {
         found = n;
         told = told;

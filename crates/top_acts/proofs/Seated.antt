@@ -7,7 +7,7 @@ use Rattle.eng_cols.specs.declared.column.Column.{Column}
 use Rattle.eng_cols.specs.Deaths.{Dies}
 use Rattle.eng_cols.proofs.DeathLaws.{dies-more, dies-then}
 use Rattle.raid_label.specs.declared.label.Label.{Label}
-use Rattle.top_rounds.specs.Passes.{LosesDevice}
+use Rattle.top_close.specs.Settled.{LosesDevice}
 use Rattle.top_rounds.specs.Rounds.{AreRounds}
 use Rattle.top_rounds.proofs.PassLaws.{live_before}
 use Rattle.top_acts.specs.Begun.{HasSeats}

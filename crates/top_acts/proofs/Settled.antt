@@ -9,8 +9,8 @@ use Rattle.eng_cols.specs.declared.column.Column.{Column}
 use Rattle.eng_cols.specs.declared.column.Column.TheVariants as column
 use Rattle.eng_cols.specs.Deaths.{Dies}
 use Rattle.eng_cols.proofs.DeathLaws.{dies-more}
-use Rattle.top_close.specs.Settled.{AreSettled, FailsToSettle, IsLiveOn}
-use Rattle.top_rounds.specs.Passes.{IsFirstInUse, LosesDevice}
+use Rattle.top_close.specs.Settled.{AreSettled, IsLiveOn, LosesDevice}
+use Rattle.top_rounds.specs.Passes.{IsFirstInUse}
 use Rattle.top_rounds.specs.Rounds.{IsInUse}
 use Rattle.top_rounds.proofs.RoundLaws.{live_less}
 use Rattle.top_acts.proofs.Counted.{Behind}
@@ -40,7 +40,7 @@ death_of cause (x ∷ xs) (y ∷ ys) dies = elim (dies.each 0) [
 
 module _ {D : Type 0} (g : Ghosts D) (n : ℕ) (columns after : List Column) (old new : List (Option D)) (s : AreSettled g n columns after old new) (all : n ≡ length columns) where
   pub dies : Dies (LosesDevice g columns old new) columns after
-  dies = dies-more (FailsToSettle g columns old new) (LosesDevice g columns old new) columns after (λ c f. record { device = f.device; had = f.had; rose = f.rose }) s.dies
+  dies = dies-more (LosesDevice g columns old new) (LosesDevice g columns old new) columns after (λ c f. record { device = f.device; had = f.had; rose = f.rose }) s.dies
 
   -- devices were settled, and none is counted
   abbrev pub settled : Behind g columns after old new

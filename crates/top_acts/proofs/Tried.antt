@@ -18,9 +18,9 @@ use Rattle.raid_label.specs.declared.label.Label.{Label}
 use Rattle.top_close.specs.Calls.{EndsSettled}
 use Rattle.top_close.specs.Dying.{AnyCause}
 use Rattle.top_close.specs.Ended.{IsLossBy, states_of}
-use Rattle.top_close.specs.Settled.{AreSettled, FailsToSettle, HaveDevices, IsLiveOn, is_live}
+use Rattle.top_close.specs.Settled.{AreSettled, HaveDevices, IsLiveOn, LosesDevice, is_live}
 use Rattle.top_rounds.specs.Labels.{seats_of, with_round}
-use Rattle.top_rounds.specs.Passes.{IsFirstInUse, LosesDevice}
+use Rattle.top_rounds.specs.Passes.{IsFirstInUse}
 use Rattle.top_rounds.specs.Rounds.{AreRounds, IsInUse, clean_in_end, live_count}
 use Rattle.top_rounds.proofs.PassLaws.{live_before}
 use Rattle.top_rounds.proofs.RoundLaws.{any_death, live_less}
@@ -95,16 +95,16 @@ module _ {D : Type 0} (g : Ghosts D) (y : Shape) (label next : Label) (columns m
         each = subst (λ o. CallInTurn g true (settled_in_end o) columns after old new) (sym none) turns;
       }
 
-  fewer : Death (FailsToSettle g mid dev new) after → suc (live_count after) ≤ live_count mid
-  fewer death = strict mid after (any_death (FailsToSettle g mid dev new) mid after s.dies) death.col (ap is_live death.why.had) death.dead
+  fewer : Death (LosesDevice g mid dev new) after → suc (live_count after) ≤ live_count mid
+  fewer death = strict mid after (any_death (LosesDevice g mid dev new) mid after s.dies) death.col (ap is_live death.why.had) death.dead
 
-  gone : (death : Death (FailsToSettle g mid dev new) after) (c : ℕ) → IsLiveOn after c death.why.device → ⊥
+  gone : (death : Death (LosesDevice g mid dev new) after) (c : ℕ) → IsLiveOn after c death.why.device → ⊥
   gone death c live =
       let d = death.why.device in
-      let same : c ≡ death.col = have.apart c death.col d (live_before (FailsToSettle g mid dev new) mid after c d s.dies live) death.why.had in
+      let same : c ≡ death.col = have.apart c death.col d (live_before (LosesDevice g mid dev new) mid after c d s.dies live) death.why.had in
       let z : true ≡ false = ap is_live (sym live ∙ (ap (slice_get after) same ∙ death.dead)) in absurd (let u : ⊥ = cc in u)
 
-  abbrev broke : Death (FailsToSettle g mid dev new) after → Behind g mid after dev new
+  abbrev broke : Death (LosesDevice g mid dev new) after → Behind g mid after dev new
   broke death =
       let d = death.why.device in
       let quiet = settled g (length mid) mid after dev new s refl in
@@ -120,7 +120,7 @@ module _ {D : Type 0} (g : Ghosts D) (y : Shape) (label next : Label) (columns m
         told = quiet.told;
       }
 
-  broken : Death (FailsToSettle g mid dev new) after → IsBroken g label next columns after old new
+  broken : Death (LosesDevice g mid dev new) after → IsBroken g label next columns after old new
   broken death = record {
     counted = counted-then g 1 label next next columns mid after old dev new (counted_rounds g label next columns mid mid old dev rounds) (broke death) 0 (omega (arith, rounds.least)) (omega (arith, rounds.most));
     label_is = label_is;
@@ -129,11 +129,11 @@ module _ {D : Type 0} (g : Ghosts D) (y : Shape) (label next : Label) (columns m
   }
 
   pub tried : (b : Bool) → (b ≡ true → live_count after ≡ live_count mid) → (b ≡ false → live_count after ≢ live_count mid) → TriesToClose g label next columns after old new lost b
-  tried true same apart = elim (death_of (FailsToSettle g mid dev new) mid after s.dies) [
+  tried true same apart = elim (death_of (LosesDevice g mid dev new) mid after s.dies) [
     | inl e ↦ closed e
     | inr death ↦ absurd (omega (arith, same refl, fewer death))
   ]
-  tried false same apart = elim (death_of (FailsToSettle g mid dev new) mid after s.dies) [
+  tried false same apart = elim (death_of (LosesDevice g mid dev new) mid after s.dies) [
     | inl e ↦ absurd (apart refl (ap live_count e))
     | inr death ↦ broken death
   ]

@@ -13,10 +13,10 @@ use Rattle.raid_recon.specs.declared.kind.Sweep.{Sweep}
 use Rattle.raid_recon.specs.declared.kind.Sweep.TheVariants as sweep
 use Rattle.raid_recon.specs.Array.{states_of, IsArray}
 use Rattle.raid_recon.specs.Ends.{MayRewrite, ChecksHold, IsCounted}
-use Rattle.top_close.specs.Settled.{IsLiveOn}
+use Rattle.top_close.specs.Settled.{IsLiveOn, LosesDevice}
 use Rattle.top_rounds.specs.Calls.{IsLabelWrite}
 use Rattle.top_rounds.specs.Labels.{seats_of, with_round}
-use Rattle.top_rounds.specs.Passes.{CanBeLabelled, HoldsLabel, IsFirstInUse, LosesDevice}
+use Rattle.top_rounds.specs.Passes.{CanBeLabelled, HoldsLabel, IsFirstInUse}
 use Rattle.top_rounds.specs.Rounds.{AreRounds, HaveFailed, IsInUse, IsUncalled, live_count}
 use Rattle.top_rounds.specs.Settable.{IsSettable}
 use Rattle.top_acts.specs.Stages.{NoCalls, StagesOn}

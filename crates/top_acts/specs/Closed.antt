@@ -7,9 +7,9 @@ use Rattle.eng_cols.specs.declared.spot.Loss.{Loss}
 use Rattle.eng_cols.specs.Deaths.{Dies}
 use Rattle.raid_label.specs.declared.label.Label.{Label}
 use Rattle.top_close.specs.Calls.{EndsSettled}
-use Rattle.top_close.specs.Settled.{AreSettled, IsLiveOn, is_live}
+use Rattle.top_close.specs.Settled.{AreSettled, IsLiveOn, is_live, LosesDevice}
 use Rattle.top_rounds.specs.Labels.{seats_of, with_round}
-use Rattle.top_rounds.specs.Passes.{HoldsLabel, IsFirstInUse, LosesDevice}
+use Rattle.top_rounds.specs.Passes.{HoldsLabel, IsFirstInUse}
 use Rattle.top_rounds.specs.Rounds.{HaveFailed, IsInUse, IsUncalled, clean_in_end, live_count}
 use Rattle.top_acts.specs.Begun.{HasSeats}
 use Rattle.top_acts.specs.Stages.{ClosesOn, InTurnOn}

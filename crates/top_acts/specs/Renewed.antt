@@ -12,10 +12,10 @@ use Rattle.raid_recon.specs.declared.kind.Sweep.TheVariants as sweep
 use Rattle.raid_recon.specs.Array.{states_of}
 use Rattle.top_close.specs.Calls.{EndsSettled, IsSettle}
 use Rattle.top_close.specs.Ended.{IsLossBy}
-use Rattle.top_close.specs.Settled.{AreSettled, IsLiveOn}
+use Rattle.top_close.specs.Settled.{AreSettled, IsLiveOn, LosesDevice}
 use Rattle.top_rounds.specs.Calls.{IsLabelWrite}
 use Rattle.top_rounds.specs.Labels.{seats_of, with_round}
-use Rattle.top_rounds.specs.Passes.{HoldsLabel, LosesDevice}
+use Rattle.top_rounds.specs.Passes.{HoldsLabel}
 use Rattle.top_rounds.specs.Rounds.{clean_in_end}
 use Rattle.top_acts.specs.declared.done.Done.{Done}
 use Rattle.top_acts.specs.declared.done.Done.TheVariants as done

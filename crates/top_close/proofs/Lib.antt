@@ -3,3 +3,4 @@ mod SettledLaws
 pub mod Counts
 pub mod DyingLaws
 pub mod ClosingLaws
+pub mod LackingLaws

@@ -14,7 +14,7 @@ use Rattle.eng_cols.specs.declared.column.Column.TheVariants as column
 use Rattle.eng_cols.specs.Deaths.{Dies}
 use Rattle.eng_cols.proofs.DeathLaws.{dies-refl, dies-more, dies-then, dies-set}
 use Rattle.top_close.specs.Calls.{IsSettle, SettlesOn, EndsSettled}
-use Rattle.top_close.specs.Settled.{IsLiveOn, is_live, HaveDevices, FailsToSettle, SettlesColumn, AreSettled}
+use Rattle.top_close.specs.Settled.{IsLiveOn, is_live, HaveDevices, LosesDevice, SettlesColumn, AreSettled}
 
 -- ## Calls
 
@@ -82,7 +82,7 @@ module _ {D : Type 0} (g : Ghosts D) where
   pub settled-none : (columns : List Column) (ds : List (Option D)) → AreSettled g 0 columns columns ds ds
   settled-none columns ds = record {
     frame = changes-refl g (λ _ _. ⊥) ds;
-    dies = dies-refl (FailsToSettle g columns ds ds) columns;
+    dies = dies-refl (LosesDevice g columns ds ds) columns;
     once = λ c d below. absurd (omega (arith, below));
     others = λ d none. refl;
     left = λ c h. refl;
@@ -118,16 +118,16 @@ module _ {D : Type 0} (g : Ghosts D) where
     fresh : device_at dev d ≡ device_at old d
     fresh = was.others d (λ c below other. omega (arith, below, have.apart c n d other live))
 
-    fails : step.good ≡ false → FailsToSettle g columns old new n
+    fails : step.good ≡ false → LosesDevice g columns old new n
     unfolding d
     fails bad = record { device = d; had = live; rose = rises-wider g (λ _ _. ⊥) (λ _ _. ⊥) old dev new new d was.frame (step.settling.cause bad) (changes-refl g (λ _ _. ⊥) new) }
 
-    dies : Dies (FailsToSettle g columns old new) columns after
+    dies : Dies (LosesDevice g columns old new) columns after
     dies =
-        dies-then (FailsToSettle g columns old new) columns mid after
-        (dies-more (FailsToSettle g columns old dev) (FailsToSettle g columns old new) columns mid
+        dies-then (LosesDevice g columns old new) columns mid after
+        (dies-more (LosesDevice g columns old dev) (LosesDevice g columns old new) columns mid
         (λ c f. record { device = f.device; had = f.had; rose = rises-wider g (λ _ _. ⊥) (λ _ _. ⊥) old old dev new f.device (changes-refl g (λ _ _. ⊥) old) f.rose step.settling.frame }) was.dies)
-        (subst (Dies (FailsToSettle g columns old new) mid) (sym step.after_is) (if_dies (FailsToSettle g columns old new) mid n step.device step.good step.live fails))
+        (subst (Dies (LosesDevice g columns old new) mid) (sym step.after_is) (if_dies (LosesDevice g columns old new) mid n step.device step.good step.live fails))
 
     here : (k : ℕ) → IsLiveOn columns n k → Tells (calls_of g old k) (calls_of g new k) (call_of 2 0 0 (is_live (slice_get after n)))
     unfolding d device_in

@@ -3,3 +3,4 @@ pub mod Settled
 pub mod Ended
 pub mod Dying
 pub mod Closes
+pub mod Losses

@@ -27,7 +27,7 @@ pub record HaveDevices {D : Type 0} (columns : List Column) (devices : List (Opt
 
 module _ {D : Type 0} (g : Ghosts D) where
   -- the column was live on a device whose count of faults rose
-  pub record FailsToSettle (columns : List Column) (old new : List (Option D)) (c : ℕ) : Type 0 where
+  pub record LosesDevice (columns : List Column) (old new : List (Option D)) (c : ℕ) : Type 0 where
     pub device : ℕ
     pub had : IsLiveOn columns c device
     pub rose : RisesOn g old new device
@@ -50,7 +50,7 @@ module _ {D : Type 0} (g : Ghosts D) where
   -- The first n columns were settled. No sector has changed; a column has died where its device failed, and no other died; the device of each live one of the first n had one call more, to settle, and the column is live still exactly where that went well; no other device was called.
   pub record AreSettled (n : ℕ) (columns after : List Column) (old new : List (Option D)) : Type 0 where
     pub frame : Changes g (λ _ _. ⊥) old new
-    pub dies : Dies (FailsToSettle columns old new) columns after
+    pub dies : Dies (LosesDevice columns old new) columns after
     pub once : (c d : ℕ) → c < n → IsLiveOn columns c d → Tells (calls_of g old d) (calls_of g new d) (call_of 2 0 0 (is_live (slice_get after c)))
     pub others : (d : ℕ) → ((c : ℕ) → c < n → IsLiveOn columns c d → ⊥) → device_at new d ≡ device_at old d
     pub left : (c : ℕ) → n ≤ c → slice_get after c ≡ slice_get columns c

@@ -4,7 +4,7 @@ ghost use Rattle.blk_disk.specs.Devices.{Changes, calls_of};
 ghost use Rattle.eng_cols.specs.Cols.{IsFor, IsKept, is_set_filling, is_set_spread};
 ghost use Rattle.eng_cols.specs.Deaths.{Dies};
 ghost use Rattle.top_close.specs.Calls.{EndsSettled, SettlesOn};
-ghost use Rattle.top_close.specs.Settled.{IsLiveOn, HaveDevices, FailsToSettle, AreSettled};
+ghost use Rattle.top_close.specs.Settled.{IsLiveOn, HaveDevices, LosesDevice, AreSettled};
 ghost use Rattle.top_close.specs.Ended.{states_of, IsLossBy};
 
 use crate::settle::settle_all;

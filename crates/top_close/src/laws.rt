@@ -1,17 +1,20 @@
 //! What the end of a run leaves of the array's contents. These functions do nothing: what they
 //! ensure is so of every layout and all columns.
-ghost use Rattle.std.specs.Prelude.{◌≡◌, ◌≤◌, ℕ, List, Some, map, true, count_by, slice_get};
-ghost use Rattle.lay_core.specs.Layout.{Shape, Blocks};
+ghost use Rattle.std.specs.Prelude.{◌≡◌, ◌≤◌, ℕ, List, length, Some, map, true, count_by, slice_get};
+ghost use Rattle.lay_core.specs.Layout.{Shape, IsLayout, Blocks};
 ghost use Rattle.eng_cols.specs.declared.column.Column.{Column};
 ghost use Rattle.eng_cols.specs.declared.column.Column.TheVariants as column;
-ghost use Rattle.eng_cols.specs.Cols.{ColumnState, Dead, column_of, is_set_filling, is_set_spread};
+ghost use Rattle.eng_cols.specs.declared.spot.Loss.{Loss};
+ghost use Rattle.eng_cols.specs.Cols.{ColumnState, Dead, InOrder, column_of, is_set_filling, is_set_spread};
+ghost use Rattle.eng_cols.specs.Laws.{HaveSpares};
 ghost use Rattle.eng_cols.specs.Seats.{is_available, seat};
-ghost use Rattle.eng_cols.specs.Lost.{NotLost};
+ghost use Rattle.eng_cols.specs.Lost.{IsLost, NotLost};
 ghost use Rattle.eng_cols.specs.Contents.{Contents, Agrees, AnyStripe};
 ghost use Rattle.eng_cols.specs.Deaths.{Dies};
 ghost use Rattle.top_close.specs.Closes.{ClosesAs};
 ghost use Rattle.top_close.specs.Dying.{AnyCause, OnlyDie, HoldSame};
 ghost use Rattle.top_close.specs.Ended.{states_of};
+ghost use Rattle.top_close.specs.Losses.{LossLacksUnits};
 
 /// Columns that die, however many at once, bring no unit back and move none; so what agreed before
 /// still agrees, and an array that isn't lost after their deaths wasn't lost before. Nor do they
@@ -56,4 +59,13 @@ pub fn columns_close_without_harm()
         count_by is_set_filling (map column_of cols) ≡ 0 →
         count_by is_set_spread (map column_of cols) ≡ 0 →
         ClosesAs y cols (map column_of cols) }
+{}
+
+/// On each of the two columns of a loss the lost stripe lacks a unit: the column is dead, or it is
+/// filling and that stripe is left, or it is spread, and the stripe is left there or the column of
+/// its spare place is one of the first two.
+pub fn both_columns_of_a_loss_lack_a_unit()
+    ensures { (y : Shape) (cols : List ColumnState) (loss : Loss) → IsLayout y →
+        length cols ≡ y.columns → InOrder cols → HaveSpares y cols →
+        IsLost y cols loss → LossLacksUnits y cols loss }
 {}

@@ -11,5 +11,6 @@ mod settle;
 
 pub use ending::{Ending, end_unlabelled};
 pub use laws::{
-    agreement_goes_by_the_devices_in_use, columns_close_without_harm, deaths_bring_no_unit_back,
+    agreement_goes_by_the_devices_in_use, both_columns_of_a_loss_lack_a_unit,
+    columns_close_without_harm, deaths_bring_no_unit_back,
 };

@@ -10,7 +10,8 @@ use Rattle.eng_cols.specs.Cols.{ColumnState, Dead, is_spread, passes}
 use Rattle.eng_cols.specs.Seats.{is_place_on, is_unit_of}
 use Rattle.eng_cols.proofs.Lists.{get_set_other}
 use Rattle.raid_recon.specs.Counts.{any_below, count_below, is_stripe_of}
-use Rattle.top_duty.specs.Duty.{rebuilds_by, states_of, with_dead}
+use Rattle.top_duty.specs.Duty.{rebuilds_by, with_dead}
+use Rattle.top_close.specs.Ended.{states_of}
 use Rattle.top_duty.proofs.Losing.{set_dead}
 
 -- no unit more or less is that of a column, whatever the column itself is

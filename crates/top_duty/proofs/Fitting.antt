@@ -26,7 +26,7 @@ use Rattle.top_open.proofs.OwnDevices.{own_devices}
 use Rattle.top_rounds.specs.Labels.{IsNumbered}
 use Rattle.top_duty.specs.declared.duty.Duty as declared_duty
 use Rattle.top_duty.specs.declared.duty.Duty.TheVariants as duty
-use Rattle.top_duty.specs.Duty.{states_of}
+use Rattle.top_close.specs.Ended.{states_of}
 use Rattle.top_duty.specs.Fit.{IsFit}
 use Rattle.top_duty.specs.Opening.{as_opened, needs_of, opened_by, plan_of, present_of, sizes_of}
 use Rattle.top_duty.specs.Views.{IsDutyOver, IsFitFor, IsReady, views_of}

@@ -27,7 +27,8 @@ use Rattle.top_open.specs.Plan.{sectors_for}
 use Rattle.top_open.specs.Seats.{is_unread}
 use Rattle.raid_label.specs.declared.label.Label.{Label}
 use Rattle.top_words.specs.Asked.{Action, Io, Sweep, Show, Init, Check, Rewrite, Print, Fail, ShowLabel, Label as Labels, Rebuild}
-use Rattle.top_duty.specs.Duty.{rebuilds_by, states_of, with_dead}
+use Rattle.top_duty.specs.Duty.{rebuilds_by, with_dead}
+use Rattle.top_close.specs.Ended.{states_of}
 use Rattle.top_duty.specs.Fit.{HaveSparePlaces, IsStart, IsTarget, MayGo, IsStartIf}
 use Rattle.top_duty.specs.Opening.{as_opened, needs_for, needs_of, opened_by, plan_of, present_of, sizes_of}
 use Rattle.top_duty.specs.Start.{first_of, free_spare, has_places, is_free, is_on, onto_spare, rebuild_if, rebuild_of, start_by, start_in}

@@ -7,7 +7,7 @@ use Rattle.eng_cols.specs.Lost.{NotLost}
 use Rattle.top_bay.specs.Asked.{Asked}
 use Rattle.top_status.specs.declared.status.Status.{Status}
 use Rattle.top_status.specs.declared.status.Status.TheVariants as status
-use Rattle.top_duty.specs.Duty.{states_of}
+use Rattle.top_close.specs.Ended.{states_of}
 use Rattle.top_duty.specs.Views.{RefusedIf, RefusedUnlost}
 
 module _ (y : Shape) (k : Asked) (columns : List Column) (count : ℕ) (start : Option Start) (kept : NotLost y (states_of y columns)) where

@@ -25,7 +25,8 @@ use Rattle.top_duty.specs.declared.duty.Duty as declared_duty
 use Rattle.top_duty.specs.declared.duty.Duty.TheVariants as duty
 use Rattle.top_words.specs.declared.profile.Kind.{Kind}
 use Rattle.top_words.specs.declared.profile.Kind.TheVariants as kind
-use Rattle.top_duty.specs.Duty.{Admitted, ComesOfJoins, Duty, OnArray, Shows, OneLabel, PrintConf, IsWanted, LossIs, WantsMemory, admitted_with, beside_dead, clients_by, columns_of, duty_by, duty_for, is_past, is_past_bound, is_short, judged_states, layout_of, lost_by, rebuilds_by, rebuilds_of, traces, with_dead}
+use Rattle.top_close.specs.Ended.{IsLossBy}
+use Rattle.top_duty.specs.Duty.{Admitted, ComesOfJoins, Duty, OnArray, Shows, OneLabel, PrintConf, IsWanted, WantsMemory, admitted_with, beside_dead, clients_by, columns_of, duty_by, duty_for, is_past, is_past_bound, is_short, judged_states, layout_of, lost_by, rebuilds_by, rebuilds_of, traces, with_dead}
 use Rattle.top_duty.specs.Opening.{kind_of, needs_of, opened_by, status_of}
 use Rattle.top_duty.specs.Start.{start_in}
 use Rattle.top_duty.specs.Views.{ComesOver, GoesIf, IsDutyOver, IsReady, MayBeDone, RefusedAfter, RefusedHere, RefusedIf, RefusedScript, dead_beside, duty_seen, graphs_with, views_of}
@@ -45,20 +46,20 @@ wanted_err w r e = record {
 }
 
 -- an array is refused for a loss, for want of a spare, for graphs that can't be joined, or for its trace, or isn't
-pub wanted_lost : (w : Result Duty Refused) (a : Admitted) (loss : Loss) → w ≡ Ok (OnArray a) → LossIs (layout_of a) (judged_states a) (Some loss) → IsWanted w (Err (lost_by a loss))
+pub wanted_lost : (w : Result Duty Refused) (a : Admitted) (loss : Loss) → w ≡ Ok (OnArray a) → IsLossBy (layout_of a) None (judged_states a) (Some loss) → IsWanted w (Err (lost_by a loss))
 wanted_lost w a loss e h = record {
   loss = Some loss;
   joined = Ok [];
-  is_loss = λ b here. subst (λ (x : Admitted). LossIs (layout_of x) (judged_states x) (Some loss)) (ok_same w a b e here) h;
+  is_loss = λ b here. subst (λ (x : Admitted). IsLossBy (layout_of x) None (judged_states x) (Some loss)) (ok_same w a b e here) h;
   is_joined = λ b here none short. absurd (cc none);
   is = rw e refl;
 }
 
-pub wanted_short : (w : Result Duty Refused) (a : Admitted) → w ≡ Ok (OnArray a) → LossIs (layout_of a) (judged_states a) None → is_short a ≡ true → IsWanted w (Err (only status.NoSpare))
+pub wanted_short : (w : Result Duty Refused) (a : Admitted) → w ≡ Ok (OnArray a) → IsLossBy (layout_of a) None (judged_states a) None → is_short a ≡ true → IsWanted w (Err (only status.NoSpare))
 wanted_short w a e h short = record {
   loss = None;
   joined = Ok [];
-  is_loss = λ b here. subst (λ (x : Admitted). LossIs (layout_of x) (judged_states x) None) (ok_same w a b e here) h;
+  is_loss = λ b here. subst (λ (x : Admitted). IsLossBy (layout_of x) None (judged_states x) None) (ok_same w a b e here) h;
   is_joined = λ b here none found.
       (let other : is_short b ≡ true = subst (λ (x : Admitted). is_short x ≡ true) (ok_same w a b e here) short in
       let no : true ≡ false = sym other ∙ found in
@@ -66,12 +67,12 @@ wanted_short w a e h short = record {
   is = rw (e, short) refl;
 }
 
-module _ (w : Result Duty Refused) (a : Admitted) (e : w ≡ Ok (OnArray a)) (h : LossIs (layout_of a) (judged_states a) None) (found : is_short a ≡ false) where
+module _ (w : Result Duty Refused) (a : Admitted) (e : w ≡ Ok (OnArray a)) (h : IsLossBy (layout_of a) None (judged_states a) None) (found : is_short a ≡ false) where
   pub wanted_apart : (at : At) → ComesOfJoins a (Err at) → IsWanted w (Err (beside_dead a (status.Script at.line at.code)))
   wanted_apart at joins = record {
     loss = None;
     joined = Err at;
-    is_loss = λ b here. subst (λ (x : Admitted). LossIs (layout_of x) (judged_states x) None) (ok_same w a b e here) h;
+    is_loss = λ b here. subst (λ (x : Admitted). IsLossBy (layout_of x) None (judged_states x) None) (ok_same w a b e here) h;
     is_joined = λ b here none short. subst (λ (x : Admitted). ComesOfJoins x (Err at)) (ok_same w a b e here) joins;
     is = rw (e, found) refl;
   }
@@ -80,7 +81,7 @@ module _ (w : Result Duty Refused) (a : Admitted) (e : w ≡ Ok (OnArray a)) (h 
   wanted_past views joins past = record {
     loss = None;
     joined = Ok views;
-    is_loss = λ b here. subst (λ (x : Admitted). LossIs (layout_of x) (judged_states x) None) (ok_same w a b e here) h;
+    is_loss = λ b here. subst (λ (x : Admitted). IsLossBy (layout_of x) None (judged_states x) None) (ok_same w a b e here) h;
     is_joined = λ b here none short. subst (λ (x : Admitted). ComesOfJoins x (Ok views)) (ok_same w a b e here) joins;
     is = rw (e, found, past) refl;
   }
@@ -89,7 +90,7 @@ module _ (w : Result Duty Refused) (a : Admitted) (e : w ≡ Ok (OnArray a)) (h 
   wanted_ok views joins past = record {
     loss = None;
     joined = Ok views;
-    is_loss = λ b here. subst (λ (x : Admitted). LossIs (layout_of x) (judged_states x) None) (ok_same w a b e here) h;
+    is_loss = λ b here. subst (λ (x : Admitted). IsLossBy (layout_of x) None (judged_states x) None) (ok_same w a b e here) h;
     is_joined = λ b here none short. subst (λ (x : Admitted). ComesOfJoins x (Ok views)) (ok_same w a b e here) joins;
     is = rw (e, found, past) refl;
   }

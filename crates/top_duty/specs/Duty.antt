@@ -11,7 +11,6 @@ use Rattle.eng_cols.specs.declared.column.Column.{Column}
 use Rattle.eng_cols.specs.declared.column.Column.TheVariants as column
 use Rattle.eng_cols.specs.declared.spot.Loss.{Loss}
 use Rattle.eng_cols.specs.Cols.{ColumnState, state_set}
-use Rattle.eng_cols.specs.Lost.{IsLost, NotLost}
 use Rattle.raid_conf.specs.Layouts.{shape_of}
 use Rattle.raid_recon.specs.Counts.{count_below, is_stripe_of}
 use Rattle.raid_script.specs.Asked.{Asked as Item}
@@ -20,6 +19,7 @@ use Rattle.top_fetch.specs.Told.{Told}
 use Rattle.top_bay.specs.Asked.{Asked, asked_in, names_for, names_of}
 use Rattle.top_bound.specs.Bound.{rebuilds_sum, trace_sum}
 use Rattle.top_join.specs.Joining.{AreJoined}
+use Rattle.top_close.specs.Ended.{IsLossBy, states_of}
 use Rattle.top_open.specs.declared.fronts.Front.{Front}
 use Rattle.top_open.specs.Opening.{Opened}
 use Rattle.top_status.specs.declared.status.Status.{Status}
@@ -63,10 +63,6 @@ layout_of a = shape_of a.asked.conf a.opened.rows
 
 abbrev pub columns_of : Admitted → List Column
 columns_of a = a.opened.columns
-
--- the columns as they are set: each stripe of a spread one is done
-abbrev pub states_of : Shape → List Column → List ColumnState
-states_of y columns = map (state_set y.stripes) columns
 
 abbrev pub states_in : Admitted → List ColumnState
 states_in a = states_of (layout_of a) (columns_of a)
@@ -120,11 +116,6 @@ duty_in size b command fronts =
     asked_in b command then λ k. duty_by k (sizes_in size b.home (names_for k)) fronts
 
 -- ## What is refused though it is admitted
-
--- what the columns are lost by, if they are
-abbrev pub LossIs : Shape → List ColumnState → Option Loss → Type 0
-LossIs y cols None = NotLost y cols
-LossIs y cols (Some loss) = IsLost y cols loss
 
 -- a refusal that prints the columns that are dead as the array is opened
 abbrev pub beside_dead : Admitted → Status → Refused
@@ -206,7 +197,7 @@ judged (PrintConf k) loss joined = Ok (PrintConf k)
 pub record IsWanted (duty wanted : Result Duty Refused) : Type 0 where
   pub loss : Option Loss
   pub joined : Result (List View) At
-  pub is_loss : (a : Admitted) → duty ≡ Ok (OnArray a) → LossIs (layout_of a) (judged_states a) loss
+  pub is_loss : (a : Admitted) → duty ≡ Ok (OnArray a) → IsLossBy (layout_of a) None (judged_states a) loss
   pub is_joined : (a : Admitted) → duty ≡ Ok (OnArray a) → loss ≡ None → is_short a ≡ false → ComesOfJoins a joined
   pub is : wanted ≡ (duty then λ d. judged d loss joined)
 

@@ -16,7 +16,8 @@ use Rattle.top_bay.specs.Asked.{Asked}
 use Rattle.top_close.specs.Settled.{IsLiveOn}
 use Rattle.top_open.specs.Opening.{Opened}
 use Rattle.top_rounds.specs.Labels.{IsNumbered}
-use Rattle.top_duty.specs.Duty.{rebuilds_by, states_of, with_dead}
+use Rattle.top_duty.specs.Duty.{rebuilds_by, with_dead}
+use Rattle.top_close.specs.Ended.{states_of}
 use Rattle.top_duty.specs.Opening.{AreTableRows, needs_of}
 
 -- There is one column for each of the configuration; none is filling, and at most one is spread, where each stripe has a spare place. Each device of a column is that of no other; it is a column's disk or a spare; it has a sector, and room for the rows. The rows are those of whole tables. The newest label is one that a sector may hold, and its counter has room where labels are to be written.

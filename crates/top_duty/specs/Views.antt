@@ -30,7 +30,8 @@ use Rattle.top_words.specs.declared.profile.Kind.TheVariants as kind
 use Rattle.top_duty.specs.declared.duty.Duty as declared_duty
 use Rattle.top_duty.specs.declared.duty.Duty.TheVariants as duty
 use Rattle.top_duty.specs.declared.duty.Ready as declared_ready
-use Rattle.top_duty.specs.Duty.{Admitted, Duty, OnArray, Shows, OneLabel, PrintConf, IsWanted, WantsMemory, ComesOfJoins, admitted_with, drawn_or, is_past, is_past_bound, is_short, judged_states, layout_of, states_of, with_dead}
+use Rattle.top_duty.specs.Duty.{Admitted, Duty, OnArray, Shows, OneLabel, PrintConf, IsWanted, WantsMemory, ComesOfJoins, admitted_with, drawn_or, is_past, is_past_bound, is_short, judged_states, layout_of, with_dead}
+use Rattle.top_close.specs.Ended.{states_of}
 use Rattle.top_duty.specs.Fit.{IsFit, IsStartIf}
 use Rattle.top_duty.specs.Opening.{AreTableRows, kind_of, opened_by, status_of}
 use Rattle.top_duty.specs.Start.{has_failed, rebuilds, start_in}

@@ -21,7 +21,7 @@ use Rattle.top_serve.proofs.Deaths.{later}
 use Rattle.top_run.specs.Work.{Service, Work}
 use Rattle.top_run.specs.Works.{work_of}
 use Rattle.top_run.specs.Ends.{EndsSo}
-use Rattle.top_run.specs.Ran.{Runs}
+use Rattle.top_run.specs.Ran.{Ran}
 use Rattle.top_run.proofs.All.{runs, runs-kept, runs-now}
 use Rattle.top_labelled.specs.Begun.{BeginsLabelled, began_of, opened_as, without}
 use Rattle.top_labelled.specs.Between.{HasEnded}
@@ -48,15 +48,15 @@ module _ {L D : Type 0} (lay : LayoutGhosts L) (disk : DiskGhosts D) (old : Setu
 
   -- a run over these columns, with its last world, and the columns as its core is closed
   abbrev RunOver : List Column → Type 0
-  RunOver cs = (run : Runs disk (opened_as a cs began) devices.items v back) × (run.now ≡ s.now) × (run.ends.kept ≡ closed.columns.items)
+  RunOver cs = (run : Ran disk (opened_as a cs began) devices.items v back) × (run.now ≡ s.now) × (run.ends.kept ≡ closed.columns.items)
 
-  abbrev by-columns : Runs disk (opened_as a columns.items began) devices.items v back
+  abbrev by-columns : Ran disk (opened_as a columns.items began) devices.items v back
   by-columns = runs lay disk (later old devices columns) began closed given few s v back so
 
   run-over : RunOver (without asked begun)
   run-over = subst RunOver named (by-columns, runs-now lay disk (later old devices columns) began closed given few s v back so, runs-kept lay disk (later old devices columns) began closed given few s v back so)
 
-  abbrev run : Runs disk (opened_as a (without asked begun) began) devices.items v back
+  abbrev run : Ran disk (opened_as a (without asked begun) began) devices.items v back
   run = run-over.0
 
   -- the run changes no first sector

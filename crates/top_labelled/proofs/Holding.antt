@@ -21,7 +21,7 @@ use Rattle.top_acts.specs.Begun.{HasBegun, sweep_if}
 use Rattle.top_acts.proofs.Backs.{died}
 use Rattle.top_close.specs.Dying.{OnlyDie}
 use Rattle.top_close.proofs.DyingLaws.{columns_die, still_agrees}
-use Rattle.top_rounds.specs.Passes.{LosesDevice}
+use Rattle.top_close.specs.Settled.{LosesDevice}
 use Rattle.top_run.specs.Work.{Work}
 use Rattle.top_run.specs.Ran.{Opens, states_in}
 use Rattle.top_run.proofs.InTurnSame.{decode-same}

@@ -16,9 +16,9 @@ use Rattle.raid_label.specs.declared.label.Label.{Label}
 use Rattle.raid_recon.specs.declared.kind.Sweep.{Sweep}
 use Rattle.top_acts.specs.Begun.{MayBegin, MaySweep}
 use Rattle.top_acts.specs.Closed.{ClosesLabelled}
-use Rattle.top_close.specs.Settled.{IsLiveOn}
+use Rattle.top_close.specs.Settled.{IsLiveOn, LosesDevice}
 use Rattle.top_rounds.specs.Labels.{for_column, with_round}
-use Rattle.top_rounds.specs.Passes.{IsFirstInUse, LosesDevice}
+use Rattle.top_rounds.specs.Passes.{IsFirstInUse}
 use Rattle.top_rounds.specs.Rounds.{HaveFailed, IsInUse, clean_in_end}
 use Rattle.top_run.specs.Work.{Service, Work}
 use Rattle.top_labelled.specs.Begun.{BeginsLabelled, sweep_in}

@@ -37,9 +37,9 @@ use Rattle.top_acts.specs.Closed.{settled_in_end}
 use Rattle.top_acts.specs.Stages.{EndInTurn, InTurnOn, SettlesFirstOn}
 use Rattle.top_acts.proofs.Staged.{settles-first}
 use Rattle.top_close.specs.Dying.{AnyCause, OnlyDie}
-use Rattle.top_close.specs.Settled.{IsLiveOn, FailsToSettle, is_live}
+use Rattle.top_close.specs.Settled.{IsLiveOn, LosesDevice, is_live}
 use Rattle.top_close.proofs.DyingLaws.{columns_die}
-use Rattle.top_rounds.specs.Passes.{IsFirstInUse, LosesDevice}
+use Rattle.top_rounds.specs.Passes.{IsFirstInUse}
 use Rattle.top_rounds.specs.Rounds.{IsInUse}
 use Rattle.top_rounds.proofs.PassLaws.{set_here}
 use Rattle.top_serve.specs.Served as served
@@ -48,14 +48,15 @@ use Rattle.top_serve.proofs.Deaths.{later}
 use Rattle.top_run.specs.Work.{Service, Work}
 use Rattle.top_run.specs.Works.{work_of}
 use Rattle.top_run.specs.Ends.{EndsSo}
-use Rattle.top_run.specs.Ran.{RisesAt, Runs, WasFailed}
+use Rattle.top_run.specs.Ran.{RisesAt, Ran, WasFailed}
 use Rattle.top_run.specs.declared.service.Line.{Line}
 use Rattle.top_run.proofs.Columns.{live-before, live-set}
 use Rattle.top_run.proofs.AtEnd.{live-in-end, same-contents}
 use Rattle.top_labelled.specs.Begun.{BeginsLabelled, IsColumnWithin, began_of, opened_as, sweep_in, without}
 use Rattle.top_labelled.specs.Between.{HasEnded}
 use Rattle.top_labelled.specs.Given.{RebuildsIf}
-use Rattle.top_labelled.specs.Ran.{IsToldUnbuilt, LeavesLabelled, MayChangeLabelled, done_on, line_of}
+use Rattle.top_run.specs.Told.{IsToldUnbuilt}
+use Rattle.top_labelled.specs.Ran.{LeavesLabelled, MayChangeLabelled, done_on, line_of}
 use Rattle.top_labelled.proofs.Rebuilt.{length-rebuilt, live-rebuilt}
 use Rattle.top_labelled.proofs.Restart.{rebuilds-within, target-alone}
 use Rattle.top_labelled.proofs.Without.{IsOf, began-asked, began-is, not-some, of-or-not, some-same, still-lives, without-dead, without-dies, without-other}
@@ -92,7 +93,7 @@ ends-so lay disk closed label asked v back e = record {
   told = e.told;
   frame = changes-more disk (IsFirstInUse closed.columns.items) (λ d n. n ≡ 0) closed.devices.items back (λ d n first. first.first) e.closes.counted.frame;
   dies =
-      dies-more (LosesDevice disk closed.columns.items closed.devices.items back) (FailsToSettle disk closed.columns.items closed.devices.items back) closed.columns.items v.ending.columns
+      dies-more (LosesDevice disk closed.columns.items closed.devices.items back) (LosesDevice disk closed.columns.items closed.devices.items back) closed.columns.items v.ending.columns
       (λ c why. record { device = why.device; had = why.had; rose = why.rose }) e.closes.counted.dies;
   lost = e.lost;
 }
@@ -352,9 +353,9 @@ module _ {L D : Type 0} (lay : LayoutGhosts L) (disk : DiskGhosts D) (old : Setu
   within-new : IsColumnWithin asked (length columns.items)
   within-new = subst (λ n. IsColumnWithin asked n) (sym died.count) within-old
 
-  module _ (run : Runs disk (opened_as a mid began) opened v back) (kept-is : run.ends.kept ≡ closed.columns.items) where
+  module _ (run : Ran disk (opened_as a mid began) opened v back) (kept-is : run.ends.kept ≡ closed.columns.items) where
     abbrev Why : ℕ → Type 0
-    Why c = WasFailed run.now c ⊎ (RisesAt disk a taken v back c ⊎ IsToldUnbuilt disk a newest taken v back c)
+    Why c = WasFailed run.now c ⊎ (RisesAt disk a taken v back c ⊎ IsToldUnbuilt v c)
 
     abbrev Ends : ℕ → Type 0
     Ends c = (slice_get v.ending.columns c ≡ slice_get (with_rebuilt asked old.columns.items) c) ⊎ ((slice_get v.ending.columns c ≡ Some column.Dead) × Why c)
@@ -399,7 +400,7 @@ module _ {L D : Type 0} (lay : LayoutGhosts L) (disk : DiskGhosts D) (old : Setu
       mid-has : k < length mid
       mid-has = subst (λ (cs : List Column). k < length cs) named new-has
 
-      unbuilt : slice_get closed.columns.items k ≡ Some column.Dead → IsToldUnbuilt disk a newest taken v back k
+      unbuilt : slice_get closed.columns.items k ≡ Some column.Dead → IsToldUnbuilt v k
       unbuilt dead = let l = line-dead (lay.shape closed.layout) asked t closed.columns.items is dead in (l.0, e.line ∙ l.1, l.2, l.3)
 
       ends-dead : slice_get closed.columns.items k ≡ Some column.Dead → slice_get v.ending.columns k ≡ Some column.Dead

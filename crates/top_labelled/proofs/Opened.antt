@@ -16,7 +16,8 @@ use Rattle.top_acts.specs.Failed.{EndsFailed, StaysBegun}
 use Rattle.top_acts.proofs.Counted.{counted_rounds}
 use Rattle.top_close.specs.Dying.{AnyCause}
 use Rattle.top_close.specs.Ended.{IsLossBy, states_of}
-use Rattle.top_rounds.specs.Passes.{IsFirstInUse, LosesDevice}
+use Rattle.top_rounds.specs.Passes.{IsFirstInUse}
+use Rattle.top_close.specs.Settled.{LosesDevice}
 use Rattle.top_run.specs.Work.{Work}
 use Rattle.top_run.proofs.Columns.{live-before}
 use Rattle.top_labelled.specs.Begun.{IsColumnWithin, sweep_in, without}

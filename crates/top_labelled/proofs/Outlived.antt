@@ -16,7 +16,7 @@ use Rattle.raid_script.specs.Asked.{Asked}
 use Rattle.raid_script.proofs.DrawnShares.{drawn_apart}
 use Rattle.top_acts.specs.Begun.{MayBegin}
 use Rattle.top_close.proofs.DyingLaws.{columns_die}
-use Rattle.top_rounds.specs.Passes.{LosesDevice}
+use Rattle.top_close.specs.Settled.{LosesDevice}
 use Rattle.top_run.specs.Work.{Ending, Service, Work}
 use Rattle.top_run.specs.Outliving.{IsRebuiltIn, MayDie, OutlivesCall}
 use Rattle.top_run.specs.InTurn.{SweptInTurn}

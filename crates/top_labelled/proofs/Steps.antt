@@ -21,7 +21,7 @@ use Rattle.top_acts.specs.Closed.{ClosesLabelled, ClosesSettled}
 use Rattle.top_acts.specs.Failed.{StaysBegun}
 use Rattle.top_close.specs.Dying.{AnyCause}
 use Rattle.top_close.specs.Ended.{states_of, IsLossBy}
-use Rattle.top_rounds.specs.Passes.{LosesDevice}
+use Rattle.top_close.specs.Settled.{LosesDevice}
 use Rattle.top_rounds.proofs.RoundLaws.{can-after}
 use Rattle.eng_array.specs.Fitting.{FitsTrace}
 use Rattle.eng_array.specs.declared.start.Start.{Start}

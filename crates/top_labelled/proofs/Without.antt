@@ -15,8 +15,7 @@ use Rattle.eng_cols.specs.Deaths.{Dies}
 use Rattle.eng_cols.proofs.DeathLaws.{dies-refl}
 use Rattle.eng_cols.proofs.Lists.{get_set_either, get_set_other}
 use Rattle.top_close.specs.Dying.{AnyCause}
-use Rattle.top_close.specs.Settled.{IsLiveOn}
-use Rattle.top_rounds.specs.Passes.{LosesDevice}
+use Rattle.top_close.specs.Settled.{IsLiveOn, LosesDevice}
 use Rattle.top_rounds.proofs.PassLaws.{set_here}
 use Rattle.top_labelled.specs.Begun.{IsColumnWithin, began_of, is_in_place, lives_on, without}
 

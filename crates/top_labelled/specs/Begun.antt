@@ -12,12 +12,11 @@ use Rattle.eng_cols.specs.Seats.{is_available, is_unit_of}
 use Rattle.eng_array.specs.Starts.{column_of}
 use Rattle.eng_array.specs.declared.start.Start.{Start}
 use Rattle.eng_array.specs.declared.start.Start.TheVariants as start
-use Rattle.eng_events.specs.Opened.{states_of}
 use Rattle.raid_label.specs.declared.label.Label.{Label}
 use Rattle.raid_recon.specs.declared.kind.Sweep.{Sweep}
 use Rattle.top_acts.specs.Begun.{HasBegun, sweep_if}
-use Rattle.top_close.specs.Ended.{IsLossBy}
-use Rattle.top_rounds.specs.Passes.{LosesDevice}
+use Rattle.top_close.specs.Ended.{IsLossBy, states_of}
+use Rattle.top_close.specs.Settled.{LosesDevice}
 use Rattle.top_run.specs.Work.{Work}
 use Rattle.top_run.specs.Ran.{WasInSync, states_in}
 

@@ -13,7 +13,7 @@ use Rattle.eng_cols.specs.declared.spot.Loss.{Loss}
 use Rattle.eng_cols.specs.Cols.{HasDevice}
 use Rattle.eng_cols.specs.Deaths.{Dies}
 use Rattle.eng_cols.specs.Lost.{IsLost, NotLost}
-use Rattle.eng_events.specs.Opened.{states_of}
+use Rattle.top_close.specs.Ended.{states_of}
 use Rattle.eng_world.specs.World.{World}
 use Rattle.eng_world.specs.Rows.{IsInRows}
 use Rattle.raid_label.specs.declared.label.Label.{Label}
@@ -24,14 +24,15 @@ use Rattle.top_acts.specs.Closed.{settled_in_end}
 use Rattle.top_acts.specs.Failed.{EndsFailed}
 use Rattle.top_acts.specs.Stages.{EndInTurn}
 use Rattle.top_close.specs.Calls.{EndsSettled}
-use Rattle.top_close.specs.Settled.{IsLiveOn, is_live}
+use Rattle.top_close.specs.Settled.{IsLiveOn, is_live, LosesDevice}
 use Rattle.top_rounds.specs.Labels.{for_column, seats_of, with_round}
-use Rattle.top_rounds.specs.Passes.{HoldsLabel, LosesDevice}
+use Rattle.top_rounds.specs.Passes.{HoldsLabel}
 use Rattle.top_rounds.specs.Rounds.{HaveFailed, clean_in_end}
 use Rattle.top_run.specs.Outliving.{IsRebuiltIn}
 use Rattle.top_run.specs.Work.{Work, Ending, Service}
 use Rattle.top_run.specs.declared.service.Line.{Line}
-use Rattle.top_run.specs.Ran.{RisesAt, Runs, WasFailed, states_in}
+use Rattle.top_run.specs.Told.{IsToldUnbuilt}
+use Rattle.top_run.specs.Ran.{RisesAt, Ran, WasFailed, states_in}
 use Rattle.top_serve.specs.Setups.{with_rebuilt}
 use Rattle.top_labelled.specs.Begun.{BeginsLabelled, HoldsBlocks, began_of, opened_as, sweep_in, without}
 
@@ -95,10 +96,6 @@ module _ {D : Type 0} (g : Ghosts D) (a : Work) (newest : Label) (taken : List (
       pub had : IsLiveOn a.columns col device
       pub rose : RisesOn g taken opened device
 
-    -- it is to be rebuilt, and isn't told to be done
-    abbrev pub IsToldUnbuilt : ℕ → Type 0
-    IsToldUnbuilt c = (line : Line) × (s.line ≡ Some line) × (line.column ≡ c) × (line.done ≡ None)
-
     -- The array was begun, and the column was made dead that is to be rebuilt; it isn't lost. Its rebuild began, unless the device onto which it goes had failed, be it before, where that is `faulty`. A run of what is asked, over the devices and columns as they were then, tells this and leaves the columns so; then the array was closed. No more has changed since the core was opened. In all a column is what it was, or rebuilt as it is asked, or has died since an item was replied ok by which it failed, its device's count of faults rose, or its rebuild wasn't done.
     pub record RanLabelled (faulty : Bool) : Type 0 where
       pub opened : List (Option D)
@@ -110,13 +107,13 @@ module _ {D : Type 0} (g : Ghosts D) (a : Work) (newest : Label) (taken : List (
       pub kept : NotLost a.layout (states_of a.layout (without a.start begun))
       pub began_is : began ≡ began_of faulty a.start a.columns begun
       pub unbegun : began ≡ None → (a.start ≡ None) ⊎ ((faulty ≡ true) ⊎ HasFailedSince opened)
-      pub run : Runs g (opened_as a (without a.start begun) began) opened s back
+      pub run : Ran g (opened_as a (without a.start begun) began) opened s back
       pub line : s.line ≡ line_of a.layout a.start run.ends.kept
       pub holds : HoldsBlocks g a newest taken opened begun run.start.blocks
       pub leaves : LeavesLabelled began run.ends.kept run.now
       pub since : Changes g (MayChangeLabelled began) opened back
       pub labels : IsRelabelled begun run.ends.kept first last
-      pub dies : Dies (λ c. WasFailed run.now c ⊎ (RisesAt g a taken s back c ⊎ IsToldUnbuilt c)) (with_rebuilt a.start a.columns) s.ending.columns
+      pub dies : Dies (λ c. WasFailed run.now c ⊎ (RisesAt g a taken s back c ⊎ IsToldUnbuilt s c)) (with_rebuilt a.start a.columns) s.ending.columns
 
   -- ## No run
 

@@ -13,9 +13,9 @@ use Rattle.eng_cols.specs.declared.column.Column.TheVariants as column
 use Rattle.eng_cols.specs.Deaths.{Dies}
 use Rattle.eng_cols.proofs.DeathLaws.{dies-refl, dies-more, dies-then, dies-set}
 use Rattle.raid_label.specs.declared.label.Label.{Label}
-use Rattle.top_close.specs.Settled.{IsLiveOn, is_live, HaveDevices}
+use Rattle.top_close.specs.Settled.{IsLiveOn, is_live, HaveDevices, LosesDevice}
 use Rattle.top_rounds.specs.Calls.{WritesOn}
-use Rattle.top_rounds.specs.Passes.{AreLabelled, CanBeLabelled, HoldsLabel, IsFirstInUse, IsTry, LabelsColumn, LosesDevice}
+use Rattle.top_rounds.specs.Passes.{AreLabelled, CanBeLabelled, HoldsLabel, IsFirstInUse, IsTry, LabelsColumn}
 use Rattle.top_rounds.proofs.CallLaws.{writes_on-one, writes_on-refl, writes_on-then}
 
 -- ## Lists of columns

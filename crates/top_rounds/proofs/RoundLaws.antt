@@ -21,9 +21,9 @@ use Rattle.raid_label.specs.declared.label.Label.{Label}
 use Rattle.lay_core.specs.Layout.{Shape}
 use Rattle.top_close.specs.Dying.{AnyCause}
 use Rattle.top_close.specs.Ended.{IsLossBy}
-use Rattle.top_close.specs.Settled.{HaveDevices, IsLiveOn, is_live}
+use Rattle.top_close.specs.Settled.{HaveDevices, IsLiveOn, is_live, LosesDevice}
 use Rattle.top_rounds.specs.Labels.{IsNumbered, seats_of, with_round}
-use Rattle.top_rounds.specs.Passes.{AreLabelled, CanBeLabelled, EndsByDeath, EndsPass, IsFirstInUse, LosesDevice}
+use Rattle.top_rounds.specs.Passes.{AreLabelled, CanBeLabelled, EndsByDeath, EndsPass, IsFirstInUse}
 use Rattle.top_rounds.specs.Rounds.{AreRounds, HaveRounds, HaveTried, IsInUse, IsUncalled, clean_in_end, live_count}
 use Rattle.top_rounds.specs.Calls.{WritesOn, WritesTo, WritesUntil}
 use Rattle.top_rounds.specs.Settable.{IsSettable}

@@ -8,7 +8,7 @@ use Rattle.eng_cols.specs.declared.column.Column.TheVariants as column
 use Rattle.eng_cols.specs.Deaths.{Dies}
 use Rattle.raid_label.specs.declared.label.Label.{Label}
 use Rattle.raid_label.specs.Bytes.{bytes_of}
-use Rattle.top_close.specs.Settled.{IsLiveOn, HaveDevices, is_live}
+use Rattle.top_close.specs.Settled.{IsLiveOn, HaveDevices, is_live, LosesDevice}
 use Rattle.top_rounds.specs.Calls.{WritesOn}
 use Rattle.top_rounds.specs.Labels.{IsNumbered, for_column}
 
@@ -30,12 +30,6 @@ module _ {D : Type 0} (g : Ghosts D) where
   abbrev pub HoldsLabel : List (Option D) → Label → ℕ → ℕ → Type 0
   HoldsLabel devices label c d = g.tells → sector_of g devices d 0 ≡ bytes_of (for_column label c)
 
-  -- the column was live on a device whose count of faults rose
-  pub record LosesDevice (columns : List Column) (old new : List (Option D)) (c : ℕ) : Type 0 where
-    pub device : ℕ
-    pub had : IsLiveOn columns c device
-    pub rose : RisesOn g old new device
-
   -- Device d got a label, well or not, and no other was called.
   pub record IsLabelling (d : ℕ) (label : Label) (old new : List (Option D)) (good : Bool) : Type 0 where
     pub frame : Changes g (λ k n. (k ≡ d) × (n ≡ 0)) old new
@@ -54,7 +48,7 @@ module _ {D : Type 0} (g : Ghosts D) where
   -- The first n columns got their labels. No sector has changed but sector 0 of devices in use; a column has died where its device failed, and no other died; the device of each live one of the first n had one call more, to write sector 0, and the column is live still, and the label there, exactly where that went well; no other device was called.
   pub record AreLabelled (n : ℕ) (label : Label) (columns after : List Column) (old new : List (Option D)) : Type 0 where
     pub frame : Changes g (IsFirstInUse columns) old new
-    pub dies : Dies (LosesDevice columns old new) columns after
+    pub dies : Dies (LosesDevice g columns old new) columns after
     pub held : (c d : ℕ) → c < n → IsLiveOn after c d → HoldsLabel new label c d
     pub once : (c d : ℕ) → c < n → IsLiveOn columns c d → Tells (calls_of g old d) (calls_of g new d) (call_of 1 0 512 (is_live (slice_get after c)))
     pub others : (d : ℕ) → ((c : ℕ) → c < n → IsLiveOn columns c d → ⊥) → device_at new d ≡ device_at old d
@@ -65,7 +59,7 @@ module _ {D : Type 0} (g : Ghosts D) where
   pub record EndsByDeath (n : ℕ) (columns after : List Column) (old new : List (Option D)) : Type 0 where
     pub col : ℕ
     pub last : n ≡ col + 1
-    pub loses : LosesDevice columns old new col
+    pub loses : LosesDevice g columns old new col
     pub after_is : after ≡ slice_set columns col column.Dead
 
   -- a pass that is good took all columns, and none died; another ended by the first death

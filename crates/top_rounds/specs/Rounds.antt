@@ -6,10 +6,10 @@ use Rattle.eng_cols.specs.declared.column.Column.{Column}
 use Rattle.eng_cols.specs.declared.spot.Loss.{Loss}
 use Rattle.eng_cols.specs.Deaths.{Dies}
 use Rattle.raid_label.specs.declared.label.Label.{Label}
-use Rattle.top_close.specs.Settled.{IsLiveOn, is_live}
+use Rattle.top_close.specs.Settled.{IsLiveOn, is_live, LosesDevice}
 use Rattle.top_rounds.specs.Calls.{WritesOn, WritesTo, WritesUntil}
 use Rattle.top_rounds.specs.Labels.{seats_of}
-use Rattle.top_rounds.specs.Passes.{HoldsLabel, IsFirstInUse, LosesDevice}
+use Rattle.top_rounds.specs.Passes.{HoldsLabel, IsFirstInUse}
 
 -- how many columns are live
 abbrev pub live_count : List Column → ℕ

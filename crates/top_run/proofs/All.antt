@@ -12,41 +12,16 @@ use Rattle.top_serve.specs.Served as served
 use Rattle.top_run.specs.Work.{Service}
 use Rattle.top_run.specs.Works.{work_of}
 use Rattle.top_run.specs.Ends.{RunIsEnded, EndsSo}
-use Rattle.top_run.specs.Ran.{Rests, Tells, Ran, Runs}
+use Rattle.top_run.specs.Ran.{LeavesSettled, Ran, RanPlain, Rests, Tells}
 use Rattle.top_run.proofs.FromServed.{opens-from, rests-from, tells-from, stands-from}
-use Rattle.top_run.proofs.Finishing.{ends-so, finishes}
+use Rattle.top_run.proofs.Finishing.{ends-so, leaves}
 use Rattle.top_run.proofs.AtEnd.{columns-end, ends-kept}
 use Rattle.top_run.proofs.Meaning.{means}
 use Rattle.top_run.proofs.Causing.{causes}
 
-module _ {L D : Type 0} (lay : LayoutGhosts L) (disk : DiskGhosts D) (setup : Setup L D) (closed : Closed L D) (given : IsSetup lay disk setup) (few : IsFew setup) (s : served.IsServed lay disk setup None closed) (v : Service) (back : List (Option D)) (e : RunIsEnded lay closed disk v back) where
-  abbrev so : EndsSo lay closed disk v back
-  so = ends-so lay closed disk v back e
-
-  pub has-run : Ran disk (work_of lay setup None) setup.devices.items v back
-  has-run = record {
-    graphs = graphs_in setup;
-    start = s.start;
-    events = s.events;
-    now = s.now;
-    opens = opens-from lay disk setup None closed few.clients s v.line v.ending;
-    rests = subst (λ u. Rests disk (work_of lay setup None) setup.devices.items u (graphs_in setup) s.start s.events s.now) (sym so.told) (rests-from lay disk setup None closed few.clients s v.line v.ending);
-    tells = subst (λ u. Tells disk (work_of lay setup None) setup.devices.items u s.events s.now) (sym so.told) (tells-from lay disk setup None closed few.clients s v.line v.ending);
-    means = means lay disk setup None closed given s v back so;
-    ends = finishes lay disk setup closed given s v back e;
-    causes = causes lay disk setup None closed given s v back so;
-    none = (refl, ap (λ (u : Service). u.line) e.told);
-  }
-
-  pub stands : StandFor v.clients v.replies v.sectors
-  stands = subst (λ (u : Service). StandFor u.clients u.replies u.sectors) (sym so.told) (stands-from lay disk setup None closed few.clients s v.line v.ending)
-
-  pub as-many : length back ≡ length setup.devices.items
-  as-many = e.settled.frame.count ∙ s.leaves.frame.count
-
 -- The run of what ended so, whatever its end has called and written into first sectors.
 module _ {L D : Type 0} (lay : LayoutGhosts L) (disk : DiskGhosts D) (setup : Setup L D) (how : Option Start) (closed : Closed L D) (given : IsSetup lay disk setup) (few : IsFew setup) (s : served.IsServed lay disk setup how closed) (v : Service) (back : List (Option D)) (e : EndsSo lay closed disk v back) where
-  pub runs : Runs disk (work_of lay setup how) setup.devices.items v back
+  pub runs : Ran disk (work_of lay setup how) setup.devices.items v back
   runs = record {
     graphs = graphs_in setup;
     start = s.start;
@@ -72,3 +47,27 @@ module _ {L D : Type 0} (lay : LayoutGhosts L) (disk : DiskGhosts D) (setup : Se
 
   pub runs-stand : StandFor v.clients v.replies v.sectors
   runs-stand = subst (λ (u : Service). StandFor u.clients u.replies u.sectors) (sym e.told) (stands-from lay disk setup how closed few.clients s v.line v.ending)
+
+-- ## Of an array without labels
+
+module _ {L D : Type 0} (lay : LayoutGhosts L) (disk : DiskGhosts D) (setup : Setup L D) (closed : Closed L D) (given : IsSetup lay disk setup) (few : IsFew setup) (s : served.IsServed lay disk setup None closed) (v : Service) (back : List (Option D)) (e : RunIsEnded lay closed disk v back) where
+  abbrev so : EndsSo lay closed disk v back
+  so = ends-so lay closed disk v back e
+
+  abbrev run : Ran disk (work_of lay setup None) setup.devices.items v back
+  run = runs lay disk setup None closed given few s v back so
+
+  pub has-run : RanPlain disk (work_of lay setup None) setup.devices.items v back
+  has-run = record {
+    run = run;
+    leaves =
+        subst (λ w. LeavesSettled disk (work_of lay setup None) setup.devices.items v back run.ends.kept w) (sym (runs-now lay disk setup None closed given few s v back so))
+        (subst (λ kept. LeavesSettled disk (work_of lay setup None) setup.devices.items v back kept s.now) (sym (runs-kept lay disk setup None closed given few s v back so)) (leaves lay disk setup closed given s v back e));
+    none = (refl, ap (λ (u : Service). u.line) e.told);
+  }
+
+  pub stands : StandFor v.clients v.replies v.sectors
+  stands = runs-stand lay disk setup None closed given few s v back so
+
+  pub as-many : length back ≡ length setup.devices.items
+  as-many = e.settled.frame.count ∙ s.leaves.frame.count

@@ -18,7 +18,7 @@ use Rattle.eng_array.specs.declared.start.Start.{Start}
 use Rattle.eng_array.specs.declared.start.Start.TheVariants as start
 use Rattle.eng_cols.proofs.Lists.{get_set_either}
 use Rattle.top_close.specs.Dying.{AnyCause}
-use Rattle.top_close.specs.Settled.{IsLiveOn, FailsToSettle}
+use Rattle.top_close.specs.Settled.{IsLiveOn, LosesDevice}
 use Rattle.top_serve.specs.Setups.{with_rebuilt}
 use Rattle.top_serve.specs.Served as served
 use Rattle.top_serve.proofs.Columns.{set-states}
@@ -107,7 +107,7 @@ module _ {L D : Type 0} (lay : LayoutGhosts L) (disk : DiskGhosts D) (setup : Se
 
     pub ending-dies : Dies (RisesAt disk (work_of lay setup how) setup.devices.items v back) closed.columns.items v.ending.columns
     ending-dies =
-        dies-more (FailsToSettle disk closed.columns.items closed.devices.items back) (RisesAt disk (work_of lay setup how) setup.devices.items v back) closed.columns.items v.ending.columns
+        dies-more (LosesDevice disk closed.columns.items closed.devices.items back) (RisesAt disk (work_of lay setup how) setup.devices.items v back) closed.columns.items v.ending.columns
         (λ c f. (f.device, had-device c f.device f.had, rise-behind f.device f.rose)) e.dies
 
 -- ## Of an array without labels

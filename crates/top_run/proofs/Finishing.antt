@@ -18,8 +18,8 @@ use Rattle.top_serve.specs.Served as served
 use Rattle.top_run.specs.Work.{Service}
 use Rattle.top_run.specs.Works.{service_of, work_of}
 use Rattle.top_run.specs.Ends.{RunIsEnded, EndsSo}
-use Rattle.top_run.specs.Ran.{MayChange, ColumnsEnd, Finishes}
-use Rattle.top_run.proofs.AtEnd.{columns-end, ends-kept, live-in-end}
+use Rattle.top_run.specs.Ran.{LeavesSettled, MayChange}
+use Rattle.top_run.proofs.AtEnd.{live-in-end}
 
 -- one call that is told, behind those of the run
 one-behind : {D : Type 0} (g : DiskGhosts D) (o : Option (List Call)) (calls told : List Call) (call : Call) → AreTold g o calls → Tells o (Some told) call → told ≡ calls ++ call ∷ []
@@ -44,12 +44,6 @@ module _ {L D : Type 0} (lay : LayoutGhosts L) (disk : DiskGhosts D) (setup : Se
   abbrev so : EndsSo lay closed disk v back
   so = ends-so lay closed disk v back e
 
-  abbrev ends : ColumnsEnd disk (work_of lay setup None) setup.devices.items v back s.now
-  ends = columns-end lay disk setup None closed given s v back so
-
-  kept-is : ends.kept ≡ closed.columns.items
-  kept-is = ends-kept lay disk setup None closed given s v back so
-
   -- no sector changes at the end
   same-contents : disk.tells → (d n k : ℕ) → contents_of disk back d n k ≡ contents_of disk closed.devices.items d n k
   same-contents tells d n k = ap (λ (l : List ℕ). slice_index l k) (changes_sector disk (λ _ _. ⊥) closed.devices.items back d n e.settled.frame tells (λ never. never))
@@ -66,17 +60,11 @@ module _ {L D : Type 0} (lay : LayoutGhosts L) (disk : DiskGhosts D) (setup : Se
   abbrev May : ℕ → ℕ → Type 0
   May = MayChange disk (work_of lay setup None) setup.devices.items v back
 
-  pub finishes : Finishes disk (work_of lay setup None) setup.devices.items v back s.now
-  finishes = record {
-    kept = ends.kept;
-    closes = ends.closes;
-    came = ends.came;
-    stopped = ends.stopped;
-    dies = ends.dies;
-    lost = ends.lost;
+  pub leaves : LeavesSettled disk (work_of lay setup None) setup.devices.items v back closed.columns.items s.now
+  leaves = record {
     contents = λ tells d n k kb. same-contents tells d n k ∙ sym (s.leaves.contents tells d n k kb);
-    once = λ c d told live is. once c d told (subst (λ (cs : List Column). IsLiveOn cs c d) kept-is live) is;
-    others = λ d told free is. others d told (λ c live. free c (subst (λ (cs : List Column). IsLiveOn cs c d) (sym kept-is) live)) is;
+    once = once;
+    others = others;
     settled = λ c d has. e.last c d (live-in-end lay disk setup None closed given s v back so c d has);
     frame = changes-then disk May setup.devices.items closed.devices.items back s.leaves.frame (changes-more disk (λ _ _. ⊥) May closed.devices.items back (λ d n never. absurd never) e.settled.frame);
   }

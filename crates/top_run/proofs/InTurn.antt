@@ -5,12 +5,12 @@ use Rattle.lay_core.specs.Layout.{blocks_in}
 use Rattle.raid_script.specs.Drawn.{AreApart}
 use Rattle.raid_script.specs.Summary.{all_sum}
 use Rattle.top_run.specs.Work.{Work, Service}
-use Rattle.top_run.specs.Ran.{Ran, Runs, runs_of}
+use Rattle.top_run.specs.Ran.{RanPlain, Ran}
 use Rattle.top_run.specs.InTurn.{SweptInTurn}
 use Rattle.top_run.proofs.InTurnMeans as means
 use Rattle.top_run.proofs.InTurnSummary as sums
 
-pub runs-in-turn : {D : Type 0} (g : Ghosts D) (a : Work) (taken back : List (Option D)) (s : Service) (r : Runs g a taken s back) (alone : a.start ≡ None) (count ops wide blocks : ℕ)
+pub runs-in-turn : {D : Type 0} (g : Ghosts D) (a : Work) (taken back : List (Option D)) (s : Service) (r : Ran g a taken s back) (alone : a.start ≡ None) (count ops wide blocks : ℕ)
     → AreApart count ops wide blocks a.clients → blocks ≤ blocks_in a.layout → s.ending.lost ≡ None → SweptInTurn g a taken s back r.start.blocks
 runs-in-turn g a taken back s r alone count ops wide blocks given within none = record {
   turn = means.turn g a taken s back r alone count ops wide blocks given within none;
@@ -23,6 +23,6 @@ runs-in-turn g a taken back s r alone count ops wide blocks given within none = 
 }
 
 -- so does one over an array without labels
-pub swept-in-turn : {D : Type 0} (g : Ghosts D) (a : Work) (taken back : List (Option D)) (s : Service) (r : Ran g a taken s back) (count ops wide blocks : ℕ)
-    → AreApart count ops wide blocks a.clients → blocks ≤ blocks_in a.layout → s.ending.lost ≡ None → SweptInTurn g a taken s back r.start.blocks
-swept-in-turn g a taken back s r = runs-in-turn g a taken back s (runs_of g a taken s back r) r.none.0
+pub swept-in-turn : {D : Type 0} (g : Ghosts D) (a : Work) (taken back : List (Option D)) (s : Service) (r : RanPlain g a taken s back) (count ops wide blocks : ℕ)
+    → AreApart count ops wide blocks a.clients → blocks ≤ blocks_in a.layout → s.ending.lost ≡ None → SweptInTurn g a taken s back r.run.start.blocks
+swept-in-turn g a taken back s r = runs-in-turn g a taken back s r.run r.none.0

@@ -8,13 +8,13 @@ use Rattle.eng_world.specs.declared.item.Reply.{Reply}
 use Rattle.raid_script.specs.Replies.{items_in, items_at, replies_in, replies_at}
 use Rattle.top_serve.specs.Served.{IsRebuiltBy}
 use Rattle.top_run.specs.Work.{Work, Service}
-use Rattle.top_run.specs.Ran.{Runs, begun_in}
+use Rattle.top_run.specs.Ran.{Ran, begun_in}
 
 no-replies : (l : List Reply) → length l ≡ 0 → l ≡ []
 no-replies [] none = refl
 no-replies (x ∷ l) none = absurd (omega (arith, none))
 
-module _ {D : Type 0} (g : Ghosts D) (a : Work) (taken : List (Option D)) (s : Service) (back : List (Option D)) (r : Runs g a taken s back) (alone : a.start ≡ None) where
+module _ {D : Type 0} (g : Ghosts D) (a : Work) (taken : List (Option D)) (s : Service) (back : List (Option D)) (r : Ran g a taken s back) (alone : a.start ≡ None) where
   no-items : (r.now.clients 16).items ≡ []
   no-items = subst (λ how. IsRebuiltBy a.layout (begun_in a) how (r.now.clients 16).items) alone r.rests.rebuilds
 

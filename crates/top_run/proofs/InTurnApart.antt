@@ -22,7 +22,7 @@ use Rattle.raid_script.specs.Replies.{items_in, items_at}
 use Rattle.raid_script.proofs.OwnItems.{own_items}
 use Rattle.top_sweep.specs.Apart.{Touches, IsApart, id_of}
 use Rattle.top_run.specs.Work.{Work, Service}
-use Rattle.top_run.specs.Ran.{IsLossAtEnd, Runs}
+use Rattle.top_run.specs.Ran.{IsLossAtEnd, Ran}
 use Rattle.top_run.specs.InTurn.{plain_reply}
 use Rattle.top_run.proofs.InTurnAlone.{items-all}
 use Rattle.top_run.proofs.InTurnOps.{EachRuns, AllRun, own_of, row_asks, ops-at, item-of}
@@ -35,7 +35,7 @@ touched (Read span) b h = h
 touched (Rebuild stripe) b h = absurd h
 touched (Sync stripe) b h = absurd h
 
-module _ {D : Type 0} (g : Ghosts D) (a : Work) (taken : List (Option D)) (s : Service) (back : List (Option D)) (r : Runs g a taken s back) (alone : a.start ≡ None) (count ops wide blocks : ℕ) (apart : AreApart count ops wide blocks a.clients) (within : blocks ≤ blocks_in a.layout) (none : s.ending.lost ≡ None) where
+module _ {D : Type 0} (g : Ghosts D) (a : Work) (taken : List (Option D)) (s : Service) (back : List (Option D)) (r : Ran g a taken s back) (alone : a.start ≡ None) (count ops wide blocks : ℕ) (apart : AreApart count ops wide blocks a.clients) (within : blocks ≤ blocks_in a.layout) (none : s.ending.lost ≡ None) where
   -- ## The array isn't lost
 
   no-loss : r.now.lost ≡ None

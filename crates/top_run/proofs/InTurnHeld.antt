@@ -18,7 +18,7 @@ use Rattle.raid_script.specs.Replies.{items_at}
 use Rattle.raid_script.specs.Summary.{all_sum}
 use Rattle.top_sweep.proofs.OneAfterAnother.{replay_same}
 use Rattle.top_run.specs.Work.{Work, Service}
-use Rattle.top_run.specs.Ran.{Ran, Runs, runs_of, states_in}
+use Rattle.top_run.specs.Ran.{RanPlain, Ran, states_in}
 use Rattle.top_run.specs.InTurn.{SweptInTurn, asks, place_of, turn_text}
 use Rattle.top_run.proofs.InTurnApart as apart
 use Rattle.top_run.proofs.InTurnMeans as means
@@ -34,7 +34,7 @@ own-within wide blocks client n le (Read span) own = let e = own.0.ends in let w
 own-within wide blocks client n le (Rebuild stripe) own = absurd own
 own-within wide blocks client n le (Sync stripe) own = absurd own
 
-module _ {D : Type 0} (g : Ghosts D) (a : Work) (taken back : List (Option D)) (s : Service) (r : Runs g a taken s back) (alone : a.start ≡ None) (count ops wide blocks : ℕ) (given : AreApart count ops wide blocks a.clients) (within : blocks ≤ blocks_in a.layout) (none : s.ending.lost ≡ None) where
+module _ {D : Type 0} (g : Ghosts D) (a : Work) (taken back : List (Option D)) (s : Service) (r : Ran g a taken s back) (alone : a.start ≡ None) (count ops wide blocks : ℕ) (given : AreApart count ops wide blocks a.clients) (within : blocks ≤ blocks_in a.layout) (none : s.ending.lost ≡ None) where
   -- the blocks that the devices held
   abbrev held : Blocks
   held = decode a.layout (contents_of g taken) (states_in a)
@@ -79,7 +79,7 @@ module _ {D : Type 0} (g : Ghosts D) (a : Work) (taken back : List (Option D)) (
   }
 
 -- so too where they are drawn
-pub runs-by-seed : {D : Type 0} (g : Ghosts D) (a : Work) (taken back : List (Option D)) (s : Service) (r : Runs g a taken s back) (alone : a.start ≡ None) (seed clients ops : ℕ)
+pub runs-by-seed : {D : Type 0} (g : Ghosts D) (a : Work) (taken back : List (Option D)) (s : Service) (r : Ran g a taken s back) (alone : a.start ≡ None) (seed clients ops : ℕ)
     → 0 < clients → 0 < blocks_in a.layout → a.clients ≡ drawn seed clients ops (blocks_in a.layout) → s.ending.lost ≡ None
     → SweptInTurn g a taken s back (decode a.layout (contents_of g taken) (states_in a))
 runs-by-seed g a taken back s r alone seed clients ops some any are none =
@@ -90,11 +90,11 @@ runs-by-seed g a taken back s r alone seed clients ops some any are none =
 
 -- ## Of an array without labels
 
-pub swept-over-held : {D : Type 0} (g : Ghosts D) (a : Work) (taken back : List (Option D)) (s : Service) (r : Ran g a taken s back) (count ops wide blocks : ℕ)
+pub swept-over-held : {D : Type 0} (g : Ghosts D) (a : Work) (taken back : List (Option D)) (s : Service) (r : RanPlain g a taken s back) (count ops wide blocks : ℕ)
     → AreApart count ops wide blocks a.clients → blocks ≤ blocks_in a.layout → s.ending.lost ≡ None → SweptInTurn g a taken s back (decode a.layout (contents_of g taken) (states_in a))
-swept-over-held g a taken back s r = runs-over-held g a taken back s (runs_of g a taken s back r) r.none.0
+swept-over-held g a taken back s r = runs-over-held g a taken back s r.run r.none.0
 
-pub swept-by-seed : {D : Type 0} (g : Ghosts D) (a : Work) (taken back : List (Option D)) (s : Service) (r : Ran g a taken s back) (seed clients ops : ℕ)
+pub swept-by-seed : {D : Type 0} (g : Ghosts D) (a : Work) (taken back : List (Option D)) (s : Service) (r : RanPlain g a taken s back) (seed clients ops : ℕ)
     → 0 < clients → 0 < blocks_in a.layout → a.clients ≡ drawn seed clients ops (blocks_in a.layout) → s.ending.lost ≡ None
     → SweptInTurn g a taken s back (decode a.layout (contents_of g taken) (states_in a))
-swept-by-seed g a taken back s r = runs-by-seed g a taken back s (runs_of g a taken s back r) r.none.0
+swept-by-seed g a taken back s r = runs-by-seed g a taken back s r.run r.none.0

@@ -25,7 +25,7 @@ use Rattle.top_sweep.specs.Apart.{id_of, in_turn}
 use Rattle.top_sweep.proofs.OneAfterAnother.{get_in_turn}
 use Rattle.top_sweep.proofs.InAnyOrder.{leaves_in_turn, reads_in_turn}
 use Rattle.top_run.specs.Work.{Work, Service}
-use Rattle.top_run.specs.Ran.{WasInSync, Runs, told_byte}
+use Rattle.top_run.specs.Ran.{WasInSync, Ran, told_byte}
 use Rattle.top_run.specs.InTurn.{asks, one_after_another, place_of, HasOp, plain_reply}
 use Rattle.top_run.proofs.InTurnAlone.{replies-all}
 use Rattle.top_run.proofs.InTurnOps.{ops-many, item-of, turn_of, all-in-turn, first-in-turn, none-behind, turn-asks, first-many, asked-by}
@@ -39,7 +39,7 @@ are_ops-take w [] (o ∷ ops) (suc n) are = absurd are
 are_ops-take w (id ∷ ids) [] (suc n) are = absurd are
 are_ops-take w (id ∷ ids) (o ∷ ops) (suc n) are = (are.0, are_ops-take w ids ops n are.1)
 
-module _ {D : Type 0} (g : Ghosts D) (a : Work) (taken : List (Option D)) (s : Service) (back : List (Option D)) (r : Runs g a taken s back) (alone : a.start ≡ None) (count ops wide blocks : ℕ) (given : AreApart count ops wide blocks a.clients) (within : blocks ≤ blocks_in a.layout) (none : s.ending.lost ≡ None) where
+module _ {D : Type 0} (g : Ghosts D) (a : Work) (taken : List (Option D)) (s : Service) (back : List (Option D)) (r : Ran g a taken s back) (alone : a.start ≡ None) (count ops wide blocks : ℕ) (given : AreApart count ops wide blocks a.clients) (within : blocks ≤ blocks_in a.layout) (none : s.ending.lost ≡ None) where
   abbrev own : ℕ → List Op
   own = apart.own g a taken s back r alone count ops wide blocks given within none
 

@@ -18,7 +18,7 @@ use Rattle.raid_script.specs.Summary.{all_sum, client_sum, data_sum, place_sum, 
 use Rattle.top_sweep.specs.Apart.{in_turn}
 use Rattle.top_sweep.proofs.OneAfterAnother.{replay-append, take_in_turn}
 use Rattle.top_run.specs.Work.{Work, Service}
-use Rattle.top_run.specs.Ran.{WasInSync, Runs, told_byte}
+use Rattle.top_run.specs.Ran.{WasInSync, Ran, told_byte}
 use Rattle.top_run.specs.InTurn.{plain_reply, reply_sum, replies_sum, turn_text}
 use Rattle.top_run.proofs.InTurnAlone.{replies-all}
 use Rattle.top_run.proofs.InTurnOps.{ops-many, item-of, turn_of, row_asks, turn-many, turn-writes, turn-reads, all-in-turn}
@@ -26,7 +26,7 @@ use Rattle.top_run.proofs.InTurnApart as apart
 use Rattle.top_run.proofs.InTurnMeans as means
 use Rattle.top_run.proofs.InTurnSums.{upto, read-sum, sum-by-place, sum-by-client}
 
-module _ {D : Type 0} (g : Ghosts D) (a : Work) (taken : List (Option D)) (s : Service) (back : List (Option D)) (r : Runs g a taken s back) (alone : a.start ≡ None) (count ops wide blocks : ℕ) (given : AreApart count ops wide blocks a.clients) (within : blocks ≤ blocks_in a.layout) (none : s.ending.lost ≡ None) where
+module _ {D : Type 0} (g : Ghosts D) (a : Work) (taken : List (Option D)) (s : Service) (back : List (Option D)) (r : Ran g a taken s back) (alone : a.start ≡ None) (count ops wide blocks : ℕ) (given : AreApart count ops wide blocks a.clients) (within : blocks ≤ blocks_in a.layout) (none : s.ending.lost ≡ None) where
   abbrev own : ℕ → List Op
   own = apart.own g a taken s back r alone count ops wide blocks given within none
 

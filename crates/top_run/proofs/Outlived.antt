@@ -40,7 +40,7 @@ use Rattle.top_serve.specs.Caused.{WasLostBy}
 use Rattle.top_serve.specs.Served.{IsUnbuilt}
 use Rattle.top_serve.specs.Setups.{with_rebuilt, with_start}
 use Rattle.top_run.specs.Work.{Work, Service}
-use Rattle.top_run.specs.Ran.{WasFailed, IsLossAtEnd, RisesAt, IsFailedBy, begun_in, Ran, Runs, runs_of}
+use Rattle.top_run.specs.Ran.{WasFailed, IsLossAtEnd, RisesAt, IsFailedBy, begun_in, RanPlain, Ran}
 use Rattle.top_run.specs.Outliving.{HasFail, done_reply, MayDie, OutlivesCall, HasFaulted, IsAnswered, IsReplyTo, AllAnswered}
 use Rattle.top_run.proofs.Starting.{IsDeadBefore, dead-then, device-same, rebuilds-none, rebuilt-other, spread-by, spread-rebuilt, spread-started, started-other}
 
@@ -73,7 +73,7 @@ done-by (op.Read span) h = absurd (h tt)
 done-by (op.Rebuild stripe) h = refl
 done-by (op.Sync stripe) h = refl
 
-module _ {D : Type 0} (g : Ghosts D) (a : Work) (taken back : List (Option D)) (s : Service) (ran : Runs g a taken s back) where
+module _ {D : Type 0} (g : Ghosts D) (a : Work) (taken back : List (Option D)) (s : Service) (ran : Ran g a taken s back) where
   abbrev y : Shape
   y = a.layout
 
@@ -305,8 +305,8 @@ module _ {D : Type 0} (g : Ghosts D) (a : Work) (taken back : List (Option D)) (
 
 -- ## Of an array without labels
 
-pub outlived : {D : Type 0} (g : Ghosts D) (a : Work) (taken back : List (Option D)) (s : Service) → Ran g a taken s back → OutlivesCall g a taken back → s.ending.lost ≡ None
-outlived g a taken back s ran = runs-outlived g a taken back s (runs_of g a taken s back ran)
+pub outlived : {D : Type 0} (g : Ghosts D) (a : Work) (taken back : List (Option D)) (s : Service) → RanPlain g a taken s back → OutlivesCall g a taken back → s.ending.lost ≡ None
+outlived g a taken back s ran = runs-outlived g a taken back s ran.run
 
-pub answered : {D : Type 0} (g : Ghosts D) (a : Work) (taken back : List (Option D)) (s : Service) (ran : Ran g a taken s back) → s.ending.lost ≡ None → AllAnswered g a taken back s (runs_of g a taken s back ran)
-answered g a taken back s ran none = runs-answered g a taken back s (runs_of g a taken s back ran) none
+pub answered : {D : Type 0} (g : Ghosts D) (a : Work) (taken back : List (Option D)) (s : Service) (ran : RanPlain g a taken s back) → s.ending.lost ≡ None → AllAnswered g a taken back s ran.run
+answered g a taken back s ran none = runs-answered g a taken back s ran.run none

@@ -27,7 +27,7 @@ use Rattle.top_serve.specs.Served.{BeginsBy}
 use Rattle.top_serve.proofs.Between.{all-own}
 use Rattle.top_serve.proofs.Columns.{AreOwn, IsSet, run-keeps, run-kinds}
 use Rattle.top_run.specs.Work.{Work, Service}
-use Rattle.top_run.specs.Ran.{IsDeadBy, Runs}
+use Rattle.top_run.specs.Ran.{IsDeadBy, Ran}
 use Rattle.top_run.specs.Rebuilding.{RebuildIsDone, IsWorth, kept_in}
 use Rattle.top_run.proofs.Ordered.{order-dies, order-live, order-spread}
 use Rattle.top_run.proofs.Starting.{IsDeadBefore, dead-then, first-step}
@@ -64,7 +64,7 @@ begun-other : (y : Shape) (old new : World) (how : Start) → new.columns ≡ st
 begun-other y old new (start.Fill c d) is k other = ap (λ l. slice_get l k) is ∙ get_set_other old.columns c k (Filling d (none_done y.stripes)) other
 begun-other y old new (start.Spread c) is k other = ap (λ l. slice_get l k) is ∙ get_set_other old.columns c k (Spread (none_done y.stripes)) other
 
-module _ {D : Type 0} (g : Ghosts D) (a : Work) (taken back : List (Option D)) (s : Service) (ran : Runs g a taken s back) (how : Start) (built : RebuildIsDone g a taken back s ran how) where
+module _ {D : Type 0} (g : Ghosts D) (a : Work) (taken back : List (Option D)) (s : Service) (ran : Ran g a taken s back) (how : Start) (built : RebuildIsDone g a taken back s ran how) where
   abbrev y : Shape
   y = a.layout
 

@@ -7,7 +7,7 @@ use Rattle.eng_cols.specs.Cols.{is_set_filling, is_set_spread}
 use Rattle.eng_cols.specs.Deaths.{Dies}
 use Rattle.eng_parts.specs.declared.setup.Closed.{Closed}
 use Rattle.top_close.specs.Calls.{EndsSettled}
-use Rattle.top_close.specs.Settled.{IsLiveOn, HaveDevices, FailsToSettle, AreSettled}
+use Rattle.top_close.specs.Settled.{IsLiveOn, HaveDevices, LosesDevice, AreSettled}
 use Rattle.top_close.specs.Ended.{states_of, IsLossBy}
 use Rattle.top_run.specs.Work.{Service}
 use Rattle.top_run.specs.Works.{service_of}
@@ -31,5 +31,5 @@ module _ {L D : Type 0} (lay : LayoutGhosts L) (closed : Closed L D) where
   pub record EndsSo (disk : DiskGhosts D) (s : Service) (back : List (Option D)) : Type 0 where
     pub told : s ≡ service_of closed s.line s.ending
     pub frame : Changes disk (λ d n. n ≡ 0) closed.devices.items back
-    pub dies : Dies (FailsToSettle disk closed.columns.items closed.devices.items back) closed.columns.items s.ending.columns
+    pub dies : Dies (LosesDevice disk closed.columns.items closed.devices.items back) closed.columns.items s.ending.columns
     pub lost : IsLossBy (lay.shape closed.layout) closed.lost (states_of (lay.shape closed.layout) s.ending.columns) s.ending.lost

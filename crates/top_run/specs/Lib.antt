@@ -5,3 +5,4 @@ pub mod Rebuilding
 pub mod InTurn
 pub mod Outliving
 pub mod Ends
+pub mod Told

@@ -18,14 +18,14 @@ use Rattle.eng_world.specs.declared.item.Reply.TheVariants as reply
 use Rattle.eng_world.specs.Planning.{IsOut, IsLong, InReach}
 use Rattle.eng_world.specs.Legal.{StandsAt}
 use Rattle.eng_world.specs.Causes.{WasRefused}
-use Rattle.eng_events.specs.Opened.{states_of}
+use Rattle.top_close.specs.Ended.{states_of}
 use Rattle.eng_array.specs.Starts.{column_of}
 use Rattle.eng_array.specs.declared.start.Start.{Start}
 use Rattle.raid_script.specs.Asked.{Asked as Item, Fails}
 use Rattle.raid_script.specs.Replies.{items_at, replies_at}
 use Rattle.top_run.specs.Work.{Work, Service}
 use Rattle.top_serve.specs.Setups.{with_start}
-use Rattle.top_run.specs.Ran.{states_in, begun_in, Runs}
+use Rattle.top_run.specs.Ran.{states_in, begun_in, Ran}
 
 -- ## The array
 
@@ -62,7 +62,7 @@ module _ {D : Type 0} (g : Ghosts D) (a : Work) (taken back : List (Option D)) w
   abbrev pub HasFaulted : ℕ → Type 0
   HasFaulted d = RisesOn g taken back d ⊎ (((c : ℕ) × HasDevice (begun_in a) c d × HasFail a c) ⊎ ((slice_get (with_start a.start a.columns) d ≡ Some column.Spread) × HasFail a d))
 
-  module _ (s : Service) (ran : Runs g a taken s back) where
+  module _ (s : Service) (ran : Ran g a taken s back) where
     -- it stands in the history, and a read is replied its data, any other operation done
     abbrev pub TookEffect : OpId → Op → Reply → Type 0
     TookEffect id o told = ((n : ℕ) × StandsAt s.history n id) × (told ≡ done_reply o)

@@ -29,7 +29,7 @@ use Rattle.eng_world.specs.Legal.{AreOps, ReplyOf, RepliesFit}
 use Rattle.eng_world.specs.Invariant.{IsTold, AllReplied}
 use Rattle.eng_world.specs.Causes.{ItemAt, HaveCauses}
 use Rattle.eng_world.specs.Rows.{IsInRows}
-use Rattle.eng_events.specs.Opened.{states_of}
+use Rattle.top_close.specs.Ended.{states_of}
 use Rattle.eng_state.specs.Shows.{AreTold}
 use Rattle.eng_array.specs.Starts.{column_of}
 use Rattle.eng_array.specs.declared.start.Start.{Start}
@@ -148,19 +148,14 @@ module _ {D : Type 0} (g : Ghosts D) (a : Work) (taken : List (Option D)) where
       abbrev pub HasStopped : World → List Column → Type 0
       HasStopped now kept = (start : Start) → a.start ≡ Some start → slice_get kept (column_of start) ≡ Some column.Dead → IsStoppedBy now start
 
-      -- The columns are those of the run's end, where a column that was being rebuilt is kept if it is whole and else is dead, but for some that died as their devices were settled; and the loss is the run's, or that of the columns in the end. Devices hold what they do at the run's end, and have changed nowhere else. Behind the run the device of each column that was live has one call more, a settle, which went well exactly where the column is live in the end; no other device was called; so each device of a column in the end has been settled last.
-      pub record Finishes (now : World) : Type 0 where
+      -- The columns as they are kept are those of the run's end, where a column that was being rebuilt is kept if it is whole and else is dead; in the end some more may have died; and the loss is the run's, or that of the columns in the end.
+      pub record ColumnsEnd (now : World) : Type 0 where
         pub kept : List Column
         pub closes : ClosesAs a.layout now.columns kept
         pub came : Dies (IsDeadBy now) (with_rebuilt a.start a.columns) kept
         pub stopped : HasStopped now kept
         pub dies : Dies RisesAt kept s.ending.columns
         pub lost : IsLossAtEnd a.layout now (states_of a.layout s.ending.columns) s.ending.lost
-        pub contents : g.tells → (d n k : ℕ) → k < 512 → contents_of g back d n k ≡ now.contents d n k
-        pub once : (c d : ℕ) (told : List Call) → IsLiveOn kept c d → calls_of g back d ≡ Some told → told ≡ now.calls d ++ call_of 2 0 0 (is_live (slice_get s.ending.columns c)) ∷ []
-        pub others : (d : ℕ) (told : List Call) → ((c : ℕ) → IsLiveOn kept c d → ⊥) → calls_of g back d ≡ Some told → told ≡ now.calls d
-        pub settled : (c d : ℕ) → HasDevice (states_of a.layout s.ending.columns) c d → EndsSettled (calls_of g back d)
-        pub frame : Changes g MayChange taken back
 
       -- ## Causes
 
@@ -177,33 +172,8 @@ module _ {D : Type 0} (g : Ghosts D) (a : Work) (taken : List (Option D)) where
 
       -- ## All of it
 
-      -- A run of what is asked, where nothing is rebuilt, over the devices as they were taken, that tells this and leaves the devices as they are put back: there are graphs, worlds and events such that all of this holds.
+      -- A run of what is asked, over the devices as they were taken, that tells this: there are graphs, worlds and events such that all of this holds. What its end calls and leaves on devices goes by whether the array has labels.
       pub record Ran : Type 0 where
-        pub graphs : Graphs
-        pub start : World
-        pub events : List Traced
-        pub now : World
-        pub opens : Opens start
-        pub rests : Rests graphs start events now
-        pub tells : Tells events now
-        pub means : Means start now
-        pub ends : Finishes now
-        pub causes : Causes graphs start events now
-        pub none : (a.start ≡ None) × (s.line ≡ None)
-
-      -- ## Whatever the end leaves on devices
-
-      -- what `Finishes` says of the columns and the loss
-      pub record ColumnsEnd (now : World) : Type 0 where
-        pub kept : List Column
-        pub closes : ClosesAs a.layout now.columns kept
-        pub came : Dies (IsDeadBy now) (with_rebuilt a.start a.columns) kept
-        pub stopped : HasStopped now kept
-        pub dies : Dies RisesAt kept s.ending.columns
-        pub lost : IsLossAtEnd a.layout now (states_of a.layout s.ending.columns) s.ending.lost
-
-      -- A run of what is asked, but for what its end calls and leaves on devices.
-      pub record Runs : Type 0 where
         pub graphs : Graphs
         pub start : World
         pub events : List Traced
@@ -215,16 +185,18 @@ module _ {D : Type 0} (g : Ghosts D) (a : Work) (taken : List (Option D)) where
         pub ends : ColumnsEnd now
         pub causes : Causes graphs start events now
 
-      abbrev pub runs_of : Ran → Runs
-      runs_of r = record {
-        graphs = r.graphs;
-        start = r.start;
-        events = r.events;
-        now = r.now;
-        opens = r.opens;
-        rests = r.rests;
-        tells = r.tells;
-        means = r.means;
-        ends = record { kept = r.ends.kept; closes = r.ends.closes; came = r.ends.came; stopped = r.ends.stopped; dies = r.ends.dies; lost = r.ends.lost };
-        causes = r.causes;
-      }
+      -- ## Without labels
+
+      -- Devices hold what they do at the run's end, and have changed nowhere else. Behind the run the device of each column that was live has one call more, a settle, which went well exactly where the column is live in the end; no other device was called; so each device of a column in the end has been settled last.
+      pub record LeavesSettled (kept : List Column) (now : World) : Type 0 where
+        pub contents : g.tells → (d n k : ℕ) → k < 512 → contents_of g back d n k ≡ now.contents d n k
+        pub once : (c d : ℕ) (told : List Call) → IsLiveOn kept c d → calls_of g back d ≡ Some told → told ≡ now.calls d ++ call_of 2 0 0 (is_live (slice_get s.ending.columns c)) ∷ []
+        pub others : (d : ℕ) (told : List Call) → ((c : ℕ) → IsLiveOn kept c d → ⊥) → calls_of g back d ≡ Some told → told ≡ now.calls d
+        pub settled : (c d : ℕ) → HasDevice (states_of a.layout s.ending.columns) c d → EndsSettled (calls_of g back d)
+        pub frame : Changes g MayChange taken back
+
+      -- A run over an array without labels: nothing is rebuilt, and each device in use is settled in the end.
+      pub record RanPlain : Type 0 where
+        pub run : Ran
+        pub leaves : LeavesSettled run.ends.kept run.now
+        pub none : (a.start ≡ None) × (s.line ≡ None)

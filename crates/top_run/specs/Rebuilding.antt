@@ -7,14 +7,14 @@ use Rattle.eng_cols.specs.Changes.{killed}
 use Rattle.eng_cols.specs.Laws.{AllAvailable, OthersAvailable}
 use Rattle.eng_cols.specs.Lost.{NotLost}
 use Rattle.eng_cols.specs.Seats.{IsWhole}
-use Rattle.eng_events.specs.Opened.{states_of}
+use Rattle.top_close.specs.Ended.{states_of}
 use Rattle.eng_array.specs.Starts.{column_of}
 use Rattle.eng_array.specs.declared.start.Start.{Start}
 use Rattle.top_serve.specs.Setups.{with_rebuilt}
 use Rattle.top_run.specs.Work.{Work, Service}
-use Rattle.top_run.specs.Ran.{Runs}
+use Rattle.top_run.specs.Ran.{Ran}
 
-module _ {D : Type 0} (g : Ghosts D) (a : Work) (taken back : List (Option D)) (s : Service) (ran : Runs g a taken s back) where
+module _ {D : Type 0} (g : Ghosts D) (a : Work) (taken back : List (Option D)) (s : Service) (ran : Ran g a taken s back) where
   -- the columns as they are kept at the run's end, before devices are settled
   abbrev pub kept_in : List ColumnState
   kept_in = states_of a.layout ran.ends.kept

@@ -6,7 +6,7 @@ ghost use Rattle.lay_core.specs.Layout.{blocks_in};
 ghost use Rattle.eng_cols.specs.Contents.{decode};
 ghost use Rattle.raid_script.specs.Drawn.{AreApart, drawn};
 ghost use Rattle.top_run.specs.Work.{Work, Service};
-ghost use Rattle.top_run.specs.Ran.{Ran, states_in};
+ghost use Rattle.top_run.specs.Ran.{RanPlain, states_in};
 ghost use Rattle.top_run.specs.InTurn.{SweptInTurn};
 
 use blk_disk::Disk;
@@ -17,20 +17,20 @@ use blk_disk::Disk;
 pub fn a_sweep_comes_client_after_client<D: Disk>()
     // Over the blocks of the opening,
     ensures opening { (a : Work) (taken back : List (Option D)) (s : Service)
-        (r : Ran D.Disk a taken s back) (count ops wide blocks : ℕ)
+        (r : RanPlain D.Disk a taken s back) (count ops wide blocks : ℕ)
         → AreApart count ops wide blocks a.clients → blocks ≤ blocks_in a.layout
-        → s.ending.lost ≡ None → SweptInTurn D.Disk a taken s back r.start.blocks }
+        → s.ending.lost ≡ None → SweptInTurn D.Disk a taken s back r.run.start.blocks }
 
     // and over those that the devices held as they were taken.
     ensures held { (a : Work) (taken back : List (Option D)) (s : Service)
-        (r : Ran D.Disk a taken s back) (count ops wide blocks : ℕ)
+        (r : RanPlain D.Disk a taken s back) (count ops wide blocks : ℕ)
         → AreApart count ops wide blocks a.clients → blocks ≤ blocks_in a.layout
         → s.ending.lost ≡ None
         → SweptInTurn D.Disk a taken s back (decode a.layout (contents_of D.Disk taken) (states_in a)) }
 
     // Clients that are drawn from a number over the blocks of the array are such clients.
     ensures seeds { (a : Work) (taken back : List (Option D)) (s : Service)
-        (r : Ran D.Disk a taken s back) (seed clients ops : ℕ)
+        (r : RanPlain D.Disk a taken s back) (seed clients ops : ℕ)
         → 0 < clients → 0 < blocks_in a.layout
         → a.clients ≡ drawn seed clients ops (blocks_in a.layout) → s.ending.lost ≡ None
         → SweptInTurn D.Disk a taken s back (decode a.layout (contents_of D.Disk taken) (states_in a)) }

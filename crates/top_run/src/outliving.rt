@@ -1,7 +1,7 @@
 //! What a run comes to that the array outlives. These functions do nothing: what they ensure is so of every run.
 ghost use Rattle.std.specs.Prelude.{◌≡◌, List, Option, None};
 ghost use Rattle.top_run.specs.Work.{Work, Service};
-ghost use Rattle.top_run.specs.Ran.{Ran, runs_of};
+ghost use Rattle.top_run.specs.Ran.{RanPlain};
 ghost use Rattle.top_run.specs.Outliving.{OutlivesCall, AllAnswered};
 
 use blk_disk::Disk;
@@ -9,7 +9,7 @@ use blk_disk::Disk;
 /// A run isn't lost where the array isn't, whichever columns be dead of which an item asks that they fail, or whose
 /// device's count of faults rose, or which is rebuilt.
 pub fn what_is_outlived_is_not_lost<D: Disk>()
-    ensures { (a : Work) (taken back : List (Option D)) (s : Service) → Ran D.Disk a taken s back
+    ensures { (a : Work) (taken back : List (Option D)) (s : Service) → RanPlain D.Disk a taken s back
         → OutlivesCall D.Disk a taken back → s.ending.lost ≡ None }
 {}
 
@@ -18,6 +18,6 @@ pub fn what_is_outlived_is_not_lost<D: Disk>()
 /// undone by a device whose count of faults rose or whose column an item failed. An item that asks that a column fail is
 /// replied ok, and the column is dead in the end.
 pub fn what_is_not_lost_is_answered<D: Disk>()
-    ensures { (a : Work) (taken back : List (Option D)) (s : Service) → (ran : Ran D.Disk a taken s back)
-        → s.ending.lost ≡ None → AllAnswered D.Disk a taken back s (runs_of D.Disk a taken s back ran) }
+    ensures { (a : Work) (taken back : List (Option D)) (s : Service) → (ran : RanPlain D.Disk a taken s back)
+        → s.ending.lost ≡ None → AllAnswered D.Disk a taken back s ran.run }
 {}

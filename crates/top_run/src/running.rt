@@ -6,7 +6,7 @@ ghost use Rattle.eng_array.specs.Fitting.{FitsTrace};
 ghost use Rattle.raid_script.specs.Replies.{StandFor};
 ghost use Rattle.top_serve.specs.Setups.{IsFew, IsNotLost, IsServeRefusal};
 ghost use Rattle.top_run.specs.Works.{work_of, service_seen};
-ghost use Rattle.top_run.specs.Ran.{Ran};
+ghost use Rattle.top_run.specs.Ran.{RanPlain};
 
 use crate::ending::ended;
 use crate::service::Service;
@@ -52,7 +52,7 @@ pub fn run_clients<
     requires few { IsFew setup }
     requires trace { FitsTrace L.Layout setup }
     ensures kept { IfOk result (λ r. IsNotLost L.Layout setup) }
-    ensures ran { IfOk result (λ r. Ran D.Disk (work_of L.Layout setup None) setup.devices.items (service_seen r.0) r.1.items) }
+    ensures ran { IfOk result (λ r. RanPlain D.Disk (work_of L.Layout setup None) setup.devices.items (service_seen r.0) r.1.items) }
     ensures stands { IfOk result (λ r. StandFor r.0.clients.items r.0.replies.items r.0.sectors.items) }
     ensures many { IfOk result (λ r. length r.1.items ≡ length setup.devices.items) }
     ensures fault { IfErr result (λ refused. IsServeRefusal L.Layout setup refused.fault) }

@@ -86,6 +86,24 @@ looked_same g tells names home mid now fronts same looked = record {
   others = λ told n none. looked.others told n none ∙ same told n;
 }
 
+-- nothing was called behind it
+pub looked_behind : {D : Type 0} (g : Ghosts D) (tells : Type 0) (names : List Text) (home mid now : Text → Option D) (fronts : List Front)
+    → (tells → (n : Text) → now n ≡ mid n) → AreLookedAt g tells home mid names fronts → AreLookedAt g tells home now names fronts
+looked_behind g tells names home mid now fronts same looked = record {
+  each = λ k n lt at.
+      let one = looked.each k n lt at in
+      record {
+        taken = one.taken;
+        back = one.back;
+        was = one.was;
+        is = λ told. same told n ∙ one.is told;
+        front_of = one.front_of;
+        once = one.once;
+        stays = one.stays;
+      };
+  others = λ told n none. same told n ∙ looked.others told n none;
+}
+
 -- ## One more device
 
 module _ {D : Type 0} (g : Ghosts D) (tells : Type 0) (names : List Text) (apart : AreApart names) where

@@ -27,3 +27,7 @@ pub record AreLookedAt {D : Type 0} (g : Ghosts D) (tells : Type 0) (home now : 
       → IsLookedAt g tells home now name (slice_index_or fronts k Away)
   pub others : tells → (n : Text)
       → ((k : ℕ) → k < length fronts → slice_get names k ≡ Some n → ⊥) → now n ≡ home n
+
+-- the devices of some first ones of these names
+abbrev pub SomeAreLookedAt : {D : Type 0} → Ghosts D → (tells : Type 0) → (home now : Text → Option D) → List Text → Type 0
+SomeAreLookedAt g tells home now names = (fronts : List Front) × AreLookedAt g tells home now names fronts

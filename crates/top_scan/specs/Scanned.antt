@@ -1,5 +1,6 @@
 -- What a scan finds, or how it is refused.
-use Rattle.std.specs.Prelude.{◌≡◌, ◌≤◌, List, length, map, Option, None, Result, Ok}
+use Rattle.std.specs.Prelude.{◌≡◌, ◌≤◌, ◌⊎◌, List, length, map, Option, None, Result, Ok}
+use Rattle.blk_disk.specs.declared.disk.Disk.{Ghosts}
 use Rattle.raid_assemble.specs.Sets.{IsGrouping}
 use Rattle.raid_assemble.specs.declared.sets.Set.{Set}
 use Rattle.raid_assemble.specs.declared.sets.Standing.{Standing}
@@ -10,6 +11,7 @@ use Rattle.top_fetch.specs.Fetched.{there_are, or_status}
 use Rattle.top_open.specs.declared.fronts.Front.{Front}
 use Rattle.top_open.specs.declared.fronts.Front.TheVariants.{Away, Unread, Held}
 use Rattle.top_scan.specs.List.{list_of}
+use Rattle.top_scan.specs.Looks.{SomeAreLookedAt}
 use Rattle.top_status.specs.Refusals.{Refused, ◌then◌, text_in}
 use Rattle.top_status.specs.declared.status.Status.TheVariants as status
 
@@ -30,6 +32,12 @@ unfoldable pub names_in : {D : Type 0} → (Text → Option Text) → (Text → 
     → Result (List Text) Refused
 names_in texts home list =
     list_in texts list then λ names. there_are home names then λ there. Ok names
+
+-- A scan that was refused has called no device; or these are the names of the list, and of the first of them each device was looked at, and no other was called.
+abbrev pub IsScannedInPart : {D : Type 0} → Ghosts D → (tells : Type 0) → (Text → Option Text)
+    → (home now : Text → Option D) → Text → Type 0
+IsScannedInPart g tells texts home now list = ((n : Text) → now n ≡ home n)
+    ⊎ ((names : List Text) × (list_in texts list ≡ Ok names) × SomeAreLookedAt g tells home now names)
 
 -- There is a front for each name, at most 1,024; and these are the sets of their labels.
 pub record IsComplete (names : List Text) (fronts : List Front) (sets : List Set)

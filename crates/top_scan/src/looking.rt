@@ -5,7 +5,7 @@ ghost use Rattle.blk_disk.specs.Disk.{Rose};
 ghost use Rattle.top_fetch.specs.Answers.{IsEarly, AnswersAs};
 ghost use Rattle.top_fetch.specs.Fetched.{there_are, there_is};
 ghost use Rattle.top_scan.specs.List.{AreApart};
-ghost use Rattle.top_scan.specs.Looks.{AreLookedAt, IsLookedAt};
+ghost use Rattle.top_scan.specs.Looks.{AreLookedAt, IsLookedAt, SomeAreLookedAt};
 
 use crate::named::name_at;
 use raid_bay::{Bay, Name};
@@ -37,7 +37,7 @@ fn look_at<B: Bay>(alloc: Global, bay: &mut B, name: &str) -> Result<Front, Stat
 /// Sector 0 of the device of each name. A device is put back before the next one is taken, so that no more than one is
 /// held at a time.
 ///
-/// The first device that isn't lent is the refusal. No sector changes.
+/// The first device that isn't lent is the refusal; those before it were looked at. No sector changes.
 pub(crate) fn look_at_all<B: Bay>(
     alloc: Global,
     bay: &mut B,
@@ -48,6 +48,8 @@ pub(crate) fn look_at_all<B: Bay>(
     ensures looked { IfOk result (λ fronts. AreLookedAt B.D.Disk B.tells
         (B.home bay.old) (B.home bay.new) names.now fronts.items) }
     ensures count { IfOk result (λ fronts. length fronts.items ≡ length names.now) }
+    ensures part { OnErr result (SomeAreLookedAt B.D.Disk B.tells
+        (B.home bay.old) (B.home bay.new) names.now) }
     ensures stays { B.tells → (n : List ℕ) →
         StaysIf B.D.Disk (λ _. ⊥) (B.home bay.old n) (B.home bay.new n) }
     ensures kind { IfErr result IsEarly }

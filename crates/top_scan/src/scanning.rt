@@ -1,5 +1,5 @@
 //! What a scan finds.
-ghost use Rattle.std.specs.Prelude.{◌≡◌, ◌≤◌, ℕ, List, length, map, IfOk, IfErr, IsErrOf};
+ghost use Rattle.std.specs.Prelude.{◌≡◌, ◌≤◌, ℕ, List, length, map, IfOk, IfErr, IsErrOf, OnErr};
 ghost use Rattle.blk_disk.specs.Devices.{StaysIf};
 ghost use Rattle.blk_disk.specs.Disk.{Rose};
 ghost use Rattle.raid_assemble.specs.Sets.{IsGrouping};
@@ -7,7 +7,7 @@ ghost use Rattle.top_fetch.specs.Answers.{IsEarly, AnswersAs};
 ghost use Rattle.top_fetch.specs.Told.{IsRead};
 ghost use Rattle.top_scan.specs.List.{AreApart};
 ghost use Rattle.top_scan.specs.Looks.{AreLookedAt};
-ghost use Rattle.top_scan.specs.Scanned.{IsComplete, label_of, list_in, names_in};
+ghost use Rattle.top_scan.specs.Scanned.{IsComplete, IsScannedInPart, label_of, list_in, names_in};
 
 use crate::list::{ListFault, read_list};
 use crate::looking::look_at_all;
@@ -86,7 +86,8 @@ fn group_fronts(alloc: Global, fronts: &[Front]) -> Result<Sets, Status>
 ///
 /// Refused are, in this order: the list, where there is no text of its name, or it is longer than 16,777,216 bytes, or
 /// not in its form (`Conf`); and the first component that isn't there. `BayFault` comes only where the bay's count of
-/// faults rose, and want of memory at any point. Each device is put back, and no sector changes.
+/// faults rose, and want of memory at any point. Each device is put back, and no sector changes; where the scan is
+/// refused, sector 0 of some first ones was read, once each, and no other was called.
 #[tactic(auto, unfolding(crate::specs::Scanned::names_in))]
 pub fn scan<B: Bay>(alloc: Global, list: &str, bay: &mut B) -> Result<Scanned, Status>
     ensures answer { B.tells → AnswersAs (λ s. s.names.items) result
@@ -95,6 +96,8 @@ pub fn scan<B: Bay>(alloc: Global, list: &str, bay: &mut B) -> Result<Scanned, S
         (B.home bay.old) (B.home bay.new) s.names.items s.fronts.items) }
     ensures complete { IfOk result (λ s. IsComplete s.names.items s.fronts.items
         s.sets.sets s.sets.places) }
+    ensures part { OnErr result (B.tells → IsScannedInPart B.D.Disk B.tells
+        (B.text_of bay.old) (B.home bay.old) (B.home bay.new) list.now) }
     ensures stays { B.tells → (n : List ℕ) →
         StaysIf B.D.Disk (λ _. ⊥) (B.home bay.old n) (B.home bay.new n) }
     ensures kind { IfErr result IsEarly }

@@ -1,6 +1,6 @@
 use Rattle.std.proofs.Common.{Some, None}
 use Rattle.raid_recon.specs.declared.kind.Sweep.TheVariants as sweep
-use Rattle.top_rounds.specs.Passes.{LosesDevice}
+use Rattle.top_close.specs.Settled.{LosesDevice}
 use Rattle.top_rounds.proofs.RoundLaws.{any_death}
 use Rattle.top_acts.specs.Begun.{MayBegin}
 use Rattle.top_acts.proofs.Having.{acts_after}

@@ -1,7 +1,8 @@
 use Rattle.std.proofs.Common.{◌∙◌, ap, refl, true, arith}
 use Rattle.raid_label.specs.declared.label.Label.{Label}
 use Rattle.top_rounds.specs.Labels.{with_round}
-use Rattle.top_rounds.specs.Passes.{IsFirstInUse, LosesDevice}
+use Rattle.top_rounds.specs.Passes.{IsFirstInUse}
+use Rattle.top_close.specs.Settled.{LosesDevice}
 use Rattle.top_rounds.proofs.RoundLaws.{any_death, can-after, settable_after}
 use Rattle.top_acts.proofs.Closes.{broken_again, closed_then, counted-none, few, label_again, still_held, turns_again}
 use Rattle.top_acts.proofs.InTurn.{in_turn-none}

@@ -2,7 +2,8 @@ use Rattle.std.proofs.Common.{◌≡◌, ◌∙◌, ap, subst, sym, true, false,
 use Rattle.std.proofs.lemmas.Bool.{eqb-true, eq-eqb}
 use Rattle.top_close.specs.Ended.{IsLossBy, states_of}
 use Rattle.top_rounds.specs.Labels.{with_round}
-use Rattle.top_rounds.specs.Passes.{IsFirstInUse, LosesDevice}
+use Rattle.top_rounds.specs.Passes.{IsFirstInUse}
+use Rattle.top_close.specs.Settled.{LosesDevice}
 use Rattle.top_rounds.specs.Rounds.{HaveRounds, clean_in_end, live_count}
 use Rattle.top_rounds.proofs.RoundLaws.{can-after}
 use Rattle.top_acts.proofs.Closes.{counted-none}

@@ -1,6 +1,7 @@
 use Rattle.std.proofs.Common.{refl, true, false}
 use Rattle.std.proofs.lemmas.Option.{slice_get_within}
-use Rattle.top_rounds.specs.Passes.{IsFirstInUse, LosesDevice}
+use Rattle.top_rounds.specs.Passes.{IsFirstInUse}
+use Rattle.top_close.specs.Settled.{LosesDevice}
 use Rattle.top_rounds.proofs.RoundLaws.{can-after}
 use Rattle.top_acts.proofs.Closes.{closed_then, counted-none}
 use Rattle.top_acts.proofs.Ended.{closed_lost, counted_settled}

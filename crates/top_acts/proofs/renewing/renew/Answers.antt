@@ -1,6 +1,6 @@
 use Rattle.std.proofs.Common.{◌≡◌, ◌∙◌, refl, subst, sym, Some, None}
 use Rattle.top_close.specs.Ended.{IsLossBy, states_of}
-use Rattle.top_rounds.specs.Passes.{LosesDevice}
+use Rattle.top_close.specs.Settled.{LosesDevice}
 use Rattle.top_rounds.proofs.RoundLaws.{can-after}
 use Rattle.top_acts.specs.Begun.{MayBegin}
 use Rattle.top_acts.specs.Renewed.{sweep_of}

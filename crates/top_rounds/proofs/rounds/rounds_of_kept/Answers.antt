@@ -5,7 +5,8 @@ use Rattle.raid_label.specs.declared.label.Label.{Label}
 use Rattle.top_close.specs.Dying.{AnyCause}
 use Rattle.top_close.specs.Ended.{states_of}
 use Rattle.top_rounds.specs.Labels.{with_round}
-use Rattle.top_rounds.specs.Passes.{IsFirstInUse, LosesDevice}
+use Rattle.top_rounds.specs.Passes.{IsFirstInUse}
+use Rattle.top_close.specs.Settled.{LosesDevice}
 use Rattle.top_rounds.proofs.RoundLaws.{any_death, can-after, lost_clean, round_again, rounds_are, rounds_lost, settable_after}
 use Rattle.top_rounds.proofs.rounds.rounds_of_kept.Goals as goal
 

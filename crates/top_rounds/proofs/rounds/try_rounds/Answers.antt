@@ -1,6 +1,7 @@
 use Rattle.std.proofs.Common.{ap, refl}
 use Rattle.raid_label.specs.declared.label.Label.{Label}
-use Rattle.top_rounds.specs.Passes.{IsFirstInUse, LosesDevice}
+use Rattle.top_rounds.specs.Passes.{IsFirstInUse}
+use Rattle.top_close.specs.Settled.{LosesDevice}
 use Rattle.top_rounds.proofs.RoundLaws.{can-after, fewer, round_kept, rounds_whole, tried-more, tried-none}
 use Rattle.top_rounds.proofs.rounds.try_rounds.Goals as goal
 

@@ -4,7 +4,7 @@ use Rattle.std.proofs.lemmas.Bool.{cases_lt}
 use Rattle.blk_disk.specs.Devices.{StaysIf}
 use Rattle.top_fetch.specs.Answers.{RefusedAs}
 use Rattle.top_fetch.specs.Fetched.{there_is}
-use Rattle.top_scan.proofs.LooksInTurn.{all_stay, all_there, looked_more, none_looked, not_yet, refused_there, some_eq, there_same}
+use Rattle.top_scan.proofs.LooksInTurn.{all_stay, all_there, looked_behind, looked_more, none_looked, not_yet, refused_there, some_eq, there_same}
 use Rattle.top_scan.proofs.looking.look_at_all.Goals as goal
 
 pub loop-place-init : goal.loop-place-init
@@ -92,3 +92,21 @@ returns-clause-looked g c = c.loop-place.invariant.looked
 pub returns-clause-stays : goal.returns-clause-stays
 returns-clause-stays g c = λ told n.
     all_stay g.B.D.Disk g.B.Bay.tells (g.B.Bay.home c.args.bay.now) (g.B.Bay.home c.loop-place.bay) c.args.names.now c.loop-place.fronts.items told c.loop-place.invariant.looked n
+
+pub returns-in-Err-clause-part : goal.returns-in-Err-clause-part
+returns-in-Err-clause-part g c =
+    let B = g.B.Bay in
+    (c.loop-place.fronts.items, looked_behind g.B.D.Disk B.tells c.args.names.now (B.home c.args.bay.now) (B.home c.loop-place.bay) (B.home c.look_at.new.bay) c.loop-place.fronts.items c.in-Err.ensures.same c.loop-place.invariant.looked)
+
+pub returns-in-Err-push-clause-part : goal.returns-in-Err-push-clause-part
+returns-in-Err-push-clause-part g c =
+    let B = g.B.Bay in
+    let names = c.args.names.now in
+    let fronts = c.loop-place.fronts.items in
+    let front = c.in-Ok.front in
+    let name : List ℕ = c.name_at.result.now in
+    let at : slice_get names (length fronts) ≡ Some name = ap (λ (j : ℕ). slice_get names j) c.loop-place.invariant.count ∙ c.name_at.ensures in (
+      fronts ++ front ∷ [],
+      looked_more g.B.D.Disk B.tells names c.requires (B.home c.args.bay.now) (B.home c.loop-place.bay) (B.home c.look_at.new.bay) fronts (fronts ++ front ∷ []) front name refl at
+          c.loop-place.invariant.looked c.in-Ok.ensures.looked c.in-Ok.ensures.homes,
+    )
