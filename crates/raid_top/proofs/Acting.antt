@@ -25,7 +25,8 @@ use Rattle.raid_top.specs.Outcome.{Outcome}
 use Rattle.raid_top.specs.Refused.{IsRefusedOf}
 use Rattle.raid_top.specs.Served.{IsPerformed, IsMemory}
 use Rattle.raid_top.proofs.Backs.{back_are_named, home_as_it_was}
-use Rattle.raid_top.proofs.Losing.{loses_gone}
+use Rattle.raid_top.proofs.Caused.{are_caused}
+use Rattle.raid_top.proofs.Ordered.{IsInOrder}
 use Rattle.raid_top.proofs.Reading.{reads_still}
 use Rattle.raid_top.proofs.Wanted.{asked_is, asked_made, wants_memory}
 
@@ -38,8 +39,8 @@ module _ {D : Type 0} (g : Ghosts D) (b : Told D) (command : Command) (mid : Tex
   still : Changes g (λ _ _. ⊥) taken.taken old
   still = reads_still g taken.taken old old fronts (reads_fronts k.command.action) taken.read
 
-  pub acted_of : (o : Outcome) → length old ≡ length (names_for k) → IsPerformed g b.tells mid b.after (names_for k) duty fronts old o → Acted g b command o
-  acted_of o many d =
+  pub acted_of : (o : Outcome) → IsInOrder duty → length old ≡ length (names_for k) → IsPerformed g b.tells mid b.after (names_for k) duty fronts old o → Acted g b command o
+  acted_of o order many d =
       record {
         duty = duty;
         fronts = fronts;
@@ -54,7 +55,7 @@ module _ {D : Type 0} (g : Ghosts D) (b : Told D) (command : Command) (mid : Tex
         others = λ t. subst (λ (x : Asked). (n : Text) → (Contains (names_for x) n → ⊥) → b.after n ≡ b.home n) (sym same)
             (others_home b.home mid b.after (names_for k) taken.taken d.back (d.count ∙ still.count) (taken.others t) (d.put t));
         does = d.does;
-        loses = loses_gone g duty fronts old d.back o d.does;
+        causes = are_caused g duty fronts old d.back o order d.does;
       }
 
   -- they are back as they were looked at

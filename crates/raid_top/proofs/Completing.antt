@@ -105,7 +105,7 @@ module _ {D : Type 0} (g : Ghosts D) (b : Told D) (words : List Text) (told : b.
   refused_well : (i : Invocation) (r : Refused) → IsRightFor g b i → RefusedBy g b i r → r.status ≡ status.Memory
   refused_well (Tell topic) r right h = absurd h
   refused_well (OnArray command) r right h = command_refused g b command told right sound r h
-  refused_well (Scan list) r right h = wanted_refused b.rose _ right.0 r sound right.1 h
+  refused_well (Scan list) r right h = wanted_refused b.rose _ right.0 r sound right.1 h.0
   refused_well (Simulate name order) r right h = wanted_refused b.rose _ right.0 r sound right.1 h.0
 
   module _ (right : IsRight g b words) where

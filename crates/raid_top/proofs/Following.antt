@@ -8,7 +8,7 @@ use Rattle.sim_queue.specs.declared.request.Queue.{Queue}
 use Rattle.top_fetch.specs.Answers.{IsEarly, RefusedAs}
 use Rattle.top_fetch.specs.Told.{Told}
 use Rattle.top_scan.specs.Looks.{AreLookedAt}
-use Rattle.top_scan.specs.Scanned.{IsComplete, names_in}
+use Rattle.top_scan.specs.Scanned.{IsComplete, IsScannedInPart, names_in}
 use Rattle.top_scan.specs.declared.scanning.Scanned.{Scanned}
 use Rattle.top_sim.specs.Asked.{workload_by}
 use Rattle.top_sim.specs.Simulated.{IsSimulated, workload_in}
@@ -78,11 +78,11 @@ module _ {D : Type 0} (g : Ghosts D) (b : Told D) where
   }
 
   pub scan_refused : (list : Text) (s : Status) → IsEarly s → (s ≡ status.BayFault → b.rose) → (b.tells → RefusedAs s (names_in b.texts b.home list))
-      → (b.tells → (n : Text) → StaysIf g (λ _. ⊥) (b.home n) (b.after n)) → IsRefusedOf g b (Scan list) (only s)
-  scan_refused list s early cause wanted same = record {
+      → (b.tells → IsScannedInPart g b.tells b.texts b.home b.after list) → (b.tells → (n : Text) → StaysIf g (λ _. ⊥) (b.home n) (b.after n)) → IsRefusedOf g b (Scan list) (only s)
+  scan_refused list s early cause wanted part same = record {
     kind = early_is b.rose s early cause;
     told = λ topic. topic;
-    cause = λ told. refused_as b.rose s (names_in b.texts b.home list) early cause (wanted told);
+    cause = λ told. (refused_as b.rose s (names_in b.texts b.home list) early cause (wanted told), part told);
     same = same;
   }
 

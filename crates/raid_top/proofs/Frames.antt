@@ -58,7 +58,7 @@ module _ {D : Type 0} (g : Ghosts D) where
     it_moves None o h = absurd h
 
     pub run_moves : (newest : Option Label) (o : Outcome) → DoesRun g a failed old back newest o → Moves old back
-    run_moves None (Ran action s) h = moved _ old back h.1.ran.ends.frame
+    run_moves None (Ran action s) h = moved _ old back h.1.ran.leaves.frame
     run_moves None (Did act e) h = absurd h
     run_moves (Some l) (Ran action s) h = moved _ old back h.1.ran.leaves.frame
     run_moves (Some l) (Did act e) h = moved _ old back h.1.frame

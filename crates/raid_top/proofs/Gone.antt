@@ -1,11 +1,10 @@
 -- The columns of a loss are gone in the end.
-use Rattle.std.proofs.Common.{◌≡◌, ◌⊎◌, ◌∙◌, ℕ, zero, suc, ◌<◌, arith, List, Bool, true, false, Option, Some, None, refl, sym, ap, subst, inl, inr}
-use Rattle.std.specs.Prelude.{min, max, slice_get, option_map, ◌==◌}
-use Rattle.std.proofs.lemmas.Bool.{and_from, cases_lt, or_left, or_right, eq-eqb}
-use Rattle.std.proofs.Math.Nat.{max-eq_left, max-eq_right, min-eq_left, min-eq_right}
-use Rattle.std.proofs.lemmas.Option.{slice_get-map}
+use Rattle.std.proofs.Common.{◌≡◌, ◌⊎◌, ◌∙◌, ℕ, zero, suc, ◌<◌, arith, List, length, Bool, true, false, Option, Some, None, refl, sym, ap, subst, inl, inr}
+use Rattle.std.specs.Prelude.{slice_get, option_map, ◌==◌, IsSome}
+use Rattle.std.proofs.lemmas.Bool.{and_from, or_left, or_right, eq-eqb}
+use Rattle.std.proofs.lemmas.Option.{slice_get-get_or, slice_get-map}
 use Rattle.lay_core.specs.declared.place.Place.{Place}
-use Rattle.lay_core.specs.Layout.{Shape}
+use Rattle.lay_core.specs.Layout.{Shape, IsLayout}
 use Rattle.eng_cols.specs.declared.column.Column.{Column}
 use Rattle.eng_cols.specs.declared.column.Column.TheVariants as column
 use Rattle.eng_cols.specs.declared.spot.Loss.{Loss}
@@ -14,10 +13,34 @@ use Rattle.eng_cols.specs.Lost.{IsLost}
 use Rattle.eng_cols.specs.Seats.{stands_for, spare_stands, available_on, is_available, is_place_on, IsStripeOf, IsWhole}
 use Rattle.top_close.specs.Closes.{SpreadEnds, FillingEnds, ClosesAs}
 use Rattle.top_close.specs.Ended.{states_of}
-use Rattle.raid_top.specs.Losses.{AreGone, IsGone, IsSpareOut}
+use Rattle.top_close.proofs.LackingLaws.{min_or, max_or}
+use Rattle.raid_top.specs.Losses.{IsLostByDead, IsLostOn}
 
 false_is : {A : Type 0} → false ≡ true → A
 false_is h = absurd (let u : ⊥ = cc in u)
+
+-- no device stands for the column
+abbrev pub IsOut : List Column → ℕ → Type 0
+IsOut cols c = (d : ℕ) → slice_get cols c ≡ Some (column.Live d) → ⊥
+
+-- nor for the column of the spare place, if there is one
+abbrev pub IsSpareOut : List Column → Option Place → Type 0
+IsSpareOut cols None = Unit {0}
+IsSpareOut cols (Some p) = IsOut cols p.column
+
+-- A unit of the stripe lies on the column and is missing: no device stands for the column; and where it's spread, none does for that of the stripe's spare place.
+pub record IsGone (y : Shape) (cols : List Column) (s c : ℕ) : Type 0 where
+  pub unit : ℕ
+  pub below : unit < y.width
+  pub lies : (y.place s unit).column ≡ c
+  pub out : IsOut cols c
+  pub spare : slice_get cols c ≡ Some column.Spread → IsSpareOut cols (y.spare s)
+
+-- so it is of both columns of a loss
+pub record AreGone (y : Shape) (cols : List Column) (loss : Loss) : Type 0 where
+  pub stripe : loss.stripe < y.stripes
+  pub first : IsGone y cols loss.stripe loss.first
+  pub second : IsGone y cols loss.stripe loss.second
 
 -- ## Stripes of a column
 
@@ -63,24 +86,14 @@ module _ (y : Shape) (was mid : List ColumnState) (last : List Column) (s i : �
 
   pub is_gone : IsGone y last s (y.place s i).column
   is_gone = record {
+    unit = i;
+    below = within;
+    lies = refl;
     out = λ d live. never (stands_available y was (slice_get was c) s (ends.live c d (lies_on y mid s i within) live));
     spare = λ is. spare_out is (y.spare s) refl;
   }
 
 -- ## Both
-
--- what is so of two numbers is so of the lesser and of the greater
-min_or : (P : ℕ → Type 0) (a b c : ℕ) → c ≡ min a b → P a → P b → P c
-min_or P a b c e pa pb = elim (cases_lt a b) [
-  | inl lt ↦ subst P (sym (e ∙ min-eq_left (omega (arith, lt)))) pa
-  | inr ge ↦ subst P (sym (e ∙ min-eq_right (omega (arith, ge)))) pb
-]
-
-max_or : (P : ℕ → Type 0) (a b c : ℕ) → c ≡ max a b → P a → P b → P c
-max_or P a b c e pa pb = elim (cases_lt a b) [
-  | inl lt ↦ subst P (sym (e ∙ max-eq_right (omega (arith, lt)))) pb
-  | inr ge ↦ subst P (sym (e ∙ max-eq_left (omega (arith, ge)))) pa
-]
 
 -- both columns of a loss are gone
 pub are_gone : (y : Shape) (was mid : List ColumnState) (last : List Column) (loss : Loss) → IsLost y was loss → Ends y was mid last loss.stripe → AreGone y last loss
@@ -88,6 +101,7 @@ are_gone y was mid last loss lost ends =
     let one = is_gone y was mid last loss.stripe lost.i ends lost.units.within.0 lost.units.missing.0 in
     let two = is_gone y was mid last loss.stripe lost.j ends lost.units.within.1 lost.units.missing.1 in
     record {
+      stripe = lost.stripe;
       first = min_or (λ c. IsGone y last loss.stripe c) _ _ loss.first lost.first one two;
       second = max_or (λ c. IsGone y last loss.stripe c) _ _ loss.second lost.second one two;
     }
@@ -102,7 +116,7 @@ done_all (suc n) (suc s) h = done_all n s (omega (arith, h))
 set_live : (y : Shape) (cols : List Column) (c d : ℕ) → slice_get cols c ≡ Some (column.Live d) → slice_get (states_of y cols) c ≡ Some (Live d)
 set_live y cols c d h = slice_get-map (state_set y.stripes) cols c ∙ ap (option_map (state_set y.stripes)) h
 
-set_spread : (y : Shape) (cols : List Column) (c : ℕ) → slice_get cols c ≡ Some column.Spread → slice_get (states_of y cols) c ≡ Some (Spread (all_done y.stripes))
+pub set_spread : (y : Shape) (cols : List Column) (c : ℕ) → slice_get cols c ≡ Some column.Spread → slice_get (states_of y cols) c ≡ Some (Spread (all_done y.stripes))
 set_spread y cols c h = slice_get-map (state_set y.stripes) cols c ∙ ap (option_map (state_set y.stripes)) h
 
 set_ends : (y : Shape) (cols : List Column) (s : ℕ) → s < y.stripes → Ends y (states_of y cols) (states_of y cols) cols s
@@ -200,3 +214,41 @@ module _ (y : Shape) (was now : List ColumnState) (kept last : List Column) (clo
 pub run_are_gone : (y : Shape) (was now : List ColumnState) (kept last : List Column) (loss : Loss) → IsLost y was loss → ClosesAs y now kept
     → ((c : ℕ) → (slice_get now c ≡ slice_get was c) ⊎ (slice_get now c ≡ Some Dead)) → ((c : ℕ) → (slice_get last c ≡ slice_get kept c) ⊎ (slice_get last c ≡ Some column.Dead)) → AreGone y last loss
 run_are_gone y was now kept last loss lost closes same die = are_gone y was closes.mid last loss lost (run_ends y was now kept last closes same die loss.stripe lost.stripe)
+
+-- ## What they are in the end
+
+-- There is one column for each of the layout's; none is filling, at most one is spread, and then each stripe has a spare place.
+pub record AreOrdered (y : Shape) (cols : List Column) : Type 0 where
+  pub count : length cols ≡ y.columns
+  pub filling : (c d : ℕ) → slice_get cols c ≡ Some (column.Filling d) → ⊥
+  pub spread : (c k : ℕ) → slice_get cols c ≡ Some column.Spread → slice_get cols k ≡ Some column.Spread → c ≡ k
+  pub spares : (c s : ℕ) → slice_get cols c ≡ Some column.Spread → s < y.stripes → IsSome (y.spare s)
+
+-- a column that is there is something
+there : {A : Type 0} (cols : List Column) (c : ℕ) → c < length cols → slice_get cols c ≡ None → A
+there cols c within none = let z : Some _ ≡ None = sym (slice_get-get_or cols c column.Dead within) ∙ none in absurd (let u : ⊥ = cc in u)
+
+module _ (y : Shape) (law : IsLayout y) (cols : List Column) (order : AreOrdered y cols) (s c : ℕ) (stripe : s < y.stripes) (gone : IsGone y cols s c) where
+  spare_dead : slice_get cols c ≡ Some column.Spread → (p : Place) → y.spare s ≡ Some p → IsOut cols p.column → (o : Option Column) → slice_get cols p.column ≡ o → slice_get cols p.column ≡ Some column.Dead
+  spare_dead spread p e out (Some (column.Live d)) is = absurd (out d is)
+  spare_dead spread p e out (Some column.Dead) is = is
+  spare_dead spread p e out (Some (column.Filling d)) is = absurd (order.filling p.column d is)
+  spare_dead spread p e out (Some column.Spread) is = absurd (law.spare_column s gone.unit p stripe gone.below e (gone.lies ∙ order.spread c p.column spread is))
+  spare_dead spread p e out None is = there cols p.column (subst (λ n. p.column < n) (sym order.count) (law.spare_within s p stripe e).0) is
+
+  over : slice_get cols c ≡ Some column.Spread → (o : Option Place) → y.spare s ≡ o → IsSpareOut cols o → (p : Place) × (y.spare s ≡ Some p) × (slice_get cols p.column ≡ Some column.Dead)
+  over spread None e out = false_is (subst IsSome e (order.spares c s spread stripe))
+  over spread (Some p) e out = (p, e, spare_dead spread p e out (slice_get cols p.column) refl)
+
+  lost_on : (o : Option Column) → slice_get cols c ≡ o → IsLostOn y cols s c
+  lost_on (Some (column.Live d)) is = absurd (gone.out d is)
+  lost_on (Some column.Dead) is = inl is
+  lost_on (Some (column.Filling d)) is = absurd (order.filling c d is)
+  lost_on (Some column.Spread) is = inr (is, over is (y.spare s) refl (gone.spare is))
+  lost_on None is = there cols c (subst (λ n. c < n) (sym order.count) (subst (λ k. k < y.columns) gone.lies (law.within s gone.unit stripe gone.below).0)) is
+
+pub lost_by_dead : (y : Shape) (cols : List Column) (loss : Loss) → IsLayout y → AreOrdered y cols → AreGone y cols loss → IsLostByDead y cols loss
+lost_by_dead y cols loss law order gone = record {
+  first = lost_on y law cols order loss.stripe loss.first gone.stripe gone.first (slice_get cols loss.first) refl;
+  second = lost_on y law cols order loss.stripe loss.second gone.stripe gone.second (slice_get cols loss.second) refl;
+}

@@ -2,6 +2,7 @@ mod Endings
 mod Frames
 mod Reading
 mod Wanted
+mod Deaths
 mod Surviving
 mod Rebuilds
 mod Setups
@@ -17,6 +18,8 @@ mod Runs
 mod Keeping
 mod Gone
 mod Losing
+mod Ordered
+mod Caused
 mod Acting
 mod Refusing
 mod Following

@@ -13,7 +13,7 @@ use Rattle.top_acts.specs.declared.done.Done.{Done}
 use Rattle.top_acts.specs.declared.sweeping.Renewal.{Renewal}
 use Rattle.top_close.specs.Closes.{ClosesAs}
 use Rattle.top_close.specs.Ended.{IsLossBy, states_of}
-use Rattle.top_duty.specs.Duty.{Admitted, Duty, OnArray, Shows, OneLabel, PrintConf, columns_of, layout_of}
+use Rattle.top_duty.specs.Duty.{Admitted, OnArray, columns_of, layout_of}
 use Rattle.top_duty.specs.Start.{has_failed}
 use Rattle.top_open.specs.declared.fronts.Front.{Front}
 use Rattle.top_run.specs.Ran.{IsLossAtEnd}
@@ -23,11 +23,14 @@ use Rattle.top_words.specs.declared.profile.Deed.{Deed}
 use Rattle.top_words.specs.declared.profile.Deed.TheVariants as deed
 use Rattle.raid_top.specs.Arrays.{DoesOrder, Renews}
 use Rattle.raid_top.specs.Does.{Does, DoesDeed, DoesIt, DoesRun, order_of}
-use Rattle.raid_top.specs.Losses.{AreGone, LosesGone, LossIsOfGone}
+use Rattle.raid_top.specs.Losses.{columns_in_end, loss_of}
 use Rattle.raid_top.specs.Outcome.{Outcome, Ran, Did, Looked}
 use Rattle.raid_top.specs.declared.array.Order.{Order}
 use Rattle.raid_top.specs.declared.array.Order.TheVariants as order
-use Rattle.raid_top.proofs.Gone.{run_are_gone, set_are_gone}
+use Rattle.raid_top.proofs.Gone.{AreGone, run_are_gone, set_are_gone}
+
+abbrev pub LossIsOfGone : Shape → Outcome → Type 0
+LossIsOfGone y o = (loss : Loss) → loss_of o ≡ Some loss → AreGone y (columns_in_end o) loss
 
 -- what died for a cause is what it was, or dead
 only_dies : (cause : ℕ → Type 0) (old new : List Column) → Dies cause old new → (c : ℕ) → (slice_get new c ≡ slice_get old c) ⊎ (slice_get new c ≡ Some column.Dead)
@@ -69,7 +72,7 @@ module _ {D : Type 0} (g : Ghosts D) where
   module _ (a : Admitted) (failed : Bool) (old back : List (Option D)) where
     run_gone : (newest : Option Label) (o : Outcome) → DoesRun g a failed old back newest o → LossIsOfGone (layout_of a) o
     run_gone None (Ran action s) h loss is =
-        let r = h.1.ran in
+        let r = h.1.ran.run in
         run_loss (layout_of a) r.now r.ends.kept s.ending.columns r.ends.closes _ r.ends.dies s.ending.lost loss is r.ends.lost
     run_gone None (Did act e) h loss is = absurd h
     run_gone (Some newest) (Ran action s) h loss is =
@@ -96,9 +99,6 @@ module _ {D : Type 0} (g : Ghosts D) where
     deed_gone deed.Kills it o h = it_gone it o h
     deed_gone (deed.Labels serial) it o h = it_gone it o h
 
-  pub loses_gone : (duty : Duty) (fronts : List Front) (old back : List (Option D)) (o : Outcome) → Does g duty fronts old back o → LosesGone duty o
-  loses_gone (OnArray a) fronts old back o h =
+  pub array_gone : (a : Admitted) (fronts : List Front) (old back : List (Option D)) (o : Outcome) → Does g (OnArray a) fronts old back o → LossIsOfGone (layout_of a) o
+  array_gone a fronts old back o h =
       deed_gone a (has_failed a.start fronts) old back (profile_of a.asked.command.action).deed (order_of g a (has_failed a.start fronts) old back a.asked.command.action) o h
-  loses_gone (Shows k opened) fronts old back o h = tt
-  loses_gone (OneLabel k) fronts old back o h = tt
-  loses_gone (PrintConf k) fronts old back o h = tt

@@ -32,7 +32,7 @@ use Rattle.top_duty.specs.Opening.{needs_of}
 use Rattle.top_serve.specs.Setups.{HasTarget}
 use Rattle.top_labelled.specs.Begun.{IsSeated}
 use Rattle.top_labelled.specs.Given as given
-use Rattle.raid_top.proofs.Surviving.{dies_named}
+use Rattle.raid_top.proofs.Deaths.{dies_named}
 
 -- ## What isn't lost with a column dead isn't lost as it is
 

@@ -25,6 +25,7 @@ module _ {D : Type 0} (g : Ghosts D) (b : Told D) where
   call_refused words i r is refused = record {
     kind = refused.kind;
     usage = λ case none. absurd (let z : ⊥ = cc (is, none) in z);
+    untouched = λ case none. absurd (let z : ⊥ = cc (is, none) in z);
     told = λ topic tells. refused.told (subst (λ (x : Invocation). IsTopic x) (one (Tell topic) i (sym tells ∙ is)) tt);
     cause = λ t other also. subst (λ (x : Invocation). RefusedBy g b x r) (one i other (sym is ∙ also)) (refused.cause t);
     same = refused.same;
@@ -34,7 +35,7 @@ module _ {D : Type 0} (g : Ghosts D) (b : Told D) where
   by_memory : (words : List Text) (i : Invocation) → AreUntouched g b → ((topic : Topic) → invocation_of words ≡ Ok (Tell topic) → ⊥) → invocation_of words ≡ Ok i → RefusedBy g b i (only status.Memory)
   by_memory words (Tell topic) same told is = told topic is
   by_memory words (OnArray command) same told is = inr (inr (inl (refl, inl same)))
-  by_memory words (Scan list) same told is = inr (inr refl)
+  by_memory words (Scan list) same told is = (inr (inr refl), inl same)
   by_memory words (Simulate name order) same told is = (inr (inr refl), same)
 
   -- the words are refused by themselves, or there was no memory to read them
@@ -43,6 +44,7 @@ module _ {D : Type 0} (g : Ghosts D) (b : Told D) where
   words_refused words (fault.Usage i) usage told same = record {
     kind = tt;
     usage = λ j e. inl (let case : i ≡ j = (let both : ◌≡◌ {A = Result Invocation ℕ} (Err i) (Err j) = sym (usage i refl) ∙ e in cc both) in ap (λ (k : ℕ). only (status.Usage k)) case);
+    untouched = λ j e t. same;
     told = told;
     cause = λ t other is. absurd (let z : ⊥ = cc (is, usage i refl) in z);
     same = λ t n. same_stays g (b.home n) (b.after n) (same n);
@@ -50,6 +52,7 @@ module _ {D : Type 0} (g : Ghosts D) (b : Told D) where
   words_refused words fault.Memory usage told same = record {
     kind = tt;
     usage = λ j e. inr refl;
+    untouched = λ j e t. same;
     told = told;
     cause = λ t other is. by_memory words other same told is;
     same = λ t n. same_stays g (b.home n) (b.after n) (same n);

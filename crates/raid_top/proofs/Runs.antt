@@ -71,7 +71,7 @@ module _ {D : Type 0} (g : Ghosts D) (k : Asked) (o : Opened) (start : Option St
   some : (seed clients ops workers : ℕ) → k.command.action ≡ Sweep seed clients ops workers → 0 < clients
   some seed clients ops workers is = let range : AreNumbersInRange (Sweep seed clients ops workers) = subst (λ (x : Action). AreNumbersInRange x) is within.action in omega (arith, range.drawn.0)
 
-  runs_plain : (s : Service) → run.Ran g (work_of a) old s back → RunsPlain g a failed old back s
+  runs_plain : (s : Service) → run.RanPlain g (work_of a) old s back → RunsPlain g a failed old back s
   runs_plain s ran = record {
     ran = ran;
     answered = answered g (work_of a) old back s ran;

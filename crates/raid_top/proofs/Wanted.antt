@@ -19,7 +19,8 @@ use Rattle.top_open.specs.declared.fronts.Front.{Front}
 use Rattle.top_status.specs.declared.status.Status.TheVariants as status
 use Rattle.top_status.specs.Refusals.{Refused, ◌then◌, only}
 use Rattle.top_words.specs.Asked.{Action, Command, Io, Sweep, Show, Init, Check, Rewrite, Print, Fail, ShowLabel, Label as Labels, Rebuild}
-use Rattle.top_duty.specs.Duty.{Admitted, ComesOfJoins, Duty, OnArray, Shows, OneLabel, PrintConf, IsWanted, LossIs, WantsMemory, admitted_with, asked_of, beside_dead, duty_by, duty_for, duty_in, first_of, if_apart, if_past, is_past_bound, is_short, judged, judged_states, layout_of, unless, with_joined}
+use Rattle.top_close.specs.Ended.{IsLossBy}
+use Rattle.top_duty.specs.Duty.{Admitted, ComesOfJoins, Duty, OnArray, Shows, OneLabel, PrintConf, IsWanted, WantsMemory, admitted_with, asked_of, beside_dead, duty_by, duty_for, duty_in, first_of, if_apart, if_past, is_past_bound, is_short, judged, judged_states, layout_of, unless, with_joined}
 use Rattle.top_duty.specs.Opening.{kind_of, needs_for, needs_of, opened_by, sizes_in}
 use Rattle.top_duty.specs.Start.{free_spare, has_places, onto_spare, rebuild_if, start_by, start_in}
 use Rattle.top_words.specs.declared.profile.Kind.{Kind}
@@ -30,7 +31,7 @@ use Rattle.top_words.specs.declared.profile.Kind.TheVariants as kind
 record IsKept (a : Admitted) (d : Duty) : Type 0 where
   views : List View
   is : OnArray (record a { joined = views }) ≡ d
-  loss : LossIs (layout_of a) (judged_states a) None
+  loss : IsLossBy (layout_of a) None (judged_states a) None
   found : is_short a ≡ false
   joins : ComesOfJoins a (Ok views)
   bound : is_past_bound (record a { joined = views }) ≡ false
@@ -53,7 +54,7 @@ past_or true d e r h = absurd (let z : ⊥ = cc h in z)
 past_or false d e r h = (refl, cc h)
 
 -- and if graphs are joined, or aren't
-module _ (a : Admitted) (d : Duty) (loss : LossIs (layout_of a) (judged_states a) None) (found : is_short a ≡ false) where
+module _ (a : Admitted) (d : Duty) (loss : IsLossBy (layout_of a) None (judged_states a) None) (found : is_short a ≡ false) where
   apart_or : (joined : Result (List View) At) → ComesOfJoins a joined
       → Ok d ≡ unless (first_of (if_apart a joined ∷ if_past (with_joined a joined) ∷ [])) (OnArray (with_joined a joined)) → IsKept a d
   apart_or (Err at) comes h = absurd (let z : ⊥ = cc h in z)
@@ -62,13 +63,13 @@ module _ (a : Admitted) (d : Duty) (loss : LossIs (layout_of a) (judged_states a
       record { views = views; is = last.1; loss = loss; found = found; joins = comes; bound = last.0 }
 
 -- and if there is somewhere to rebuild to, or not
-short_or : (a : Admitted) (d : Duty) (joined : Result (List View) At) → LossIs (layout_of a) (judged_states a) None → (is_short a ≡ false → ComesOfJoins a joined) → (b : Bool) → is_short a ≡ b
+short_or : (a : Admitted) (d : Duty) (joined : Result (List View) At) → IsLossBy (layout_of a) None (judged_states a) None → (is_short a ≡ false → ComesOfJoins a joined) → (b : Bool) → is_short a ≡ b
     → Ok d ≡ unless (first_of ((if b then Some (only status.NoSpare) else None) ∷ if_apart a joined ∷ if_past (with_joined a joined) ∷ [])) (OnArray (with_joined a joined)) → IsKept a d
 short_or a d joined loss comes true is h = absurd (let z : ⊥ = cc h in z)
 short_or a d joined loss comes false is h = apart_or a d loss is joined (comes is) h
 
 -- and if it isn't lost
-kept_or : (a : Admitted) (d : Duty) (joined : Result (List View) At) (l : Option Loss) → LossIs (layout_of a) (judged_states a) l → (l ≡ None → is_short a ≡ false → ComesOfJoins a joined)
+kept_or : (a : Admitted) (d : Duty) (joined : Result (List View) At) (l : Option Loss) → IsLossBy (layout_of a) None (judged_states a) l → (l ≡ None → is_short a ≡ false → ComesOfJoins a joined)
     → Ok d ≡ judged (OnArray a) l joined → IsKept a d
 kept_or a d joined None loss comes h = short_or a d joined loss (comes refl) (is_short a) refl h
 kept_or a d joined (Some x) loss comes h = absurd (let z : ⊥ = cc h in z)
@@ -133,7 +134,7 @@ module _ (a : Admitted) (d : Duty) (r : Refused) (kept : IsKept a d) where
   refused_short joined is true found h = cc found
   refused_short joined is false found h = refused_apart joined is h
 
-  refused_not : (joined : Result (List View) At) (l : Option Loss) → LossIs (layout_of a) (judged_states a) l → (l ≡ None → is_short a ≡ false → ComesOfJoins a joined)
+  refused_not : (joined : Result (List View) At) (l : Option Loss) → IsLossBy (layout_of a) None (judged_states a) l → (l ≡ None → is_short a ≡ false → ComesOfJoins a joined)
       → Err r ≡ judged (OnArray a) l joined → ⊥
   refused_not joined None is comes h =
       refused_short joined
@@ -142,7 +143,7 @@ module _ (a : Admitted) (d : Duty) (r : Refused) (kept : IsKept a d) where
   refused_not joined (Some loss) is comes h = lost-excludes (layout_of a) (judged_states a) loss is kept.loss
 
 not_refused : (due d : Duty) (r : Refused) (l : Option Loss) (joined : Result (List View) At) → IsJudged due d
-    → ((a : Admitted) → due ≡ OnArray a → LossIs (layout_of a) (judged_states a) l)
+    → ((a : Admitted) → due ≡ OnArray a → IsLossBy (layout_of a) None (judged_states a) l)
     → ((a : Admitted) → due ≡ OnArray a → l ≡ None → is_short a ≡ false → ComesOfJoins a joined)
     → Err r ≡ judged due l joined → ⊥
 not_refused (OnArray a) d r l joined kept loss comes e = refused_not a d r kept joined l (loss a refl) (comes a refl) e

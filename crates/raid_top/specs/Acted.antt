@@ -13,12 +13,13 @@ use Rattle.top_status.specs.declared.status.Status.{Status}
 use Rattle.top_status.specs.declared.status.Status.TheVariants as status
 use Rattle.top_open.specs.declared.fronts.Front.{Front}
 use Rattle.top_words.specs.Asked.{Check, Command}
-use Rattle.top_duty.specs.Duty.{Admitted, Duty, OnArray, Shows, OneLabel, PrintConf, IsWanted, asked_of, columns_of, duty_in, layout_of, states_in, states_of}
+use Rattle.top_duty.specs.Duty.{Admitted, Duty, OnArray, Shows, OneLabel, PrintConf, IsWanted, asked_of, columns_of, duty_in, layout_of, states_in}
+use Rattle.top_close.specs.Ended.{states_of}
 use Rattle.top_duty.specs.Opening.{needs_of, reads_fronts}
 use Rattle.top_duty.specs.Taken.{Reads}
 use Rattle.top_run.specs.Outliving.{HasFail}
 use Rattle.raid_top.specs.Does.{Does}
-use Rattle.raid_top.specs.Losses.{LosesGone}
+use Rattle.raid_top.specs.Losses.{AreCaused}
 use Rattle.raid_top.specs.Outcome.{Outcome}
 use Rattle.raid_top.specs.Works.{work_of}
 
@@ -40,7 +41,7 @@ module _ {D : Type 0} (g : Ghosts D) (b : Told D) (command : Command) where
     pub others : b.tells → (n : Text) → (Contains (names_for (asked_of duty)) n → ⊥)
         → b.after n ≡ b.home n
     pub does : Does g duty fronts old back o
-    pub loses : LosesGone duty o
+    pub causes : AreCaused g duty old back o
 
 -- ## Completeness
 

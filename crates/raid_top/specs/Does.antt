@@ -35,8 +35,8 @@ module _ {D : Type 0} (g : Ghosts D) where
   module _ (a : Admitted) (failed : Bool) (old back : List (Option D)) where
     -- The clients were served over an array without labels. Where it isn't lost, each item has the reply that it ought to have, and clients that were drawn leave, and are replied, what they would one after another.
     pub record RunsPlain (s : Service) : Type 0 where
-      pub ran : run.Ran g (work_of a) old s back
-      pub answered : s.ending.lost ≡ None → AllAnswered g (work_of a) old back s (run.runs_of g (work_of a) old s back ran)
+      pub ran : run.RanPlain g (work_of a) old s back
+      pub answered : s.ending.lost ≡ None → AllAnswered g (work_of a) old back s ran.run
       pub in_turn : (seed clients ops workers : ℕ) → a.asked.command.action ≡ Sweep seed clients ops workers → s.ending.lost ≡ None
           → SweptInTurn g (work_of a) old s back (decode (layout_of a) (contents_of g old) (states_in a))
 
@@ -75,7 +75,7 @@ module _ {D : Type 0} (g : Ghosts D) where
 
     -- each item of its clients has the reply that it ought to have; nothing but a run has clients
     abbrev pub IsRunAnswered : (newest : Option Label) (o : Outcome) → DoesRun newest o → Type 0
-    IsRunAnswered None (Ran action s) h = AllAnswered g (work_of a) old back s (run.runs_of g (work_of a) old s back h.1.ran)
+    IsRunAnswered None (Ran action s) h = AllAnswered g (work_of a) old back s h.1.ran.run
     IsRunAnswered (Some newest) (Ran action s) h =
         AllAnswered g (opened_as (work_of a) (without a.start h.1.ran.begun) h.1.ran.began) h.1.ran.opened back s h.1.ran.run
     IsRunAnswered newest o h = Unit {0}

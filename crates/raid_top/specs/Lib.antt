@@ -1,3 +1,4 @@
+pub mod Bays
 pub mod Rebuilt
 pub mod Outcome
 pub mod Arrays

@@ -1,31 +1,23 @@
--- The columns of a loss, by those that are left in the end.
-use Rattle.std.specs.Prelude.{◌≡◌, ℕ, List, [], Option, Some, None, slice_get}
+-- Why columns are dead in the end, and by which of them the array is lost.
+use Rattle.std.specs.Prelude.{◌≡◌, ◌⊎◌, ℕ, List, [], Option, Some, None, slice_get}
+use Rattle.blk_disk.specs.Devices.{RisesOn}
+use Rattle.blk_disk.specs.declared.disk.Disk.{Ghosts}
 use Rattle.lay_core.specs.declared.place.Place.{Place}
 use Rattle.lay_core.specs.Layout.{Shape}
 use Rattle.eng_cols.specs.declared.column.Column.{Column}
 use Rattle.eng_cols.specs.declared.column.Column.TheVariants as column
 use Rattle.eng_cols.specs.declared.spot.Loss.{Loss}
-use Rattle.top_duty.specs.Duty.{Duty, OnArray, Shows, OneLabel, PrintConf, layout_of}
+use Rattle.eng_cols.specs.Cols.{ColumnState, HasDevice}
+use Rattle.eng_cols.specs.Deaths.{Dies}
+use Rattle.top_duty.specs.Duty.{Admitted, Duty, OnArray, Shows, OneLabel, PrintConf, columns_of, layout_of, states_in}
+use Rattle.top_duty.specs.Opening.{needs_of}
+use Rattle.top_run.specs.Ran.{begun_in}
+use Rattle.top_run.specs.Told.{IsToldFailed, IsToldUnbuilt}
+use Rattle.top_serve.specs.Setups.{with_rebuilt}
 use Rattle.raid_top.specs.Outcome.{Outcome, Ran, Did, Looked}
+use Rattle.raid_top.specs.Works.{work_of}
 
--- no device stands for the column
-abbrev pub IsOut : List Column → ℕ → Type 0
-IsOut cols c = (d : ℕ) → slice_get cols c ≡ Some (column.Live d) → ⊥
-
--- nor for the column of the spare place, if there is one
-abbrev pub IsSpareOut : List Column → Option Place → Type 0
-IsSpareOut cols None = Unit {0}
-IsSpareOut cols (Some p) = IsOut cols p.column
-
--- A unit of the stripe that lies on the column is missing: no device stands for the column; and where it's spread, none does for that of the stripe's spare place.
-pub record IsGone (y : Shape) (cols : List Column) (s c : ℕ) : Type 0 where
-  pub out : IsOut cols c
-  pub spare : slice_get cols c ≡ Some column.Spread → IsSpareOut cols (y.spare s)
-
--- so it is of both columns of a loss
-pub record AreGone (y : Shape) (cols : List Column) (loss : Loss) : Type 0 where
-  pub first : IsGone y cols loss.stripe loss.first
-  pub second : IsGone y cols loss.stripe loss.second
+-- ## In the end
 
 -- the columns in the end
 abbrev pub columns_in_end : Outcome → List Column
@@ -39,13 +31,60 @@ loss_of (Ran action s) = s.ending.lost
 loss_of (Did act e) = e.lost
 loss_of (Looked text) = None
 
--- Both columns of a loss are gone in the end, however it came to it; why a column is dead then is said where it is said what was done.
-abbrev pub LossIsOfGone : Shape → Outcome → Type 0
-LossIsOfGone y o = (loss : Loss) → loss_of o ≡ Some loss → AreGone y (columns_in_end o) loss
+-- ## Causes
+
+-- an item by which the column fails was replied ok; only a run has items
+abbrev pub WasAskedToFail : Outcome → ℕ → Type 0
+WasAskedToFail (Ran action s) c = IsToldFailed s c
+WasAskedToFail (Did act e) c = ⊥
+WasAskedToFail (Looked text) c = ⊥
+
+-- The action names the column: to fail it; or to rebuild it, and it isn't told to be done.
+abbrev pub WasNamed : Admitted → Outcome → ℕ → Type 0
+WasNamed a (Ran action s) c = IsToldUnbuilt s c
+WasNamed a (Did act e) c = (needs_of a.asked).excused ≡ Some c
+WasNamed a (Looked text) c = ⊥
+
+-- the columns as they are if none dies: as the array was opened, and one that a run rebuilds as its rebuild makes it
+abbrev pub columns_due : Admitted → Outcome → List Column
+columns_due a (Ran action s) = with_rebuilt a.start (columns_of a)
+columns_due a (Did act e) = columns_of a
+columns_due a (Looked text) = columns_of a
+
+-- which of them has which device
+abbrev pub states_due : Admitted → Outcome → List ColumnState
+states_due a (Ran action s) = begun_in (work_of a)
+states_due a (Did act e) = states_in a
+states_due a (Looked text) = states_in a
+
+module _ {D : Type 0} (g : Ghosts D) (a : Admitted) (old back : List (Option D)) (o : Outcome) where
+  -- its device's count of faults rose
+  abbrev pub HasRisen : ℕ → Type 0
+  HasRisen c = (d : ℕ) × HasDevice (states_due a o) c d × RisesOn g old back d
+
+  abbrev pub IsCauseOfDeath : ℕ → Type 0
+  IsCauseOfDeath c = WasNamed a o c ⊎ (WasAskedToFail o c ⊎ HasRisen c)
+
+-- ## A loss
+
+-- The column is dead; or it is spread, and that of the stripe's spare place is dead.
+abbrev pub IsLostOn : Shape → List Column → ℕ → ℕ → Type 0
+IsLostOn y cols s c = (slice_get cols c ≡ Some column.Dead)
+    ⊎ ((slice_get cols c ≡ Some column.Spread) × ((p : Place) × (y.spare s ≡ Some p) × (slice_get cols p.column ≡ Some column.Dead)))
+
+-- so it is with both columns of a loss
+pub record IsLostByDead (y : Shape) (cols : List Column) (loss : Loss) : Type 0 where
+  pub first : IsLostOn y cols loss.stripe loss.first
+  pub second : IsLostOn y cols loss.stripe loss.second
+
+-- Whatever was done and however it came to a loss: in the end each column is what it is if none dies, or is dead for a cause; and both columns of a loss are dead, or spread over a dead one.
+pub record DeathsHaveCauses {D : Type 0} (g : Ghosts D) (a : Admitted) (old back : List (Option D)) (o : Outcome) : Type 0 where
+  pub dies : Dies (IsCauseOfDeath g a old back o) (columns_due a o) (columns_in_end o)
+  pub lost : (loss : Loss) → loss_of o ≡ Some loss → IsLostByDead (layout_of a) (columns_in_end o) loss
 
 -- of an array that something was due with
-abbrev pub LosesGone : Duty → Outcome → Type 0
-LosesGone (OnArray a) o = LossIsOfGone (layout_of a) o
-LosesGone (Shows k opened) o = Unit {0}
-LosesGone (OneLabel k) o = Unit {0}
-LosesGone (PrintConf k) o = Unit {0}
+abbrev pub AreCaused : {D : Type 0} → Ghosts D → Duty → (old back : List (Option D)) → Outcome → Type 0
+AreCaused g (OnArray a) old back o = DeathsHaveCauses g a old back o
+AreCaused g (Shows k opened) old back o = Unit {0}
+AreCaused g (OneLabel k) old back o = Unit {0}
+AreCaused g (PrintConf k) old back o = Unit {0}

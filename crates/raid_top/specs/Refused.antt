@@ -8,7 +8,7 @@ use Rattle.top_status.specs.declared.status.Status.TheVariants as status
 use Rattle.top_status.specs.Refusals.{Refused, only}
 use Rattle.top_duty.specs.Taken.{AreUntouched, RefusedFor}
 use Rattle.top_duty.specs.Views.{IsRefusal}
-use Rattle.top_scan.specs.Scanned.{names_in}
+use Rattle.top_scan.specs.Scanned.{IsScannedInPart, names_in}
 use Rattle.top_sim.specs.Simulated.{workload_in}
 use Rattle.top_words.specs.declared.invocation.Topic.{Topic}
 use Rattle.top_words.specs.Judged.{Invocation, Tell, OnArray, Scan, Simulate, invocation_of}
@@ -23,12 +23,12 @@ IsTopic (Tell topic) = Unit {0}
 IsTopic invocation = ⊥
 
 module _ {D : Type 0} (g : Ghosts D) (b : Told D) where
-  -- why what was asked for is refused, and how devices were called before; none of the program's own
-  -- texts is refused, and no device is called for a simulated disk
+  -- why what was asked for is refused, and how devices were called before: some of a list were looked
+  -- at, and none is called for a simulated disk; none of the program's own texts is refused
   abbrev pub RefusedBy : Invocation → Refused → Type 0
   RefusedBy (Tell topic) r = ⊥
   RefusedBy (OnArray command) r = RefusedFor g b command r
-  RefusedBy (Scan list) r = IsRefusedAs b.rose (names_in b.texts b.home list) r
+  RefusedBy (Scan list) r = IsRefusedAs b.rose (names_in b.texts b.home list) r × IsScannedInPart g b.tells b.texts b.home b.after list
   RefusedBy (Simulate name order) r = IsRefusedAs b.rose (workload_in b.texts name) r × AreUntouched g b
 
   -- It is refused so: for what texts, names, sizes and first sectors call for, or for want of
@@ -40,12 +40,13 @@ module _ {D : Type 0} (g : Ghosts D) (b : Told D) where
     pub cause : b.tells → RefusedBy invocation r
     pub same : b.tells → (n : Text) → StaysIf g (λ _. ⊥) (b.home n) (b.after n)
 
-  -- The call was refused so: the words by themselves where they ask for nothing; else what they ask
-  -- for. None of the program's own texts is refused.
+  -- The call was refused so: the words by themselves where they ask for nothing, and then no device was
+  -- called; else what they ask for. None of the program's own texts is refused.
   pub record CallIsRefused (words : List Text) (r : Refused) : Type 0 where
     pub kind : IsRefusal b.rose r.status
     pub usage : (i : ℕ) → invocation_of words ≡ Err i
         → (r ≡ only (status.Usage i)) ⊎ (r ≡ only status.Memory)
+    pub untouched : (i : ℕ) → invocation_of words ≡ Err i → b.tells → AreUntouched g b
     pub told : (topic : Topic) → invocation_of words ≡ Ok (Tell topic) → ⊥
     pub cause : b.tells → (invocation : Invocation) → invocation_of words ≡ Ok invocation
         → RefusedBy invocation r

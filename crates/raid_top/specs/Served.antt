@@ -56,7 +56,7 @@ MayLabelIf lay disk setup start (Some newest) = MayLabel lay disk setup start ne
 
 -- What came of it, over the devices as they were and as they are in the end: it was served.
 abbrev pub ComesPlain : {D : Type 0} → Ghosts D → Work → (old back : List (Option D)) → Came → Type 0
-ComesPlain g work old back (came.Ran service) = run.Ran g work old (service_seen service) back
+ComesPlain g work old back (came.Ran service) = run.RanPlain g work old (service_seen service) back
 ComesPlain g work old back _ = ⊥
 
 -- The same of an array with labels: it was served, or was lost before that. Whether the device onto which a column is rebuilt has failed before.

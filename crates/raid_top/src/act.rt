@@ -1,10 +1,8 @@
 //! What comes of a command.
 ghost use Rattle.std.specs.Prelude.{◌≡◌, ◌≤◌, length, vec_len, IfOk, IfErr, OnErr};
-ghost use Rattle.blk_disk.specs.Disk.{Rose};
 ghost use Rattle.raid_conf.specs.Form.{IsConf};
 ghost use Rattle.top_bay.specs.Asked.{names_for};
 ghost use Rattle.top_bay.specs.Lent.{AreBack, AreOut};
-ghost use Rattle.top_fetch.specs.Told.{Told};
 ghost use Rattle.top_bay.specs.Views.{asked_seen};
 ghost use Rattle.top_duty.specs.Admitted.{IsAdmitted};
 ghost use Rattle.top_duty.specs.Views.{duty_seen};
@@ -15,6 +13,7 @@ ghost use Rattle.raid_top.specs.Acted.{Acted};
 ghost use Rattle.raid_top.specs.Refused.{IsRefusedOf};
 ghost use Rattle.raid_top.specs.Served.{IsPerformed, IsMemory};
 ghost use Rattle.raid_top.specs.Views.{CanBePrinted, outcome_seen};
+ghost use Rattle.raid_top.specs.Bays.{told_of};
 
 use crate::came::Ended;
 use crate::performing::{Performed, perform};
@@ -77,24 +76,12 @@ pub(crate) fn act<'a, B: Bay, R: Threads + Wait + Sync, P: Progress + Sync>(
 where
     B::D: Send + Drop,
     requires { AreNumbersInRange (action_seen command.action) }
-    ensures acted { IfOk result (λ e. Acted B.D.Disk
-        (record {
-          tells = B.tells;
-          rose = Rose (B.faults bay.old) (B.faults bay.new);
-          texts = B.text_of bay.old;
-          home = B.home bay.old;
-          after = B.home bay.new;
-        }) (command_seen command.entry) (outcome_seen (action_seen e.action) e.conf e.came)) }
+    ensures acted { IfOk result (λ e. Acted B.D.Disk (told_of B.Bay bay.old bay.new)
+        (command_seen command.entry) (outcome_seen (action_seen e.action) e.conf e.came)) }
     ensures printed { IfOk result (λ e. CanBePrinted e.came) }
     ensures conf { IfOk result (λ e. IsConf e.conf) }
-    ensures refused { IfErr result (IsRefusedOf B.D.Disk
-        (record {
-          tells = B.tells;
-          rose = Rose (B.faults bay.old) (B.faults bay.new);
-          texts = B.text_of bay.old;
-          home = B.home bay.old;
-          after = B.home bay.new;
-        }) (OnArray (command_seen command.entry))) }
+    ensures refused { IfErr result (IsRefusedOf B.D.Disk (told_of B.Bay bay.old bay.new)
+        (OnArray (command_seen command.entry))) }
     ensures later { B.faults bay.old ≤ B.faults bay.new }
 {
     match admit(alloc, command, bay) {

@@ -1,13 +1,12 @@
 //! What comes of the words.
 ghost use Rattle.std.specs.Prelude.{◌≡◌, ◌≤◌, IfOk, IfErr};
-ghost use Rattle.blk_disk.specs.Disk.{Rose};
-ghost use Rattle.top_fetch.specs.Told.{Told};
 ghost use Rattle.top_words.specs.Asked.{AreNumbersInRange};
 ghost use Rattle.top_words.specs.Judged.{IsInRange, OnArray, Scan, Simulate};
 ghost use Rattle.top_words.specs.Views.{action_seen, command_seen, invocation_seen};
 ghost use Rattle.raid_top.specs.Ends.{Followed, Follows};
 ghost use Rattle.raid_top.specs.Finished.{CanBeTold, finished_seen, refusal_of};
 ghost use Rattle.raid_top.specs.Refused.{CallIsRefused, IsRefusedOf};
+ghost use Rattle.raid_top.specs.Bays.{told_of};
 
 use crate::act::act;
 use crate::finished::Finished;
@@ -33,23 +32,11 @@ fn act_on<'a, B: Bay, R: Threads + Wait + Sync, P: Progress + Sync>(
 where
     B::D: Send + Drop,
     requires { AreNumbersInRange (action_seen command.action) }
-    ensures followed { IfOk result (λ f. Follows B.D.Disk
-        (record {
-          tells = B.tells;
-          rose = Rose (B.faults bay.old) (B.faults bay.new);
-          texts = B.text_of bay.old;
-          home = B.home bay.old;
-          after = B.home bay.new;
-        }) (OnArray (command_seen command.entry)) (finished_seen f)) }
+    ensures followed { IfOk result (λ f. Follows B.D.Disk (told_of B.Bay bay.old bay.new)
+        (OnArray (command_seen command.entry)) (finished_seen f)) }
     ensures told { IfOk result CanBeTold }
-    ensures refused { IfErr result (IsRefusedOf B.D.Disk
-        (record {
-          tells = B.tells;
-          rose = Rose (B.faults bay.old) (B.faults bay.new);
-          texts = B.text_of bay.old;
-          home = B.home bay.old;
-          after = B.home bay.new;
-        }) (OnArray (command_seen command.entry))) }
+    ensures refused { IfErr result (IsRefusedOf B.D.Disk (told_of B.Bay bay.old bay.new)
+        (OnArray (command_seen command.entry))) }
     ensures later { B.faults bay.old ≤ B.faults bay.new }
 {
     match act(rt, alloc, command, bay, progress) {
@@ -60,23 +47,11 @@ where
 
 // A list of components.
 fn scan_list<'a, B: Bay>(alloc: Global, list: &str, bay: &mut B) -> Result<Finished<'a>, Refusal>
-    ensures followed { IfOk result (λ f. Follows B.D.Disk
-        (record {
-          tells = B.tells;
-          rose = Rose (B.faults bay.old) (B.faults bay.new);
-          texts = B.text_of bay.old;
-          home = B.home bay.old;
-          after = B.home bay.new;
-        }) (Scan list.now) (finished_seen f)) }
+    ensures followed { IfOk result (λ f. Follows B.D.Disk (told_of B.Bay bay.old bay.new)
+        (Scan list.now) (finished_seen f)) }
     ensures told { IfOk result CanBeTold }
-    ensures refused { IfErr result (IsRefusedOf B.D.Disk
-        (record {
-          tells = B.tells;
-          rose = Rose (B.faults bay.old) (B.faults bay.new);
-          texts = B.text_of bay.old;
-          home = B.home bay.old;
-          after = B.home bay.new;
-        }) (Scan list.now)) }
+    ensures refused { IfErr result (IsRefusedOf B.D.Disk (told_of B.Bay bay.old bay.new)
+        (Scan list.now)) }
     ensures later { B.faults bay.old ≤ B.faults bay.new }
 {
     match scan(alloc, list, bay) {
@@ -92,23 +67,11 @@ fn simulate_in<'a, B: Bay>(
     order: Queue,
     bay: &mut B,
 ) -> Result<Finished<'a>, Refusal>
-    ensures followed { IfOk result (λ f. Follows B.D.Disk
-        (record {
-          tells = B.tells;
-          rose = Rose (B.faults bay.old) (B.faults bay.new);
-          texts = B.text_of bay.old;
-          home = B.home bay.old;
-          after = B.home bay.new;
-        }) (Simulate requests.now order) (finished_seen f)) }
+    ensures followed { IfOk result (λ f. Follows B.D.Disk (told_of B.Bay bay.old bay.new)
+        (Simulate requests.now order) (finished_seen f)) }
     ensures told { IfOk result CanBeTold }
-    ensures refused { IfErr result (IsRefusedOf B.D.Disk
-        (record {
-          tells = B.tells;
-          rose = Rose (B.faults bay.old) (B.faults bay.new);
-          texts = B.text_of bay.old;
-          home = B.home bay.old;
-          after = B.home bay.new;
-        }) (Simulate requests.now order)) }
+    ensures refused { IfErr result (IsRefusedOf B.D.Disk (told_of B.Bay bay.old bay.new)
+        (Simulate requests.now order)) }
     ensures later { B.faults bay.old ≤ B.faults bay.new }
 {
     match simulate(alloc, requests, order, bay) {
@@ -128,23 +91,11 @@ fn follow<'a, B: Bay, R: Threads + Wait + Sync, P: Progress + Sync>(
 where
     B::D: Send + Drop,
     requires { IsInRange (invocation_seen invocation) }
-    ensures followed { IfOk result (λ f. Follows B.D.Disk
-        (record {
-          tells = B.tells;
-          rose = Rose (B.faults bay.old) (B.faults bay.new);
-          texts = B.text_of bay.old;
-          home = B.home bay.old;
-          after = B.home bay.new;
-        }) (invocation_seen invocation.entry) (finished_seen f)) }
+    ensures followed { IfOk result (λ f. Follows B.D.Disk (told_of B.Bay bay.old bay.new)
+        (invocation_seen invocation.entry) (finished_seen f)) }
     ensures told { IfOk result CanBeTold }
-    ensures refused { IfErr result (IsRefusedOf B.D.Disk
-        (record {
-          tells = B.tells;
-          rose = Rose (B.faults bay.old) (B.faults bay.new);
-          texts = B.text_of bay.old;
-          home = B.home bay.old;
-          after = B.home bay.new;
-        }) (invocation_seen invocation.entry)) }
+    ensures refused { IfErr result (IsRefusedOf B.D.Disk (told_of B.Bay bay.old bay.new)
+        (invocation_seen invocation.entry)) }
     ensures later { B.faults bay.old ≤ B.faults bay.new }
 {
     match invocation {
@@ -176,23 +127,11 @@ pub(crate) fn invoke<'a, B: Bay, R: Threads + Wait + Sync, P: Progress + Sync>(
 ) -> Result<Finished<'a>, Refusal>
 where
     B::D: Send + Drop,
-    ensures followed { IfOk result (λ f. Followed B.D.Disk
-        (record {
-          tells = B.tells;
-          rose = Rose (B.faults bay.old) (B.faults bay.new);
-          texts = B.text_of bay.old;
-          home = B.home bay.old;
-          after = B.home bay.new;
-        }) words.entry.now (finished_seen f)) }
+    ensures followed { IfOk result (λ f. Followed B.D.Disk (told_of B.Bay bay.old bay.new)
+        words.entry.now (finished_seen f)) }
     ensures told { IfOk result CanBeTold }
-    ensures refused { IfErr result (CallIsRefused B.D.Disk
-        (record {
-          tells = B.tells;
-          rose = Rose (B.faults bay.old) (B.faults bay.new);
-          texts = B.text_of bay.old;
-          home = B.home bay.old;
-          after = B.home bay.new;
-        }) words.entry.now) }
+    ensures refused { IfErr result (CallIsRefused B.D.Disk (told_of B.Bay bay.old bay.new)
+        words.entry.now) }
     ensures later { B.faults bay.old ≤ B.faults bay.new }
 {
     match read_words(alloc, words) {

@@ -1,16 +1,11 @@
 //! What follows from how a call answers. These functions do nothing: what they ensure is so of every
-//! call of [`crate::run`], by its clause `answer`, or of all devices and columns.
+//! call of [`crate::run`], by its clause `answer`, or of all devices.
 ghost use Rattle.std.specs.Prelude.{ℕ, List, Option};
 ghost use Rattle.blk_disk.specs.Disk.{Rose};
-ghost use Rattle.eng_cols.specs.Lost.{IsLost};
-ghost use Rattle.eng_cols.specs.declared.column.Column.{Column};
-ghost use Rattle.eng_cols.specs.declared.spot.Loss.{Loss};
-ghost use Rattle.lay_core.specs.Layout.{Shape};
-ghost use Rattle.top_duty.specs.Duty.{states_of};
 ghost use Rattle.top_open.specs.declared.fronts.Front.{Front};
 ghost use Rattle.top_status.specs.declared.status.Status.{Status};
-ghost use Rattle.raid_top.specs.Losses.{AreGone};
 ghost use Rattle.raid_top.specs.Laws.{FailsLateIsRead, RefusedChangesNothing, RightIsAnswered};
+ghost use Rattle.raid_top.specs.Bays.{told_of};
 
 use blk_disk::Disk;
 use raid_bay::{Bay, Sink};
@@ -19,15 +14,9 @@ use raid_bay::{Bay, Sink};
 /// with 7 in its place, each component is back, and every sector of it is as it was.
 pub fn what_is_refused_changes_nothing<B: Bay, K: Sink>()
     ensures { (old new : B) (out_old out_new : K) (words : List (List ℕ)) (answer : Status)
-        → RefusedChangesNothing B.D.Disk
-        (record {
-          tells = B.tells;
-          rose = Rose (B.faults old) (B.faults new);
-          texts = B.text_of old;
-          home = B.home old;
-          after = B.home new;
-        }) words K.tells (Rose (K.faults out_old) (K.faults out_new)) answer
-        (K.output out_old) (K.output out_new) }
+        → RefusedChangesNothing B.D.Disk (told_of B.Bay old new)
+        words K.tells (Rose (K.faults out_old) (K.faults out_new))
+        answer (K.output out_old) (K.output out_new) }
 {}
 
 /// What is right is answered: where words, texts, names, sizes and columns are right and the counts
@@ -36,15 +25,9 @@ pub fn what_is_refused_changes_nothing<B: Bay, K: Sink>()
 /// be wanted.
 pub fn what_is_right_is_answered<B: Bay, K: Sink>()
     ensures { (old new : B) (out_old out_new : K) (words : List (List ℕ)) (answer : Status)
-        → RightIsAnswered B.D.Disk
-        (record {
-          tells = B.tells;
-          rose = Rose (B.faults old) (B.faults new);
-          texts = B.text_of old;
-          home = B.home old;
-          after = B.home new;
-        }) words K.tells (Rose (K.faults out_old) (K.faults out_new)) answer
-        (K.output out_old) (K.output out_new) }
+        → RightIsAnswered B.D.Disk (told_of B.Bay old new)
+        words K.tells (Rose (K.faults out_old) (K.faults out_new))
+        answer (K.output out_old) (K.output out_new) }
 {}
 
 /// A device that fails late was read: one that tells its calls, the first of which went well, isn't
@@ -52,11 +35,4 @@ pub fn what_is_right_is_answered<B: Bay, K: Sink>()
 pub fn a_device_that_fails_late_was_read<D: Disk>()
     ensures { (taken back : List (Option D)) (fronts : List Front)
         → FailsLateIsRead D.Disk taken back fronts }
-{}
-
-/// Of an array that is lost by columns as they are set, as one that is refused is by those of its
-/// opening, both columns of the loss are gone.
-pub fn both_columns_of_a_loss_are_gone()
-    ensures { (y : Shape) (cols : List Column) (loss : Loss)
-        → IsLost y (states_of y cols) loss → AreGone y cols loss }
 {}

@@ -27,8 +27,7 @@ mod setup;
 mod top;
 
 pub use laws::{
-    a_device_that_fails_late_was_read, both_columns_of_a_loss_are_gone,
-    what_is_refused_changes_nothing, what_is_right_is_answered,
+    a_device_that_fails_late_was_read, what_is_refused_changes_nothing, what_is_right_is_answered,
 };
 pub use top::run;
 pub use top_status::Status;

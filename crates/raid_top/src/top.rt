@@ -1,8 +1,8 @@
 //! The run of the words, and what it prints.
 ghost use Rattle.std.specs.Prelude.{◌≡◌, ◌≤◌, OnOk, OnErr};
 ghost use Rattle.blk_disk.specs.Disk.{Rose};
-ghost use Rattle.top_fetch.specs.Told.{Told};
 ghost use Rattle.raid_top.specs.Ends.{Answers, IsDone, IsRight};
+ghost use Rattle.raid_top.specs.Bays.{told_of};
 
 use crate::finished::status_finished;
 use crate::invoking::invoke;
@@ -46,31 +46,12 @@ pub fn run<B: Bay, K: Sink, R: Threads + Wait + Sync, P: Progress + Sync>(
 ) -> Status
 where
     B::D: Send + Drop,
-    ensures answer { Answers B.D.Disk
-        (record {
-          tells = B.tells;
-          rose = Rose (B.faults bay.old) (B.faults bay.new);
-          texts = B.text_of bay.old;
-          home = B.home bay.old;
-          after = B.home bay.new;
-        }) words.now K.tells (Rose (K.faults out.old) (K.faults out.new)) result
+    ensures answer { Answers B.D.Disk (told_of B.Bay bay.old bay.new) words.now K.tells
+        (Rose (K.faults out.old) (K.faults out.new)) result (K.output out.old) (K.output out.new) }
+    ensures complete { B.tells → IsRight B.D.Disk (told_of B.Bay bay.old bay.new) words.now
+        → ¬ Rose (B.faults bay.old) (B.faults bay.new) → ¬ Rose (K.faults out.old) (K.faults out.new)
+        → IsDone B.D.Disk (told_of B.Bay bay.old bay.new) words.now K.tells result
         (K.output out.old) (K.output out.new) }
-    ensures complete { B.tells → IsRight B.D.Disk
-        (record {
-          tells = B.tells;
-          rose = Rose (B.faults bay.old) (B.faults bay.new);
-          texts = B.text_of bay.old;
-          home = B.home bay.old;
-          after = B.home bay.new;
-        }) words.now → ¬ Rose (B.faults bay.old) (B.faults bay.new) → ¬ Rose (K.faults out.old) (K.faults out.new) →
-        IsDone B.D.Disk
-        (record {
-          tells = B.tells;
-          rose = Rose (B.faults bay.old) (B.faults bay.new);
-          texts = B.text_of bay.old;
-          home = B.home bay.old;
-          after = B.home bay.new;
-        }) words.now K.tells result (K.output out.old) (K.output out.new) }
     ensures bay_later { B.faults bay.old ≤ B.faults bay.new }
     ensures sink_later { K.faults out.old ≤ K.faults out.new }
 {

@@ -6,12 +6,13 @@ use Rattle.top_bay.specs.Asked.{names_for}
 use Rattle.top_fetch.specs.Told.{Told}
 use Rattle.top_bay.specs.Views.{asked_seen}
 use Rattle.top_duty.specs.Duty.{IsWanted}
-use Rattle.top_duty.specs.Opening.{reads_fronts}
+use Rattle.top_duty.specs.Opening.{reads_fronts, sizes_of}
 use Rattle.top_duty.specs.Views.{duty_seen}
 use Rattle.top_words.specs.Views.{action_seen, command_seen}
 use Rattle.raid_top.specs.Views.{outcome_seen}
 use Rattle.raid_top.proofs.Acting.{acted_of, asked_of_seen, refused_of}
 use Rattle.raid_top.proofs.Keeping.{both_err}
+use Rattle.raid_top.proofs.Ordered.{duty_in_order}
 use Rattle.raid_top.proofs.Reading.{fronts_count}
 use Rattle.raid_top.proofs.Wanted.{duty_same}
 use Rattle.raid_top.proofs.act.act.Goals as goal
@@ -43,7 +44,8 @@ returns-in-Ok-clause-acted g c =
     IfOk-weaker c.end.result _ _ (λ x done.
     acted_of g.B.D.Disk told (command_seen c.args.command) mid first k (duty_seen k a.duty) a.fronts.items a.devices.items (asked_of_seen k a.duty) (ap command_seen e.command)
     (λ t. subst (λ w. IsWanted w (Ok (duty_seen k a.duty))) (duty_same g.B.D.Disk.size B.tells first rose texts home mid after (command_seen c.args.command) a.fronts.items) (e.wanted t))
-    e.taken (outcome_seen (action_seen x.action) x.conf x.came) many done) c.end.ensures.done
+    e.taken (outcome_seen (action_seen x.action) x.conf x.came)
+    (duty_in_order g.B.D.Disk k a.devices.items e.admitted.within.conf (sizes_of g.B.D.Disk.size a.devices.items) a.fronts.items a.duty e.admitted.duty e.admitted.fit) many done) c.end.ensures.done
 
 pub returns-in-Ok-clause-refused : goal.returns-in-Ok-clause-refused
 returns-in-Ok-clause-refused g c =

@@ -19,4 +19,4 @@ returns-in-Err-clause-refused g c =
     let told : Told _ = record { tells = B.tells; rose = Rose (B.faults c.args.bay.now) (B.faults c.scan.new.bay); texts = B.text_of c.args.bay.now; home = B.home c.args.bay.now; after = B.home c.scan.new.bay } in
     let e = c.in-Err.ensures in
     subst (λ r. IsRefusedOf g.B.D.Disk told (Scan c.args.list.now) r) (sym c.only.ensures)
-    (scan_refused g.B.D.Disk told c.args.list.now c.in-Err.status e.kind (λ is. e.cause (ap (λ s. Err s) is)) e.answer c.scan.ensures.stays)
+    (scan_refused g.B.D.Disk told c.args.list.now c.in-Err.status e.kind (λ is. e.cause (ap (λ s. Err s) is)) e.answer e.part c.scan.ensures.stays)
