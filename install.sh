@@ -36,5 +36,5 @@ echo "$completion"
 put 644 share/doc/raidctl "$top"/README.md "$top"/LICENSE "$top"/CHANGES
 put 644 share/doc/raidctl/docs "$top"/docs/*.md
 put 644 share/doc/raidctl/docs/pictures "$top"/docs/pictures/*.svg
-put 755 libexec/raidctl "$top"/tools/new-array "$top"/tools/*-picture
+put 755 libexec/raidctl "$top"/tools/new-array "$top"/tools/conf-from-scan "$top"/tools/array-status "$top"/tools/*-picture
 put 644 libexec/raidctl "$top"/tools/*.py "$top"/tools/README.md

@@ -1,6 +1,6 @@
 #!/usr/bin/env bash
 # Walks through docs/ADMIN.md: runs each command that stands there, in the order of the page and from an empty folder, and
-# compares what it prints on standard output with the lines that stand under it.
+# compares what it prints on standard output with the lines that stand under it. It wants python3, for tools/array-status.
 set -u
 walk_here=$(cd "$(dirname "$0")" && pwd)
 walk_top=$(dirname "$walk_here")

@@ -2,7 +2,7 @@
 # Runs each example in a folder of its own, on images of zeros that it makes, and compares what is printed with what is
 # wanted. An example has the words of a call (args, one a line) or several calls (session), the texts that they name, the
 # images with their sectors, and the output. Then it makes the pictures of docs/pictures from examples, compares them too,
-# and walks through docs/ADMIN.md.
+# and what tools/array-status tells of two arrays, walks through docs/ADMIN.md, and tries what images don't show.
 set -eu
 here=$(cd "$(dirname "$0")" && pwd)
 top=$(dirname "$here")
@@ -62,14 +62,21 @@ if command -v python3 > /dev/null; then
     picture eager "$top/tools/graph-picture" "$here/own_graphs/graphs" eager --of "$here/own_graphs/conf" 0
     cd "$folder/traced"
     picture trace "$top/tools/trace-picture" conf --io script < printed
+    for name in labels into_spare_places; do
+        cd "$folder/$name"
+        "$top/tools/array-status" conf > told || true
+        compare "$name, told by array-status" status told
+    done
 else
-    echo "there is no python3: the pictures aren't made"
+    echo "there is no python3: the pictures aren't made, and array-status isn't tried"
 fi
 
-if "$here/admin_walk.sh"; then
-    passed=$((passed + 1))
-else
-    failed=$((failed + 1))
-fi
+for script in admin_walk real_files; do
+    if "$here/$script.sh"; then
+        passed=$((passed + 1))
+    else
+        failed=$((failed + 1))
+    fi
+done
 echo "$passed passed, $failed failed"
 [ "$failed" = 0 ]

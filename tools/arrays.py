@@ -203,15 +203,35 @@ def node_of(words):
     raise ValueError
 
 
+def steps(graph, shift=0):
+    """The kind, the position of the stripe and the unit of each node of a graph whose stripes are moved up by the shift."""
+    for node in graph.nodes:
+        stripe = None if node.buffer is None else graph.buffers[node.buffer].stripe + shift
+        yield node.kind, stripe, node.unit
+
+
+def joined_steps(first, second, shift):
+    """The same of two graphs that are joined under one commit."""
+    before, behind = [], []
+    for graph, up in ((first, 0), (second, shift)):
+        late = set()
+        for number, (node, step) in enumerate(zip(graph.nodes, steps(graph, up))):
+            if node.kind == COMMIT or late.intersection(node.after):
+                late.add(number)
+            if node.kind not in (COMMIT, TERMINATE):
+                (behind if number in late else before).append(step)
+    return before + [(COMMIT, None, None)] + behind + [(TERMINATE, None, None)]
+
+
 # ---- scripts ----
 
 
 class Item:
-    """An item of a script. A write or a read has spans, pairs of the first block and how many."""
+    """An item of a script. A write or a read has spans, pairs of the first block and how many; a join names two graphs."""
 
     def __init__(self, words):
         self.text = " ".join(words[1:])
-        self.graph = None
+        self.graph, self.joined = None, None
         words = words[1:]
         if words[0] == "use":
             self.graph, words = words[1], words[2:]
@@ -220,6 +240,9 @@ class Item:
             self.spans = [(int(words[1]), int(words[2]))]
         elif self.kind == "writes":
             self.spans = [(int(words[i]), int(words[i + 1])) for i in range(1, len(words), 3)]
+        elif self.kind == "join":
+            self.spans = [(int(words[i]), int(words[i + 1])) for i in (2, 6)]
+            self.joined = words[1], words[5]
         elif self.kind in ("sync", "fail"):
             self.number = int(words[1])
         else:
