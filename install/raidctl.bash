@@ -9,7 +9,7 @@ _raidctl_conf() {
             continue
         fi
         case ${COMP_WORDS[i]} in
-        --io | --graphs | --sweep | --clients | --ops | --sim | -w | -I | -f | -F | -R | -g) skip=yes ;;
+        --io | --graphs | --sweep | --clients | --ops | --limit | --sim | -w | -I | -f | -F | -R | -g) skip=yes ;;
         -*) ;;
         *)
             printf '%s\n' "${COMP_WORDS[i]}"
@@ -40,10 +40,10 @@ _raidctl() {
     -w) words=$(echo {0..16}) ;;
     --clients) words=$(echo {1..16}) ;;
     --sim) words='fifo sstf scan' ;;
-    --sweep | --ops | -I) return ;;
+    --sweep | --ops | --limit | -I) return ;;
     *)
         if [ -n "$(_raidctl_conf)" ] || [[ $word == -* ]]; then
-            words='-s -p -P -i -I -f -F -R -g -G -w --io --graphs --trace --sweep --clients --ops --scan --sim --help --version'
+            words='-s -p -P -i -I -f -F -R -g -G -w --resume --limit --io --graphs --trace --sweep --clients --ops --scan --sim --help --version'
         fi
         ;;
     esac

@@ -10,7 +10,7 @@ use Rattle.blk_disk.specs.Devices.{size_of}
 use Rattle.lay_core.specs.Layout.{Shape}
 use Rattle.eng_cols.specs.declared.column.Column.{Column}
 use Rattle.eng_cols.specs.declared.column.Column.TheVariants as column
-use Rattle.eng_cols.specs.Cols.{is_set_filling, is_set_spread}
+use Rattle.eng_cols.specs.Cols.{device_set, is_set_filling, is_set_spread}
 use Rattle.raid_recon.specs.Samples as recon
 use Rattle.raid_recon.proofs.Fitting as recon_laws
 use Rattle.top_rounds.specs.Labels.{IsNumbered}
@@ -22,20 +22,20 @@ use Rattle.top_acts.proofs.Having.{have_of}
 abbrev IsPlain : Option Column → Type 0
 IsPlain (Some (column.Live d)) = Unit {0}
 IsPlain (Some column.Dead) = Unit {0}
-IsPlain (Some (column.Filling d)) = ⊥
+IsPlain (Some (column.Filling d m)) = ⊥
 IsPlain (Some column.Spread) = ⊥
 IsPlain None = Unit {0}
 
 not_filling : (x : Column) → IsPlain (Some x) → is_set_filling x ≡ false
 not_filling (column.Live d) h = refl
 not_filling column.Dead h = refl
-not_filling (column.Filling d) h = absurd h
+not_filling (column.Filling d m) h = absurd h
 not_filling column.Spread h = absurd h
 
 not_spread : (x : Column) → IsPlain (Some x) → is_set_spread x ≡ false
 not_spread (column.Live d) h = refl
 not_spread column.Dead h = refl
-not_spread (column.Filling d) h = absurd h
+not_spread (column.Filling d m) h = absurd h
 not_spread column.Spread h = absurd h
 
 count_none : (p : Column → Bool) → ((x : Column) → IsPlain (Some x) → p x ≡ false) → (xs : List Column) → ((c : ℕ) → IsPlain (slice_get xs c)) → count_by p xs ≡ 0
@@ -55,22 +55,30 @@ module _ {D : Type 0} (g : Ghosts D) (y : Shape) (columns : List Column) (ds : L
   plain : (c : ℕ) (o : Option Column) → Fits g y ds c o → IsPlain o
   plain c (Some (column.Live d)) f = tt
   plain c (Some column.Dead) f = tt
-  plain c (Some (column.Filling d)) f = f
+  plain c (Some (column.Filling d m)) f = f
   plain c (Some column.Spread) f = f
   plain c None f = tt
 
   swept : (c : ℕ) (o : Option Column) → Fits g y ds c o → recon.Fits g y ds c o
   swept c (Some (column.Live d)) f = f
   swept c (Some column.Dead) f = tt
-  swept c (Some (column.Filling d)) f = f
+  swept c (Some (column.Filling d m)) f = f
   swept c (Some column.Spread) f = absurd f
   swept c None f = tt
 
   numbered : (c : ℕ) (x : Column) → c < length columns → Fits g y ds c (Some x) → IsNumbered (length columns) x
   numbered c (column.Live d) within f = omega (arith, within, f.0)
   numbered c column.Dead within f = tt
-  numbered c (column.Filling d) within f = absurd f
+  numbered c (column.Filling d m) within f = absurd f
   numbered c column.Spread within f = tt
+
+  -- a column that has a device is live on it
+  on_live : (c d : ℕ) (o : Option Column) → Fits g y ds c o → device_set o ≡ Some d → Fits g y ds c (Some (column.Live d))
+  on_live c d (Some (column.Live e)) f on = let same : e ≡ d = cc on in subst (λ k. Fits g y ds c (Some (column.Live k))) same f
+  on_live c d (Some column.Dead) f on = let z : None ≡ Some d = on in absurd (let u : ⊥ = cc in u)
+  on_live c d (Some (column.Filling e m)) f on = absurd f
+  on_live c d (Some column.Spread) f on = let z : None ≡ Some d = on in absurd (let u : ⊥ = cc in u)
+  on_live c d None f on = let z : None ≡ Some d = on in absurd (let u : ⊥ = cc in u)
 
   pub fitting : length columns ≡ y.columns → length columns ≤ 32 → ((c : ℕ) → c < length columns → FitsAt g y columns ds c) → CanAct g y columns ds
   fitting many few below =
@@ -83,10 +91,10 @@ module _ {D : Type 0} (g : Ghosts D) (y : Shape) (columns : List Column) (ds : L
         labels = record {
           have = have_of g y columns ds array;
           sized = λ c d live.
-              let f : Fits g y ds c (Some (column.Live d)) = subst (λ o. Fits g y ds c o) live (fits c) in
+              let f : Fits g y ds c (Some (column.Live d)) = on_live c d (slice_get columns c) (fits c) live in
               subst (λ k. 1 ≤ size_of g ds k) (sym f.0) (omega (arith, f.1));
           columns_most = few;
           numbered = All-from_get_or (IsNumbered (length columns)) columns column.Dead (λ i within. numbered i (get_or columns i column.Dead) within (subst (λ o. Fits g y ds i o) (slice_get-get_or columns i column.Dead within) (fits i)));
         };
-        settable = record { entries = many; filling = filling; spread = omega (arith, spread) };
+        settable = record { entries = many; filling = omega (arith, filling); spread = omega (arith, spread) };
       }

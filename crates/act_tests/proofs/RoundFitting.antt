@@ -9,7 +9,7 @@ use Rattle.blk_disk.specs.declared.disk.Disk.{Ghosts}
 use Rattle.blk_disk.specs.Devices.{device_at, size_of}
 use Rattle.eng_cols.specs.declared.column.Column.{Column}
 use Rattle.eng_cols.specs.declared.column.Column.TheVariants as column
-use Rattle.eng_cols.specs.Cols.{is_set_filling, is_set_spread}
+use Rattle.eng_cols.specs.Cols.{device_set, is_set_filling, is_set_spread}
 use Rattle.top_close.specs.Settled.{HaveDevices}
 use Rattle.top_rounds.specs.Labels.{IsNumbered}
 use Rattle.top_rounds.specs.Passes.{CanBeLabelled}
@@ -19,20 +19,20 @@ use Rattle.act_tests.specs.RoundSamples.{Fits, FitsAt}
 abbrev IsPlain : Option Column → Type 0
 IsPlain (Some (column.Live d)) = Unit {0}
 IsPlain (Some column.Dead) = Unit {0}
-IsPlain (Some (column.Filling d)) = ⊥
+IsPlain (Some (column.Filling d m)) = ⊥
 IsPlain (Some column.Spread) = ⊥
 IsPlain None = Unit {0}
 
 not_filling : (x : Column) → IsPlain (Some x) → is_set_filling x ≡ false
 not_filling (column.Live d) h = refl
 not_filling column.Dead h = refl
-not_filling (column.Filling d) h = absurd h
+not_filling (column.Filling d m) h = absurd h
 not_filling column.Spread h = absurd h
 
 not_spread : (x : Column) → IsPlain (Some x) → is_set_spread x ≡ false
 not_spread (column.Live d) h = refl
 not_spread column.Dead h = refl
-not_spread (column.Filling d) h = absurd h
+not_spread (column.Filling d m) h = absurd h
 not_spread column.Spread h = absurd h
 
 count_none : (p : Column → Bool) → ((x : Column) → IsPlain (Some x) → p x ≡ false) → (xs : List Column) → ((c : ℕ) → IsPlain (slice_get xs c)) → count_by p xs ≡ 0
@@ -49,26 +49,34 @@ module _ {D : Type 0} (g : Ghosts D) (columns : List Column) (ds : List (Option 
     | inr le ↦ subst (λ o. Fits g ds c o) (sym (slice_get_past columns c le)) tt
   ]
 
+  -- a column that has a device is live on it
+  on_live : (c d : ℕ) (o : Option Column) → Fits g ds c o → device_set o ≡ Some d → Fits g ds c (Some (column.Live d))
+  on_live c d (Some (column.Live e)) f on = let same : e ≡ d = cc on in subst (λ k. Fits g ds c (Some (column.Live k))) same f
+  on_live c d (Some column.Dead) f on = let z : None ≡ Some d = on in absurd (let u : ⊥ = cc in u)
+  on_live c d (Some (column.Filling e m)) f on = absurd f
+  on_live c d (Some column.Spread) f on = let z : None ≡ Some d = on in absurd (let u : ⊥ = cc in u)
+  on_live c d None f on = let z : None ≡ Some d = on in absurd (let u : ⊥ = cc in u)
+
   have : ((c : ℕ) → FitsAt g columns ds c) → HaveDevices columns ds
   have fits = record {
-    there = λ c d live. let f : Fits g ds c (Some (column.Live d)) = subst (λ o. Fits g ds c o) live (fits c) in subst (λ k. IsSome (device_at ds k)) (sym f.0) f.1;
+    there = λ c d live. let f : Fits g ds c (Some (column.Live d)) = on_live c d (slice_get columns c) (fits c) live in subst (λ k. IsSome (device_at ds k)) (sym f.0) f.1;
     apart = λ c k d one two.
-        let f : Fits g ds c (Some (column.Live d)) = subst (λ o. Fits g ds c o) one (fits c) in
-        let h : Fits g ds k (Some (column.Live d)) = subst (λ o. Fits g ds k o) two (fits k) in
+        let f : Fits g ds c (Some (column.Live d)) = on_live c d (slice_get columns c) (fits c) one in
+        let h : Fits g ds k (Some (column.Live d)) = on_live k d (slice_get columns k) (fits k) two in
         sym f.0 ∙ h.0;
   }
 
   numbered : (c : ℕ) (x : Column) → c < length columns → Fits g ds c (Some x) → IsNumbered (length columns) x
   numbered c (column.Live d) within f = omega (arith, within, f.0)
   numbered c column.Dead within f = tt
-  numbered c (column.Filling d) within f = absurd f
+  numbered c (column.Filling d m) within f = absurd f
   numbered c column.Spread within f = tt
 
   pub can : length columns ≤ 32 → ((c : ℕ) → FitsAt g columns ds c) → CanBeLabelled g columns ds
   can few fits = record {
     have = have fits;
     sized = λ c d live.
-        let f : Fits g ds c (Some (column.Live d)) = subst (λ o. Fits g ds c o) live (fits c) in
+        let f : Fits g ds c (Some (column.Live d)) = on_live c d (slice_get columns c) (fits c) live in
         subst (λ k. 1 ≤ size_of g ds k) (sym f.0) f.2;
     columns_most = few;
     numbered = All-from_get_or (IsNumbered (length columns)) columns column.Dead (λ i within. numbered i (get_or columns i column.Dead) within (subst (λ o. Fits g ds i o) (slice_get-get_or columns i column.Dead within) (fits i)));
@@ -77,7 +85,7 @@ module _ {D : Type 0} (g : Ghosts D) (columns : List Column) (ds : List (Option 
   plain : (c : ℕ) (o : Option Column) → Fits g ds c o → IsPlain o
   plain c (Some (column.Live d)) f = tt
   plain c (Some column.Dead) f = tt
-  plain c (Some (column.Filling d)) f = f
+  plain c (Some (column.Filling d m)) f = f
   plain c (Some column.Spread) f = f
   plain c None f = tt
 

@@ -8,7 +8,7 @@ use Rattle.eng_cols.specs.declared.column.Column.TheVariants as column
 abbrev pub Fits : {D : Type 0} → List (Option D) → ℕ → Option Column → Type 0
 Fits devices c (Some (column.Live d)) = (d ≡ c) × IsSome (device_at devices c)
 Fits devices c (Some column.Dead) = Unit {0}
-Fits devices c (Some (column.Filling d)) = ⊥
+Fits devices c (Some (column.Filling d m)) = ⊥
 Fits devices c (Some column.Spread) = ⊥
 Fits devices c None = Unit {0}
 

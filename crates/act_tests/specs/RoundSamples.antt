@@ -9,7 +9,7 @@ use Rattle.eng_cols.specs.declared.column.Column.TheVariants as column
 abbrev pub Fits : {D : Type 0} → Ghosts D → List (Option D) → ℕ → Option Column → Type 0
 Fits g devices c (Some (column.Live d)) = (d ≡ c) × IsSome (device_at devices c) × (1 ≤ size_of g devices c)
 Fits g devices c (Some column.Dead) = Unit {0}
-Fits g devices c (Some (column.Filling d)) = ⊥
+Fits g devices c (Some (column.Filling d m)) = ⊥
 Fits g devices c (Some column.Spread) = ⊥
 Fits g devices c None = Unit {0}
 

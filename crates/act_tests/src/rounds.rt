@@ -33,6 +33,8 @@ const LAST: Label = Label {
     r: 0,
     lambda: 0,
     seats: [0; 32],
+    filling: 0,
+    done: 0,
 };
 
 // Whether there is a device of this number, and it has a sector.

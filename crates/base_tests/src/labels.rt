@@ -8,7 +8,7 @@ use std::test::Fail;
 
 // The label of column 0 of a new array of five columns.
 const SAMPLE: Label = Label {
-    version: 1,
+    version: 2,
     serial: 1001,
     counter: 1,
     column: 0,
@@ -22,11 +22,13 @@ const SAMPLE: Label = Label {
     r: 0,
     lambda: 0,
     seats: [0; 32],
+    filling: 0,
+    done: 0,
 };
 
 // A label of other numbers throughout.
 const OTHER: Label = Label {
-    version: 1,
+    version: 2,
     serial: 0x0403_0201,
     counter: 0x0807_0605,
     column: 9,
@@ -40,6 +42,8 @@ const OTHER: Label = Label {
     r: 16,
     lambda: 17,
     seats: [255; 32],
+    filling: 10,
+    done: 0x0c0b_0a09,
 };
 
 // A sector of this byte that the label is then written to.
@@ -60,7 +64,7 @@ fn holds(rt: &impl Abort, sector: &[u8; 512], label: Label) {
 }
 
 const HEAD: [u8; 44] = [
-    0x52, 0x46, 0x4c, 0x41, 0x42, 0x45, 0x4c, 0x31, 1, 0, 0, 0, 0xe9, 3, 0, 0, 1, 0, 0, 0, 0, 0, 0,
+    0x52, 0x46, 0x4c, 0x41, 0x42, 0x45, 0x4c, 0x31, 2, 0, 0, 0, 0xe9, 3, 0, 0, 1, 0, 0, 0, 0, 0, 0,
     0, 5, 0, 0, 0, 0x20, 0, 0, 0, 0x40, 0, 0, 0, 0x35, 0, 0, 0, 0, 0, 0, 0,
 ];
 
@@ -74,7 +78,7 @@ fn a_label_in_its_bytes(rt: HostRuntime) -> Result<(), Fail> {
 }
 
 const NUMBERS: [u8; 52] = [
-    1, 0, 0, 0, 1, 2, 3, 4, 5, 6, 7, 8, 9, 0, 0, 0, 10, 0, 0, 0, 11, 0, 0, 0, 12, 0, 0, 0, 68, 0,
+    2, 0, 0, 0, 1, 2, 3, 4, 5, 6, 7, 8, 9, 0, 0, 0, 10, 0, 0, 0, 11, 0, 0, 0, 12, 0, 0, 0, 68, 0,
     0, 0, 1, 0, 0, 0, 14, 0, 0, 0, 15, 0, 0, 0, 16, 0, 0, 0, 17, 0, 0, 0,
 ];
 
@@ -83,7 +87,8 @@ fn each_number_has_its_place(rt: HostRuntime) -> Result<(), Fail> {
     let sector = sector_of(&OTHER, 0xee);
     same(&rt, &sector[8..60] == NUMBERS.as_slice(), true);
     are(&rt, &sector[60..92], 255);
-    are(&rt, &sector[92..], 0);
+    same(&rt, sector[92..100] == [10, 0, 0, 0, 9, 10, 11, 12], true);
+    are(&rt, &sector[100..], 0);
     holds(&rt, &sector, OTHER);
     Ok(())
 }
@@ -109,17 +114,34 @@ fn a_sector_with_a_wrong_byte_holds_no_label(rt: HostRuntime) -> Result<(), Fail
     for (at, byte, is_label, version) in [
         (0, 0x72, false, 1),
         (7, 0x30, false, 1),
-        (8, 2, false, 2),
-        (11, 1, false, 0x0100_0001),
-        (40, 1, true, 1),
-        (40, 2, false, 1),
-        (43, 1, false, 1),
-        (91, 255, true, 1),
-        (92, 1, false, 1),
-        (511, 1, false, 1),
+        (8, 1, true, 1),
+        (8, 3, false, 3),
+        (11, 1, false, 0x0100_0002),
+        (40, 1, true, 2),
+        (40, 2, false, 2),
+        (43, 1, false, 2),
+        (91, 255, true, 2),
+        (92, 5, true, 2),
+        (92, 6, false, 2),
+        (96, 1, false, 2),
+        (100, 1, false, 2),
+        (511, 1, false, 2),
     ] {
         tells(&rt, at, byte, is_label, version);
     }
+    Ok(())
+}
+
+#[test]
+fn a_label_of_version_1_names_no_filling_column(rt: HostRuntime) -> Result<(), Fail> {
+    let first = Label {
+        version: 1,
+        ..SAMPLE
+    };
+    let mut sector = sector_of(&first, 0xee);
+    holds(&rt, &sector, first);
+    sector[92] = 1;
+    same(&rt, read_label(&sector).is_some(), false);
     Ok(())
 }
 
@@ -252,9 +274,17 @@ fn without_a_label_the_version_is_told(rt: HostRuntime) -> Result<(), Fail> {
     same(
         &rt,
         judge(None, 2, &SAMPLE),
+        Err(LabelFault::NoLabel {
+            found: 0,
+            wanted: 0,
+        }),
+    );
+    same(
+        &rt,
+        judge(None, 3, &SAMPLE),
         Err(LabelFault::Version {
-            found: 2,
-            wanted: 1,
+            found: 3,
+            wanted: 2,
         }),
     );
     Ok(())

@@ -1,6 +1,6 @@
 -- The array of three columns of which two fail may be run over.
 use Rattle.std.proofs.Common.{◌≡◌, ◌<◌, ◌≤◌, ◌+◌, ◌*◌, ℕ, zero, suc, List, [], ◌∷◌, length, refl, sym, ◌∙◌, ap, subst, arith, inl, inr, Option, Some, None, true, false, All}
-use Rattle.std.specs.Prelude.{Vec, slice_get, slice_index_or, count_by, map}
+use Rattle.std.specs.Prelude.{Vec, slice_get, slice_index_or, count_by}
 use Rattle.std.specs.declared.alloc.Global.{Global}
 use Rattle.std.proofs.lemmas.List.Elements.{All-nil, All-push}
 use Rattle.blk_disk.specs.declared.disk.Disk.{Ghosts as DiskGhosts}
@@ -11,7 +11,7 @@ use Rattle.graph_mean.specs.Graph.{Held}
 use Rattle.eng_array.specs.declared.start.Start.{Start}
 use Rattle.eng_cols.specs.declared.column.Column.{Column}
 use Rattle.eng_cols.specs.declared.column.Column.TheVariants as set
-use Rattle.eng_cols.specs.Cols.{ColumnState, Live, Filling, Spread, HasDevice, state_set, IsFor, is_set_filling, is_set_spread}
+use Rattle.eng_cols.specs.Cols.{ColumnState, Live, Filling, Spread, HasDevice, IsFor, is_set_filling, is_set_spread}
 use Rattle.eng_cols.specs.Lost.{NotLost}
 use Rattle.eng_world.specs.declared.item.Item.{Item}
 use Rattle.eng_world.specs.declared.item.Item.TheVariants as item
@@ -21,7 +21,8 @@ use Rattle.eng_parts.specs.declared.setup.Setup.{Setup}
 use Rattle.eng_log.specs.Given.{items_at}
 use Rattle.eng_log.specs.Laid.{row_sectors, sectors_at, sectors_before, items_before}
 use Rattle.eng_state.specs.Beginning.{IsAsked}
-use Rattle.eng_events.specs.Opened.{states_of, NamesGraph, IsSetup}
+use Rattle.eng_cols.specs.Stripes.{states_of}
+use Rattle.eng_events.specs.Opened.{NamesGraph, IsSetup}
 use Rattle.eng_plan.specs.Asked.{no_graph}
 use Rattle.raid_label.specs.Bytes.{IsHeld}
 use Rattle.top_rounds.specs.Labels.{IsNumbered}
@@ -112,7 +113,7 @@ module _ {L D : Type 0} (lay : LayoutGhosts L) (disk : DiskGhosts D) where
 
   module _ (setup : Setup L D) (first second third : D) (v : Vec Item Global) (shape : lay.shape setup.layout ≡ left_symmetric 3 1 64) (columns : setup.columns.items ≡ set.Live 0 ∷ set.Live 1 ∷ set.Live 2 ∷ []) (devices : setup.devices.items ≡ Some first ∷ Some second ∷ Some third ∷ []) (one : 128 ≤ disk.size first) (two : 128 ≤ disk.size second) (third_large : 128 ≤ disk.size third) (is_fails : v.items ≡ fails) (clients : setup.clients.items ≡ v ∷ []) (graphs : setup.graphs.items ≡ []) where
     states : states_of (lay.shape setup.layout) setup.columns.items ≡ three
-    states = ap (λ (l : List Column). map (state_set (lay.shape setup.layout).stripes) l) columns
+    states = ap (λ (l : List Column). states_of (lay.shape setup.layout) l) columns
 
     live : (c device : ℕ) → HasDevice (states_of (lay.shape setup.layout) setup.columns.items) c device → (c < 3) × (device ≡ c)
     live c device has = has-live c device (subst (λ (l : List ColumnState). HasDevice l c device) states has)
@@ -123,7 +124,7 @@ module _ {L D : Type 0} (lay : LayoutGhosts L) (disk : DiskGhosts D) where
     is-setup : IsSetup lay disk setup
     is-setup = record {
       entries = ap (λ (l : List Column). length l) columns ∙ sym many;
-      filling = ap (λ (l : List Column). count_by is_set_filling l) columns;
+      filling = let e : count_by is_set_filling setup.columns.items ≡ 0 = ap (λ (l : List Column). count_by is_set_filling l) columns in omega (arith, e);
       spread = let e : count_by is_set_spread setup.columns.items ≡ 0 = ap (λ (l : List Column). count_by is_set_spread l) columns in omega (arith, e);
       spares = λ c s done is lt. let h = live-at c (Spread done) (subst (λ (l : List ColumnState). slice_get l c ≡ Some (Spread done)) states is) in let e : Spread done ≡ Live c = h.1 in cc;
       there = λ c device has.
@@ -143,8 +144,8 @@ module _ {L D : Type 0} (lay : LayoutGhosts L) (disk : DiskGhosts D) (l : Labell
   -- the judge was shown these columns
   pub three-can-run : lay.shape l.setup.layout ≡ left_symmetric 3 1 64 → l.setup.columns.items ≡ set.Live 0 ∷ set.Live 1 ∷ set.Live 2 ∷ [] → l.setup.devices.items ≡ Some first ∷ Some second ∷ Some third ∷ []
       → 128 ≤ disk.size first → 128 ≤ disk.size second → 128 ≤ disk.size third → v.items ≡ fails → l.setup.clients.items ≡ v ∷ [] → l.setup.graphs.items ≡ [] → l.setup.trace ≡ false
-      → shown ≡ l.setup.columns.items → NotLost (lay.shape l.setup.layout) (states_of (lay.shape l.setup.layout) shown) → IsHeld l.label → l.label.counter ≡ 5 → IsFor (lay.shape l.setup.layout) l.judge → l.room ≡ 1024 → l.start ≡ None → CanRunLabelled lay disk l
-  three-can-run shape columns devices one two third_large is_fails clients graphs trace are kept held counter judge room unasked =
+      → shown ≡ l.setup.columns.items → NotLost (lay.shape l.setup.layout) (states_of (lay.shape l.setup.layout) shown) → IsHeld l.label → l.label.columns ≡ 3 → l.label.counter ≡ 5 → IsFor (lay.shape l.setup.layout) l.judge → l.room ≡ 1024 → l.start ≡ None → CanRunLabelled lay disk l
+  three-can-run shape columns devices one two third_large is_fails clients graphs trace are kept held numbered counter judge room unasked =
       let may = is-setup lay disk l.setup first second third v shape columns devices one two third_large is_fails clients graphs in
       let three_columns : length l.setup.columns.items ≡ 3 = ap (λ (cs : List Column). length cs) columns in
       let unit : (lay.shape l.setup.layout).unit_sectors ≡ 1 = ap (λ (y : Shape). y.unit_sectors) shape in
@@ -159,7 +160,7 @@ module _ {L D : Type 0} (lay : LayoutGhosts L) (disk : DiskGhosts D) (l : Labell
         trace = λ on. let z : false ≡ true = sym trace ∙ on in absurd (let u : ⊥ = cc in u);
         kept = subst (λ (cs : List Column). NotLost (lay.shape l.setup.layout) (states_of (lay.shape l.setup.layout) cs)) are kept;
         array = labels-of lay disk l.setup may (omega (arith, three_columns)) (subst (λ (cs : List Column). All (IsNumbered (length cs)) cs) (sym columns) three-numbered);
-        held = held;
+        held = record { held = held; count = numbered ∙ sym three_columns };
         counter = omega (arith, counter);
         judge = judge;
         room = omega (arith, unit, room);

@@ -1,6 +1,6 @@
 -- The setups of the tests may be served.
 use Rattle.std.proofs.Common.{◌≡◌, ◌⊎◌, ◌<◌, ◌≤◌, ◌+◌, ◌*◌, ◌^◌, ℕ, zero, suc, List, [], ◌∷◌, length, All, Bool, true, false, Option, Some, None, refl, sym, ◌∙◌, ap, subst, arith, inl, inr}
-use Rattle.std.specs.Prelude.{Vec, slice_get, slice_index_or, map, count_by}
+use Rattle.std.specs.Prelude.{Vec, slice_get, slice_index_or, count_by}
 use Rattle.std.specs.declared.alloc.Global.{Global}
 use Rattle.std.proofs.lemmas.Option.{slice_get_within, get_or_from_slice_get}
 use Rattle.blk_plain.specs.declared.op.Op.{Op}
@@ -12,7 +12,7 @@ use Rattle.lay_plain.specs.LeftSymmetric.{left_symmetric}
 use Rattle.graph_mean.specs.Graph.{Held}
 use Rattle.eng_cols.specs.declared.column.Column.{Column}
 use Rattle.eng_cols.specs.declared.column.Column.TheVariants as set
-use Rattle.eng_cols.specs.Cols.{ColumnState, Live, Dead, Filling, Spread, HasDevice, state_set, is_set_filling, is_set_spread}
+use Rattle.eng_cols.specs.Cols.{ColumnState, Live, Dead, Filling, Spread, HasDevice, is_set_filling, is_set_spread}
 use Rattle.eng_world.specs.declared.item.Item.{Item}
 use Rattle.eng_world.specs.declared.item.Item.TheVariants as item
 use Rattle.eng_world.specs.Step.{MayBeAsked}
@@ -21,11 +21,13 @@ use Rattle.eng_log.specs.Given.{items_in, items_at}
 use Rattle.eng_plan.specs.Asked.{no_graph}
 use Rattle.eng_log.specs.Laid.{items_before, sectors_before}
 use Rattle.eng_state.specs.Beginning.{IsAsked}
-use Rattle.eng_events.specs.Opened.{states_of, NamesGraph}
+use Rattle.eng_cols.specs.Stripes.{filled_in, states_of}
+use Rattle.eng_events.specs.Opened.{NamesGraph}
 use Rattle.crew_tests.specs.Trial.{IsSmallOp, IsSmall, AreSmall}
-use Rattle.crew_tests.proofs.Trials.{items-few, sectors-few, is-setup}
+use Rattle.crew_tests.proofs.Trials.{device-there, items-few, sectors-few, is-setup}
+use Rattle.top_close.specs.Settled.{HasDeviceOn}
 use Rattle.top_serve.specs.Setups.{IsNotLost}
-use Rattle.crew_tests.specs.Ready.{IsReadyToServe, IsDegraded}
+use Rattle.crew_tests.specs.Ready.{IsReadyToServe, IsDegraded, IsPaused}
 
 -- ## Small items
 
@@ -71,7 +73,7 @@ module _ {L D : Type 0} (lay : LayoutGhosts L) (disk : DiskGhosts D) (setup : Se
 
   module _ (columns : setup.columns.items ≡ set.Live 0 ∷ set.Dead ∷ []) (one : 128 ≤ disk.size first) (two : 128 ≤ disk.size second) (few : length setup.clients.items ≤ 16) (small : All AreSmall setup.clients.items) where
     half : states_of (lay.shape setup.layout) setup.columns.items ≡ Live 0 ∷ Dead ∷ []
-    half = ap (λ (l : List Column). map (state_set (lay.shape setup.layout).stripes) l) columns
+    half = ap (λ (l : List Column). states_of (lay.shape setup.layout) l) columns
 
     first-live : (c : ℕ) (x : ColumnState) → slice_get (Live 0 ∷ Dead ∷ []) c ≡ Some x → ((c ≡ 0) × (x ≡ Live 0)) ⊎ (x ≡ Dead)
     first-live zero x is = inl (refl, cc)
@@ -107,7 +109,7 @@ module _ {L D : Type 0} (lay : LayoutGhosts L) (disk : DiskGhosts D) (setup : Se
     half-ready = record {
       may = record {
         entries = ap (λ (l : List Column). length l) columns ∙ sym (ap (λ (y : Shape). y.columns) shape);
-        filling = ap (λ (l : List Column). count_by is_set_filling l) columns;
+        filling = let e : count_by is_set_filling setup.columns.items ≡ 0 = ap (λ (l : List Column). count_by is_set_filling l) columns in omega (arith, e);
         spread = let e : count_by is_set_spread setup.columns.items ≡ 0 = ap (λ (l : List Column). count_by is_set_spread l) columns in omega (arith, e);
         spares = λ c s done is lt. none-spread c done is;
         there = λ c device has. (
@@ -128,26 +130,94 @@ module _ {L D : Type 0} (lay : LayoutGhosts L) (disk : DiskGhosts D) (setup : Se
       trace = λ on. untraced on;
     }
 
-    not-second : (k : ℕ) → slice_get setup.columns.items k ≡ Some (set.Live 1) → ⊥
-    not-second k is = by k (subst (λ (l : List Column). slice_get l k ≡ Some (set.Live 1)) columns is)
+    not-second : (k : ℕ) → HasDeviceOn setup.columns.items k 1 → ⊥
+    not-second k is = by k (subst (λ (l : List Column). HasDeviceOn l k 1) columns is)
       where
-        by : (k : ℕ) → slice_get (set.Live 0 ∷ set.Dead ∷ []) k ≡ Some (set.Live 1) → ⊥
-        by zero h = let z : Some (set.Live 0) ≡ Some (set.Live 1) = h in let e : zero ≡ suc zero = cc in omega (arith, e)
-        by (suc zero) h = let z : Some set.Dead ≡ Some (set.Live 1) = h in let u : ⊥ = cc in u
-        by (suc (suc k)) h = let z : None ≡ Some (set.Live 1) = h in let u : ⊥ = cc in u
+        by : (k : ℕ) → HasDeviceOn (set.Live 0 ∷ set.Dead ∷ []) k 1 → ⊥
+        by zero h = let z : Some 0 ≡ Some 1 = h in let e : zero ≡ suc zero = cc in omega (arith, e)
+        by (suc zero) h = let z : None ≡ Some 1 = h in let u : ⊥ = cc in u
+        by (suc (suc k)) h = let z : None ≡ Some 1 = h in let u : ⊥ = cc in u
 
     pub degraded-ready : IsNotLost lay setup → IsDegraded lay disk setup
     degraded-ready kept = record {
       ready = half-ready;
       kept = kept;
+      may = λ most. record {
+        target = (
+          record { dead = ap (λ (l : List Column). slice_get l 1) columns; none_filling = ap (λ (l : List Column). count_by is_set_filling l) columns },
+          record {
+            there = second;
+            there_is = ap (λ (l : List (Option D)). slice_get l 1) devices;
+            size = large second two;
+            unused = not-second;
+          },
+        );
+        room = λ on. untraced on;
+      };
+    }
+
+  -- ## The second column is filling
+
+  module _ (done : ℕ) (columns : setup.columns.items ≡ set.Live 0 ∷ set.Filling 1 done ∷ []) (one : 128 ≤ disk.size first) (two : 128 ≤ disk.size second) (few : length setup.clients.items ≤ 16) (small : All AreSmall setup.clients.items) where
+    abbrev y : Shape
+    y = lay.shape setup.layout
+
+    abbrev marked : List Bool
+    marked = filled_in (lay.shape setup.layout) (set.Live 0 ∷ set.Filling 1 done ∷ [])
+
+    part : states_of (lay.shape setup.layout) setup.columns.items ≡ Live 0 ∷ Filling 1 marked ∷ []
+    part = ap (λ (l : List Column). states_of (lay.shape setup.layout) l) columns
+
+    own : (c device : ℕ) → HasDevice (Live 0 ∷ Filling 1 marked ∷ []) c device → (c < 2) × (device ≡ c)
+    own zero device (inl h) = let z : Some (Live 0) ≡ Some (Live device) = h in let e : 0 ≡ device = cc in (omega arith, sym e)
+    own zero device (inr h) = let z : Some (Live 0) ≡ Some (Filling device h.0) = h.1 in absurd (let u : ⊥ = cc in u)
+    own (suc zero) device (inl h) = let z : Some (Filling 1 marked) ≡ Some (Live device) = h in absurd (let u : ⊥ = cc in u)
+    own (suc zero) device (inr h) = let z : Some (Filling 1 marked) ≡ Some (Filling device h.0) = h.1 in let e : 1 ≡ device = cc in (omega arith, sym e)
+    own (suc (suc c)) device (inl h) = let z : None ≡ Some (Live device) = h in absurd (let u : ⊥ = cc in u)
+    own (suc (suc c)) device (inr h) = let z : None ≡ Some (Filling device h.0) = h.1 in absurd (let u : ⊥ = cc in u)
+
+    has-own : (c device : ℕ) → HasDevice (states_of (lay.shape setup.layout) setup.columns.items) c device → (c < 2) × (device ≡ c)
+    has-own c device has = own c device (subst (λ (l : List ColumnState). HasDevice l c device) part has)
+
+    unspread : {A : Type 0} (c : ℕ) (more : List Bool) → slice_get (Live 0 ∷ Filling 1 marked ∷ []) c ≡ Some (Spread more) → A
+    unspread zero more h = let z : Some (Live 0) ≡ Some (Spread more) = h in absurd (let u : ⊥ = cc in u)
+    unspread (suc zero) more h = let z : Some (Filling 1 marked) ≡ Some (Spread more) = h in absurd (let u : ⊥ = cc in u)
+    unspread (suc (suc c)) more h = let z : None ≡ Some (Spread more) = h in absurd (let u : ⊥ = cc in u)
+
+    part-ready : IsReadyToServe lay disk setup
+    part-ready = record {
       may = record {
-        dead = ap (λ (l : List Column). slice_get l 1) columns;
-        target = record {
-          there = second;
-          there_is = ap (λ (l : List (Option D)). slice_get l 1) devices;
-          size = large second two;
-          unused = not-second;
-        };
+        entries = ap (λ (l : List Column). length l) columns ∙ sym (ap (λ (y : Shape). y.columns) shape);
+        filling = let e : count_by is_set_filling setup.columns.items ≡ 1 = ap (λ (l : List Column). count_by is_set_filling l) columns in omega (arith, e);
+        spread = let e : count_by is_set_spread setup.columns.items ≡ 0 = ap (λ (l : List Column). count_by is_set_spread l) columns in omega (arith, e);
+        spares = λ c s more is lt. unspread c more (subst (λ (l : List ColumnState). slice_get l c ≡ Some (Spread more)) part is);
+        there = λ c device has.
+            let h = has-own c device has in
+            let lt : device < 2 = let e = h.1 in let l = h.0 in omega (arith, e, l) in
+            let x = device-there lay disk first second one two device lt in (
+              x.0,
+              subst (λ (l : List (Option D)). slice_get l device ≡ Some (Some x.0)) (sym devices) x.1,
+              subst (λ (y : Shape). 64 + y.rows * y.unit_sectors ≤ disk.size x.0) (sym shape) x.2,
+            );
+        one_column = λ c k device a b. sym (has-own c device a).1 ∙ (has-own k device b).1;
+        asked = λ c n i is. asked-in (lay.shape setup.layout) (length setup.graphs.items) (slice_get setup.clients.items c) (λ v at. small-at AreSmall setup.clients.items c v small at) n i is;
+        fit = λ n. subst (λ (l : List Held). length (slice_index_or l n no_graph).drawn.bufs ≤ 2048) (sym graphs) (omega arith);
+      };
+      few = record {
+        clients = few;
+        items = items-few setup.clients.items small;
+        sectors = sectors-few setup.clients.items small;
+        devices = two-devices;
+      };
+      trace = λ on. untraced on;
+    }
+
+    pub paused-ready : IsNotLost lay setup → IsPaused lay disk setup
+    paused-ready kept = record {
+      ready = part-ready;
+      kept = kept;
+      may = λ most. record {
+        target = (1, done, ap (λ (l : List Column). slice_get l 1) columns);
         room = λ on. untraced on;
       };
     }
@@ -156,7 +226,7 @@ module _ {L D : Type 0} (lay : LayoutGhosts L) (disk : DiskGhosts D) (setup : Se
 
   module _ (columns : setup.columns.items ≡ set.Dead ∷ set.Dead ∷ []) (clients : setup.clients.items ≡ []) where
     states : states_of (lay.shape setup.layout) setup.columns.items ≡ Dead ∷ Dead ∷ []
-    states = ap (λ (l : List Column). map (state_set (lay.shape setup.layout).stripes) l) columns
+    states = ap (λ (l : List Column). states_of (lay.shape setup.layout) l) columns
 
     dead-at : (c : ℕ) (x : ColumnState) → slice_get (Dead ∷ Dead ∷ []) c ≡ Some x → x ≡ Dead
     dead-at zero x is = cc
@@ -180,7 +250,7 @@ module _ {L D : Type 0} (lay : LayoutGhosts L) (disk : DiskGhosts D) (setup : Se
     dead-ready = record {
       may = record {
         entries = ap (λ (l : List Column). length l) columns ∙ sym (ap (λ (y : Shape). y.columns) shape);
-        filling = ap (λ (l : List Column). count_by is_set_filling l) columns;
+        filling = let e : count_by is_set_filling setup.columns.items ≡ 0 = ap (λ (l : List Column). count_by is_set_filling l) columns in omega (arith, e);
         spread = let e : count_by is_set_spread setup.columns.items ≡ 0 = ap (λ (l : List Column). count_by is_set_spread l) columns in omega (arith, e);
         spares = λ c s done is lt. let z : Spread done ≡ Dead = dead-at c (Spread done) (subst (λ (l : List ColumnState). slice_get l c ≡ Some (Spread done)) states is) in absurd (let u : ⊥ = cc in u);
         there = λ c device has. no-device c device has;

@@ -1,6 +1,6 @@
 -- The opening of the tests may be made.
 use Rattle.std.proofs.Common.{◌≡◌, ◌<◌, ◌≤◌, ◌+◌, ◌*◌, ℕ, zero, suc, List, [], ◌∷◌, length, refl, sym, ◌∙◌, ap, subst, arith, inl, inr, Option, Some, None, All}
-use Rattle.std.specs.Prelude.{Vec, slice_get, slice_index_or, count_by, map}
+use Rattle.std.specs.Prelude.{Vec, slice_get, slice_index_or, count_by}
 use Rattle.std.specs.declared.alloc.Global.{Global}
 use Rattle.std.proofs.lemmas.Option.{get_or_from_slice_get, slice_get_within}
 use Rattle.blk_plain.specs.declared.op.Op.{Op}
@@ -12,7 +12,7 @@ use Rattle.lay_plain.specs.LeftSymmetric.{left_symmetric}
 use Rattle.graph_mean.specs.Graph.{Held}
 use Rattle.eng_cols.specs.declared.column.Column.{Column}
 use Rattle.eng_cols.specs.declared.column.Column.TheVariants as set
-use Rattle.eng_cols.specs.Cols.{ColumnState, Live, Filling, Spread, HasDevice, state_set, is_set_filling, is_set_spread}
+use Rattle.eng_cols.specs.Cols.{ColumnState, Live, Filling, Spread, HasDevice, is_set_filling, is_set_spread}
 use Rattle.eng_world.specs.declared.item.Item.{Item}
 use Rattle.eng_world.specs.declared.item.Item.TheVariants as item
 use Rattle.eng_world.specs.Step.{MayBeAsked}
@@ -21,7 +21,8 @@ use Rattle.eng_parts.specs.declared.setup.Setup.{Setup}
 use Rattle.eng_state.specs.Beginning.{IsAsked}
 use Rattle.eng_log.specs.Given.{items_in, items_at}
 use Rattle.eng_log.specs.Laid.{item_sectors, sectors_in, sectors_at, row_sectors, sectors_before, items_before}
-use Rattle.eng_events.specs.Opened.{states_of, NamesGraph, FitThePool, IsSetup}
+use Rattle.eng_cols.specs.Stripes.{states_of}
+use Rattle.eng_events.specs.Opened.{NamesGraph, FitThePool, IsSetup}
 use Rattle.eng_state.specs.Steps.{graphs_of}
 use Rattle.eng_plan.specs.Asked.{no_graph}
 use Rattle.crew_tests.specs.Trial.{IsSmallOp, IsSmall, AreSmall}
@@ -119,14 +120,14 @@ has-live c device (inl is) = let h = live-at c (Live device) is in let e : Live 
 has-live c device (inr has) = let h = live-at c (Filling device has.0) has.1 in let e : Filling device has.0 ≡ Live c = h.1 in cc
 
 module _ {L D : Type 0} (lay : LayoutGhosts L) (disk : DiskGhosts D) where
-  device-there : (first second : D) → 128 ≤ disk.size first → 128 ≤ disk.size second → (device : ℕ) → device < 2 → (x : D) × (slice_get (Some first ∷ Some second ∷ []) device ≡ Some (Some x)) × (128 ≤ disk.size x)
+  pub device-there : (first second : D) → 128 ≤ disk.size first → 128 ≤ disk.size second → (device : ℕ) → device < 2 → (x : D) × (slice_get (Some first ∷ Some second ∷ []) device ≡ Some (Some x)) × (128 ≤ disk.size x)
   device-there first second one two zero lt = (first, refl, one)
   device-there first second one two (suc zero) lt = (second, refl, two)
   device-there first second one two (suc (suc device)) lt = absurd (omega (arith, lt))
 
   module _ (setup : Setup L D) (first second : D) (shape : lay.shape setup.layout ≡ left_symmetric 2 1 64) (columns : setup.columns.items ≡ set.Live 0 ∷ set.Live 1 ∷ []) (devices : setup.devices.items ≡ Some first ∷ Some second ∷ []) (one : 128 ≤ disk.size first) (two : 128 ≤ disk.size second) (small : All AreSmall setup.clients.items) (graphs : setup.graphs.items ≡ []) where
     states : states_of (lay.shape setup.layout) setup.columns.items ≡ both
-    states = ap (λ (l : List Column). map (state_set (lay.shape setup.layout).stripes) l) columns
+    states = ap (λ (l : List Column). states_of (lay.shape setup.layout) l) columns
 
     live : (c device : ℕ) → HasDevice (states_of (lay.shape setup.layout) setup.columns.items) c device → (c < 2) × (device ≡ c)
     live c device has = has-live c device (subst (λ (l : List ColumnState). HasDevice l c device) states has)
@@ -134,7 +135,7 @@ module _ {L D : Type 0} (lay : LayoutGhosts L) (disk : DiskGhosts D) where
     pub is-setup : IsSetup lay disk setup
     is-setup = record {
       entries = ap (λ (l : List Column). length l) columns ∙ sym (ap (λ (y : Shape). y.columns) shape);
-      filling = ap (λ (l : List Column). count_by is_set_filling l) columns;
+      filling = let e : count_by is_set_filling setup.columns.items ≡ 0 = ap (λ (l : List Column). count_by is_set_filling l) columns in omega (arith, e);
       spread = let e : count_by is_set_spread setup.columns.items ≡ 0 = ap (λ (l : List Column). count_by is_set_spread l) columns in omega (arith, e);
       spares = λ c s done is lt. let h = live-at c (Spread done) (subst (λ (l : List ColumnState). slice_get l c ≡ Some (Spread done)) states is) in let e : Spread done ≡ Live c = h.1 in cc;
       there = λ c device has.

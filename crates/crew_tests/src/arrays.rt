@@ -3,7 +3,7 @@ ghost use Rattle.std.specs.Prelude.{◌≡◌, ◌≤◌, [], ◌∷◌, IfOk, S
 ghost use Rattle.blk_disk.specs.Mem.{mem_bytes};
 ghost use Rattle.eng_cols.specs.Cols.{IsFor, is_set_filling, is_set_spread};
 ghost use Rattle.eng_cols.specs.Lost.{NotLost};
-ghost use Rattle.eng_events.specs.Opened.{states_of};
+ghost use Rattle.eng_cols.specs.Stripes.{states_of};
 ghost use Rattle.crew_tests.specs.Trial.{IsSmall};
 
 use blk_disk::{MemDisk, SECTOR};
@@ -42,7 +42,7 @@ pub(crate) fn pair<D: Drop>(
 /// Room for the columns, by which an array isn't lost.
 pub(crate) fn judged<L: Layout>(alloc: Global, layout: &L, columns: &[Column]) -> Result<Cols, Fail>
     requires entries { length columns.now ≡ (L.shape layout.now).columns }
-    requires filling { count_by is_set_filling columns.now ≡ 0 }
+    requires filling { count_by is_set_filling columns.now ≤ 1 }
     requires spread { count_by is_set_spread columns.now ≡ 0 }
     ensures judge { IfOk result (IsFor (L.shape layout.now)) }
     ensures kept { IfOk result (λ _. NotLost (L.shape layout.now)

@@ -17,7 +17,7 @@ use std::sync::Wait;
 use std::test::Fail;
 use std::thread::Threads;
 use top_labelled::{Labelled, Outcome, run_labelled};
-use top_run::{Line, Service};
+use top_run::{Line, Service, Told};
 
 mod ready;
 
@@ -199,10 +199,10 @@ fn an_array_that_is_lost_in_the_run_is_not_clean(rt: HostRuntime) -> Result<(), 
 #[test]
 fn a_column_is_rebuilt_in_place(rt: HostRuntime) -> Result<(), Fail> {
     let alloc = rt.alloc();
-    for (failed, workers, done, seat, check) in [
-        (false, 0, Some(64), 0, 9),
-        (false, 2, Some(64), 0, 9),
-        (true, 0, None, 255, 0),
+    for (failed, workers, told, seat, check) in [
+        (false, 0, Told::Done(64), 0, 9),
+        (false, 2, Told::Done(64), 0, 9),
+        (true, 0, Told::Stopped, 255, 0),
     ] {
         let first = device(alloc, 9, &[])?;
         let second = device(alloc, 0, &[])?;
@@ -211,7 +211,7 @@ fn a_column_is_rebuilt_in_place(rt: HostRuntime) -> Result<(), Fail> {
         let line = Line {
             column: 1,
             device: Some(1),
-            done,
+            told,
         };
         same(&rt, service.line, Some(line));
         same(&rt, service.lost, None);
@@ -236,7 +236,7 @@ fn a_device_that_failed_is_not_rebuilt_onto(rt: HostRuntime) -> Result<(), Fail>
     let labelled = replacing(alloc, first, second, false)?;
     let (service, devices) = ran(&rt, alloc, labelled, 0)?;
     match service.line {
-        Some(line) => same(&rt, line.done, None),
+        Some(line) => same(&rt, line.told, Told::Stopped),
         None => holds(&rt, false),
     }
     has_label(&rt, devices.first(), 8, 1, 255);

@@ -81,20 +81,32 @@ fn sector_of(mark: Mark) -> [u8; SECTOR] {
             r: 0,
             lambda: 0,
             seats: [0; 32],
+            filling: 0,
+            done: 0,
         };
         write_label(&label, &mut sector);
     }
     sector
 }
 
-// A disk of so many sectors, with this label in the first; with none where the counter is 0.
-fn marked(alloc: Global, name: &str, sectors: u16, mark: Mark) -> Result<(Name, MemDisk), Fail> {
+/// A disk of so many sectors, of which the first is this one and the others are zeros.
+pub(crate) fn disk_of(
+    alloc: Global,
+    name: &str,
+    sectors: u16,
+    first: &[u8; SECTOR],
+) -> Result<(Name, MemDisk), Fail> {
     let mut bytes = vec![in alloc; 0; SECTOR * usize::from(sectors)]?;
-    for (byte, label) in bytes.iter_mut().zip(sector_of(mark).iter()) {
-        *byte = *label;
+    for (byte, own) in bytes.iter_mut().zip(first.iter()) {
+        *byte = *own;
     }
     let disk = MemDisk::new(alloc, bytes, Vec::new(alloc), 10)?;
     Ok((Name::new(alloc, name)?, disk))
+}
+
+// A disk of so many sectors, with this label in the first; with none where the counter is 0.
+fn marked(alloc: Global, name: &str, sectors: u16, mark: Mark) -> Result<(Name, MemDisk), Fail> {
+    disk_of(alloc, name, sectors, &sector_of(mark))
 }
 
 // The disks d0 to d2 with these labels, the second of so many sectors.
@@ -115,8 +127,8 @@ fn texts_of(alloc: Global, conf: &str, reads: u16) -> Result<Vec<(Name, Vec<u8>)
     Ok(texts)
 }
 
-// A bay with these disks, this configuration and a script of so many reads.
-fn bay_with(
+/// A bay with these disks, this configuration and a script of so many reads.
+pub(crate) fn bay_with(
     alloc: Global,
     disks: Vec<(Name, MemDisk)>,
     conf: &str,
@@ -149,12 +161,12 @@ fn names(alloc: Global, words: &[&str]) -> Result<Vec<Name>, Fail> {
     Ok(names)
 }
 
-// What is admitted, but for the devices.
+/// What is admitted, but for the devices.
 #[derive(Drop)]
-struct Made {
+pub(crate) struct Made {
     sizes: Vec<u64>,
     fronts: Vec<Front>,
-    duty: Duty,
+    pub(crate) duty: Duty,
 }
 
 // What the words are admitted for; the devices are put back.
@@ -184,7 +196,12 @@ fn make(alloc: Global, bay: &mut MemBay<MemDisk>, words: &[Name]) -> Result<Made
     }
 }
 
-fn accepted(alloc: Global, bay: &mut MemBay<MemDisk>, words: &[&str]) -> Result<Made, Fail> {
+/// What the words are admitted for.
+pub(crate) fn accepted(
+    alloc: Global,
+    bay: &mut MemBay<MemDisk>,
+    words: &[&str],
+) -> Result<Made, Fail> {
     let words = names(alloc, words)?;
     match make(alloc, bay, &words) {
         Ok(made) => Ok(made),
@@ -192,7 +209,8 @@ fn accepted(alloc: Global, bay: &mut MemBay<MemDisk>, words: &[&str]) -> Result<
     }
 }
 
-fn array_of(duty: Duty) -> Result<Ready, Fail> {
+/// The array that something is done with.
+pub(crate) fn array_of(duty: Duty) -> Result<Ready, Fail> {
     match duty {
         Duty::OnArray(ready) => Ok(ready),
         Duty::Shows(_) | Duty::OneLabel | Duty::PrintConf => Err("another duty".into()),
@@ -259,7 +277,8 @@ fn refusals_come_in_order(rt: HostRuntime) -> Result<(), Fail> {
     Ok(())
 }
 
-fn words_of(alloc: Global, action: &[&str]) -> Result<Vec<Name>, Fail> {
+/// The words of an action on the configuration.
+pub(crate) fn words_of(alloc: Global, action: &[&str]) -> Result<Vec<Name>, Fail> {
     let mut words = names(alloc, &["conf"])?;
     for word in action {
         words.push(Name::new(alloc, word)?)?;
@@ -275,8 +294,12 @@ fn text_of(alloc: Global, refusal: &Refusal) -> Result<Vec<u8>, Fail> {
     }
 }
 
-// What is printed where the words are refused, nothing where they aren't.
-fn refusal_of(alloc: Global, bay: &mut MemBay<MemDisk>, words: &[Name]) -> Result<Vec<u8>, Fail> {
+/// What is printed where the words are refused, nothing where they aren't.
+pub(crate) fn refusal_of(
+    alloc: Global,
+    bay: &mut MemBay<MemDisk>,
+    words: &[Name],
+) -> Result<Vec<u8>, Fail> {
     match make(alloc, bay, words) {
         Ok(_) => Ok(Vec::new(alloc)),
         Err(refusal) => text_of(alloc, &refusal),
@@ -446,7 +469,13 @@ fn spared_bay(alloc: Global) -> Result<MemBay<MemDisk>, Fail> {
 // The device that column 1 is filled onto, if that is the start.
 fn filled_of(start: Option<Start>) -> Option<u32> {
     match start {
-        Some(Start::Fill { column: 1, device }) => Some(device),
+        Some(
+            Start::Fill {
+                column: 1,
+                device,
+                ..
+            },
+        ) => Some(device),
         _ => None,
     }
 }

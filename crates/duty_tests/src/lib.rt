@@ -12,6 +12,8 @@ mod bounds;
 #[cfg(test)]
 mod commands;
 #[cfg(test)]
+mod filling;
+#[cfg(test)]
 mod judging;
 #[cfg(test)]
 mod opened;

@@ -46,6 +46,8 @@ fn labelled(serial: u32, counter: u32, column: u32) -> Front {
         r: 0,
         lambda: 0,
         seats: [0; 32],
+        filling: 0,
+        done: 0,
     };
     let mut bytes = [0; 512];
     write_label(&label, &mut bytes);

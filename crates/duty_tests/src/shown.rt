@@ -57,6 +57,8 @@ fn label(counter: u32, column: u32, seats: [u8; 3]) -> Label
         r: 0,
         lambda: 0,
         seats: all,
+        filling: 0,
+        done: 0,
     }
 }
 
@@ -76,6 +78,8 @@ const CLEAN: Label = Label {
     r: 0,
     lambda: 0,
     seats: [0; 32],
+    filling: 0,
+    done: 0,
 };
 
 // A sector that holds it.

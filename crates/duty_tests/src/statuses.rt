@@ -47,6 +47,8 @@ fn prints_each_status_and_gives_its_number(rt: HostRuntime) -> Result<(), Fail> 
         (small, 10, "status small 1 64 65\n"),
         (Status::NotInSync(1), 11, "status parity 1\n"),
         (Status::NoSpare, 12, "status nospare\n"),
+        (Status::NoRebuild, 14, "status norebuild\n"),
+        (Status::Rebuilding(3), 15, "status rebuilding 3\n"),
         (Status::LongText(conf), 13, "status long CONF\n"),
         (Status::Memory, 70, "status memory\n"),
     ];
@@ -78,7 +80,7 @@ fn prints_a_front_where_the_sink_fails(rt: HostRuntime) -> Result<(), Fail> {
     let columns = [
         Column::Spread,
         Column::Dead,
-        Column::Filling { device: 3 },
+        Column::Filling { device: 3, done: 0 },
         Column::Dead,
     ];
     let mut front = String::new(rt.alloc());

@@ -33,10 +33,10 @@ module _ (y : Shape) (graphs : Graphs) (e : Traced) (old new : World) where
   abbrev Any : World → Type 0
   Any w = Unit {0}
 
-  same-had : (c d : ℕ) → new.columns ≡ old.columns → HasDevice new.columns c d → HasDevice old.columns c d ⊎ (e ≡ event.Fill c d)
+  same-had : (c d : ℕ) → new.columns ≡ old.columns → HasDevice new.columns c d → HasDevice old.columns c d ⊎ ((count : ℕ) × (e ≡ event.Fill c d count))
   same-had c d is h = inl (subst (λ (cols : List ColumnState). HasDevice cols c d) is h)
 
-  move-had : Move y graphs Any e old new → (c d : ℕ) → HasDevice new.columns c d → HasDevice old.columns c d ⊎ (e ≡ event.Fill c d)
+  move-had : Move y graphs Any e old new → (c d : ℕ) → HasDevice new.columns c d → HasDevice old.columns c d ⊎ ((count : ℕ) × (e ≡ event.Fill c d count))
   move-had (replies k q asked known is ne idle f) c d h = same-had c d f.only.columns.columns h
   move-had (waits k a way known asks nothing g only pool) c d h = same-had c d only.columns.columns h
   move-had (takes k known f) c d h = same-had c d f.only.columns.columns h
@@ -53,23 +53,23 @@ module _ (y : Shape) (graphs : Graphs) (e : Traced) (old new : World) where
   move-had (home k n good was loss is f failed (inl same)) c d h = same-had c d same h
   move-had (home k n good was loss is f failed (inr dead)) c d h = inl (device-back old.columns dead.0 c d (subst (λ (cols : List ColumnState). HasDevice cols c d) dead.1 h))
 
-step-had : (y : Shape) (graphs : Graphs) (e : Traced) (old new : World) → Step y graphs e old new → (c d : ℕ) → HasDevice new.columns c d → HasDevice old.columns c d ⊎ (e ≡ event.Fill c d)
+step-had : (y : Shape) (graphs : Graphs) (e : Traced) (old new : World) → Step y graphs e old new → (c d : ℕ) → HasDevice new.columns c d → HasDevice old.columns c d ⊎ ((count : ℕ) × (e ≡ event.Fill c d count))
 step-had y graphs e old new s c d h = by (moves y graphs (λ w. Unit {0}) e old new (λ none. tt) s)
   where
-    by : Moves y graphs (λ w. Unit {0}) e old new → HasDevice old.columns c d ⊎ (e ≡ event.Fill c d)
+    by : Moves y graphs (λ w. Unit {0}) e old new → HasDevice old.columns c d ⊎ ((count : ℕ) × (e ≡ event.Fill c d count))
     by (one m) = move-had y graphs e old new m c d h
     by (two mid m k none alive f) = move-had y graphs e old mid m c d (device-back mid.columns k c d (subst (λ (cols : List ColumnState). HasDevice cols c d) f.columns h))
 
 -- what a column has had it has had after a further event
 pub had-on : (w : World) (events : List Traced) (e : Traced) (c d : ℕ) → HasHad w events c d → HasHad w (e ∷ events) c d
 had-on w events e c d (inl h) = inl h
-had-on w events e c d (inr h) = inr (tail-has e events _ h)
+had-on w events e c d (inr h) = inr (h.0, tail-has e events _ h.1)
 
 pub run-had : (y : Shape) (graphs : Graphs) (w : World) (events : List Traced) (x : World) → EventsLead y graphs w events x → (c d : ℕ) → HasDevice x.columns c d → HasHad w events c d
 run-had y graphs w [] x r c d h = inl (subst (λ (v : World). HasDevice v.columns c d) r h)
 run-had y graphs w (e ∷ events) x r c d h = elim (step-had y graphs e r.0 x r.2 c d h) [
   | inl was ↦ had-on w events e c d (run-had y graphs w events r.0 r.1 c d was)
-  | inr is ↦ inr (subst (Contains (e ∷ events)) is (head-has e events))
+  | inr is ↦ inr (is.0, subst (Contains (e ∷ events)) is.1 (head-has e events))
 ]
 
 -- ## By which events a device fails
@@ -140,7 +140,8 @@ module _ (y : Shape) (graphs : Graphs) (old new : World) (d : ℕ) (before : old
       back None b = same-not (b.only.columns.failed d)
       back (Some n) b = same-not (b.only.columns.failed d)
   in-fails (event.Fail c) h = by_call c refl (column-had y c old new h.2 d before after)
-  in-fails (event.Fill c device) h = same-not (h.starts.failed d)
+  in-fails (event.Fill c device count) h = same-not (h.starts.failed d)
+  in-fails (event.Resume c count) h = same-not (h.starts.failed d)
   in-fails (event.Spread c) h = same-not (h.starts.failed d)
 
   lost-fails : (e : Traced) → StepLost y graphs e old new → FailsBy e old new d
@@ -152,7 +153,8 @@ module _ (y : Shape) (graphs : Graphs) (old new : World) (d : ℕ) (before : old
   lost-fails (event.Skip id n) h = absurd h
   lost-fails (event.Back id) h = absurd h
   lost-fails (event.Fail c) h = absurd h
-  lost-fails (event.Fill c device) h = absurd h
+  lost-fails (event.Fill c device count) h = absurd h
+  lost-fails (event.Resume c count) h = absurd h
   lost-fails (event.Spread c) h = absurd h
 
   pub step-fails : (e : Traced) → Step y graphs e old new → FailsBy e old new d

@@ -71,7 +71,7 @@ module _ {D : Type 0} (disk : DiskGhosts D) where
   rises-at old new d (Some s) None was is h rose = absurd h
   rises-at old new d (Some s) (Some t) was is h rose = record { before = s.device; after = t.device; was = was; is = is; rose = rose }
 
-module _ {L D : Type 0} (lay : LayoutGhosts L) (disk : DiskGhosts D) (setup : Setup L D) (first last : Array L D) (events : List Traced) (closed : Closed L D) (o : IsOpened lay disk setup first) (g : Goes lay disk first events last) (c : IsClosed last closed) where
+module _ {L D : Type 0} (lay : LayoutGhosts L) (disk : DiskGhosts D) (setup : Setup L D) (first last : Array L D) (events : List Traced) (closed : Closed L D) (o : IsOpened lay disk setup first) (g : Goes lay disk first events last) (c : IsClosed lay last closed) where
   same : Same lay disk first last
   same = goes-same lay disk first last events g
 

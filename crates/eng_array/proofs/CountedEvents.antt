@@ -13,11 +13,10 @@ use Rattle.eng_rest.specs.Left.{below, alive}
 use Rattle.eng_rest.proofs.Summing.{below-le}
 use Rattle.eng_log.specs.Given.{items_at}
 use Rattle.eng_parts.specs.declared.setup.Setup.{Setup}
-use Rattle.eng_events.specs.Opened.{states_of}
-use Rattle.eng_array.specs.Fitting.{most_in, item_events, row_events, rebuild_events, counted_events, trace_sum, rebuilds_sum, FitsTrace, FitsRebuilding, HasAtMost}
+use Rattle.eng_cols.specs.Stripes.{states_of}
+use Rattle.eng_array.specs.Fitting.{most_in, item_events, row_events, rebuild_events, counted_events, trace_sum, rebuilds_sum, BeginsAtMost, FitsTrace, FitsRebuilding}
 use Rattle.eng_array.specs.Serving.{most_for_unit}
 use Rattle.eng_array.proofs.ShortTraces.{alive-most, states-count}
-use Rattle.eng_array.proofs.StartedSteady.{alive-more}
 
 item-counted : (n devices m : ℕ) → n ≤ devices → item_events n m ≤ (2 * m + 4) * (1 + devices)
 item-counted n devices m few =
@@ -30,14 +29,6 @@ below-same : (k n : ℕ) → below (λ s. k) n ≡ n * k
 unfolding below
 below-same k zero = omega arith
 below-same k (suc n) = let rest = below-same k n in let more = suc-mul n k in omega (arith, rest, more)
-
--- where a column is dead not all are alive
-alive-less : (cols : List ColumnState) (c : ℕ) → slice_get cols c ≡ Some Dead → alive cols + 1 ≤ length cols
-alive-less cols c dead =
-    let more = alive-more cols c (Live 0) dead refl in
-    let most = alive-most (slice_set cols c (Live 0)) in
-    let same = length-set cols c (Live 0) in
-    omega (arith, more, most, same)
 
 module _ (y : Shape) (graphs : List Held) (devices : ℕ) where
   row-counted : (n : ℕ) (items : List Item) → n ≤ devices → row_events y graphs n items ≤ counted_events y graphs devices items
@@ -68,11 +59,10 @@ module _ {L D : Type 0} (lay : LayoutGhosts L) (setup : Setup L D) (devices : �
       let rows = rows-counted y setup.graphs.items devices (alive columns) setup.clients.items (omega (arith, most, count, entries, few)) in
       omega (arith, most, count, entries, few, rows, sum)
 
-  pub counted-rebuilds : (c rebuilds : ℕ) → slice_get columns c ≡ Some Dead → HasAtMost y columns c rebuilds → trace_sum y setup.graphs.items devices setup.clients.items + rebuilds_sum y devices rebuilds ≤ 1048576 → FitsRebuilding lay setup c
-  counted-rebuilds c rebuilds dead at-most sum on =
-      let less = alive-less columns c dead in
-      let count = states-count y setup.columns.items in
-      let enough : alive columns + 1 ≤ devices = omega (arith, less, count, entries, few) in
-      let rows = rows-counted y setup.graphs.items devices (alive columns + 1) setup.clients.items enough in
-      let counted = rebuilds-counted y setup.graphs.items devices (alive columns + 1) rebuilds enough in
-      (rebuilds, at-most, omega (arith, less, count, entries, rows, counted, sum))
+  pub counted-rebuilds : (cols : List ColumnState) (c asked rebuilds : ℕ) → length cols ≡ (lay.shape setup.layout).columns → BeginsAtMost y cols c asked rebuilds → trace_sum y setup.graphs.items devices setup.clients.items + rebuilds_sum y devices rebuilds ≤ 1048576 → FitsRebuilding lay setup cols c asked
+  counted-rebuilds cols c asked rebuilds count at-most sum on =
+      let most = alive-most cols in
+      let enough : alive cols ≤ devices = omega (arith, most, count, few) in
+      let rows = rows-counted y setup.graphs.items devices (alive cols) setup.clients.items enough in
+      let counted = rebuilds-counted y setup.graphs.items devices (alive cols) rebuilds enough in
+      (rebuilds, at-most, omega (arith, most, count, rows, counted, sum))

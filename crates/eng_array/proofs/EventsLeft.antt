@@ -85,7 +85,8 @@ module _ (y : Shape) (graphs : Graphs) (old new : World) (x : IsIndexed old) whe
       of-lost (event.Skip id n) h = absurd h
       of-lost (event.Back id) h = absurd h
       of-lost (event.Fail k) h = absurd h
-      of-lost (event.Fill k device) h = absurd h
+      of-lost (event.Fill k device count) h = absurd h
+      of-lost (event.Resume k count) h = absurd h
       of-lost (event.Spread k) h = absurd h
 
       go : (o : Option Loss) → old.lost ≡ o → StepBy y graphs o e old new → alive new.columns ≤ alive old.columns

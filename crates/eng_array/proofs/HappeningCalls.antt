@@ -128,8 +128,11 @@ module _ {L D : Type 0} (lay : LayoutGhosts L) (disk : DiskGhosts D) (old new : 
 
   -- ## A rebuild begins
 
-  module _ (c : ℕ) (states : List ColumnState) (e : Traced) (f : Started lay old c states e new) (follows : steps.Follows lay disk old e new) (not_own : IsOwn e → ⊥) (not_bad : IsBad e → ⊥) where
-    pub start-happens : Happens lay disk e old new
+  module _ (c asked : ℕ) (states : List ColumnState) (at : ℕ → Traced) (f : Started lay old c asked states at new) (follows : steps.Follows lay disk old (at (length f.items)) new) (not_own : IsOwn (at (length f.items)) → ⊥) (not_bad : IsBad (at (length f.items)) → ⊥) where
+    abbrev e : Traced
+    e = at (length f.items)
+
+    pub start-happens : Happens lay disk (at (length f.items)) old new
     start-happens = record {
       sound = after;
       same = record {
@@ -150,14 +153,17 @@ module _ {L D : Type 0} (lay : LayoutGhosts L) (disk : DiskGhosts D) (old new : 
     }
 
     -- no node is out before any operation has begun
-    pub start-jobs : CanRebuild lay disk old c → ((d m : ℕ) → out_at new d m ≡ out_at old d m) → KeepsJobs lay disk old new
+    pub start-jobs : CanRebuild lay disk old → ((d m : ℕ) → out_at new d m ≡ out_at old d m) → KeepsJobs lay disk old new
     start-jobs can nodes = record {
       jobs = λ job out. absurd (let z : Nothing ≡ Runs = sym (can.unbegun job.client).1 ∙ out.is.out.runs in let u : ⊥ = cc in u);
       nodes = nodes;
     }
 
-  pub fill-nodes : (c device : ℕ) → steps.Follows lay disk old (event.Fill c device) new → (d m : ℕ) → out_at new d m ≡ out_at old d m
-  fill-nodes c device follows = nodes-same lay disk old new (event.Fill c device) steady follows (world-out lay disk old new (event.Fill c device) steady follows)
+  pub fill-nodes : (c device count : ℕ) → steps.Follows lay disk old (event.Fill c device count) new → (d m : ℕ) → out_at new d m ≡ out_at old d m
+  fill-nodes c device count follows = nodes-same lay disk old new (event.Fill c device count) steady follows (world-out lay disk old new (event.Fill c device count) steady follows)
+
+  pub resume-nodes : (c count : ℕ) → steps.Follows lay disk old (event.Resume c count) new → (d m : ℕ) → out_at new d m ≡ out_at old d m
+  resume-nodes c count follows = nodes-same lay disk old new (event.Resume c count) steady follows (world-out lay disk old new (event.Resume c count) steady follows)
 
   pub spread-nodes : (c : ℕ) → steps.Follows lay disk old (event.Spread c) new → (d m : ℕ) → out_at new d m ≡ out_at old d m
   spread-nodes c follows = nodes-same lay disk old new (event.Spread c) steady follows (world-out lay disk old new (event.Spread c) steady follows)

@@ -42,3 +42,4 @@ pub mod DevicesOn
 pub mod ComingBack
 pub mod CountedEvents
 pub mod SmallRebuilds
+mod Going

@@ -240,7 +240,8 @@ module _ (y : Shape) (graphs : Graphs) (in_sync : Type 0) (start : Blocks) where
   home-on (event.Skip id n) old new loss lost f q = absurd f
   home-on (event.Back id) old new loss lost f q = absurd f
   home-on (event.Fail k) old new loss lost f q = absurd f
-  home-on (event.Fill k device) old new loss lost f q = absurd f
+  home-on (event.Fill k device count) old new loss lost f q = absurd f
+  home-on (event.Resume k count) old new loss lost f q = absurd f
   home-on (event.Spread k) old new loss lost f q = absurd f
 
   step-on : (e : Traced) (old new : World) → (old.lost ≡ None → Known old) → Step y graphs e old new → EachOnSeat y old → EachOnSeat y new

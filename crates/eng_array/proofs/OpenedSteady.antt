@@ -22,7 +22,8 @@ use Rattle.eng_array.specs.Fitting.{most_in, item_events, row_events, opening_ev
 use Rattle.eng_log.specs.Given.{items_at}
 use Rattle.eng_log.specs.Laid.{items_before}
 use Rattle.eng_log.specs.Log.{Logged}
-use Rattle.eng_events.specs.Opened.{states_of, IsSetup, IsOpened, OpensWorlds}
+use Rattle.eng_cols.specs.Stripes.{states_of}
+use Rattle.eng_events.specs.Opened.{IsSetup, IsOpened, OpensWorlds}
 use Rattle.eng_events.specs.Opened as opened
 use Rattle.eng_array.specs.Serving.{AreServing, most_for}
 use Rattle.eng_array.specs.Serving as serving

@@ -53,7 +53,8 @@ abbrev pub OneLess : ℕ → ℕ → World → World → Type 0
 OneLess c n old new = (d m : ℕ) → node_at new d m + is_node c n d m ≡ node_at old d m
 
 abbrev pub OutAfter : Traced → World → World → Type 0
-OutAfter (event.Fill column device) old new = SameOut old new
+OutAfter (event.Fill column device count) old new = SameOut old new
+OutAfter (event.Resume column count) old new = SameOut old new
 OutAfter (event.Spread column) old new = SameOut old new
 OutAfter (event.Fail column) old new = SameOut old new
 OutAfter (event.Begin id) old new = SameOut old new
@@ -271,7 +272,8 @@ module _ (y : Shape) (graphs : Graphs) (in_sync : Type 0) (start : Blocks) (old 
         omega (arith, a, b)
     in-out (event.Back id) h = back-same id.client h.1
     in-out (event.Fail c) h = fails-same y c old new h.2
-    in-out (event.Fill c device) h = starts-same c _ h.starts
+    in-out (event.Fill c device count) h = starts-same c _ h.starts
+    in-out (event.Resume c count) h = starts-same c _ h.starts
     in-out (event.Spread c) h = starts-same c _ h.starts
 
   lost-out : (e : Traced) → StepLost y graphs e old new → OutAfter e old new
@@ -283,7 +285,8 @@ module _ (y : Shape) (graphs : Graphs) (in_sync : Type 0) (start : Blocks) (old 
   lost-out (event.Skip id n) h = absurd h
   lost-out (event.Back id) h = absurd h
   lost-out (event.Fail c) h = absurd h
-  lost-out (event.Fill c device) h = absurd h
+  lost-out (event.Fill c device count) h = absurd h
+  lost-out (event.Resume c count) h = absurd h
   lost-out (event.Spread c) h = absurd h
 
   pub step-out : (e : Traced) → (old.lost ≡ None → Invariant y in_sync start old) → Step y graphs e old new → OutAfter e old new

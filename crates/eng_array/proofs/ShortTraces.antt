@@ -9,10 +9,10 @@ use Rattle.lay_core.specs.Layout.{Shape}
 use Rattle.lay_plain.specs.LeftSymmetric.{left_symmetric}
 use Rattle.eng_cols.specs.declared.column.Column.{Column}
 use Rattle.eng_cols.specs.Cols.{ColumnState, Live, Dead, Filling, Spread, state_set}
+use Rattle.eng_cols.specs.Stripes.{filled_in, states_of}
 use Rattle.eng_rest.specs.Left.{below, alive}
 use Rattle.eng_world.specs.declared.item.Item.{Item}
 use Rattle.eng_world.specs.declared.item.Item.TheVariants as item
-use Rattle.eng_events.specs.Opened.{states_of}
 use Rattle.eng_array.specs.Fitting.{row_events, opening_events}
 
 -- no more columns are alive than there are
@@ -40,4 +40,4 @@ write-and-read p n = omega arith
 
 -- there are as many states as columns
 pub states-count : (y : Shape) (columns : List Column) → length (states_of y columns) ≡ length columns
-states-count y columns = length-map columns (state_set y.stripes)
+states-count y columns = length-map columns (state_set y.stripes (filled_in y columns))

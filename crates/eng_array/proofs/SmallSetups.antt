@@ -13,6 +13,7 @@ use Rattle.graph_mean.specs.Graph.{Held}
 use Rattle.eng_cols.specs.declared.column.Column.{Column}
 use Rattle.eng_cols.specs.declared.column.Column.TheVariants as column
 use Rattle.eng_cols.specs.Cols.{Live, Filling, Spread, HasDevice, state_set, is_set_filling, is_set_spread}
+use Rattle.eng_cols.specs.Stripes.{filled_in}
 use Rattle.eng_cols.specs.Laws.{HaveSpares}
 use Rattle.eng_rest.specs.Left.{below}
 use Rattle.eng_rest.proofs.Summing.{below-le}
@@ -58,46 +59,46 @@ module _ {D : Type 0} (disk : DiskGhosts D) (devices : List (Option D)) (need : 
   own-unfilled : (c : ℕ) (x : Column) → IsOwn disk devices need c x → is_set_filling x ≡ false
   own-unfilled c (column.Live device) own = refl
   own-unfilled c column.Dead own = refl
-  own-unfilled c (column.Filling device) own = absurd own
+  own-unfilled c (column.Filling device m) own = absurd own
   own-unfilled c column.Spread own = absurd own
 
   own-unspread : (c : ℕ) (x : Column) → IsOwn disk devices need c x → is_set_spread x ≡ false
   own-unspread c (column.Live device) own = refl
   own-unspread c column.Dead own = refl
-  own-unspread c (column.Filling device) own = absurd own
+  own-unspread c (column.Filling device m) own = absurd own
   own-unspread c column.Spread own = absurd own
 
-  own-live : (n c device : ℕ) (x : Column) → IsOwn disk devices need c x → state_set n x ≡ Live device → (device ≡ c) × HasSectors disk devices c need
-  own-live n c device (column.Live d) own e = (let z : d ≡ device = cc in sym z ∙ own.0, own.1)
-  own-live n c device column.Dead own e = absurd (let z : ⊥ = cc in z)
-  own-live n c device (column.Filling d) own e = absurd own
-  own-live n c device column.Spread own e = absurd own
+  own-live : (n : ℕ) (filled : List Bool) (c device : ℕ) (x : Column) → IsOwn disk devices need c x → state_set n filled x ≡ Live device → (device ≡ c) × HasSectors disk devices c need
+  own-live n filled c device (column.Live d) own e = (let z : d ≡ device = cc in sym z ∙ own.0, own.1)
+  own-live n filled c device column.Dead own e = absurd (let z : ⊥ = cc in z)
+  own-live n filled c device (column.Filling d m) own e = absurd own
+  own-live n filled c device column.Spread own e = absurd own
 
-  own-none : (n c device : ℕ) (done : List Bool) (x : Column) → IsOwn disk devices need c x → state_set n x ≡ Filling device done → ⊥
-  own-none n c device done (column.Live d) own e = let z : ⊥ = cc in z
-  own-none n c device done column.Dead own e = let z : ⊥ = cc in z
-  own-none n c device done (column.Filling d) own e = absurd own
-  own-none n c device done column.Spread own e = absurd own
+  own-none : (n : ℕ) (filled : List Bool) (c device : ℕ) (done : List Bool) (x : Column) → IsOwn disk devices need c x → state_set n filled x ≡ Filling device done → ⊥
+  own-none n filled c device done (column.Live d) own e = let z : ⊥ = cc in z
+  own-none n filled c device done column.Dead own e = let z : ⊥ = cc in z
+  own-none n filled c device done (column.Filling d m) own e = absurd own
+  own-none n filled c device done column.Spread own e = absurd own
 
-  own-nowhere : (n c : ℕ) (done : List Bool) (x : Column) → IsOwn disk devices need c x → state_set n x ≡ Spread done → ⊥
-  own-nowhere n c done (column.Live d) own e = let z : ⊥ = cc in z
-  own-nowhere n c done column.Dead own e = let z : ⊥ = cc in z
-  own-nowhere n c done (column.Filling d) own e = absurd own
-  own-nowhere n c done column.Spread own e = absurd own
+  own-nowhere : (n : ℕ) (filled : List Bool) (c : ℕ) (done : List Bool) (x : Column) → IsOwn disk devices need c x → state_set n filled x ≡ Spread done → ⊥
+  own-nowhere n filled c done (column.Live d) own e = let z : ⊥ = cc in z
+  own-nowhere n filled c done column.Dead own e = let z : ⊥ = cc in z
+  own-nowhere n filled c done (column.Filling d m) own e = absurd own
+  own-nowhere n filled c done column.Spread own e = absurd own
 
   module _ (columns : List Column) (own : AreOwn disk devices need columns) where
-    pub own-device : (n c device : ℕ) → HasDevice (map (state_set n) columns) c device → (device ≡ c) × HasSectors disk devices c need
-    own-device n c device (inl e) = let x = was (state_set n) columns c (Live device) e in own-live n c device x.0 (own c x.0 x.1) x.2
-    own-device n c device (inr f) = let x = was (state_set n) columns c (Filling device f.0) f.1 in absurd (own-none n c device f.0 x.0 (own c x.0 x.1) x.2)
+    pub own-device : (n : ℕ) (filled : List Bool) (c device : ℕ) → HasDevice (map (state_set n filled) columns) c device → (device ≡ c) × HasSectors disk devices c need
+    own-device n filled c device (inl e) = let x = was (state_set n filled) columns c (Live device) e in own-live n filled c device x.0 (own c x.0 x.1) x.2
+    own-device n filled c device (inr f) = let x = was (state_set n filled) columns c (Filling device f.0) f.1 in absurd (own-none n filled c device f.0 x.0 (own c x.0 x.1) x.2)
 
-    own-there : (n c device : ℕ) → HasDevice (map (state_set n) columns) c device → HasSectors disk devices device need
-    own-there n c device h = let d = own-device n c device h in subst (λ (k : ℕ). HasSectors disk devices k need) (sym d.0) d.1
+    own-there : (n : ℕ) (filled : List Bool) (c device : ℕ) → HasDevice (map (state_set n filled) columns) c device → HasSectors disk devices device need
+    own-there n filled c device h = let d = own-device n filled c device h in subst (λ (k : ℕ). HasSectors disk devices k need) (sym d.0) d.1
 
-    own-apart : (n c k device : ℕ) → HasDevice (map (state_set n) columns) c device → HasDevice (map (state_set n) columns) k device → c ≡ k
-    own-apart n c k device h i = sym (own-device n c device h).0 ∙ (own-device n k device i).0
+    own-apart : (n : ℕ) (filled : List Bool) (c k device : ℕ) → HasDevice (map (state_set n filled) columns) c device → HasDevice (map (state_set n filled) columns) k device → c ≡ k
+    own-apart n filled c k device h i = sym (own-device n filled c device h).0 ∙ (own-device n filled k device i).0
 
-    own-spares : (y : Shape) → HaveSpares y (map (state_set y.stripes) columns)
-    own-spares y c s done e within = let x = was (state_set y.stripes) columns c (Spread done) e in absurd (own-nowhere y.stripes c done x.0 (own c x.0 x.1) x.2)
+    own-spares : (y : Shape) → HaveSpares y (map (state_set y.stripes (filled_in y columns)) columns)
+    own-spares y c s done e within = let x = was (state_set y.stripes (filled_in y columns)) columns c (Spread done) e in absurd (own-nowhere y.stripes (filled_in y columns) c done x.0 (own c x.0 x.1) x.2)
 
     own-fillings : count_by is_set_filling columns ≡ 0
     own-fillings = none-counted is_set_filling columns (λ k x e. own-unfilled k x (own k x e))
@@ -172,11 +173,11 @@ module _ {L D : Type 0} (lay : LayoutGhosts L) (disk : DiskGhosts D) where
       let devices = setup.devices.items in
       record {
         entries = many;
-        filling = own-fillings disk devices need columns own;
+        filling = (let none = own-fillings disk devices need columns own in omega (arith, none));
         spread = own-spreads disk devices need columns own;
         spares = own-spares disk devices need columns own y;
-        there = own-there disk devices need columns own y.stripes;
-        one_column = own-apart disk devices need columns own y.stripes;
+        there = own-there disk devices need columns own y.stripes (filled_in y columns);
+        one_column = own-apart disk devices need columns own y.stripes (filled_in y columns);
         asked = λ c n i e. let s = item-at y (length setup.graphs.items) setup.clients.items small c n i e in (s.asked, s.may, s.named);
         fit = fit-slim setup.graphs.items slim;
       }

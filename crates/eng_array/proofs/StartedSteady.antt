@@ -1,7 +1,7 @@
 -- A core is steady as the rebuild of a dead column starts.
-use Rattle.std.proofs.Common.{◌≡◌, ℕ, zero, suc, ◌<◌, ◌≤◌, ◌+◌, List, [], ◌∷◌, ◌++◌, length, get_or, subst, refl, sym, ap, ◌∙◌, arith, inl, inr, Bool, true, false, Option, Some, None}
-use Rattle.std.specs.Prelude.{◌==◌, ◌&&◌, ◌||◌, slice_get, slice_set, slice_index_or, option_map, if◌then◌else◌}
-use Rattle.std.proofs.lemmas.Bool.{cases_eq, eqb-false}
+use Rattle.std.proofs.Common.{◌≡◌, ℕ, zero, suc, ◌<◌, ◌≤◌, ◌+◌, ◌*◌, List, [], ◌∷◌, ◌++◌, length, get_or, subst, refl, sym, ap, ◌∙◌, arith, inl, inr, Bool, true, false, Option, Some, None}
+use Rattle.std.specs.Prelude.{slice_get, slice_set, slice_index_or, option_map, if◌then◌else◌}
+use Rattle.std.proofs.lemmas.Bool.{cases_eq}
 use Rattle.std.proofs.lemmas.List.{length-set, length-map, length_push}
 use Rattle.std.proofs.lemmas.Option.{slice_get-map, slice_get-get_or, slice_get_within}
 use Rattle.blk_plain.specs.declared.op.Op.{Op}
@@ -10,9 +10,7 @@ use Rattle.blk_disk.specs.declared.disk.Disk.{Ghosts as DiskGhosts}
 use Rattle.lay_core.specs.Layout.{Shape}
 use Rattle.lay_core.specs.declared.layout.Layout.{Ghosts as LayoutGhosts}
 use Rattle.graph_mean.specs.Graph.{Held}
-use Rattle.eng_cols.specs.Cols.{ColumnState, Dead, is_spread, passes}
-use Rattle.eng_cols.specs.Seats.{IsStripeOf, is_place_on, is_unit_of}
-use Rattle.eng_cols.proofs.Lists.{get_set_other}
+use Rattle.eng_cols.specs.Cols.{ColumnState, Dead}
 use Rattle.eng_world.specs.declared.item.Item.{Item}
 use Rattle.eng_world.specs.declared.item.Item.TheVariants as item
 use Rattle.eng_world.specs.declared.item.Traced.{Traced}
@@ -26,7 +24,7 @@ use Rattle.eng_state.specs.declared.array.Array.{Array}
 use Rattle.eng_state.specs.Beginning.{IsAsked}
 use Rattle.eng_ends.specs.Copied.{AreLaid}
 use Rattle.eng_clients.specs.Desk.{Desk, desk_at}
-use Rattle.eng_array.specs.Fitting.{most_in, item_events, row_events, rebuild_events, FitsRebuild, HasAtMost}
+use Rattle.eng_array.specs.Fitting.{most_in, item_events, row_events, rebuild_events, BeginsAtMost, FitsRebuild}
 use Rattle.eng_clients.specs.Listing.{rebuild}
 use Rattle.eng_log.specs.Log.{noted}
 use Rattle.eng_starts.specs.Rebuilding.{CanRebuild, Started, with_items}
@@ -48,24 +46,17 @@ alive-more [] c x dead one = let z : None ≡ Some Dead = dead in absurd (let u 
 alive-more (k ∷ ks) zero x dead one = let z : Some k ≡ Some Dead = dead in let e : k ≡ Dead = cc in let none : is_alive k ≡ 0 = ap is_alive e in omega (arith, none, one)
 alive-more (k ∷ ks) (suc c) x dead one = let r = alive-more ks c x dead one in omega (arith, r)
 
--- whatever a column becomes, no stripe more is its own
-pub set-stripes : (y : Shape) (cols : List ColumnState) (c : ℕ) (x : ColumnState) (s : ℕ) → IsStripeOf y (slice_set cols c x) c s → IsStripeOf y cols c s
-set-stripes y cols c x s h = (h.0, h.1, go (c == (y.place s h.0).column) refl h.2)
-  where
-    go : (b : Bool) → (c == (y.place s h.0).column) ≡ b → (b || (passes is_spread (slice_get (slice_set cols c x) (y.place s h.0).column) && is_place_on (y.spare s) c)) ≡ true
-        → is_unit_of y cols s h.0 c ≡ true
-    go true e is = rw e refl
-    go false e is =
-        let other : slice_get (slice_set cols c x) (y.place s h.0).column ≡ slice_get cols (y.place s h.0).column = get_set_other cols c (y.place s h.0).column x (λ same. eqb-false c (y.place s h.0).column e (sym same)) in
-        rw e (ap (λ (o : Option ColumnState). passes is_spread o && is_place_on (y.spare s) c) (sym other) ∙ is)
-
 -- the trace has room for the start
-pub start-room : {L D : Type 0} (lay : LayoutGhosts L) (core : Array L D) (c : ℕ) → FitsRebuild lay core c → HasRoom core.log
-start-room lay core c fits keeps = let a = (fits.trace keeps).2 in omega (arith, a)
+pub start-room : {L D : Type 0} (lay : LayoutGhosts L) (core : Array L D) (cols : List ColumnState) (c asked : ℕ) → FitsRebuild lay core cols c asked → HasRoom core.log
+start-room lay core cols c asked fits keeps = let a = (fits.trace keeps).2 in omega (arith, a)
 
-module _ {L D : Type 0} (lay : LayoutGhosts L) (disk : DiskGhosts D) (old new : Array L D) (c : ℕ) (states : List ColumnState) (e : Traced) (steady : IsSteady lay disk old) (can : CanRebuild lay disk old c) (fits : FitsRebuild lay old c) (f : Started lay old c states e new) (more : alive states ≡ alive old.cols.states + 1) (own : (s : ℕ) → IsStripeOf (lay.shape old.layout) states c s → IsStripeOf (lay.shape old.layout) old.cols.states c s) where
+module _ {L D : Type 0} (lay : LayoutGhosts L) (disk : DiskGhosts D) (old new : Array L D) (c asked : ℕ) (states : List ColumnState) (e : ℕ → Traced) (steady : IsSteady lay disk old) (can : CanRebuild lay disk old) (fits : FitsRebuild lay old states c asked) (f : Started lay old c asked states e new) where
   abbrev y : Shape
   y = lay.shape old.layout
+
+  -- the event
+  abbrev came : Traced
+  came = e (length f.items)
 
   abbrev graphs : List Held
   graphs = old.graphs.items
@@ -77,7 +68,7 @@ module _ {L D : Type 0} (lay : LayoutGhosts L) (disk : DiskGhosts D) (old new : 
   desks = slice_set old.clients 16 now
 
   abbrev plain : Array L D
-  plain = record old { cols = record old.cols { states = states }; clients = desks; rebuilds = record { items = []; room = 0 }; log = noted old.log e }
+  plain = record old { cols = record old.cols { states = states }; clients = desks; rebuilds = record { items = []; room = 0 }; log = noted old.log came }
 
   to-new : (P : Array L D → Type 0) → P plain → P new
   to-new P h = subst P (sym f.is) h
@@ -164,7 +155,7 @@ module _ {L D : Type 0} (lay : LayoutGhosts L) (disk : DiskGhosts D) (old new : 
   row k = row_events y graphs (alive states) (desk_at desks k).items
 
   abbrev old-row : ℕ → ℕ
-  old-row k = row_events y graphs (alive old.cols.states + 1) (desk_at old.clients k).items
+  old-row k = row_events y graphs (alive states) (desk_at old.clients k).items
 
   abbrev one : ℕ → ℕ
   one s = item_events (alive states) (most_for_unit y)
@@ -172,10 +163,10 @@ module _ {L D : Type 0} (lay : LayoutGhosts L) (disk : DiskGhosts D) (old new : 
   not-last : (k : ℕ) → k < 16 → k ≡ 16 → ⊥
   not-last k lt is = let u : ⊥ = omega (arith, lt, is) in u
 
-  rows-old : (k : ℕ) → k < 16 → row k ≡ old-row k
+  rows-old : (k : ℕ) → k < 16 → row k ≤ old-row k
   rows-old k lt =
-      ap (λ (d : Desk). row_events y graphs (alive states) d.items) (desk-else old.clients 16 k now (not-last k lt))
-      ∙ ap (λ (m : ℕ). row_events y graphs m (desk_at old.clients k).items) more
+      let same : row k ≡ old-row k = ap (λ (d : Desk). row_events y graphs (alive states) d.items) (desk-else old.clients 16 k now (not-last k lt)) in
+      omega (arith, same)
 
   -- no graph of a rebuild has more nodes than one for a unit may have
   most-rebuild : (n : ℕ) → n < length f.items → most_in y graphs (slice_get f.items n) ≡ most_for_unit y
@@ -183,31 +174,30 @@ module _ {L D : Type 0} (lay : LayoutGhosts L) (disk : DiskGhosts D) (old new : 
       let k = count in
       ap (most_in y graphs) (item-is n (omega (arith, lt, k)))
 
-  -- there are no more rebuilds than the column has stripes
-  few-rebuilds : (rebuilds : ℕ) → HasAtMost y old.cols.states c rebuilds → length f.items ≤ rebuilds
-  few-rebuilds rebuilds few =
-      let a = few stripes f.rebuilds.ascending (λ s there. ((f.rebuilds.only s there).0, own s (f.rebuilds.only s there).1)) in
+  -- there are no more rebuilds than are asked, and no more than are left
+  few-rebuilds : (rebuilds : ℕ) → BeginsAtMost y states c asked rebuilds → length f.items ≤ rebuilds
+  few-rebuilds rebuilds (inl few) = let a = f.rebuilds.within in let b = count in omega (arith, a, b, few)
+  few-rebuilds rebuilds (inr few) =
+      let a = few stripes f.rebuilds.ascending (λ s there. (f.rebuilds.only s there).1) in
       let b = count in
       omega (arith, a, b)
 
-  last-row : (rebuilds : ℕ) → HasAtMost y old.cols.states c rebuilds → row 16 ≤ rebuild_events y (alive old.cols.states + 1) rebuilds
+  last-row : (rebuilds : ℕ) → BeginsAtMost y states c asked rebuilds → row 16 ≤ rebuild_events y (alive states) rebuilds
   last-row rebuilds few =
       let is : row 16 ≡ row_events y graphs (alive states) f.items = ap (λ (d : Desk). row_events y graphs (alive states) d.items) (desk-set old.clients 16 now below-all) in
       let a : row_events y graphs (alive states) f.items ≤ below one (length f.items) = below-le one (λ i. item_events (alive states) (most_in y graphs (slice_get f.items i))) (length f.items) (λ i lt. let q = ap (item_events (alive states)) (most-rebuild i lt) in omega (arith, q)) in
       let b : below one (length f.items) ≤ below one rebuilds = below-grows one (length f.items) rebuilds (few-rebuilds rebuilds few) in
-      let g : below one rebuilds ≡ rebuild_events y (alive old.cols.states + 1) rebuilds = ap (λ (n : ℕ). rebuild_events y n rebuilds) more in
-      omega (arith, is, a, b, g)
+      omega (arith, is, a, b)
 
-  all-left : (w : World) (rebuilds : ℕ) → Shows disk plain w → HasAtMost y old.cols.states c rebuilds → events_left most w ≤ below old-row 16 + rebuild_events y (alive old.cols.states + 1) rebuilds + (alive old.cols.states + 1)
+  all-left : (w : World) (rebuilds : ℕ) → Shows disk plain w → BeginsAtMost y states c asked rebuilds → events_left most w ≤ below old-row 16 + rebuild_events y (alive states) rebuilds + alive states
   all-left w rebuilds s few =
       let a : events_left most w ≤ below seen-row 17 + alive w.columns = unbegun-left most w (unbegun w s) in
       let b : below seen-row 17 ≤ below row 17 = below-le row seen-row 17 (λ k lt. let q = rows-same k in omega (arith, q)) in
       let n : alive w.columns ≡ alive states = ap alive s.columns in
       let t : below row 17 ≡ below row 16 + row 16 = below-one row 16 in
-      let o : below row 16 ≤ below old-row 16 = below-le old-row row 16 (λ k lt. let q = rows-old k lt in omega (arith, q)) in
+      let o : below row 16 ≤ below old-row 16 = below-le old-row row 16 rows-old in
       let l = last-row rebuilds few in
-      let m = more in
-      omega (arith, a, b, n, t, o, l, m)
+      omega (arith, a, b, n, t, o, l)
     where
       seen-row : ℕ → ℕ
       seen-row k = below (λ i. item_events (alive w.columns) (most k i)) (length (w.clients k).items)
@@ -217,9 +207,9 @@ module _ {L D : Type 0} (lay : LayoutGhosts L) (disk : DiskGhosts D) (old new : 
           ap (λ (l : List Item). below (λ i. item_events (alive w.columns) (most k i)) (length l)) (s.clients k).items
           ∙ ap (λ (n : ℕ). below (λ i. item_events n (most k i)) (length (desk_at desks k).items)) (ap alive s.columns)
 
-  trace-room : (w : World) → Shows disk plain w → old.log.keeps ≡ true → length (noted old.log e).trace + events_left most w ≤ old.log.trace_room
+  trace-room : (w : World) → Shows disk plain w → old.log.keeps ≡ true → length (noted old.log came).trace + events_left most w ≤ old.log.trace_room
   trace-room w s keeps =
-      let longer : length (noted old.log e).trace ≡ length old.log.trace + 1 = ap (λ (b : Bool). length (if b then old.log.trace ++ e ∷ [] else old.log.trace)) keeps ∙ length_push old.log.trace e in
+      let longer : length (noted old.log came).trace ≡ length old.log.trace + 1 = ap (λ (b : Bool). length (if b then old.log.trace ++ came ∷ [] else old.log.trace)) keeps ∙ length_push old.log.trace came in
       let fit = fits.trace keeps in
       let a = all-left w fit.0 s fit.1 in
       let r = fit.2 in
@@ -242,8 +232,8 @@ module _ {L D : Type 0} (lay : LayoutGhosts L) (disk : DiskGhosts D) (old new : 
   pub started-laid : AreLaid old.log.handed old.clients → AreLaid new.log.handed new.clients
   started-laid h = to-new (λ (k : Array L D). AreLaid k.log.handed k.clients) (laid h)
 
-  pub started-steady : IsSound lay disk new → Follows lay disk old e new → IsSteady lay disk new
-  started-steady sound follows = room-steady lay disk old new e steady sound follows (ap (λ (k : Array L D). k.layout) f.is) (ap (λ (k : Array L D). k.graphs) f.is) (notes-of old.log e new.log (ap (λ (k : Array L D). k.log) f.is))
+  pub started-steady : IsSound lay disk new → Follows lay disk old came new → IsSteady lay disk new
+  started-steady sound follows = room-steady lay disk old new came steady sound follows (ap (λ (k : Array L D). k.layout) f.is) (ap (λ (k : Array L D). k.graphs) f.is) (notes-of old.log came new.log (ap (λ (k : Array L D). k.log) f.is))
       (to-new (AreServing lay) are-serving)
       (to-new (λ (k : Array L D). (w : World) → Shows disk k w → HasPlaces lay disk k w) places)
       (started-laid steady.laid)

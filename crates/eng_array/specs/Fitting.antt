@@ -1,12 +1,12 @@
 -- Whether a log has room for all that may come: of a core that opens, and of one that begins a rebuild.
-use Rattle.std.specs.Prelude.{◌≡◌, ◌<◌, ◌≤◌, ◌+◌, ◌*◌, ℕ, List, [], length, true, Option, Some, None, Vec, slice_get, slice_index_or, Contains}
+use Rattle.std.specs.Prelude.{◌≡◌, ◌⊎◌, ◌≤◌, ◌+◌, ◌*◌, ℕ, List, [], length, true, Option, Some, None, Vec, slice_get, slice_index_or, Contains}
 use Rattle.std.specs.List.Sorted.{IsStrictlyIncreasing}
 use Rattle.std.specs.declared.alloc.Global.{Global}
 use Rattle.lay_core.specs.Layout.{Shape}
 use Rattle.lay_core.specs.declared.layout.Layout.{Ghosts as LayoutGhosts}
 use Rattle.graph_mean.specs.Graph.{Held}
 use Rattle.eng_cols.specs.Cols.{ColumnState}
-use Rattle.eng_cols.specs.Seats.{IsStripeOf}
+use Rattle.eng_world.specs.Serving.{IsLeft}
 use Rattle.eng_world.specs.declared.item.Item.{Item}
 use Rattle.eng_world.specs.declared.item.Item.TheVariants as item
 use Rattle.eng_rest.specs.Left.{below, alive}
@@ -14,7 +14,7 @@ use Rattle.eng_parts.specs.declared.setup.Setup.{Setup}
 use Rattle.eng_state.specs.declared.array.Array.{Array}
 use Rattle.eng_clients.specs.Desk.{desk_at}
 use Rattle.eng_log.specs.Given.{items_at}
-use Rattle.eng_events.specs.Opened.{states_of}
+use Rattle.eng_cols.specs.Stripes.{states_of}
 use Rattle.eng_array.specs.Serving.{most_for_unit, most_for}
 
 -- the most nodes of a graph of the item, if there is one
@@ -43,21 +43,25 @@ FitsTrace lay setup = setup.trace ≡ true → opening_events (lay.shape setup.l
 abbrev pub rebuild_events : Shape → ℕ → ℕ → ℕ
 rebuild_events y n rebuilds = below (λ s. item_events n (most_for_unit y)) rebuilds
 
--- the column has at most so many stripes
+-- at most so many of the column's stripes aren't done
 abbrev pub HasAtMost : Shape → List ColumnState → ℕ → ℕ → Type 0
-HasAtMost y cols column n = (stripes : List ℕ) → IsStrictlyIncreasing stripes → ((s : ℕ) → Contains stripes s → (s < y.stripes) × IsStripeOf y cols column s) → length stripes ≤ n
+HasAtMost y cols column n = (stripes : List ℕ) → IsStrictlyIncreasing stripes → ((s : ℕ) → Contains stripes s → IsLeft y cols column s) → length stripes ≤ n
 
--- A core that has begun no operation has room for a rebuild of a dead column: its trace, if it is kept, for the start, for all events of all items and of a rebuild of each of the column's stripes, where one column more may fail, and for these failures; its history for one operation more for each stripe; and client 16 has a region for each.
-pub record FitsRebuild {L D : Type 0} (lay : LayoutGhosts L) (core : Array L D) (column : ℕ) : Type 0 where
-  pub trace : core.log.keeps ≡ true → (rebuilds : ℕ) × HasAtMost (lay.shape core.layout) core.cols.states column rebuilds
-      × (length core.log.trace + 1 + below (λ c. row_events (lay.shape core.layout) core.graphs.items (alive core.cols.states + 1) (desk_at core.clients c).items) 16 + rebuild_events (lay.shape core.layout) (alive core.cols.states + 1) rebuilds + (alive core.cols.states + 1) ≤ core.log.trace_room)
+-- no more rebuilds are begun where so many are asked: no more are, or no more are left
+abbrev pub BeginsAtMost : Shape → List ColumnState → ℕ → ℕ → ℕ → Type 0
+BeginsAtMost y cols column asked n = (asked ≤ n) ⊎ HasAtMost y cols column n
+
+-- A core that has begun no operation has room for a rebuild of a column, of which so many stripes are asked and that begins with these columns: its trace, if it is kept, for the start, for all events of all items and rebuilds, and for the columns that may fail; its history for one operation more for each stripe; and client 16 has a region for each.
+pub record FitsRebuild {L D : Type 0} (lay : LayoutGhosts L) (core : Array L D) (cols : List ColumnState) (column asked : ℕ) : Type 0 where
+  pub trace : core.log.keeps ≡ true → (rebuilds : ℕ) × BeginsAtMost (lay.shape core.layout) cols column asked rebuilds
+      × (length core.log.trace + 1 + below (λ c. row_events (lay.shape core.layout) core.graphs.items (alive cols) (desk_at core.clients c).items) 16 + rebuild_events (lay.shape core.layout) (alive cols) rebuilds + alive cols ≤ core.log.trace_room)
   pub history : below (λ c. length (desk_at core.clients c).items) 16 + (lay.shape core.layout).stripes ≤ core.log.history_room
   pub regions : (lay.shape core.layout).stripes ≤ length (slice_index_or core.log.handed.regions 16 [])
 
--- the trace of an opening, if it is kept, has room for a rebuild of this column too
-abbrev pub FitsRebuilding : {L D : Type 0} → LayoutGhosts L → Setup L D → ℕ → Type 0
-FitsRebuilding lay setup column = setup.trace ≡ true → (rebuilds : ℕ) × HasAtMost (lay.shape setup.layout) (states_of (lay.shape setup.layout) setup.columns.items) column rebuilds
-    × (1 + below (λ c. row_events (lay.shape setup.layout) setup.graphs.items (alive (states_of (lay.shape setup.layout) setup.columns.items) + 1) (items_at setup.clients.items c)) 16 + rebuild_events (lay.shape setup.layout) (alive (states_of (lay.shape setup.layout) setup.columns.items) + 1) rebuilds + (alive (states_of (lay.shape setup.layout) setup.columns.items) + 1) ≤ 1048576 + 2 + (lay.shape setup.layout).columns)
+-- the trace of an opening, if it is kept, has room for a rebuild of this column too, of which so many stripes are asked and that begins with these columns
+abbrev pub FitsRebuilding : {L D : Type 0} → LayoutGhosts L → Setup L D → List ColumnState → ℕ → ℕ → Type 0
+FitsRebuilding lay setup cols column asked = setup.trace ≡ true → (rebuilds : ℕ) × BeginsAtMost (lay.shape setup.layout) cols column asked rebuilds
+    × (1 + below (λ c. row_events (lay.shape setup.layout) setup.graphs.items (alive cols) (items_at setup.clients.items c)) 16 + rebuild_events (lay.shape setup.layout) (alive cols) rebuilds + alive cols ≤ 1048576 + 2 + (lay.shape setup.layout).columns)
 
 -- ## By one number for all items
 

@@ -25,7 +25,7 @@ module _ {D : Type 0} (disk : DiskGhosts D) where
   abbrev pub IsOwn : List (Option D) → ℕ → ℕ → Column → Type 0
   IsOwn devices need c (column.Live device) = (device ≡ c) × HasSectors devices c need
   IsOwn devices need c column.Dead = Unit {0}
-  IsOwn devices need c (column.Filling device) = ⊥
+  IsOwn devices need c (column.Filling device m) = ⊥
   IsOwn devices need c column.Spread = ⊥
 
   -- so is each column

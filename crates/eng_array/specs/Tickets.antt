@@ -27,7 +27,8 @@ use Rattle.eng_state.specs.Steps as steps
 
 -- no job leaves or comes home, and no column fails from outside
 abbrev pub IsPlain : Traced → Type 0
-IsPlain (event.Fill column device) = ⊥
+IsPlain (event.Fill column device count) = ⊥
+IsPlain (event.Resume column count) = ⊥
 IsPlain (event.Spread column) = ⊥
 IsPlain (event.Fail column) = ⊥
 IsPlain (event.Begin id) = Unit {0}
@@ -40,7 +41,8 @@ IsPlain (event.Back id) = Unit {0}
 
 -- a node ended bad
 abbrev pub IsBad : Traced → Type 0
-IsBad (event.Fill column device) = ⊥
+IsBad (event.Fill column device count) = ⊥
+IsBad (event.Resume column count) = ⊥
 IsBad (event.Spread column) = ⊥
 IsBad (event.Fail column) = ⊥
 IsBad (event.Begin id) = ⊥
@@ -53,7 +55,8 @@ IsBad (event.Back id) = ⊥
 
 -- node n of client c is fired
 abbrev pub IsFiringOf : Traced → ℕ → ℕ → Type 0
-IsFiringOf (event.Fill column device) c n = ⊥
+IsFiringOf (event.Fill column device count) c n = ⊥
+IsFiringOf (event.Resume column count) c n = ⊥
 IsFiringOf (event.Spread column) c n = ⊥
 IsFiringOf (event.Fail column) c n = ⊥
 IsFiringOf (event.Begin id) c n = ⊥
@@ -66,7 +69,8 @@ IsFiringOf (event.Back id) c n = ⊥
 
 -- its job ends
 abbrev pub IsEndOf : Traced → ℕ → ℕ → Type 0
-IsEndOf (event.Fill column device) c n = ⊥
+IsEndOf (event.Fill column device count) c n = ⊥
+IsEndOf (event.Resume column count) c n = ⊥
 IsEndOf (event.Spread column) c n = ⊥
 IsEndOf (event.Fail column) c n = ⊥
 IsEndOf (event.Begin id) c n = ⊥

@@ -1,10 +1,12 @@
 //! An engine is opened, and closed.
-ghost use Rattle.std.specs.Prelude.{◌≡◌, ℕ, length, MatchResult, IfOk, IfErr};
+ghost use Rattle.std.specs.Prelude.{◌≡◌, ℕ, length, MatchResult, IfOk, IfErr, List};
+ghost use Rattle.eng_cols.specs.Cols.{ColumnState};
 ghost use Rattle.eng_cols.specs.Lost.{NotLost};
 ghost use Rattle.eng_events.specs.Closed.{IsClosed};
 ghost use Rattle.eng_ends.specs.Copied.{AreLaid};
 ghost use Rattle.eng_array.specs.Fitting.{FitsTrace, FitsRebuild, FitsRebuilding};
-ghost use Rattle.eng_events.specs.Opened.{states_of, IsSetup, IsOpened, NoneOut, OpensWorlds};
+ghost use Rattle.eng_cols.specs.Stripes.{states_of};
+ghost use Rattle.eng_events.specs.Opened.{IsSetup, IsOpened, NoneOut, OpensWorlds};
 ghost use Rattle.eng_state.specs.Serves.{Stands};
 ghost use Rattle.eng_array.specs.Steady.{IsSteady};
 ghost use Rattle.eng_log.specs.Handed.{AreRegions};
@@ -34,7 +36,7 @@ impl<L: Layout, D: Disk + Drop> Core<L, D> {
         ensures worlds { IfOk result (λ engine. OpensWorlds L.Layout D.Disk engine.array) }
         ensures laid { IfOk result (λ engine. AreLaid engine.array.log.handed engine.array.clients) }
         ensures steady { IfOk result (λ engine. IsSteady L.Layout D.Disk engine.array) }
-        ensures rebuilds { IfOk result (λ engine. (column : ℕ) → FitsRebuilding L.Layout setup column → FitsRebuild L.Layout engine.array column) }
+        ensures rebuilds { IfOk result (λ engine. (cols : List ColumnState) (column asked : ℕ) → FitsRebuilding L.Layout setup cols column asked → FitsRebuild L.Layout engine.array cols column asked) }
     {
         match open(setup, room) {
             Ok(array) => Ok(Core { array }),
@@ -54,7 +56,7 @@ impl<L: Layout, D: Disk + Drop> Core<L, D> {
     pub fn close(self) -> Closed<L, D>
         requires steady { IsSteady L.Layout D.Disk self.array }
         requires none_out { NoneOut self.array.clients }
-        ensures { IsClosed self.array result }
+        ensures { IsClosed L.Layout self.array result }
     {
         close(self.array)
     }

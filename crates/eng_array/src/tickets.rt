@@ -53,9 +53,9 @@ pub fn chains_are_runs<L: Layout, D: Disk>()
 /// one whose count rose from the setup to what is handed back.
 pub fn what_was_handed_in_comes_back<L: Layout, D: Disk>()
     ensures back { (setup : Setup L D) (first last : AnyCore L D) (events : List Traced) (closed : Closed L D)
-        → IsOpened L.Layout D.Disk setup first → Goes L.Layout D.Disk first events last → IsClosed last closed → HandsBack D.Disk setup closed }
+        → IsOpened L.Layout D.Disk setup first → Goes L.Layout D.Disk first events last → IsClosed L.Layout last closed → HandsBack D.Disk setup closed }
     ensures rises { (setup : Setup L D) (first last : AnyCore L D) (events : List Traced) (closed : Closed L D) (d : ℕ)
-        → IsOpened L.Layout D.Disk setup first → Goes L.Layout D.Disk first events last → IsClosed last closed → Rose (faults_at L.Layout D.Disk first d) (faults_at L.Layout D.Disk last d)
+        → IsOpened L.Layout D.Disk setup first → Goes L.Layout D.Disk first events last → IsClosed L.Layout last closed → Rose (faults_at L.Layout D.Disk first d) (faults_at L.Layout D.Disk last d)
         → RisesOn D.Disk setup.devices.items closed.devices.items d }
 {}
 

@@ -4,9 +4,7 @@ use Rattle.std.specs.Prelude.{Vec, slice_get, option_map}
 use Rattle.std.specs.declared.alloc.Global.{Global}
 use Rattle.std.proofs.lemmas.Bool.{cases_eq}
 use Rattle.std.proofs.lemmas.List.{get_or_push, get_or_append_left}
-use Rattle.eng_cols.specs.declared.column.Column.{Column}
 use Rattle.eng_cols.specs.declared.spot.Loss.{Loss}
-use Rattle.eng_cols.specs.Cols.{ColumnState, column_of}
 use Rattle.eng_world.specs.declared.item.Item.{Item}
 use Rattle.eng_world.specs.declared.item.Reply.{Reply}
 use Rattle.eng_clients.specs.Desk.{Desk, no_desk}
@@ -55,9 +53,3 @@ closed-more lost desks d items replies a b h i r = record {
 
     ra : length (replies ++ b ∷ []) ≡ length replies + 1
     ra = length-append replies (b ∷ [])
-
--- one column more
-pub columns-more : (states : List ColumnState) (i : ℕ) (x : Column) → option_map column_of (slice_get states i) ≡ Some x → map column_of (take i states) ++ x ∷ [] ≡ map column_of (take (suc i) states)
-columns-more [] i x h = let z : None ≡ Some x = h in absurd (let u : ⊥ = cc in u)
-columns-more (s ∷ ss) zero x h = let z : Some (column_of s) ≡ Some x = h in let e : x ≡ column_of s = cc in ap (λ (k : Column). k ∷ []) e
-columns-more (s ∷ ss) (suc i) x h = ap (λ (l : List Column). column_of s ∷ l) (columns-more ss i x h)

@@ -1,4 +1,7 @@
 pub mod Lists
+pub mod Counting
+pub mod Leading
+pub mod Fewer
 pub mod Shown
 pub mod Spots
 pub mod Killing

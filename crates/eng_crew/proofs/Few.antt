@@ -14,7 +14,8 @@ use Rattle.eng_array.proofs.Chained.{chain-few}
 use Rattle.eng_crew.specs.Drained.{HaveFew, Drained}
 
 own-later : (e : Traced) → IsOwn e → IsLater e
-own-later (event.Fill column device) h = absurd h
+own-later (event.Fill column device count) h = absurd h
+own-later (event.Resume column count) h = absurd h
 own-later (event.Spread column) h = absurd h
 own-later (event.Fail column) h = absurd h
 own-later (event.Begin id) h = tt

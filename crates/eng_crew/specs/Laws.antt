@@ -40,7 +40,8 @@ module _ {A : Type 0} where
 -- ## Kinds of events
 
 pub plain_own : (e : Traced) → IsPlain e → IsOwn e
-plain_own (event.Fill column device) h = absurd h
+plain_own (event.Fill column device count) h = absurd h
+plain_own (event.Resume column count) h = absurd h
 plain_own (event.Spread column) h = absurd h
 plain_own (event.Fail column) h = absurd h
 plain_own (event.Begin id) h = tt
@@ -52,7 +53,8 @@ plain_own (event.Skip id n) h = tt
 plain_own (event.Back id) h = tt
 
 pub firing_own : (e : Traced) (c n : ℕ) → IsFiringOf e c n → IsOwn e
-firing_own (event.Fill column device) c n h = absurd h
+firing_own (event.Fill column device count) c n h = absurd h
+firing_own (event.Resume column count) c n h = absurd h
 firing_own (event.Spread column) c n h = absurd h
 firing_own (event.Fail column) c n h = absurd h
 firing_own (event.Begin id) c n h = tt
@@ -64,7 +66,8 @@ firing_own (event.Skip id m) c n h = tt
 firing_own (event.Back id) c n h = tt
 
 pub end_own : (e : Traced) (c n : ℕ) → IsEndOf e c n → IsOwn e
-end_own (event.Fill column device) c n h = absurd h
+end_own (event.Fill column device count) c n h = absurd h
+end_own (event.Resume column count) c n h = absurd h
 end_own (event.Spread column) c n h = absurd h
 end_own (event.Fail column) c n h = absurd h
 end_own (event.Begin id) c n h = tt

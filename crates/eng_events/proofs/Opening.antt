@@ -13,6 +13,7 @@ use Rattle.lay_core.specs.declared.layout.Layout.{Ghosts as LayoutGhosts}
 use Rattle.eng_cols.specs.declared.column.Column.{Column}
 use Rattle.eng_cols.specs.declared.spot.Loss.{Loss}
 use Rattle.eng_cols.specs.Cols.{ColumnState, Columns, Dead, InOrder, IsFor, IsKept, is_filling, is_spread, passes, state_set}
+use Rattle.eng_cols.specs.Stripes.{filled_in, states_of}
 use Rattle.eng_cols.specs.Contents.{decode}
 use Rattle.eng_cols.specs.Contents as contents
 use Rattle.eng_cols.specs.Lost.{NotLost}
@@ -33,7 +34,7 @@ use Rattle.eng_parts.specs.Brought.{brought}
 use Rattle.stripe_lock.specs.Table.{Table, IsIdle}
 use Rattle.eng_parts.specs.declared.core_room.CoreRoom.{CoreRoom}
 use Rattle.eng_log.specs.Given.{items_at}
-use Rattle.eng_events.specs.Opened.{states_of, IsAssembled, IsSetup, IsOpened, NoneOut, HandsOutNothing, OpensWorlds}
+use Rattle.eng_events.specs.Opened.{IsAssembled, IsSetup, IsOpened, NoneOut, HandsOutNothing, OpensWorlds}
 use Rattle.eng_log.specs.Laid.{IsLaidOut}
 use Rattle.eng_state.specs.Serves.{Stands}
 use Rattle.eng_state.specs.Shows.{Shows, ShowsCurrent, AreTold, told_by, device_byte}
@@ -113,7 +114,7 @@ module _ {L D : Type 0} (lay : LayoutGhosts L) (disk : DiskGhosts D) (setup : Se
   }
 
   fit : IsFor y cols
-  fit = record { columns = length-map setup.columns.items (state_set y.stripes) ∙ can.entries; stripes = refl }
+  fit = record { columns = length-map setup.columns.items (state_set y.stripes (filled_in y setup.columns.items)) ∙ can.entries; stripes = refl }
 
   seated : Seated disk y cols shelf
   seated = record {
@@ -232,18 +233,18 @@ module _ {L D : Type 0} (lay : LayoutGhosts L) (disk : DiskGhosts D) (setup : Se
 -- ## A core that is put together in room that was taken for it
 
 -- the columns that are set are the setup's
-pub columns-set : {D : Type 0} (y : Shape) (n : ℕ) (given : List (Vec Item Global)) (trace : Bool) (room ready : CoreRoom D) (columns : List Column) → IsRoomFor y n given trace room → ready ≡ record room { cols = record room.cols { states = map (state_set room.cols.stripes) columns } } → ready.cols ≡ record { states = states_of y columns; stripes = y.stripes }
-columns-set {D} y n given trace room ready columns room-for set = ap (λ (r : CoreRoom D). r.cols) set ∙ ap (λ (v : Columns). record v { states = map (state_set v.stripes) columns }) room-for.cols
+pub columns-set : {D : Type 0} (y : Shape) (n : ℕ) (given : List (Vec Item Global)) (trace : Bool) (room ready : CoreRoom D) (columns : List Column) → IsRoomFor y n given trace room → ready ≡ record room { cols = record room.cols { states = states_of y columns } } → ready.cols ≡ record { states = states_of y columns; stripes = y.stripes }
+columns-set {D} y n given trace room ready columns room-for set = ap (λ (r : CoreRoom D). r.cols) set ∙ ap (λ (v : Columns). record v { states = states_of y columns }) room-for.cols
 
 -- columns are as many as the layout's, and so are the stripes
 pub set-fit : (y : Shape) (columns : List Column) (v : Columns) → v ≡ record { states = states_of y columns; stripes = y.stripes } → length columns ≡ y.columns → IsFor y v
-set-fit y columns v is count = record { columns = ap (λ (a : Columns). length a.states) is ∙ (length-map columns (state_set y.stripes) ∙ count); stripes = ap (λ (a : Columns). a.stripes) is }
+set-fit y columns v is count = record { columns = ap (λ (a : Columns). length a.states) is ∙ (length-map columns (state_set y.stripes (filled_in y columns)) ∙ count); stripes = ap (λ (a : Columns). a.stripes) is }
 
 pub room-fit : {D : Type 0} (y : Shape) (n : ℕ) (given : List (Vec Item Global)) (trace : Bool) (room : CoreRoom D) → IsRoomFor y n given trace room → IsFor y room.cols
 room-fit y n given trace room room-for = record { columns = ap (λ (a : Columns). length a.states) room-for.cols ∙ length-replicate y.columns Dead; stripes = ap (λ (a : Columns). a.stripes) room-for.cols }
 
 module _ {L D : Type 0} (lay : LayoutGhosts L) (disk : DiskGhosts D) (setup : Setup L D) (room ready : CoreRoom D) (core : Array L D) (room-for : IsRoomFor (lay.shape setup.layout) (length setup.devices.items) setup.clients.items setup.trace room)
-    (set : ready ≡ record room { cols = record room.cols { states = map (state_set room.cols.stripes) setup.columns.items } }) (a : IsAssembled lay disk setup ready core) where
+    (set : ready ≡ record room { cols = record room.cols { states = states_of (lay.shape setup.layout) setup.columns.items } }) (a : IsAssembled lay disk setup ready core) where
   pub assembled-opened : IsOpened lay disk setup core
   assembled-opened = record {
     layout = a.layout;

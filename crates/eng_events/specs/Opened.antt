@@ -6,7 +6,8 @@ use Rattle.stripe_lock.specs.Table.{IsIdle}
 use Rattle.lay_core.specs.Layout.{Shape}
 use Rattle.lay_core.specs.declared.layout.Layout.{Ghosts as LayoutGhosts}
 use Rattle.eng_cols.specs.declared.column.Column.{Column}
-use Rattle.eng_cols.specs.Cols.{ColumnState, HasDevice, state_set, is_set_filling, is_set_spread}
+use Rattle.eng_cols.specs.Cols.{HasDevice, is_set_filling, is_set_spread}
+use Rattle.eng_cols.specs.Stripes.{states_of}
 use Rattle.eng_cols.specs.Contents.{decode}
 use Rattle.eng_cols.specs.Contents as contents
 use Rattle.eng_cols.specs.Laws.{HaveSpares}
@@ -31,10 +32,6 @@ use Rattle.eng_parts.specs.Fresh.{fresh_log}
 
 -- ## What may be opened
 
--- the columns as they are set: a spread one counts as done in each stripe
-abbrev pub states_of : Shape → List Column → List ColumnState
-states_of y columns = map (state_set y.stripes) columns
-
 -- the graph that the item names, if it names one, is one of so many
 abbrev pub NamesGraph : ℕ → Item → Type 0
 NamesGraph graphs (item.Run op (Some g)) = g < graphs
@@ -46,10 +43,10 @@ abbrev pub FitThePool : Graphs → Type 0
 FitThePool graphs = (n : ℕ) → length (graphs.file n).bufs ≤ 2048
 
 module _ {L D : Type 0} (lay : LayoutGhosts L) (disk : DiskGhosts D) where
-  -- There is one entry for each column; none is filling, and at most one is spread, where each stripe has a spare place; each device of a column is there, is in no other, and has room for the rows. Of the items no span is empty, each column that is to fail is there, no rebuild names a graph, and each graph that is named is there. Each graph of the file fits the pool.
+  -- There is one entry for each column; at most one is filling, and at most one is spread, where each stripe has a spare place; each device of a column is there, is in no other, and has room for the rows. Of the items no span is empty, each column that is to fail is there, no rebuild names a graph, and each graph that is named is there. Each graph of the file fits the pool.
   pub record IsSetup (setup : Setup L D) : Type 0 where
     pub entries : length setup.columns.items ≡ (lay.shape setup.layout).columns
-    pub filling : count_by is_set_filling setup.columns.items ≡ 0
+    pub filling : count_by is_set_filling setup.columns.items ≤ 1
     pub spread : count_by is_set_spread setup.columns.items ≤ 1
     pub spares : HaveSpares (lay.shape setup.layout) (states_of (lay.shape setup.layout) setup.columns.items)
     pub there : (c device : ℕ) → HasDevice (states_of (lay.shape setup.layout) setup.columns.items) c device → (x : D) × (slice_get setup.devices.items device ≡ Some (Some x)) × (64 + (lay.shape setup.layout).rows * (lay.shape setup.layout).unit_sectors ≤ disk.size x)

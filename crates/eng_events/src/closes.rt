@@ -1,8 +1,8 @@
 //! A core is closed.
-ghost use Rattle.std.specs.Prelude.{◌≡◌, ◌≤◌, [], length, map, vec_capacity};
-ghost use Rattle.eng_cols.specs.Cols.{column_of};
+ghost use Rattle.std.specs.Prelude.{◌≡◌, ◌≤◌, [], vec_capacity};
+ghost use Rattle.eng_cols.specs.Cols.{IsFor};
 ghost use Rattle.eng_events.specs.Opened.{NoneOut};
-ghost use Rattle.eng_events.specs.Closed.{IsClosed};
+ghost use Rattle.eng_events.specs.Closed.{AreColumns, IsClosed};
 ghost use Rattle.eng_state.specs.Sound.{IsSound};
 
 use blk_disk::Disk;
@@ -11,14 +11,15 @@ use eng_parts::{Closed, SpareLists};
 use eng_state::Array;
 use lay_core::Layout;
 
-fn list_columns(cols: &Cols, count: u32, columns: &mut Vec<Column>)
-    requires count { length cols.now.states ≡ count }
+// What each column is.
+fn list_columns<L: Layout>(layout: &L, cols: &Cols, columns: &mut Vec<Column>)
+    requires fit { IsFor (L.shape layout.now) cols.now }
     requires empty { columns.old.items ≡ [] }
-    requires room { count ≤ vec_capacity columns.old }
-    ensures { columns.new.items ≡ map column_of cols.now.states }
+    requires room { (L.shape layout.now).columns ≤ vec_capacity columns.old }
+    ensures { AreColumns (L.shape layout.now) cols.now.states columns.new.items }
 {
-    for column in 0..count {
-        columns.push_reserved(cols.column(column));
+    for column in 0..layout.columns() {
+        columns.push_reserved(cols.column(layout, column));
     }
 }
 
@@ -27,7 +28,7 @@ fn list_columns(cols: &Cols, count: u32, columns: &mut Vec<Column>)
 pub fn close<L: Layout, D: Disk + Drop>(array: Array<L, D>) -> Closed<L, D>
     requires sound { IsSound L.Layout D.Disk array }
     requires none_out { NoneOut array.clients }
-    ensures { IsClosed array result }
+    ensures { IsClosed L.Layout array result }
 {
     let Array {
         layout,
@@ -45,7 +46,7 @@ pub fn close<L: Layout, D: Disk + Drop>(array: Array<L, D>) -> Closed<L, D>
         replies,
         mut columns,
     } = spare.lists();
-    list_columns(&cols, layout.columns(), &mut columns);
+    list_columns(&layout, &cols, &mut columns);
     let told = clients.close(given, lost, items, replies);
     let left = log.close();
     let handed = left.3.close();

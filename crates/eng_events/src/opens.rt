@@ -3,7 +3,8 @@ ghost use Rattle.std.specs.Prelude.{◌≡◌, ◌≤◌, length, MatchResult, I
 ghost use Rattle.eng_cols.specs.Lost.{NotLost};
 ghost use Rattle.eng_state.specs.Beginning.{AllAsked};
 ghost use Rattle.eng_ends.specs.Copied.{AreLaid};
-ghost use Rattle.eng_events.specs.Opened.{states_of, IsSetup, IsAssembled, IsOpened, NoneOut, OpensWorlds};
+ghost use Rattle.eng_cols.specs.Stripes.{states_of};
+ghost use Rattle.eng_events.specs.Opened.{IsSetup, IsAssembled, IsOpened, NoneOut, OpensWorlds};
 ghost use Rattle.eng_state.specs.Serves.{Stands};
 ghost use Rattle.eng_state.specs.Sound.{IsSound};
 ghost use Rattle.eng_parts.specs.Fresh.{IsRoomFor, IsFault};

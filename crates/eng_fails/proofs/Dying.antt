@@ -1,6 +1,6 @@
 -- What the death of a column makes of its device, of units, and of the nodes that read them.
-use Rattle.std.proofs.Common.{◌≡◌, ℕ, suc, ◌<◌, ◌+◌, List, length, ap, ◌∙◌, arith, inl, inr, Bool, Option, Some, None, ◌&&◌, ◌||◌, not}
-use Rattle.std.specs.Prelude.{option_map, slice_get, slice_index, nat_lt}
+use Rattle.std.proofs.Common.{◌≡◌, ℕ, suc, ◌<◌, ◌+◌, List, length, ap, ◌∙◌, arith, inl, inr, refl, Bool, true, Option, Some, None, ◌&&◌, ◌||◌, not}
+use Rattle.std.specs.Prelude.{slice_get, slice_index, slice_set, nat_lt}
 use Rattle.std.proofs.lemmas.Bool.{lt-ltb}
 use Rattle.blk_disk.specs.declared.disk.Disk.{Ghosts as DiskGhosts}
 use Rattle.lay_core.specs.Layout.{Shape}
@@ -8,31 +8,53 @@ use Rattle.graph_mean.specs.declared.graph.Node.{Node}
 use Rattle.graph_mean.specs.declared.graph.Node.TheVariants.{Rd}
 use Rattle.graph_mean.specs.Graph.{kind_at}
 use Rattle.graph_mean.specs.Steps.{reads, stripe_of}
-use Rattle.eng_cols.specs.declared.column.Column.TheVariants as column
-use Rattle.eng_cols.specs.Cols.{ColumnState, Columns, Live, Dead, Filling, Spread, column_of, HasDevice}
+use Rattle.eng_cols.specs.Cols.{ColumnState, Columns, Live, Dead, Filling, Spread, device_of, HasDevice}
 use Rattle.eng_cols.specs.Changes.{killed}
 use Rattle.eng_cols.specs.Seats.{is_available}
 use Rattle.eng_parts.specs.Shelf.{Shelved}
 use Rattle.eng_clients.specs.Desk.{Desk}
-use Rattle.eng_state.specs.Failing.{dying}
+use Rattle.eng_state.specs.Failing.{dying, failed_after}
+use Rattle.eng_world.specs.Failing.{device_on}
 use Rattle.eng_state.specs.Sound.{Seated}
 use Rattle.eng_state.proofs.Leaving.{seen-below}
 
 -- ## The device
 
-pub column-device : (cols : List ColumnState) (c device : ℕ) (o : Option ColumnState) → slice_get cols c ≡ o → (option_map column_of o ≡ Some (column.Live device)) → HasDevice cols c device
-column-device cols c device None is e = let z : None ≡ Some (column.Live device) = e in absurd (let u : ⊥ = cc in u)
-column-device cols c device (Some (Live d)) is e = let z : Some (column.Live d) ≡ Some (column.Live device) = e in let same : d ≡ device = cc in inl (is ∙ ap (λ (j : ℕ). Some (Live j)) same)
-column-device cols c device (Some Dead) is e = let z : Some column.Dead ≡ Some (column.Live device) = e in absurd (let u : ⊥ = cc in u)
-column-device cols c device (Some (Filling d done)) is e = let z : Some (column.Filling d) ≡ Some (column.Live device) = e in absurd (let u : ⊥ = cc in u)
-column-device cols c device (Some (Spread done)) is e = let z : Some column.Spread ≡ Some (column.Live device) = e in absurd (let u : ⊥ = cc in u)
+pub column-device : (cols : List ColumnState) (c device : ℕ) (o : Option ColumnState) → slice_get cols c ≡ o → device_of o ≡ Some device → HasDevice cols c device
+column-device cols c device None is e = let z : None ≡ Some device = e in absurd (let u : ⊥ = cc in u)
+column-device cols c device (Some (Live d)) is e = let same : d ≡ device = cc in inl (is ∙ ap (λ (j : ℕ). Some (Live j)) same)
+column-device cols c device (Some (Filling d done)) is e = let same : d ≡ device = cc in inr (done, is ∙ ap (λ (j : ℕ). Some (Filling j done)) same)
+column-device cols c device (Some Dead) is e = let z : None ≡ Some device = e in absurd (let u : ⊥ = cc in u)
+column-device cols c device (Some (Spread done)) is e = let z : None ≡ Some device = e in absurd (let u : ⊥ = cc in u)
 
-pub column-filled : (cols : List ColumnState) (c device : ℕ) (o : Option ColumnState) → slice_get cols c ≡ o → (option_map column_of o ≡ Some (column.Filling device)) → HasDevice cols c device
-column-filled cols c device None is e = let z : None ≡ Some (column.Filling device) = e in absurd (let u : ⊥ = cc in u)
-column-filled cols c device (Some (Filling d done)) is e = let z : Some (column.Filling d) ≡ Some (column.Filling device) = e in let same : d ≡ device = cc in inr (done, is ∙ ap (λ (j : ℕ). Some (Filling j done)) same)
-column-filled cols c device (Some Dead) is e = let z : Some column.Dead ≡ Some (column.Filling device) = e in absurd (let u : ⊥ = cc in u)
-column-filled cols c device (Some (Live d)) is e = let z : Some (column.Live d) ≡ Some (column.Filling device) = e in absurd (let u : ⊥ = cc in u)
-column-filled cols c device (Some (Spread done)) is e = let z : Some column.Spread ≡ Some (column.Filling device) = e in absurd (let u : ⊥ = cc in u)
+-- what is made of a column by its device is made of it by its kind
+pub column-device-on : (o : Option ColumnState) (c device : ℕ) → device_of o ≡ Some device → device_on o c ≡ device
+column-device-on None c device e = let z : None ≡ Some device = e in absurd (let u : ⊥ = cc in u)
+column-device-on (Some (Live d)) c device e = cc
+column-device-on (Some (Filling d done)) c device e = cc
+column-device-on (Some Dead) c device e = let z : None ≡ Some device = e in absurd (let u : ⊥ = cc in u)
+column-device-on (Some (Spread done)) c device e = let z : None ≡ Some device = e in absurd (let u : ⊥ = cc in u)
+
+pub column-none-on : (o : Option ColumnState) (c : ℕ) → device_of o ≡ None → device_on o c ≡ c
+column-none-on None c e = refl
+column-none-on (Some (Live d)) c e = let z : Some d ≡ None = e in absurd (let u : ⊥ = cc in u)
+column-none-on (Some (Filling d done)) c e = let z : Some d ≡ None = e in absurd (let u : ⊥ = cc in u)
+column-none-on (Some Dead) c e = refl
+column-none-on (Some (Spread done)) c e = refl
+
+pub column-failed : (o : Option ColumnState) (failed : List Bool) (device : ℕ) → device_of o ≡ Some device → failed_after o failed ≡ slice_set failed device true
+column-failed None failed device e = let z : None ≡ Some device = e in absurd (let u : ⊥ = cc in u)
+column-failed (Some (Live d)) failed device e = let same : d ≡ device = cc in ap (λ (j : ℕ). slice_set failed j true) same
+column-failed (Some (Filling d done)) failed device e = let same : d ≡ device = cc in ap (λ (j : ℕ). slice_set failed j true) same
+column-failed (Some Dead) failed device e = let z : None ≡ Some device = e in absurd (let u : ⊥ = cc in u)
+column-failed (Some (Spread done)) failed device e = let z : None ≡ Some device = e in absurd (let u : ⊥ = cc in u)
+
+pub column-unfailed : (o : Option ColumnState) (failed : List Bool) → device_of o ≡ None → failed_after o failed ≡ failed
+column-unfailed None failed e = refl
+column-unfailed (Some (Live d)) failed e = let z : Some d ≡ None = e in absurd (let u : ⊥ = cc in u)
+column-unfailed (Some (Filling d done)) failed e = let z : Some d ≡ None = e in absurd (let u : ⊥ = cc in u)
+column-unfailed (Some Dead) failed e = refl
+column-unfailed (Some (Spread done)) failed e = refl
 
 -- a device of a column has a slot
 pub device-below : {D : Type 0} → (disk : DiskGhosts D) (y : Shape) (cols : Columns) (s : Shelved D) → Seated disk y cols s → (c device : ℕ) → HasDevice cols.states c device → device < length s.slots

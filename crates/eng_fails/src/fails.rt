@@ -22,7 +22,6 @@ ghost use Rattle.eng_state.specs.Failing.{dying, reads_dying, suffered, HaveSuff
 
 use blk_disk::Disk;
 use blk_plain::limits;
-use eng_cols::Column;
 use eng_job::Job;
 use eng_state::Array;
 use eng_world::Traced;
@@ -37,10 +36,7 @@ pub fn is_dead<L: Layout, D: Disk>(array: &Array<L, D>, column: u32) -> bool
     requires { column < length array.now.cols.states }
     ensures { IsTrue result ↔ (slice_get array.now.cols.states column ≡ Some Dead) }
 {
-    match array.cols.column(column) {
-        Column::Dead => true,
-        Column::Live { .. } | Column::Filling { .. } | Column::Spread => false,
-    }
+    array.cols.is_dead(column)
 }
 
 // Whether the column's death makes a unit missing: one that stands, and lies or stands there.
@@ -142,9 +138,9 @@ fn device_of<L: Layout, D: Disk>(array: &Array<L, D>, column: u32) -> u32
     requires { column < length array.now.cols.states }
     ensures { result ≡ device_on (slice_get array.now.cols.states column) column }
 {
-    match array.cols.column(column) {
-        Column::Live { device } | Column::Filling { device } => device,
-        Column::Dead | Column::Spread => column,
+    match array.cols.device(column) {
+        Some(device) => device,
+        None => column,
     }
 }
 
@@ -154,9 +150,8 @@ fn blame<L: Layout, D: Disk>(array: &mut Array<L, D>, column: u32)
     requires column { column < length array.old.cols.states }
     ensures { array.new ≡ record array.old { devices = record array.old.devices { failed = failed_after (slice_get array.old.cols.states column) array.old.devices.failed } } }
 {
-    match array.cols.column(column) {
-        Column::Live { device } | Column::Filling { device } => device_fails(array, device),
-        Column::Dead | Column::Spread => {}
+    if let Some(device) = array.cols.device(column) {
+        device_fails(array, device);
     }
 }
 

@@ -1,6 +1,7 @@
 //! The room of a core.
 ghost use Rattle.std.specs.Prelude.{◌≡◌, ◌≤◌, length, map, count_by, MatchOption};
-ghost use Rattle.eng_cols.specs.Cols.{IsFor, IsKept, is_set_filling, is_set_spread, state_set};
+ghost use Rattle.eng_cols.specs.Cols.{IsFor, IsKept, is_set_filling, is_set_spread};
+ghost use Rattle.eng_cols.specs.Stripes.{states_of};
 ghost use Rattle.eng_cols.specs.Lost.{NotLost};
 ghost use Rattle.eng_parts.specs.Fresh.{IsFault};
 
@@ -38,7 +39,7 @@ impl<D: Drop> CoreRoom<D> {
         requires entries { length columns.now ≡ length self.old.cols.states }
         requires filling { count_by is_set_filling columns.now ≤ 1 }
         requires spread { count_by is_set_spread columns.now ≤ 1 }
-        ensures set { self.new ≡ record self.old { cols = record self.old.cols { states = map (state_set self.old.cols.stripes) columns.now } } }
+        ensures set { self.new ≡ record self.old { cols = record self.old.cols { states = states_of (L.shape layout.now) columns.now } } }
         ensures kept { IsKept self.new.cols }
     {
         self.cols.set(layout, columns);

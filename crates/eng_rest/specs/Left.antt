@@ -91,7 +91,8 @@ is_name d j c i = if (d == c) && (j == i) then 1 else 0
 
 -- 1 for an event of client c's item i, else 0
 abbrev pub of_item : Traced → ℕ → ℕ → ℕ
-of_item (event.Fill column device) c i = 0
+of_item (event.Fill column device count) c i = 0
+of_item (event.Resume column count) c i = 0
 of_item (event.Spread column) c i = 0
 of_item (event.Fail column) c i = 0
 of_item (event.Begin id) c i = is_name id.client id.index c i
@@ -104,7 +105,8 @@ of_item (event.Back id) c i = is_name id.client id.index c i
 
 -- an event of an operation: not one from outside
 abbrev pub IsOwn : Traced → Type 0
-IsOwn (event.Fill column device) = ⊥
+IsOwn (event.Fill column device count) = ⊥
+IsOwn (event.Resume column count) = ⊥
 IsOwn (event.Spread column) = ⊥
 IsOwn (event.Fail column) = ⊥
 IsOwn (event.Begin id) = Unit {0}
@@ -117,7 +119,8 @@ IsOwn (event.Back id) = Unit {0}
 
 -- an event by which no rebuild begins: one of an operation, or the failure of a column from outside
 abbrev pub IsLater : Traced → Type 0
-IsLater (event.Fill column device) = ⊥
+IsLater (event.Fill column device count) = ⊥
+IsLater (event.Resume column count) = ⊥
 IsLater (event.Spread column) = ⊥
 IsLater (event.Fail column) = Unit {0}
 IsLater (event.Begin id) = Unit {0}

@@ -1,10 +1,10 @@
 -- The rebuild of a dead column starts: one event of the world.
 use Rattle.std.proofs.Common.{◌≡◌, ◌⊎◌, ℕ, ◌<◌, List, [], length, subst, sym, ap, ◌∙◌, arith, inl, inr, refl, Bool, true, false, Option, Some}
-use Rattle.std.specs.Prelude.{slice_get, slice_set, option_map}
+use Rattle.std.specs.Prelude.{slice_get, slice_set, option_map, Contains}
 use Rattle.std.specs.List.{list_any}
 use Rattle.std.proofs.lemmas.Bool.{cases_eq, false≢true}
-use Rattle.std.proofs.lemmas.List.{length-set, length-map}
-use Rattle.std.proofs.lemmas.Option.{slice_get-map}
+use Rattle.std.proofs.lemmas.List.{length-set, length-map, get_or-set_same}
+use Rattle.std.proofs.lemmas.Option.{slice_get-get_or, slice_get-map, slice_get_within}
 use Rattle.blk_disk.specs.declared.disk.Disk.{Ghosts as DiskGhosts}
 use Rattle.lay_core.specs.Layout.{Shape}
 use Rattle.lay_core.specs.declared.layout.Layout.{Ghosts as LayoutGhosts}
@@ -17,16 +17,16 @@ use Rattle.eng_world.specs.declared.item.Item.{Item}
 use Rattle.eng_world.specs.declared.item.Traced.{Traced}
 use Rattle.eng_world.specs.declared.item.Traced.TheVariants as event
 use Rattle.eng_world.specs.World.{World, Client, Nothing as Idles}
-use Rattle.eng_world.specs.Serving.{IsUnbegun, AreRebuilds, StartsRebuild, Fills, Spreads, columns_of}
+use Rattle.eng_world.specs.Serving.{IsUnbegun, AreRebuilds, AreAllRebuilds, StartsRebuild, Fills, Resumes, Spreads, columns_of}
 use Rattle.eng_world.specs.Step.{StepBy}
 use Rattle.eng_clients.specs.declared.stage.Stage.{Stage}
 use Rattle.eng_clients.specs.declared.stage.Stage.TheVariants.{Nothing, Runs}
 use Rattle.eng_state.specs.declared.array.Array.{Array}
 use Rattle.eng_parts.specs.Shelf.{seen_at, has_failed}
-use Rattle.eng_clients.specs.Desk.{Desk, desk_at}
+use Rattle.eng_clients.specs.Desk.{Desk, desk_at, no_desk}
 use Rattle.eng_clients.specs.Listing.{rebuild}
 use Rattle.eng_log.specs.Log.{noted}
-use Rattle.eng_starts.specs.Rebuilding.{AreRebuildsBelow, CanRebuild, CanFill, CanSpread, Started, with_items}
+use Rattle.eng_starts.specs.Rebuilding.{AreRebuildsBelow, CanRebuild, CanFill, CanResume, CanSpread, Started, added, with_items}
 use Rattle.eng_state.specs.Shows.{Shows, ShowsClient, ShowsCurrent}
 use Rattle.eng_state.specs.Sound.{IsSound, IsWell, Seated}
 use Rattle.eng_state.specs.Steps.{graphs_of, Follows}
@@ -71,17 +71,36 @@ none-there p cols k z none is h = false≢true (sym (none_passes p cols k none) 
 
 -- ## The rebuilds
 
-are-rebuilds : (y : Shape) (cols : List ColumnState) (c : ℕ) (items : List Item) → AreRebuildsBelow y cols c y.stripes items → AreRebuilds y cols c items
-are-rebuilds y cols c items r = record {
+are-rebuilds : (y : Shape) (cols : List ColumnState) (c asked : ℕ) (items : List Item) → AreRebuildsBelow y cols c asked y.stripes items → AreRebuilds y cols c items
+are-rebuilds y cols c asked items r = record {
   stripes = r.stripes;
   each = λ n s h. ap (λ (l : List Item). slice_get l n) r.is ∙ (slice_get-map rebuild r.stripes n ∙ ap (option_map rebuild) h);
   count = ap length r.is ∙ length-map r.stripes rebuild;
-  all = r.all;
-  only = r.only;
+  first = λ s left. r.behind s left.within left;
+  only = λ s h. (r.only s h).1;
   ascending = r.ascending;
 }
 
-module _ {L D : Type 0} (lay : LayoutGhosts L) (disk : DiskGhosts D) (old new : Array L D) (c : ℕ) (states : List ColumnState) (e : Traced) (sound : IsSound lay disk old) (can : CanRebuild lay disk old c) (f : Started lay old c states e new)
+-- where more are asked than there are stripes each that is left is rebuilt
+all-rebuilds : (y : Shape) (cols : List ColumnState) (c asked : ℕ) (items : List Item) → AreRebuildsBelow y cols c asked y.stripes items → y.stripes < asked → AreAllRebuilds y cols c items
+all-rebuilds y cols c asked items r many s left = elim (r.first s left.within left) [
+  | inl has ↦
+      let at : slice_get items has.0 ≡ Some (rebuild s) = ap (λ (l : List Item). slice_get l has.0) r.is ∙ (slice_get-map rebuild r.stripes has.0 ∙ ap (option_map rebuild) (slice_get-get_or r.stripes has.0 s has.1 ∙ ap Some has.2)) in
+      Contains-at items has.0 (rebuild s) at
+  | inr full ↦ let few = r.few in absurd (omega (arith, full, few, many))
+]
+  where
+    Contains-at : (l : List Item) (n : ℕ) (x : Item) → slice_get l n ≡ Some x → Contains l x
+    Contains-at l n x h = (n, slice_get_within l n x h, some-one (sym (slice_get-get_or l n x (slice_get_within l n x h)) ∙ h))
+      where
+        some-one : {a b : Item} → Some a ≡ Some b → a ≡ b
+        some-one h = cc
+
+-- the desk that is put is there
+desk-set : (desks : List Desk) (d : Desk) → 16 < length desks → desk_at (slice_set desks 16 d) 16 ≡ d
+desk-set desks d below = get_or-set_same desks 16 d no_desk below
+
+module _ {L D : Type 0} (lay : LayoutGhosts L) (disk : DiskGhosts D) (old new : Array L D) (c asked : ℕ) (states : List ColumnState) (e : ℕ → Traced) (sound : IsSound lay disk old) (can : CanRebuild lay disk old) (f : Started lay old c asked states e new)
     (seated : Seated disk (lay.shape old.layout) (record old.cols { states = states }) old.devices) where
   abbrev y : Shape
   y = lay.shape old.layout
@@ -93,7 +112,7 @@ module _ {L D : Type 0} (lay : LayoutGhosts L) (disk : DiskGhosts D) (old new : 
   now = with_items d f.items
 
   abbrev mid : Array L D
-  mid = record old { clients = slice_set old.clients 16 now; rebuilds = record { items = []; room = 0 }; log = noted old.log e }
+  mid = record old { clients = slice_set old.clients 16 now; rebuilds = record { items = []; room = 0 }; log = noted old.log (e (length f.items)) }
 
   abbrev plain : Array L D
   plain = record mid { cols = record old.cols { states = states } }
@@ -132,6 +151,10 @@ module _ {L D : Type 0} (lay : LayoutGhosts L) (disk : DiskGhosts D) (old new : 
     locked = mid-sound.locked;
     jobs = mid-sound.jobs;
   })
+
+  -- so many rebuilds are added
+  pub added-is : length f.items ≡ added new
+  added-is = ap length (sym (ap (λ (q : Desk). q.items) (desk-set old.clients now below) ∙ refl)) ∙ sym (ap added f.is)
 
   module _ (w : World) (s : Shows disk old w) where
     abbrev v : Client
@@ -177,13 +200,16 @@ module _ {L D : Type 0} (lay : LayoutGhosts L) (disk : DiskGhosts D) (old new : 
     pub shows-started : Shows disk new x
     shows-started = to-new (λ (core : Array L D). Shows disk core x) shows-plain
 
+    -- client 16 has these items
+    pub items-are : (x.clients 16).items ≡ f.items
+    items-are = ap (λ (q : Client). q.items) (put-same w.clients 16 v)
+
     pub starts : StartsRebuild y c states w x
     starts = record {
       unbegun = unbegun;
-      dead = ap (λ (l : List ColumnState). slice_get l c) s.columns ∙ can.dead;
       no_items = (s.clients 16).items ∙ can.no_items;
       columns = refl;
-      rebuilds = subst (AreRebuilds y states c) (sym (ap (λ (q : Client). q.items) (put-same w.clients 16 v))) (are-rebuilds y states c f.items f.rebuilds);
+      rebuilds = subst (AreRebuilds y states c) (sym (ap (λ (q : Client). q.items) (put-same w.clients 16 v))) (are-rebuilds y states c asked f.items f.rebuilds);
       unbegun_still = still;
       handed = λ i b k. ap (λ (q : Client). q.handed i b k) (put-same w.clients 16 v);
       others = λ k ne. put-other w.clients 16 v k ne;
@@ -197,7 +223,7 @@ module _ {L D : Type 0} (lay : LayoutGhosts L) (disk : DiskGhosts D) (old new : 
 
 -- ## Onto a device
 
-module _ {L D : Type 0} (lay : LayoutGhosts L) (disk : DiskGhosts D) (old new : Array L D) (c device : ℕ) (sound : IsSound lay disk old) (can : CanFill lay disk old c device) (f : Started lay old c (begun_filling old.cols c device) (event.Fill c device) new) where
+module _ {L D : Type 0} (lay : LayoutGhosts L) (disk : DiskGhosts D) (old new : Array L D) (c device asked : ℕ) (sound : IsSound lay disk old) (can : CanFill lay disk old c device) (f : Started lay old c asked (begun_filling old.cols c device) (event.Fill c device) new) where
   abbrev yf : Shape
   yf = lay.shape old.layout
 
@@ -220,33 +246,66 @@ module _ {L D : Type 0} (lay : LayoutGhosts L) (disk : DiskGhosts D) (old new : 
     ];
   }
 
-  pub fill-sound : IsSound lay disk new
-  fill-sound = started-sound lay disk old new c (begun_filling old.cols c device) (event.Fill c device) sound can.starts f filled-seated
+  pub fill-added : length f.items ≡ added new
+  fill-added = added-is lay disk old new c asked (begun_filling old.cols c device) (event.Fill c device) sound can.starts f filled-seated
 
-  pub fill-follows : Follows lay disk old (event.Fill c device) new
+  pub fill-sound : IsSound lay disk new
+  fill-sound = started-sound lay disk old new c asked (begun_filling old.cols c device) (event.Fill c device) sound can.starts f filled-seated
+
+  pub fill-follows : Follows lay disk old (event.Fill c device (added new)) new
   fill-follows w s = (
-    x lay disk old new c (begun_filling old.cols c device) (event.Fill c device) sound can.starts f filled-seated w s,
-    shows-started lay disk old new c (begun_filling old.cols c device) (event.Fill c device) sound can.starts f filled-seated w s,
-    subst (λ (l : Option Loss). StepBy yf (graphs_of old.graphs.items) l (event.Fill c device) w after) (sym (s.lost ∙ can.starts.not_lost)) fills,
+    x lay disk old new c asked (begun_filling old.cols c device) (event.Fill c device) sound can.starts f filled-seated w s,
+    shows-started lay disk old new c asked (begun_filling old.cols c device) (event.Fill c device) sound can.starts f filled-seated w s,
+    subst (λ (l : Option Loss). StepBy yf (graphs_of old.graphs.items) l (event.Fill c device (added new)) w after) (sym (s.lost ∙ can.starts.not_lost)) fills,
   )
     where
       after : World
-      after = x lay disk old new c (begun_filling old.cols c device) (event.Fill c device) sound can.starts f filled-seated w s
+      after = x lay disk old new c asked (begun_filling old.cols c device) (event.Fill c device) sound can.starts f filled-seated w s
 
       same : begun_filling old.cols c device ≡ begun_filling (columns_of yf w) c device
       same = ap (λ (l : List ColumnState). slice_set l c (Filling device (none_done old.cols.stripes))) (sym s.columns) ∙ ap (λ (n : ℕ). slice_set w.columns c (Filling device (none_done n))) sound.seated.fit.stripes
 
-      fills : Fills yf c device w after
+      fills : Fills yf c device (added new) w after
       fills = record {
+        dead = ap (λ (l : List ColumnState). slice_get l c) s.columns ∙ can.dead;
+        count_is = ap length (items-are lay disk old new c asked (begun_filling old.cols c device) (event.Fill c device) sound can.starts f filled-seated w s) ∙ added-is lay disk old new c asked (begun_filling old.cols c device) (event.Fill c device) sound can.starts f filled-seated;
         none_filling = λ k dv done h. none-there is_filling old.cols.states k (Filling dv done) can.none_filling (sym (ap (λ (l : List ColumnState). slice_get l k) s.columns) ∙ h) refl;
         unfailed = s.failed device ∙ can.unfailed;
         unused = λ k h. can.unused k (subst (λ (l : List ColumnState). HasDevice l k device) s.columns h);
-        starts = subst (λ (l : List ColumnState). StartsRebuild yf c l w after) same (starts lay disk old new c (begun_filling old.cols c device) (event.Fill c device) sound can.starts f filled-seated w s);
+        starts = subst (λ (l : List ColumnState). StartsRebuild yf c l w after) same (starts lay disk old new c asked (begun_filling old.cols c device) (event.Fill c device) sound can.starts f filled-seated w s);
+      }
+
+-- ## On onto a device
+
+module _ {L D : Type 0} (lay : LayoutGhosts L) (disk : DiskGhosts D) (old new : Array L D) (c asked : ℕ) (sound : IsSound lay disk old) (can : CanResume lay disk old c) (f : Started lay old c asked old.cols.states (event.Resume c) new) where
+  pub resume-added : length f.items ≡ added new
+  resume-added = added-is lay disk old new c asked old.cols.states (event.Resume c) sound can.starts f sound.seated
+
+  pub resume-sound : IsSound lay disk new
+  resume-sound = started-sound lay disk old new c asked old.cols.states (event.Resume c) sound can.starts f sound.seated
+
+  pub resume-follows : Follows lay disk old (event.Resume c (added new)) new
+  resume-follows w s = (
+    x lay disk old new c asked old.cols.states (event.Resume c) sound can.starts f sound.seated w s,
+    shows-started lay disk old new c asked old.cols.states (event.Resume c) sound can.starts f sound.seated w s,
+    subst (λ (l : Option Loss). StepBy (lay.shape old.layout) (graphs_of old.graphs.items) l (event.Resume c (added new)) w after) (sym (s.lost ∙ can.starts.not_lost)) resumes,
+  )
+    where
+      after : World
+      after = x lay disk old new c asked old.cols.states (event.Resume c) sound can.starts f sound.seated w s
+
+      resumes : Resumes (lay.shape old.layout) c (added new) w after
+      resumes = record {
+        device = can.device;
+        done = can.done;
+        filling = ap (λ (l : List ColumnState). slice_get l c) s.columns ∙ can.filling;
+        count_is = ap length (items-are lay disk old new c asked old.cols.states (event.Resume c) sound can.starts f sound.seated w s) ∙ added-is lay disk old new c asked old.cols.states (event.Resume c) sound can.starts f sound.seated;
+        starts = subst (λ (l : List ColumnState). StartsRebuild (lay.shape old.layout) c l w after) (sym s.columns) (starts lay disk old new c asked old.cols.states (event.Resume c) sound can.starts f sound.seated w s);
       }
 
 -- ## Into the spare places
 
-module _ {L D : Type 0} (lay : LayoutGhosts L) (disk : DiskGhosts D) (old new : Array L D) (c : ℕ) (sound : IsSound lay disk old) (can : CanSpread lay disk old c) (f : Started lay old c (begun_spreading old.cols c) (event.Spread c) new) where
+module _ {L D : Type 0} (lay : LayoutGhosts L) (disk : DiskGhosts D) (old new : Array L D) (c : ℕ) (sound : IsSound lay disk old) (can : CanSpread lay disk old c) (f : Started lay old c 4294967295 (begun_spreading old.cols c) (λ _. event.Spread c) new) where
   abbrev ys : Shape
   ys = lay.shape old.layout
 
@@ -264,24 +323,27 @@ module _ {L D : Type 0} (lay : LayoutGhosts L) (disk : DiskGhosts D) (old new : 
   }
 
   pub spread-sound : IsSound lay disk new
-  spread-sound = started-sound lay disk old new c (begun_spreading old.cols c) (event.Spread c) sound can.starts f spread-seated
+  spread-sound = started-sound lay disk old new c 4294967295 (begun_spreading old.cols c) (λ _. event.Spread c) sound can.starts f spread-seated
 
   pub spread-follows : Follows lay disk old (event.Spread c) new
   spread-follows w s = (
     after,
-    shows-started lay disk old new c (begun_spreading old.cols c) (event.Spread c) sound can.starts f spread-seated w s,
+    shows-started lay disk old new c 4294967295 (begun_spreading old.cols c) (λ _. event.Spread c) sound can.starts f spread-seated w s,
     subst (λ (l : Option Loss). StepBy ys (graphs_of old.graphs.items) l (event.Spread c) w after) (sym (s.lost ∙ can.starts.not_lost)) spreads,
   )
     where
       after : World
-      after = x lay disk old new c (begun_spreading old.cols c) (event.Spread c) sound can.starts f spread-seated w s
+      after = x lay disk old new c 4294967295 (begun_spreading old.cols c) (λ _. event.Spread c) sound can.starts f spread-seated w s
 
       same : begun_spreading old.cols c ≡ begun_spreading (columns_of ys w) c
       same = ap (λ (l : List ColumnState). slice_set l c (Spread (none_done old.cols.stripes))) (sym s.columns) ∙ ap (λ (n : ℕ). slice_set w.columns c (Spread (none_done n))) sound.seated.fit.stripes
 
       spreads : Spreads ys c w after
       spreads = record {
+        dead = ap (λ (l : List ColumnState). slice_get l c) s.columns ∙ can.dead;
+        all = subst (AreAllRebuilds ys (begun_spreading old.cols c) c) (sym (items-are lay disk old new c 4294967295 (begun_spreading old.cols c) (λ _. event.Spread c) sound can.starts f spread-seated w s))
+            (all-rebuilds ys (begun_spreading old.cols c) c 4294967295 f.items f.rebuilds (omega (arith, sound.layout.stripes_most)));
         none_spread = λ k done h. none-there is_spread old.cols.states k (Spread done) can.none_spread (sym (ap (λ (l : List ColumnState). slice_get l k) s.columns) ∙ h) refl;
         spares = can.spares;
-        starts = subst (λ (l : List ColumnState). StartsRebuild ys c l w after) same (starts lay disk old new c (begun_spreading old.cols c) (event.Spread c) sound can.starts f spread-seated w s);
+        starts = subst (λ (l : List ColumnState). StartsRebuild ys c l w after) same (starts lay disk old new c 4294967295 (begun_spreading old.cols c) (λ _. event.Spread c) sound can.starts f spread-seated w s);
       }

@@ -13,6 +13,6 @@ mod takes;
 pub use backs::back;
 pub use begins::begin;
 pub use fires::fire;
-pub use rebuild::{fill, spread};
+pub use rebuild::{fill, resume, spread};
 pub use skips::skip;
 pub use takes::take;

@@ -1,14 +1,14 @@
 -- A sector that holds a label is the bytes of that label.
-use Rattle.std.proofs.Common.{◌≡◌, ◌∙◌, ap, ap₂, subst, ℕ, zero, suc, ◌+◌, ◌*◌, ◌<◌, ◌≤◌, ◌==◌, ◌&&◌, Bool, true, false, List, [], ◌∷◌, ◌++◌, take, drop, length, get_or, replicate, refl, sym, arith, append_assoc, nat_le, Some, None, length-drop}
-use Rattle.std.specs.Prelude.{if◌then◌else◌}
+use Rattle.std.proofs.Common.{◌≡◌, ◌⊎◌, inl, inr, ◌∙◌, ap, ap₂, subst, ℕ, zero, suc, ◌+◌, ◌*◌, ◌<◌, ◌≤◌, ◌==◌, ◌&&◌, Bool, true, false, List, [], ◌∷◌, ◌++◌, take, drop, length, get_or, replicate, refl, sym, arith, append_assoc, nat_le, Some, None, length-drop}
+use Rattle.std.specs.Prelude.{if◌then◌else◌, ◌||◌, not}
 use Rattle.std.specs.List.{list_all}
-use Rattle.std.specs.Int.{w32, to_le_bytes}
+use Rattle.std.specs.Int.{w32, from_le_bytes, to_le_bytes}
 use Rattle.std.proofs.lemmas.Bool.{eqb-true, leb-true}
 use Rattle.std.proofs.lemmas.List.{get_or-drop, take-append-drop, drop-drop, length-take}
 use Rattle.std.proofs.lemmas.Nat.{le_bytes_4}
 use Rattle.std.proofs.lemmas.Slice.Eq.{bytes_eq-Decides}
 use Rattle.raid_label.specs.declared.label.Label.{Label}
-use Rattle.raid_label.specs.Bytes.{bytes_of, bytes_of_words, magic, label_in, fields_of, word_at, has_magic, is_well_formed, IsHeld, IsSector}
+use Rattle.raid_label.specs.Bytes.{bytes_of, bytes_of_words, magic, label_in, fields_of, word_at, has_magic, has_zeros, names_filling, is_first, is_second, is_well_formed, IsHeld, IsSector}
 
 -- the numbers that stand one behind the other
 abbrev words_from : List ℕ → ℕ → ℕ → List ℕ
@@ -52,47 +52,103 @@ zeros_are (x ∷ xs) (suc n) long h =
     ap₂ (λ (y : ℕ) (ys : List ℕ). y ∷ ys) (eqb-true x 0 two.0) (zeros_are xs n (omega arith) two.1)
 
 -- the whole of a sector, by its parts
-whole : (s : List ℕ) → IsSector s → take 8 s ≡ magic → drop 92 s ≡ replicate 420 0 → s ≡ bytes_of (fields_of s)
+whole : (s : List ℕ) → IsSector s → take 8 s ≡ magic → drop 100 s ≡ replicate 412 0 → s ≡ bytes_of (fields_of s)
 unfolding bytes_of fields_of
 whole s sector front back =
     sym (take-append-drop 8 s) ∙ ap₂ (λ (a b : List ℕ). a ++ b) front
     (words_cut s 13 8 sector (omega arith) ∙ ap (λ (t : List ℕ). bytes_of_words (words_from s 8 13) ++ t)
-    (cut s 60 32 ∙ ap (λ (t : List ℕ). take 32 (drop 60 s) ++ t) back))
-
-version_is : (s : List ℕ) → word_at s 8 ≡ 1 → (fields_of s).version ≡ 1
-unfolding fields_of
-version_is s h = h
-
-clean_is : (s : List ℕ) → word_at s 40 ≤ 1 → (fields_of s).clean ≤ 1
-unfolding fields_of
-clean_is s h = h
+    (cut s 60 32 ∙ ap (λ (t : List ℕ). take 32 (drop 60 s) ++ t)
+    (words_cut s 2 92 sector (omega arith) ∙ ap (λ (t : List ℕ). bytes_of_words (words_from s 92 2) ++ t) back)))
 
 magic_is : (s : List ℕ) → has_magic s ≡ true → take 8 s ≡ magic
 unfolding has_magic
 magic_is s h = (bytes_eq-Decides (take 8 s) magic).0 h
 
-formed : (s : List ℕ) → IsSector s → is_well_formed s ≡ true → IsHeld (fields_of s) × (s ≡ bytes_of (fields_of s))
-unfolding is_well_formed
-formed s sector h =
-    let zeros = and_both ((has_magic s && word_at s 8 == 1) && nat_le (word_at s 40) 1) (list_all (λ b. b == 0) (drop 92 s)) h in
-    let clean = and_both (has_magic s && word_at s 8 == 1) (nat_le (word_at s 40) 1) zeros.0 in
-    let named = and_both (has_magic s) (word_at s 8 == 1) clean.0 in (
-      record { version = version_is s (eqb-true (word_at s 8) 1 named.1); clean = clean_is s (leb-true (word_at s 40) 1 clean.1) },
-      whole s sector (magic_is s named.0) (zeros_are (drop 92 s) 420 (omega (arith, length-drop 92 s, sector.long)) zeros.1),
-    )
+or_either : (a b : Bool) → (a || b) ≡ true → (a ≡ true) ⊎ (b ≡ true)
+or_either true b h = inl refl
+or_either false b h = inr h
 
-both : (s : List ℕ) (l : Label) → IsSector s → label_in s ≡ Some l → IsHeld l × (s ≡ bytes_of l)
+-- what is so of the numbers of a sector is so of the fields
+held_is : (s : List ℕ) → (word_at s 8 ≡ 1) ⊎ (word_at s 8 ≡ 2) → word_at s 40 ≤ 1 → word_at s 92 ≤ word_at s 24 → (word_at s 92 ≡ 0 → word_at s 96 ≡ 0) → (word_at s 8 ≡ 1 → word_at s 92 ≡ 0) → IsHeld (fields_of s)
+unfolding fields_of
+held_is s version clean filling done first = record { version = version; clean = clean; filling = filling; done = done; first = first }
+
+-- zeros stand for the number 0
+zero_number : (n : ℕ) → from_le_bytes w32 (take 4 (replicate n 0)) ≡ 0
+zero_number zero = refl
+zero_number (suc zero) = refl
+zero_number (suc (suc zero)) = refl
+zero_number (suc (suc (suc zero))) = refl
+zero_number (suc (suc (suc (suc n)))) = refl
+
+zero_word : (s : List ℕ) (at : ℕ) → has_zeros s at ≡ true → word_at s at ≡ 0
+unfolding word_at
+zero_word s at h = ap (λ t. from_le_bytes w32 (take 4 t)) (zeros_are (drop at s) (length (drop at s)) refl h) ∙ zero_number (length (drop at s))
+
+all_behind : (xs : List ℕ) (k : ℕ) → list_all (λ b. b == 0) xs ≡ true → list_all (λ b. b == 0) (drop k xs) ≡ true
+all_behind xs zero h = h
+all_behind [] (suc k) h = refl
+all_behind (x ∷ xs) (suc k) h = all_behind xs k (and_both (x == 0) (list_all (λ b. b == 0) xs) h).1
+
+module _ (s : List ℕ) where
+  -- so they do further on
+  zeros_behind : (at k : ℕ) → has_zeros s at ≡ true → has_zeros s (at + k) ≡ true
+  zeros_behind at k h = ap (list_all (λ b. b == 0)) (sym (drop-drop k at s)) ∙ all_behind (drop at s) k h
+
+  -- version 1
+  first : word_at s 40 ≤ 1 → is_first s ≡ true → IsHeld (fields_of s) × (has_zeros s 100 ≡ true)
+  first clean h =
+      let both = and_both (word_at s 8 == 1) (has_zeros s 92) h in
+      let filling : word_at s 92 ≡ 0 = zero_word s 92 both.1 in
+      let done : word_at s 96 ≡ 0 = zero_word s 96 (zeros_behind 92 4 both.1) in (
+        held_is s (inl (eqb-true (word_at s 8) 1 both.0)) clean (omega (arith, filling)) (λ z. done) (λ v. filling),
+        zeros_behind 92 8 both.1,
+      )
+
+  none_done : (f d : ℕ) → (not (f == 0) || d == 0) ≡ true → f ≡ 0 → d ≡ 0
+  none_done zero d h z = eqb-true d 0 h
+  none_done (suc f) d h z = absurd (omega (arith, z))
+
+  names : names_filling s ≡ true → (word_at s 92 ≤ word_at s 24) × (word_at s 92 ≡ 0 → word_at s 96 ≡ 0)
+  unfolding names_filling
+  names h =
+      let both = and_both (nat_le (word_at s 92) (word_at s 24)) (not (word_at s 92 == 0) || word_at s 96 == 0) h in
+      (leb-true (word_at s 92) (word_at s 24) both.0, λ none. none_done (word_at s 92) (word_at s 96) both.1 none)
+
+  -- version 2
+  second : word_at s 40 ≤ 1 → is_second s ≡ true → IsHeld (fields_of s) × (has_zeros s 100 ≡ true)
+  second clean h =
+      let outer = and_both (word_at s 8 == 2 && names_filling s) (has_zeros s 100) h in
+      let inner = and_both (word_at s 8 == 2) (names_filling s) outer.0 in
+      let two : word_at s 8 ≡ 2 = eqb-true (word_at s 8) 2 inner.0 in
+      let named = names inner.1 in
+      (held_is s (inr two) clean named.0 named.1 (λ one. absurd (omega (arith, one, two))), outer.1)
+
+  by_version : word_at s 40 ≤ 1 → (is_first s ≡ true) ⊎ (is_second s ≡ true) → IsHeld (fields_of s) × (has_zeros s 100 ≡ true)
+  by_version clean (inl h) = first clean h
+  by_version clean (inr h) = second clean h
+
+  formed : is_well_formed s ≡ true → (has_magic s ≡ true) × IsHeld (fields_of s) × (has_zeros s 100 ≡ true)
+  unfolding is_well_formed
+  formed h =
+      let outer = and_both (has_magic s && nat_le (word_at s 40) 1) (is_first s || is_second s) h in
+      let inner = and_both (has_magic s) (nat_le (word_at s 40) 1) outer.0 in
+      let held = by_version (leb-true (word_at s 40) 1 inner.1) (or_either (is_first s) (is_second s) outer.1) in
+      (inner.0, held.0, held.1)
+
+label_formed : (s : List ℕ) (l : Label) → label_in s ≡ Some l → (is_well_formed s ≡ true) × (fields_of s ≡ l)
 unfolding label_in
-both s l sector h = go (is_well_formed s) refl h
+label_formed s l h = go (is_well_formed s) refl h
   where
-    go : (b : Bool) → is_well_formed s ≡ b → (if b then Some (fields_of s) else None) ≡ Some l → IsHeld l × (s ≡ bytes_of l)
-    go true e h =
-        let same : fields_of s ≡ l = cc in
-        subst (λ (m : Label). IsHeld m × (s ≡ bytes_of m)) same (formed s sector e)
+    go : (b : Bool) → is_well_formed s ≡ b → (if b then Some (fields_of s) else None) ≡ Some l → (is_well_formed s ≡ true) × (fields_of s ≡ l)
+    go true e h = (e, let same : fields_of s ≡ l = cc in same)
     go false e h = cc
 
-pub label_is_held : (s : List ℕ) (l : Label) → IsSector s → label_in s ≡ Some l → IsHeld l
-label_is_held s l sector h = (both s l sector h).0
+pub label_is_held : (s : List ℕ) (l : Label) → label_in s ≡ Some l → IsHeld l
+label_is_held s l h = let f = label_formed s l h in subst IsHeld f.1 (formed s f.0).1
 
 pub sector_is_written : (s : List ℕ) (l : Label) → IsSector s → label_in s ≡ Some l → s ≡ bytes_of l
-sector_is_written s l sector h = (both s l sector h).1
+sector_is_written s l sector h =
+    let f = label_formed s l h in
+    let w = formed s f.0 in
+    whole s sector (magic_is s w.0) (zeros_are (drop 100 s) 412 (omega (arith, length-drop 100 s, sector.long)) w.2) ∙ ap bytes_of f.1

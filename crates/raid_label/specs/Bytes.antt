@@ -1,5 +1,5 @@
 -- What a label is in the bytes of sector 0.
-use Rattle.std.specs.Prelude.{◌≡◌, ℕ, ◌^◌, ◌<◌, ◌≤◌, ◌==◌, ◌&&◌, Bool, List, [], ◌∷◌, ◌++◌, take, drop, length, replicate, codes, Option, Some, None, if◌then◌else◌, nat_le, slice_index}
+use Rattle.std.specs.Prelude.{◌≡◌, ◌⊎◌, ℕ, ◌^◌, ◌<◌, ◌≤◌, ◌==◌, ◌&&◌, ◌||◌, not, Bool, List, [], ◌∷◌, ◌++◌, take, drop, length, replicate, codes, Option, Some, None, if◌then◌else◌, nat_le, slice_index}
 use Rattle.std.specs.List.{list_all}
 use Rattle.std.specs.Str.{bytes_eq}
 use Rattle.std.specs.Int.{w32, from_le_bytes, to_le_bytes}
@@ -18,14 +18,21 @@ abbrev pub bytes_of_words : List ℕ → List ℕ
 bytes_of_words [] = []
 bytes_of_words (n ∷ ns) = to_le_bytes w32 n ++ bytes_of_words ns
 
--- the 512 bytes of a label: the eight, the numbers, a byte for each seat, zeros
-unfoldable pub bytes_of : Label → List ℕ
-bytes_of l = magic ++ (bytes_of_words (words_of l) ++ (l.seats ++ replicate 420 0))
+-- the two of the column that is filling
+abbrev pub filling_of : Label → List ℕ
+filling_of l = l.filling ∷ l.done ∷ []
 
--- what a well-formed sector may hold
+-- the 512 bytes of a label: the eight, the numbers, a byte for each seat, the two numbers, zeros
+unfoldable pub bytes_of : Label → List ℕ
+bytes_of l = magic ++ (bytes_of_words (words_of l) ++ (l.seats ++ (bytes_of_words (filling_of l) ++ replicate 412 0)))
+
+-- What a well-formed sector may hold: it is of version 1 or 2, the column that is filling, where one is named, is one of the columns, and where none is no stripe is done.
 pub record IsHeld (l : Label) : Type 0 where
-  pub version : l.version ≡ 1
+  pub version : (l.version ≡ 1) ⊎ (l.version ≡ 2)
   pub clean : l.clean ≤ 1
+  pub filling : l.filling ≤ l.columns
+  pub done : l.filling ≡ 0 → l.done ≡ 0
+  pub first : l.version ≡ 1 → l.filling ≡ 0
 
 -- the number that stands at a place
 unfoldable pub word_at : List ℕ → ℕ → ℕ
@@ -48,15 +55,33 @@ fields_of sector = record {
   r = word_at sector 52;
   lambda = word_at sector 56;
   seats = take 32 (drop 60 sector);
+  filling = word_at sector 92;
+  done = word_at sector 96;
 }
 
 -- the eight bytes are right
 unfoldable pub has_magic : List ℕ → Bool
 has_magic sector = bytes_eq (take 8 sector) magic
 
--- the eight bytes, version 1, a clean field of 0 or 1 and the zeros behind the seats are as they are to be
+-- no byte but 0 stands from there on
+abbrev pub has_zeros : List ℕ → ℕ → Bool
+has_zeros sector at = list_all (λ b. b == 0) (drop at sector)
+
+-- the two numbers name a column that there is, or none, of which no stripe is done then
+unfoldable pub names_filling : List ℕ → Bool
+names_filling sector = nat_le (word_at sector 92) (word_at sector 24) && (not (word_at sector 92 == 0) || word_at sector 96 == 0)
+
+-- in version 1 zeros stand behind the seats
+abbrev pub is_first : List ℕ → Bool
+is_first sector = word_at sector 8 == 1 && has_zeros sector 92
+
+-- in version 2 the two numbers, and zeros behind them
+abbrev pub is_second : List ℕ → Bool
+is_second sector = (word_at sector 8 == 2 && names_filling sector) && has_zeros sector 100
+
+-- the eight bytes, a clean field of 0 or 1, and what stands behind the seats by the version are as they are to be
 unfoldable pub is_well_formed : List ℕ → Bool
-is_well_formed sector = ((has_magic sector && word_at sector 8 == 1) && nat_le (word_at sector 40) 1) && list_all (λ b. b == 0) (drop 92 sector)
+is_well_formed sector = (has_magic sector && nat_le (word_at sector 40) 1) && (is_first sector || is_second sector)
 
 -- the label that a sector holds, if it is well formed
 unfoldable pub label_in : List ℕ → Option Label
@@ -87,3 +112,5 @@ pub record IsInRange (l : Label) : Type 0 where
   pub r : l.r < 2 ^ 32
   pub lambda : l.lambda < 2 ^ 32
   pub seats : length l.seats ≡ 32
+  pub filling : l.filling < 2 ^ 32
+  pub done : l.done < 2 ^ 32

@@ -1,5 +1,5 @@
 -- Whether the label of a device is the one that its column is to have.
-use Rattle.std.specs.Prelude.{ℕ, ◌==◌, Option, Some, None, if◌then◌else◌}
+use Rattle.std.specs.Prelude.{ℕ, ◌==◌, ◌||◌, Bool, Option, Some, None, if◌then◌else◌}
 use Rattle.raid_label.specs.declared.label.Label.{Label}
 use Rattle.raid_label.specs.declared.fault.LabelFault.{LabelFault}
 use Rattle.raid_label.specs.declared.fault.LabelFault.TheVariants.{NoLabel, Serial, Column, Shape, Version}
@@ -25,9 +25,17 @@ shape_fault l w =
     (or_fault (fault_unless_same Shape l.lambda w.lambda)
     (fault_unless_same Shape l.rows w.rows)))))))
 
+-- a version whose labels are read
+unfoldable pub is_known : ℕ → Bool
+is_known version = version == 1 || version == 2
+
+-- there is no label: none of a version that is read, or one of another version
+abbrev pub unlabelled_fault : ℕ → LabelFault
+unlabelled_fault version = if is_known version then NoLabel 0 0 else Version version 2
+
 -- what is found in place of the wanted label, the first that is so: no label, one of another version, of another shape, of another array, of another column
 unfoldable pub fault_in : Option Label → ℕ → Label → Option LabelFault
-fault_in None version w = if version == 1 then Some (NoLabel 0 0) else Some (Version version 1)
+fault_in None version w = Some (unlabelled_fault version)
 fault_in (Some l) version w =
     or_fault (shape_fault l w)
     (or_fault (fault_unless_same Serial l.serial w.serial)

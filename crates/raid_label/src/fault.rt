@@ -11,6 +11,6 @@ pub enum LabelFault {
     Column { found: u32, wanted: u32 },
     /// It is of an array of another shape: the first number of it that differs.
     Shape { found: u32, wanted: u32 },
-    /// It is of another version: the versions, of which 1 is wanted.
+    /// It is of another version: the versions, of which 2 is wanted.
     Version { found: u32, wanted: u32 },
 }

@@ -1,6 +1,6 @@
 //! Whether a label is the wanted one.
 ghost use Rattle.std.specs.Prelude.{◌≡◌, MatchResult, Some, None, option_map};
-ghost use Rattle.raid_label.specs.Judged.{fault_in, shape_fault};
+ghost use Rattle.raid_label.specs.Judged.{fault_in, shape_fault, unlabelled_fault};
 
 use crate::fault::LabelFault;
 use crate::label::Label;
@@ -13,7 +13,7 @@ use crate::label::Label;
 ///
 /// The first of these that is so, with what was found and what was wanted:
 ///
-/// - `NoLabel` where there is no label, and version 1 or none was found;
+/// - `NoLabel` where there is no label, and version 1, 2 or none was found;
 /// - `Version` where there is no label, and another version was found;
 /// - `Shape` where columns, unit, level, b, k, r, lambda or rows differ, the first of them;
 /// - `Serial` where the serial numbers differ;
@@ -25,17 +25,7 @@ pub fn judge(label: Option<&Label>, found_version: u32, wanted: &Label) -> Resul
         (λ fault. fault_in (option_map (λ l. l.now) label.entry) found_version wanted.now ≡ Some fault) }
 {
     let Some(label) = label else {
-        return if found_version == 1 {
-            Err(LabelFault::NoLabel {
-                found: 0,
-                wanted: 0,
-            })
-        } else {
-            Err(LabelFault::Version {
-                found: found_version,
-                wanted: 1,
-            })
-        };
+        return Err(fault_of_version(found_version));
     };
     if let Some(fault) = shape_fault(label, wanted) {
         return Err(fault);
@@ -53,6 +43,22 @@ pub fn judge(label: Option<&Label>, found_version: u32, wanted: &Label) -> Resul
         });
     }
     Ok(())
+}
+
+/// What is wrong with a sector that holds no label, where this version was found: that there is none
+/// of a version that is read, which are 1 and 2, or that it is of another.
+#[tactic(auto, unfolding(crate::specs::Judged::is_known))]
+pub fn fault_of_version(found: u32) -> LabelFault
+    ensures { result ≡ unlabelled_fault found }
+{
+    if found == 1 || found == 2 {
+        LabelFault::NoLabel {
+            found: 0,
+            wanted: 0,
+        }
+    } else {
+        LabelFault::Version { found, wanted: 2 }
+    }
 }
 
 // The first field of the array's shape that differs.

@@ -8,7 +8,7 @@ pub(crate) const MAGIC: [u8; 8] = *b"RFLABEL1";
 /// On a device each number takes four bytes, the lowest first, in this order.
 #[derive(Clone, Copy, Debug, PartialEq, Eq)]
 pub struct Label {
-    /// Always 1.
+    /// 2; or 1 in a label that was written before an array could have a column that is filling.
     pub version: u32,
     /// The array that the device is of, by the number that its operator gave it.
     pub serial: u32,
@@ -37,4 +37,8 @@ pub struct Label {
     /// What stands for each column: 0 its configured disk, j + 1 spare j, 254 the spare places of
     /// the other columns, 255 nothing; and 0 past the columns.
     pub seats: [u8; 32],
+    /// The column that is filling plus 1, or 0 where none is. A label of version 1 names none.
+    pub filling: u32,
+    /// How many of its stripes, from the first on, are done.
+    pub done: u32,
 }

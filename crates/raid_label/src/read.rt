@@ -1,7 +1,7 @@
 //! Reading a label.
 ghost use Rattle.std.specs.Prelude.{◌≡◌, ◌==◌, ◌+◌, ◌≤◌, length, take, drop};
 ghost use Rattle.std.specs.List.{list_all};
-ghost use Rattle.raid_label.specs.Bytes.{label_in, fields_of, word_at, has_magic, is_well_formed, version_in};
+ghost use Rattle.raid_label.specs.Bytes.{label_in, fields_of, word_at, has_magic, has_zeros, names_filling, is_first, is_second, is_well_formed, version_in};
 
 use crate::label::{Label, MAGIC};
 
@@ -36,15 +36,42 @@ fn is_well_formed(sector: &[u8]) -> bool
     requires { length sector.now ≡ 512 }
     ensures { result ≡ is_well_formed sector.now }
 {
-    has_magic(sector) && word(sector, 8) == 1 && word(sector, 40) <= 1 && has_zeros(sector)
+    has_magic(sector) && word(sector, 40) <= 1 && (is_first(sector) || is_second(sector))
 }
 
-// Whether the zeros behind the seats are there.
-fn has_zeros(sector: &[u8]) -> bool
+// Whether what stands behind the seats is that of version 1.
+fn is_first(sector: &[u8]) -> bool
     requires { length sector.now ≡ 512 }
-    ensures { result ≡ list_all (λ b. b == 0) (drop 92 sector.now) }
+    ensures { result ≡ is_first sector.now }
 {
-    are_zeros(&sector[92..])
+    word(sector, 8) == 1 && has_zeros(sector, 92)
+}
+
+// Or of version 2.
+fn is_second(sector: &[u8]) -> bool
+    requires { length sector.now ≡ 512 }
+    ensures { result ≡ is_second sector.now }
+{
+    word(sector, 8) == 2 && names_filling(sector) && has_zeros(sector, 100)
+}
+
+// Whether the column that is filling is one of the columns, or none, of which no stripe is done then.
+#[tactic(auto, unfolding(crate::specs::Bytes::names_filling))]
+fn names_filling(sector: &[u8]) -> bool
+    requires { length sector.now ≡ 512 }
+    ensures { result ≡ names_filling sector.now }
+{
+    let filling = word(sector, 92);
+    filling <= word(sector, 24) && (filling != 0 || word(sector, 96) == 0)
+}
+
+// Whether zeros stand from there on.
+fn has_zeros(sector: &[u8], at: usize) -> bool
+    requires within { at ≤ 512 }
+    requires long { length sector.now ≡ 512 }
+    ensures { result ≡ has_zeros sector.now at }
+{
+    are_zeros(&sector[at..])
 }
 
 fn are_zeros(bytes: &[u8]) -> bool
@@ -102,5 +129,7 @@ fn fields(sector: &[u8]) -> Label
         r: word(sector, 52),
         lambda: word(sector, 56),
         seats: seats(sector),
+        filling: word(sector, 92),
+        done: word(sector, 96),
     }
 }

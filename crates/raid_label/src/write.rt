@@ -5,8 +5,7 @@ ghost use Rattle.raid_label.specs.Bytes.{bytes_of, words_of, IsHeld};
 
 use crate::label::{Label, MAGIC};
 
-/// Writes a label over a sector, all 512 bytes. It is one that a well-formed sector may hold: its
-/// version is 1, and its clean field 0 or 1.
+/// Writes a label over a sector, all 512 bytes. It is one that a well-formed sector may hold.
 pub fn write_label(label: &Label, sector: &mut [u8])
     requires long { length sector.old ≡ 512 }
     requires held { IsHeld label.now }
@@ -18,7 +17,9 @@ pub fn write_label(label: &Label, sector: &mut [u8])
         put_word(sector, 8 + 4 * i, words[i]);
     }
     put_seats(sector, &label.seats);
-    put(sector, 92, &[0; 420]);
+    put_word(sector, 92, label.filling);
+    put_word(sector, 96, label.done);
+    put(sector, 100, &[0; 412]);
 }
 
 // Its numbers, in their order.

@@ -96,7 +96,8 @@ module _ (y : Shape) (graphs : Graphs) where
       go None b = b.only.columns.lost
       go (Some n) b = b.only.columns.lost
   in-plans (event.Fail c) old new loss none is h = fails-plans c old new loss is h.2
-  in-plans (event.Fill c device) old new loss none is h = some-none (sym none ∙ sym h.starts.lost ∙ is)
+  in-plans (event.Fill c device count) old new loss none is h = some-none (sym none ∙ sym h.starts.lost ∙ is)
+  in-plans (event.Resume c count) old new loss none is h = some-none (sym none ∙ sym h.starts.lost ∙ is)
   in-plans (event.Spread c) old new loss none is h = some-none (sym none ∙ sym h.starts.lost ∙ is)
 
   home-plans : (c n : ℕ) (good : Bool) (was : Running) (old new : World) → ComesHome y c n good was old new → (d : ℕ) (r : Running) → RunsAs new d r → HadPlan old d r
@@ -111,7 +112,8 @@ module _ (y : Shape) (graphs : Graphs) where
   lost-plans (event.Skip id n) old new h = absurd h
   lost-plans (event.Back id) old new h = absurd h
   lost-plans (event.Fail c) old new h = absurd h
-  lost-plans (event.Fill c device) old new h = absurd h
+  lost-plans (event.Fill c device count) old new h = absurd h
+  lost-plans (event.Resume c count) old new h = absurd h
   lost-plans (event.Spread c) old new h = absurd h
 
   pub step-plans : (e : Traced) (old new : World) (loss : Loss) → new.lost ≡ Some loss → Step y graphs e old new → (d : ℕ) (r : Running) → RunsAs new d r → HadPlan old d r

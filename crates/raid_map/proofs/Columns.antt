@@ -24,7 +24,7 @@ use Rattle.eng_world.specs.World.{World}
 use Rattle.eng_world.specs.Planning.{Graphs}
 use Rattle.eng_world.specs.Serving.{columns_of}
 use Rattle.eng_world.specs.Nodes.{Terminates, ColumnsAfter}
-use Rattle.eng_world.specs.Step.{Step, StepBy}
+use Rattle.eng_world.specs.Step.{Step, StepBy, column_begun}
 use Rattle.eng_world.specs.Invariant.{Invariant}
 use Rattle.eng_world.proofs.KeepsEnd.{first}
 use Rattle.eng_world.proofs.Moves.{Move, Moves, one, two, replies, waits, takes, fires, skips, works, commits, ends, fails, anew, gives, dies, starts, home, moves}
@@ -120,47 +120,52 @@ module _ (y : Shape) (layout : IsLayout y) (regions : ℕ → Bool) (cols : List
             ended-tied stripe z.0 old.columns new.columns z.4
             (ap (λ v. regions (region_of y.stripes v)) (sym own.1) ∙ ap (λ v. regions (region_of y.stripes (f.was.plan.stripe v))) (sym k.3) ∙ covers c w.0 k.0 k.1 f.was f.finishes.runs k.2) h
 
-    move-tied : (e : Traced) (old new : World) → ((c d : ℕ) → e ≡ event.Fill c d → ⊥) → ((c : ℕ) → e ≡ event.Spread c → ⊥) → Covers y regions old → Move y graphs Known e old new → TiedTo old.columns → TiedTo new.columns
-    move-tied e old new fill spread covers (replies c q asked known is ne idle f) h = same-tied old.columns new.columns f.only.columns.columns h
-    move-tied e old new fill spread covers (waits c a way known asks nothing g only pool) h = same-tied old.columns new.columns only.columns.columns h
-    move-tied e old new fill spread covers (takes c known f) h = same-tied old.columns new.columns f.only.columns.columns h
-    move-tied e old new fill spread covers (fires c n known f) h = same-tied old.columns new.columns f.only.columns.columns h
-    move-tied e old new fill spread covers (skips c n known f) h = same-tied old.columns new.columns f.only.columns.columns h
-    move-tied e old new fill spread covers (works c n known f) h = same-tied old.columns new.columns f.columns.columns h
-    move-tied e old new fill spread covers (commits c n known f) h = same-tied old.columns new.columns f.columns.columns h
-    move-tied e old new fill spread covers (ends c n known f) h = ends-tied c n old new known covers f h
-    move-tied e old new fill spread covers (fails c n at bad known f) h = same-tied old.columns new.columns f.columns.columns h
-    move-tied e old new fill spread covers (anew c o known can is b) h = same-tied old.columns new.columns b.only.columns.columns h
-    move-tied e old new fill spread covers (gives c o g known can is b) h = same-tied old.columns new.columns b.only.columns.columns h
-    move-tied e old new fill spread covers (dies c none alive f) h = subst TiedTo (sym f.columns) (killed-tied old.columns c h)
-    move-tied e old new fill spread covers (starts c begun (inl why) known f had sp) h = absurd (fill c why.0 why.1)
-    move-tied e old new fill spread covers (starts c begun (inr why) known f had sp) h = absurd (spread c why)
-    move-tied e old new fill spread covers (home c n good was loss is f failed columns) h = elim columns [ inl z ↦ same-tied old.columns new.columns z h | inr z ↦ subst TiedTo (sym z.1) (killed-tied old.columns z.0 h) ]
+    move-tied : (e : Traced) (old new : World) → ((c : ℕ) → column_begun e ≡ Some c → ⊥) → Covers y regions old → Move y graphs Known e old new → TiedTo old.columns → TiedTo new.columns
+    move-tied e old new quiet covers (replies c q asked known is ne idle f) h = same-tied old.columns new.columns f.only.columns.columns h
+    move-tied e old new quiet covers (waits c a way known asks nothing g only pool) h = same-tied old.columns new.columns only.columns.columns h
+    move-tied e old new quiet covers (takes c known f) h = same-tied old.columns new.columns f.only.columns.columns h
+    move-tied e old new quiet covers (fires c n known f) h = same-tied old.columns new.columns f.only.columns.columns h
+    move-tied e old new quiet covers (skips c n known f) h = same-tied old.columns new.columns f.only.columns.columns h
+    move-tied e old new quiet covers (works c n known f) h = same-tied old.columns new.columns f.columns.columns h
+    move-tied e old new quiet covers (commits c n known f) h = same-tied old.columns new.columns f.columns.columns h
+    move-tied e old new quiet covers (ends c n known f) h = ends-tied c n old new known covers f h
+    move-tied e old new quiet covers (fails c n at bad known f) h = same-tied old.columns new.columns f.columns.columns h
+    move-tied e old new quiet covers (anew c o known can is b) h = same-tied old.columns new.columns b.only.columns.columns h
+    move-tied e old new quiet covers (gives c o g known can is b) h = same-tied old.columns new.columns b.only.columns.columns h
+    move-tied e old new quiet covers (dies c none alive f) h = subst TiedTo (sym f.columns) (killed-tied old.columns c h)
+    move-tied e old new quiet covers (starts c begun why known f had sp) h = absurd (quiet c why)
+    move-tied e old new quiet covers (home c n good was loss is f failed columns) h = elim columns [ inl z ↦ same-tied old.columns new.columns z h | inr z ↦ subst TiedTo (sym z.1) (killed-tied old.columns z.0 h) ]
 
-    moves-tied : (e : Traced) (old new : World) → ((c d : ℕ) → e ≡ event.Fill c d → ⊥) → ((c : ℕ) → e ≡ event.Spread c → ⊥) → Covers y regions old → Moves y graphs Known e old new → TiedTo old.columns → TiedTo new.columns
-    moves-tied e old new fill spread covers (one m) h = move-tied e old new fill spread covers m h
-    moves-tied e old new fill spread covers (two mid m c none alive f) h = subst TiedTo (sym f.columns) (killed-tied mid.columns c (move-tied e old mid fill spread covers m h))
+    moves-tied : (e : Traced) (old new : World) → ((c : ℕ) → column_begun e ≡ Some c → ⊥) → Covers y regions old → Moves y graphs Known e old new → TiedTo old.columns → TiedTo new.columns
+    moves-tied e old new quiet covers (one m) h = move-tied e old new quiet covers m h
+    moves-tied e old new quiet covers (two mid m c none alive f) h = subst TiedTo (sym f.columns) (killed-tied mid.columns c (move-tied e old mid quiet covers m h))
 
-    fill-tied : (c d : ℕ) (old new : World) (lost : Option Loss) → old.lost ≡ lost → (new.lost ≡ None → Known new) → StepBy y graphs lost (event.Fill c d) old new → TiedTo old.columns → TiedTo new.columns
-    fill-tied c d old new (Some loss) is known f h = absurd f
-    fill-tied c d old new None is known f h =
+    fill-tied : (c d count : ℕ) (old new : World) (lost : Option Loss) → old.lost ≡ lost → (new.lost ≡ None → Known new) → StepBy y graphs lost (event.Fill c d count) old new → TiedTo old.columns → TiedTo new.columns
+    fill-tied c d count old new (Some loss) is known f h = absurd f
+    fill-tied c d count old new None is known f h =
         let z = f.starts in
-        subst TiedTo (sym z.columns) (begun-tied old.columns c _ z.dead (λ k e. let u : ⊥ = cc in u) (filling-same y (columns_of y old) c z.dead d) (filling-kept y (columns_of y old) c z.dead d) (subst InOrder z.columns (known (z.lost ∙ is)).control.order) h)
+        subst TiedTo (sym z.columns) (begun-tied old.columns c _ f.dead (λ k e. let u : ⊥ = cc in u) (filling-same y (columns_of y old) c f.dead d) (filling-kept y (columns_of y old) c f.dead d) (subst InOrder z.columns (known (z.lost ∙ is)).control.order) h)
 
     spread-tied : (c : ℕ) (old new : World) (lost : Option Loss) → old.lost ≡ lost → (new.lost ≡ None → Known new) → StepBy y graphs lost (event.Spread c) old new → TiedTo old.columns → TiedTo new.columns
     spread-tied c old new (Some loss) is known f h = absurd f
     spread-tied c old new None is known f h =
         let z = f.starts in
-        subst TiedTo (sym z.columns) (begun-tied old.columns c _ z.dead (λ k e. let u : ⊥ = cc in u) (spreading-same y (columns_of y old) c z.dead) (spreading-kept y (columns_of y old) c z.dead) (subst InOrder z.columns (known (z.lost ∙ is)).control.order) h)
+        subst TiedTo (sym z.columns) (begun-tied old.columns c _ f.dead (λ k e. let u : ⊥ = cc in u) (spreading-same y (columns_of y old) c f.dead) (spreading-kept y (columns_of y old) c f.dead) (subst InOrder z.columns (known (z.lost ∙ is)).control.order) h)
+
+    -- the columns stay as they are
+    resume-tied : (c count : ℕ) (old new : World) (lost : Option Loss) → StepBy y graphs lost (event.Resume c count) old new → TiedTo old.columns → TiedTo new.columns
+    resume-tied c count old new (Some loss) f h = absurd f
+    resume-tied c count old new None f h = same-tied old.columns new.columns f.starts.columns h
 
     pub step-tied : (e : Traced) (old new : World) → (old.lost ≡ None → Known old) → (new.lost ≡ None → Known new) → Covers y regions old → Step y graphs e old new → TiedTo old.columns → TiedTo new.columns
-    step-tied (event.Fill c d) old new was known covers step h = fill-tied c d old new old.lost refl known step h
+    step-tied (event.Fill c d count) old new was known covers step h = fill-tied c d count old new old.lost refl known step h
+    step-tied (event.Resume c count) old new was known covers step h = resume-tied c count old new old.lost step h
     step-tied (event.Spread c) old new was known covers step h = spread-tied c old new old.lost refl known step h
-    step-tied (event.Begin id) old new was known covers step h = moves-tied (event.Begin id) old new (λ k d is. let u : ⊥ = cc in u) (λ k is. let u : ⊥ = cc in u) covers (moves y graphs Known (event.Begin id) old new was step) h
-    step-tied (event.Take id) old new was known covers step h = moves-tied (event.Take id) old new (λ k d is. let u : ⊥ = cc in u) (λ k is. let u : ⊥ = cc in u) covers (moves y graphs Known (event.Take id) old new was step) h
-    step-tied (event.Fire id n) old new was known covers step h = moves-tied (event.Fire id n) old new (λ k d is. let u : ⊥ = cc in u) (λ k is. let u : ⊥ = cc in u) covers (moves y graphs Known (event.Fire id n) old new was step) h
-    step-tied (event.Skip id n) old new was known covers step h = moves-tied (event.Skip id n) old new (λ k d is. let u : ⊥ = cc in u) (λ k is. let u : ⊥ = cc in u) covers (moves y graphs Known (event.Skip id n) old new was step) h
-    step-tied (event.Good id n) old new was known covers step h = moves-tied (event.Good id n) old new (λ k d is. let u : ⊥ = cc in u) (λ k is. let u : ⊥ = cc in u) covers (moves y graphs Known (event.Good id n) old new was step) h
-    step-tied (event.Bad id n) old new was known covers step h = moves-tied (event.Bad id n) old new (λ k d is. let u : ⊥ = cc in u) (λ k is. let u : ⊥ = cc in u) covers (moves y graphs Known (event.Bad id n) old new was step) h
-    step-tied (event.Back id) old new was known covers step h = moves-tied (event.Back id) old new (λ k d is. let u : ⊥ = cc in u) (λ k is. let u : ⊥ = cc in u) covers (moves y graphs Known (event.Back id) old new was step) h
-    step-tied (event.Fail c) old new was known covers step h = moves-tied (event.Fail c) old new (λ k d is. let u : ⊥ = cc in u) (λ k is. let u : ⊥ = cc in u) covers (moves y graphs Known (event.Fail c) old new was step) h
+    step-tied (event.Begin id) old new was known covers step h = moves-tied (event.Begin id) old new (λ k is. let z : None ≡ Some k = is in let u : ⊥ = cc in u) covers (moves y graphs Known (event.Begin id) old new was step) h
+    step-tied (event.Take id) old new was known covers step h = moves-tied (event.Take id) old new (λ k is. let z : None ≡ Some k = is in let u : ⊥ = cc in u) covers (moves y graphs Known (event.Take id) old new was step) h
+    step-tied (event.Fire id n) old new was known covers step h = moves-tied (event.Fire id n) old new (λ k is. let z : None ≡ Some k = is in let u : ⊥ = cc in u) covers (moves y graphs Known (event.Fire id n) old new was step) h
+    step-tied (event.Skip id n) old new was known covers step h = moves-tied (event.Skip id n) old new (λ k is. let z : None ≡ Some k = is in let u : ⊥ = cc in u) covers (moves y graphs Known (event.Skip id n) old new was step) h
+    step-tied (event.Good id n) old new was known covers step h = moves-tied (event.Good id n) old new (λ k is. let z : None ≡ Some k = is in let u : ⊥ = cc in u) covers (moves y graphs Known (event.Good id n) old new was step) h
+    step-tied (event.Bad id n) old new was known covers step h = moves-tied (event.Bad id n) old new (λ k is. let z : None ≡ Some k = is in let u : ⊥ = cc in u) covers (moves y graphs Known (event.Bad id n) old new was step) h
+    step-tied (event.Back id) old new was known covers step h = moves-tied (event.Back id) old new (λ k is. let z : None ≡ Some k = is in let u : ⊥ = cc in u) covers (moves y graphs Known (event.Back id) old new was step) h
+    step-tied (event.Fail c) old new was known covers step h = moves-tied (event.Fail c) old new (λ k is. let z : None ≡ Some k = is in let u : ⊥ = cc in u) covers (moves y graphs Known (event.Fail c) old new was step) h

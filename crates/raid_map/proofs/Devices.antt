@@ -16,7 +16,7 @@ use Rattle.eng_world.specs.World.{Running, World, SameColumns}
 use Rattle.eng_world.specs.Planning.{Graphs, Promises}
 use Rattle.eng_world.specs.Failing.{FailsColumn, is_device_of}
 use Rattle.eng_world.specs.Nodes.{ColumnsAfter}
-use Rattle.eng_world.specs.Step.{IsOpening, Step, StepBy, EventsLead}
+use Rattle.eng_world.specs.Step.{IsOpening, Step, StepBy, EventsLead, column_begun}
 use Rattle.eng_world.specs.Rows.{HasHad}
 use Rattle.eng_world.specs.Invariant.{Invariant}
 use Rattle.eng_world.proofs.Rebuilt.{rebuilt-device}
@@ -92,48 +92,55 @@ module _ (cols : List ColumnState) (y : Shape) (graphs : Graphs) (Known : World 
       kept (inl z) = inl (get_set_other old.columns c k x (apart (inl z)) ∙ z)
       kept (inr z) = inr (z.0, get_set_other old.columns c k x (apart (inr z)) ∙ z.1)
 
-  move-used : (e : Traced) (old new : World) → ((c d : ℕ) → e ≡ event.Fill c d → ⊥) → ((c : ℕ) → e ≡ event.Spread c → ⊥)
+  move-used : (e : Traced) (old new : World) → ((c : ℕ) → column_begun e ≡ Some c → ⊥)
       → Move y graphs Known e old new → (old.lost ≡ None → StayOrFail cols old) → new.lost ≡ None → StayOrFail cols new
-  move-used e old new fill spread (replies c q asked known is ne idle f) h lost = same-used old new f.only.columns (h (sym f.only.columns.lost ∙ lost))
-  move-used e old new fill spread (waits c a way known asks nothing g only pool) h lost = same-used old new only.columns (h (sym only.columns.lost ∙ lost))
-  move-used e old new fill spread (takes c known f) h lost = same-used old new f.only.columns (h (sym f.only.columns.lost ∙ lost))
-  move-used e old new fill spread (fires c m known f) h lost = same-used old new f.only.columns (h (sym f.only.columns.lost ∙ lost))
-  move-used e old new fill spread (skips c m known f) h lost = same-used old new f.only.columns (h (sym f.only.columns.lost ∙ lost))
-  move-used e old new fill spread (works c m known f) h lost = same-used old new f.columns (h (sym f.columns.lost ∙ lost))
-  move-used e old new fill spread (commits c m known f) h lost = same-used old new f.columns (h (sym f.columns.lost ∙ lost))
-  move-used e old new fill spread (ends c m known f) h lost = λ k d has. elim (h (sym f.lost ∙ lost) k d has) [ inl q ↦ inl (after-used f.op f.was old new f.after k d q) | inr q ↦ inr (f.failed d ∙ q) ]
-  move-used e old new fill spread (fails c m at bad known f) h lost = same-used old new f.columns (h (sym f.columns.lost ∙ lost))
-  move-used e old new fill spread (anew c p known can is b) h lost = same-used old new b.only.columns (h (sym b.only.columns.lost ∙ lost))
-  move-used e old new fill spread (gives c p g known can is b) h lost = same-used old new b.only.columns (h (sym b.only.columns.lost ∙ lost))
-  move-used e old new fill spread (dies c none alive f) h lost = dies-used c old new f (h none)
-  move-used e old new fill spread (starts c begun (inl why) known f from sp) h lost = absurd (fill c why.0 why.1)
-  move-used e old new fill spread (starts c begun (inr why) known f from sp) h lost = absurd (spread c why)
-  move-used e old new fill spread (home c m good was loss is f failed columns) h lost = some-not (sym lost ∙ f.lost ∙ is)
+  move-used e old new quiet (replies c q asked known is ne idle f) h lost = same-used old new f.only.columns (h (sym f.only.columns.lost ∙ lost))
+  move-used e old new quiet (waits c a way known asks nothing g only pool) h lost = same-used old new only.columns (h (sym only.columns.lost ∙ lost))
+  move-used e old new quiet (takes c known f) h lost = same-used old new f.only.columns (h (sym f.only.columns.lost ∙ lost))
+  move-used e old new quiet (fires c m known f) h lost = same-used old new f.only.columns (h (sym f.only.columns.lost ∙ lost))
+  move-used e old new quiet (skips c m known f) h lost = same-used old new f.only.columns (h (sym f.only.columns.lost ∙ lost))
+  move-used e old new quiet (works c m known f) h lost = same-used old new f.columns (h (sym f.columns.lost ∙ lost))
+  move-used e old new quiet (commits c m known f) h lost = same-used old new f.columns (h (sym f.columns.lost ∙ lost))
+  move-used e old new quiet (ends c m known f) h lost = λ k d has. elim (h (sym f.lost ∙ lost) k d has) [ inl q ↦ inl (after-used f.op f.was old new f.after k d q) | inr q ↦ inr (f.failed d ∙ q) ]
+  move-used e old new quiet (fails c m at bad known f) h lost = same-used old new f.columns (h (sym f.columns.lost ∙ lost))
+  move-used e old new quiet (anew c p known can is b) h lost = same-used old new b.only.columns (h (sym b.only.columns.lost ∙ lost))
+  move-used e old new quiet (gives c p g known can is b) h lost = same-used old new b.only.columns (h (sym b.only.columns.lost ∙ lost))
+  move-used e old new quiet (dies c none alive f) h lost = dies-used c old new f (h none)
+  move-used e old new quiet (starts c begun why known f from sp) h lost = absurd (quiet c why)
+  move-used e old new quiet (home c m good was loss is f failed columns) h lost = some-not (sym lost ∙ f.lost ∙ is)
 
-  moves-used : (e : Traced) (old new : World) → ((c d : ℕ) → e ≡ event.Fill c d → ⊥) → ((c : ℕ) → e ≡ event.Spread c → ⊥)
+  moves-used : (e : Traced) (old new : World) → ((c : ℕ) → column_begun e ≡ Some c → ⊥)
       → Moves y graphs Known e old new → (old.lost ≡ None → StayOrFail cols old) → new.lost ≡ None → StayOrFail cols new
-  moves-used e old new fill spread (one m) h lost = move-used e old new fill spread m h lost
-  moves-used e old new fill spread (two mid m c none alive f) h lost = dies-used c mid new f (move-used e old mid fill spread m h none)
+  moves-used e old new quiet (one m) h lost = move-used e old new quiet m h lost
+  moves-used e old new quiet (two mid m c none alive f) h lost = dies-used c mid new f (move-used e old mid quiet m h none)
 
-  fill-used : (c d : ℕ) (old new : World) (lost : Option Loss) → old.lost ≡ lost → StepBy y graphs lost (event.Fill c d) old new → (old.lost ≡ None → StayOrFail cols old) → StayOrFail cols new
-  fill-used c d old new None is f h = begun-used c _ old new f.starts.dead f.starts.columns f.starts.failed (h is)
-  fill-used c d old new (Some loss) is f h = absurd f
+  fill-used : (c d count : ℕ) (old new : World) (lost : Option Loss) → old.lost ≡ lost → StepBy y graphs lost (event.Fill c d count) old new → (old.lost ≡ None → StayOrFail cols old) → StayOrFail cols new
+  fill-used c d count old new None is f h = begun-used c _ old new f.dead f.starts.columns f.starts.failed (h is)
+  fill-used c d count old new (Some loss) is f h = absurd f
 
   spread-used : (c : ℕ) (old new : World) (lost : Option Loss) → old.lost ≡ lost → StepBy y graphs lost (event.Spread c) old new → (old.lost ≡ None → StayOrFail cols old) → StayOrFail cols new
-  spread-used c old new None is f h = begun-used c _ old new f.starts.dead f.starts.columns f.starts.failed (h is)
+  spread-used c old new None is f h = begun-used c _ old new f.dead f.starts.columns f.starts.failed (h is)
   spread-used c old new (Some loss) is f h = absurd f
 
+  resume-used : (c count : ℕ) (old new : World) (lost : Option Loss) → old.lost ≡ lost → StepBy y graphs lost (event.Resume c count) old new → (old.lost ≡ None → StayOrFail cols old) → StayOrFail cols new
+  resume-used c count old new None is f h = λ k d has. elim (h is k d has) [
+    | inl q ↦ inl (subst (λ cs. HasDevice cs k d) (sym f.starts.columns) q)
+    | inr q ↦ inr (f.starts.failed d ∙ q)
+  ]
+  resume-used c count old new (Some loss) is f h = absurd f
+
   pub step-used : (e : Traced) (old new : World) → (old.lost ≡ None → Known old) → Step y graphs e old new → (old.lost ≡ None → StayOrFail cols old) → new.lost ≡ None → StayOrFail cols new
-  step-used (event.Fill c d) old new known step h lost = fill-used c d old new old.lost refl step h
+  step-used (event.Fill c d count) old new known step h lost = fill-used c d count old new old.lost refl step h
+  step-used (event.Resume c count) old new known step h lost = resume-used c count old new old.lost refl step h
   step-used (event.Spread c) old new known step h lost = spread-used c old new old.lost refl step h
-  step-used (event.Begin id) old new known step h lost = moves-used (event.Begin id) old new (λ k d is. let u : ⊥ = cc in u) (λ k is. let u : ⊥ = cc in u) (moves y graphs Known (event.Begin id) old new known step) h lost
-  step-used (event.Take id) old new known step h lost = moves-used (event.Take id) old new (λ k d is. let u : ⊥ = cc in u) (λ k is. let u : ⊥ = cc in u) (moves y graphs Known (event.Take id) old new known step) h lost
-  step-used (event.Fire id n) old new known step h lost = moves-used (event.Fire id n) old new (λ k d is. let u : ⊥ = cc in u) (λ k is. let u : ⊥ = cc in u) (moves y graphs Known (event.Fire id n) old new known step) h lost
-  step-used (event.Skip id n) old new known step h lost = moves-used (event.Skip id n) old new (λ k d is. let u : ⊥ = cc in u) (λ k is. let u : ⊥ = cc in u) (moves y graphs Known (event.Skip id n) old new known step) h lost
-  step-used (event.Good id n) old new known step h lost = moves-used (event.Good id n) old new (λ k d is. let u : ⊥ = cc in u) (λ k is. let u : ⊥ = cc in u) (moves y graphs Known (event.Good id n) old new known step) h lost
-  step-used (event.Bad id n) old new known step h lost = moves-used (event.Bad id n) old new (λ k d is. let u : ⊥ = cc in u) (λ k is. let u : ⊥ = cc in u) (moves y graphs Known (event.Bad id n) old new known step) h lost
-  step-used (event.Back id) old new known step h lost = moves-used (event.Back id) old new (λ k d is. let u : ⊥ = cc in u) (λ k is. let u : ⊥ = cc in u) (moves y graphs Known (event.Back id) old new known step) h lost
-  step-used (event.Fail c) old new known step h lost = moves-used (event.Fail c) old new (λ k d is. let u : ⊥ = cc in u) (λ k is. let u : ⊥ = cc in u) (moves y graphs Known (event.Fail c) old new known step) h lost
+  step-used (event.Begin id) old new known step h lost = moves-used (event.Begin id) old new (λ k is. let z : None ≡ Some k = is in let u : ⊥ = cc in u) (moves y graphs Known (event.Begin id) old new known step) h lost
+  step-used (event.Take id) old new known step h lost = moves-used (event.Take id) old new (λ k is. let z : None ≡ Some k = is in let u : ⊥ = cc in u) (moves y graphs Known (event.Take id) old new known step) h lost
+  step-used (event.Fire id n) old new known step h lost = moves-used (event.Fire id n) old new (λ k is. let z : None ≡ Some k = is in let u : ⊥ = cc in u) (moves y graphs Known (event.Fire id n) old new known step) h lost
+  step-used (event.Skip id n) old new known step h lost = moves-used (event.Skip id n) old new (λ k is. let z : None ≡ Some k = is in let u : ⊥ = cc in u) (moves y graphs Known (event.Skip id n) old new known step) h lost
+  step-used (event.Good id n) old new known step h lost = moves-used (event.Good id n) old new (λ k is. let z : None ≡ Some k = is in let u : ⊥ = cc in u) (moves y graphs Known (event.Good id n) old new known step) h lost
+  step-used (event.Bad id n) old new known step h lost = moves-used (event.Bad id n) old new (λ k is. let z : None ≡ Some k = is in let u : ⊥ = cc in u) (moves y graphs Known (event.Bad id n) old new known step) h lost
+  step-used (event.Back id) old new known step h lost = moves-used (event.Back id) old new (λ k is. let z : None ≡ Some k = is in let u : ⊥ = cc in u) (moves y graphs Known (event.Back id) old new known step) h lost
+  step-used (event.Fail c) old new known step h lost = moves-used (event.Fail c) old new (λ k is. let z : None ≡ Some k = is in let u : ⊥ = cc in u) (moves y graphs Known (event.Fail c) old new known step) h lost
 
 -- A device that was in use is in its column, or has failed.
 module _ (y : Shape) (layout : IsLayout y) (graphs : Graphs) (promises : Promises graphs) (opening : World) (o : IsOpening y opening) where
@@ -147,19 +154,19 @@ module _ (y : Shape) (layout : IsLayout y) (graphs : Graphs) (promises : Promise
   used-run [] now h none = λ c d has. inl (subst (λ (w : World). HasDevice w.columns c d) (sym h) has)
   used-run (e ∷ events) now h none = step-used opening.columns y graphs (Invariant y sync opening.blocks) e h.0 now (known events h.0 h.1) h.2 (used-run events h.0 h.1) none
 
-  fill-fresh : (c d : ℕ) (old new : World) → (lost : Option Loss) → old.lost ≡ lost → StepBy y graphs lost (event.Fill c d) old new → (old.lost ≡ None → StayOrFail opening.columns old) → (k : ℕ) → HasDevice opening.columns k d → ⊥
-  fill-fresh c d old new None is f h k has = elim (h is k d has) [ inl q ↦ f.unused k q | inr q ↦ let z : true ≡ false = sym q ∙ f.unfailed in let u : ⊥ = cc in u ]
-  fill-fresh c d old new (Some loss) is f h k has = f
+  fill-fresh : (c d count : ℕ) (old new : World) → (lost : Option Loss) → old.lost ≡ lost → StepBy y graphs lost (event.Fill c d count) old new → (old.lost ≡ None → StayOrFail opening.columns old) → (k : ℕ) → HasDevice opening.columns k d → ⊥
+  fill-fresh c d count old new None is f h k has = elim (h is k d has) [ inl q ↦ f.unused k q | inr q ↦ let z : true ≡ false = sym q ∙ f.unfailed in let u : ⊥ = cc in u ]
+  fill-fresh c d count old new (Some loss) is f h k has = f
 
   -- no rebuild onto it begins
-  pub none-fills : (events : List Traced) (now : World) → EventsLead y graphs opening events now → (c d k : ℕ) → Contains events (event.Fill c d) → HasDevice opening.columns k d → ⊥
-  none-fills [] now h c d k has device = in-none (event.Fill c d) has
-  none-fills (e ∷ events) now h c d k has device = elim (cons-cases e events (event.Fill c d) has) [
-    | inr q ↦ none-fills events h.0 h.1 c d k q device
-    | inl is ↦ fill-fresh c d h.0 now h.0.lost refl (subst (λ z. Step y graphs z h.0 now) is h.2) (used-run events h.0 h.1) k device
+  pub none-fills : (events : List Traced) (now : World) → EventsLead y graphs opening events now → (c d count k : ℕ) → Contains events (event.Fill c d count) → HasDevice opening.columns k d → ⊥
+  none-fills [] now h c d count k has device = in-none (event.Fill c d count) has
+  none-fills (e ∷ events) now h c d count k has device = elim (cons-cases e events (event.Fill c d count) has) [
+    | inr q ↦ none-fills events h.0 h.1 c d count k q device
+    | inl is ↦ fill-fresh c d count h.0 now h.0.lost refl (subst (λ z. Step y graphs z h.0 now) is h.2) (used-run events h.0 h.1) k device
   ]
 
   -- so it has one column
   pub one-column : (events : List Traced) (now : World) → EventsLead y graphs opening events now → (c k d : ℕ) → HasHad opening events c d → HasDevice opening.columns k d → c ≡ k
   one-column events now h c k d (inl had) device = o.order.one_column c k d had device
-  one-column events now h c k d (inr fill) device = absurd (none-fills events now h c d k fill device)
+  one-column events now h c k d (inr fill) device = absurd (none-fills events now h c d fill.0 k fill.1 device)

@@ -135,7 +135,7 @@ module _ (y : Shape) (layout : IsLayout y) (graphs : Graphs) (promises : Promise
       where
         had : {c d : ℕ} → HasHad start.world (traced events) c d → Had c d
         had (inl h) = inl h
-        had (inr h) = inr (within _ h)
+        had (inr h) = inr (h.0, within _ h.1)
 
     -- what is under way lies in the regions
     pub under-marked : (events : List Event) (now : Mapped) → Within events → Run events now → (d n : ℕ) → IsUnderWay y now.world d n → Marked d n

@@ -11,9 +11,10 @@ use Rattle.blk_disk.specs.Stops.{Left, MayHold}
 use Rattle.blk_disk.proofs.DeviceLaws.{changes-refl, changes-then, changes-more, changes_size, rises-wider}
 use Rattle.eng_cols.specs.declared.column.Column.{Column}
 use Rattle.eng_cols.specs.declared.column.Column.TheVariants as column
+use Rattle.eng_cols.specs.Cols.{device_set}
 use Rattle.eng_cols.specs.Deaths.{Dies}
 use Rattle.eng_cols.proofs.DeathLaws.{dies-refl, dies-more, dies-then, dies-set}
-use Rattle.raid_map.specs.Marking.{device_in, IsOn, IsMapSector, MarksOn, CanBeMarked, LosesDevice, MarksColumn, AreMarked}
+use Rattle.raid_map.specs.Marking.{IsOn, IsMapSector, MarksOn, CanBeMarked, LosesDevice, MarksColumn, AreMarked}
 
 -- ## Lists of columns
 
@@ -33,7 +34,7 @@ set_other (y ∷ xs) (suc i) (suc k) x apart = set_other xs i k x (λ e. apart (
 pub on_within : (columns : List Column) (c d : ℕ) → IsOn columns c d → c < length columns
 on_within columns c d h = go (slice_get columns c) refl h
   where
-    go : (o : Option Column) → slice_get columns c ≡ o → device_in o ≡ Some d → c < length columns
+    go : (o : Option Column) → slice_get columns c ≡ o → device_set o ≡ Some d → c < length columns
     go None is h = absurd (let z : None ≡ Some d = h in let u : ⊥ = cc in u)
     go (Some x) is h = slice_get_within columns c x is
 
@@ -43,7 +44,7 @@ if_other columns c k false apart = set_other columns c k column.Dead apart
 
 if_on : (columns : List Column) (c d : ℕ) (good : Bool) → c < length columns → IsOn (if good then columns else set columns c column.Dead) c d → good ≡ true
 if_on columns c d true within h = refl
-if_on columns c d false within h = absurd (let z : None ≡ Some d = ap device_in (sym (set_here columns c column.Dead within)) ∙ h in let u : ⊥ = cc in u)
+if_on columns c d false within h = absurd (let z : None ≡ Some d = ap device_set (sym (set_here columns c column.Dead within)) ∙ h in let u : ⊥ = cc in u)
 
 if_dies : (cause : ℕ → Type 0) (columns : List Column) (c : ℕ) (good : Bool) → c < length columns → (good ≡ false → cause c) → Dies cause columns (if good then columns else set columns c column.Dead)
 if_dies cause columns c true h why = dies-refl cause columns
@@ -81,7 +82,7 @@ module _ {D : Type 0} (g : Ghosts D) (bytes : List ℕ) where
     ];
     told = λ c d below on. elim (cases_lt c n) [
       | inl lt ↦ was.told c d lt on
-      | inr le ↦ let e : c ≡ n = omega (arith, below, le) in absurd (not d (ap device_in (was.kept n (omega arith)) ∙ subst (λ z. IsOn columns z d) e on))
+      | inr le ↦ let e : c ≡ n = omega (arith, below, le) in absurd (not d (ap device_set (was.kept n (omega arith)) ∙ subst (λ z. IsOn columns z d) e on))
     ];
     others = λ d never. was.others d (λ c below. never c (omega (arith, below)));
     kept = λ c h. was.kept c (omega (arith, h));
@@ -92,7 +93,7 @@ module _ {D : Type 0} (g : Ghosts D) (bytes : List ℕ) where
     d = step.device
 
     here : IsOn columns n d
-    here = ap device_in (sym (was.kept n (omega arith))) ∙ step.on
+    here = ap device_set (sym (was.kept n (omega arith))) ∙ step.on
 
     within : n < length mid
     within = on_within mid n d step.on
@@ -120,8 +121,8 @@ module _ {D : Type 0} (g : Ghosts D) (bytes : List ℕ) where
     -- an earlier column's device, by the columns as they were or are
     was-on : (c k : ℕ) → IsOn mid c k → IsOn columns c k
     was-on c k on = elim (was.dies.each c) [
-      | inl same ↦ ap device_in (sym same) ∙ on
-      | inr dead ↦ absurd (let z : None ≡ Some k = ap device_in (sym dead.0) ∙ on in let u : ⊥ = cc in u)
+      | inl same ↦ ap device_set (sym same) ∙ on
+      | inr dead ↦ absurd (let z : None ≡ Some k = ap device_set (sym dead.0) ∙ on in let u : ⊥ = cc in u)
     ]
 
     apart-from : (c k : ℕ) → c < n → IsOn columns c k → k ≢ d
@@ -133,25 +134,25 @@ module _ {D : Type 0} (g : Ghosts D) (bytes : List ℕ) where
       dies = dies;
       safe = λ c k x below on there. elim (cases_lt c n) [
         | inl lt ↦
-            let in-mid : IsOn mid c k = ap device_in (sym (state c lt)) ∙ on in
+            let in-mid : IsOn mid c k = ap device_set (sym (state c lt)) ∙ on in
             was.safe c k x lt in-mid (sym (step.marking.others k (apart-from c k lt (was-on c k in-mid))) ∙ there)
         | inr le ↦
             let e : c ≡ n = omega (arith, below, le) in
             let on-n : IsOn after n k = subst (λ z. IsOn after z k) e on in
             let good : step.good ≡ true = if_on mid n k step.good within (subst (λ (l : List Column). IsOn l n k) step.after_is on-n) in
-            let same : d ≡ k = one_device (sym step.on ∙ ap (λ (l : List Column). device_in (slice_get l n)) (ap (λ b. if b then mid else set mid n column.Dead) (sym good) ∙ sym step.after_is) ∙ on-n) in
+            let same : d ≡ k = one_device (sym step.on ∙ ap (λ (l : List Column). device_set (slice_get l n)) (ap (λ b. if b then mid else set mid n column.Dead) (sym good) ∙ sym step.after_is) ∙ on-n) in
             step.marking.safe good x (ap (device_at new) same ∙ there)
       ];
       told = λ c k below on. elim (cases_lt c n) [
         | inl lt ↦
             let t = was.told c k lt on in
-            (t.0, subst (λ o. MarksOn (calls_of g old k) o t.0) (ap (λ o. option_and_then g.calls o) (sym (step.marking.others k (apart-from c k lt on)))) t.1, λ good. ap device_in (state c lt) ∙ t.2 good)
+            (t.0, subst (λ o. MarksOn (calls_of g old k) o t.0) (ap (λ o. option_and_then g.calls o) (sym (step.marking.others k (apart-from c k lt on)))) t.1, λ good. ap device_set (state c lt) ∙ t.2 good)
         | inr le ↦
             let e : n ≡ c = omega (arith, below, le) in
             let same : d ≡ k = one_device (sym here ∙ subst (λ z. IsOn columns z k) (sym e) on) in (
               step.good,
               subst (λ j. MarksOn (calls_of g old j) (calls_of g new j) step.good) same (subst (λ o. MarksOn o (calls_of g new d) step.good) (ap (λ o. option_and_then g.calls o) fresh) step.marking.told),
-              λ good. subst (λ z. IsOn after z k) e (ap (λ (l : List Column). device_in (slice_get l n)) (step.after_is ∙ ap (λ b. if b then mid else set mid n column.Dead) good) ∙ step.on ∙ ap Some same),
+              λ good. subst (λ z. IsOn after z k) e (ap (λ (l : List Column). device_set (slice_get l n)) (step.after_is ∙ ap (λ b. if b then mid else set mid n column.Dead) good) ∙ step.on ∙ ap Some same),
             )
       ];
       others = λ k never. step.marking.others k (λ e. never n (omega arith) (here ∙ ap Some (sym e))) ∙ was.others k (λ c below. never c (omega (arith, below)));
@@ -161,7 +162,7 @@ module _ {D : Type 0} (g : Ghosts D) (bytes : List ℕ) where
   -- the device of the next column has its sectors
   pub still_sized : (n d : ℕ) (columns mid : List Column) (old dev : List (Option D)) → CanBeMarked g columns old → AreMarked g n bytes columns mid old dev → IsOn mid n d → 2 ≤ size_of g dev d
   still_sized n d columns mid old dev can was on =
-      let s = can.sized n d (ap device_in (sym (was.kept n (omega arith))) ∙ on) in
+      let s = can.sized n d (ap device_set (sym (was.kept n (omega arith))) ∙ on) in
       let e = changes_size g (IsMapSector columns) old dev d was.frame in omega (arith, s, e)
 
   -- whatever a stop leaves of a device in use, it holds the bytes

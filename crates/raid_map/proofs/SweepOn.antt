@@ -10,7 +10,7 @@ use Rattle.blk_disk.proofs.DeviceLaws.{changes-refl, changes-more, changes-then,
 use Rattle.lay_core.specs.Layout.{Shape, IsLayout, data_units}
 use Rattle.eng_cols.specs.declared.column.Column.{Column}
 use Rattle.eng_cols.specs.declared.spot.Spot.{Spot}
-use Rattle.eng_cols.specs.Cols.{ColumnState, HasDevice, state_set}
+use Rattle.eng_cols.specs.Cols.{ColumnState, HasDevice, InOrder, state_set}
 use Rattle.eng_cols.specs.Seats.{is_available, seat}
 use Rattle.eng_cols.specs.Contents.{InSync}
 use Rattle.eng_cols.specs.Deaths.{Dies}
@@ -18,24 +18,24 @@ use Rattle.eng_cols.proofs.DeathLaws.{dies-refl, dies-more, dies-then, dies-set}
 use Rattle.eng_cols.proofs.Spots.{available-seat, seat-device}
 use Rattle.eng_cols.proofs.Killing.{seat-apart}
 use Rattle.raid_recon.specs.declared.kind.Sweep.TheVariants.{Sync}
-use Rattle.raid_recon.specs.Array.{states_of, IsArray, IsComplete, IsCheckSector, Failed}
+use Rattle.eng_cols.specs.Stripes.{filled_in, states_of, count_below}
+use Rattle.raid_recon.specs.Array.{IsArray, IsComplete, IsCheckSector, Failed}
 use Rattle.raid_recon.specs.Sums.{sum_of, IsZero, IsNotZero}
 use Rattle.raid_recon.specs.Turns.{Turn, Left, Unread, Sound, Unsound, Written, Unwritten, does_count, does_write, failed_at, dead_at, IsTurn}
 use Rattle.raid_recon.specs.Units.{SweepsStripe}
 use Rattle.raid_recon.proofs.Bytes.{zero-from}
 use Rattle.raid_recon.proofs.Places.{states-killed, array-kept}
 use Rattle.raid_recon.proofs.Frames.{last-unit, check-alone, sum-same}
-use Rattle.raid_recon.proofs.Backs.{Back, back-refl, back-then, back-dead, sum-back, check-back}
-use Rattle.raid_recon.specs.Counts.{count_below}
+use Rattle.raid_recon.proofs.Backs.{Back, back-refl, back-then, back-turn, seat-unspread, sum-back, check-back}
 use Rattle.raid_map.specs.Sweeping.{MayRewrite, UnsoundAreMarked, IsSweptTo, IsCountedTo}
 
 no-bool : {A : Type 0} → false ≡ true → A
 no-bool h = absurd (let u : ⊥ = cc in u)
 
 -- a unit that stood where a device failed is missing from then on
-gone : (y : Shape) (columns : List Column) (s i : ℕ) (q : Option Spot) → is_available y (states_of y columns) s i ≡ true → seat y (states_of y columns) s i ≡ q → is_available y (states_of y (dead_at columns q)) s i ≡ true → ⊥
-gone y columns s i None was is h = let at = available-seat y (states_of y columns) s i was in let z : None ≡ Some at.0 = sym is ∙ at.1 in let u : ⊥ = cc in u
-gone y columns s i (Some at) was is h = seat-apart y (states_of y columns) at.column s i at (subst (λ cols. is_available y cols s i ≡ true) (states-killed y columns at.column) h) is refl
+gone : (y : Shape) (columns : List Column) → InOrder (states_of y columns) → (s i : ℕ) (q : Option Spot) → is_available y (states_of y columns) s i ≡ true → seat y (states_of y columns) s i ≡ q → is_available y (states_of y (dead_at columns q)) s i ≡ true → ⊥
+gone y columns order s i None was is h = let at = available-seat y (states_of y columns) s i was in let z : None ≡ Some at.0 = sym is ∙ at.1 in let u : ⊥ = cc in u
+gone y columns order s i (Some at) was is h = seat-apart y (states_of y columns) at.column s i at (subst (λ cols. is_available y cols s i ≡ true) (states-killed y columns at.column order (seat-unspread y columns s i at is)) h) is refl
 
 -- what was done so far, and that no unit came back
 pub record SweptTo {D : Type 0} (g : Ghosts D) (y : Shape) (marks : ℕ → Bool) (columns : List Column) (old : List (Option D)) (n : ℕ) (mid : List Column) (dev : List (Option D)) : Type 0 where
@@ -135,7 +135,7 @@ module _ {D : Type 0} (g : Ghosts D) (y : Shape) (layout : IsLayout y) (one : y.
     last = let l = last-unit y layout one in omega (arith, l)
 
     step-back : Back y (states_of y after) mids
-    step-back = subst (λ cs. Back y (states_of y cs) mids) (sym step.columns_are) (back-dead y mid (failed_at y mids n turn))
+    step-back = subst (λ cs. Back y (states_of y cs) mids) (sym step.columns_are) (back-turn y mid mid-array.order n turn)
 
     -- the stripe held what it did before the sweep
     sums-before : g.tells → (o k : ℕ) → o < y.unit_sectors → IsComplete y mids n → sum_of y (contents_of g dev) mids n y.width o k ≡ sum_of y (contents_of g old) cols n y.width o k
@@ -181,8 +181,8 @@ module _ {D : Type 0} (g : Ghosts D) (y : Shape) (layout : IsLayout y) (one : y.
     failed-seat Unwritten at h = seat-device y mids n (data_units y) at h
 
     has-within : (c d : ℕ) → HasDevice mids c d → c < length mid
-    has-within c d (inl h) = let l = slice_get_within mids c _ h in omega (arith, l, length-map mid (state_set y.stripes))
-    has-within c d (inr h) = let l = slice_get_within mids c _ h.1 in omega (arith, l, length-map mid (state_set y.stripes))
+    has-within c d (inl h) = let l = slice_get_within mids c _ h in omega (arith, l, length-map mid (state_set y.stripes (filled_in y mid)))
+    has-within c d (inr h) = let l = slice_get_within mids c _ h.1 in omega (arith, l, length-map mid (state_set y.stripes (filled_in y mid)))
 
     dead : (q : Option Spot) → failed_at y mids n turn ≡ q → Dies (Failed g cols old new) mid (dead_at mid q)
     dead None h = dies-refl (Failed g cols old new) mid
@@ -208,7 +208,7 @@ module _ {D : Type 0} (g : Ghosts D) (y : Shape) (layout : IsLayout y) (one : y.
         complete i iw = subst (λ cs. is_available y (states_of y cs) n i ≡ true) step.columns_are (all i iw)
 
         unread : (i : ℕ) → i < y.width → failed_at y mids n turn ≡ seat y mids n i → IsComplete y mids n → ⊥
-        unread i iw same full = gone y mid n i (seat y mids n i) (full i iw) refl (subst (λ q. is_available y (states_of y (dead_at mid q)) n i ≡ true) same (complete i iw))
+        unread i iw same full = gone y mid mid-array.order n i (seat y mids n i) (full i iw) refl (subst (λ q. is_available y (states_of y (dead_at mid q)) n i ≡ true) same (complete i iw))
 
         same-sum : does_write turn ≡ false → (o k : ℕ) → o < y.unit_sectors → sum_of y (contents_of g new) mids n y.width o k ≡ sum_of y (contents_of g dev) mids n y.width o k
         same-sum not o k ou = sum-same g (λ d m. (does_write turn ≡ true) × IsCheckSector y mids n d m) dev new y mids n y.width o k step.visit.frame told (λ i at iw is may. no-bool (sym not ∙ may.0))
@@ -253,7 +253,7 @@ module _ {D : Type 0} (g : Ghosts D) (y : Shape) (layout : IsLayout y) (one : y.
         complete i iw = subst (λ cs. is_available y (states_of y cs) n i ≡ true) step.columns_are (all i iw)
 
         unread : (i : ℕ) → i < y.width → failed_at y mids n turn ≡ seat y mids n i → IsComplete y mids n → ⊥
-        unread i iw same full = gone y mid n i (seat y mids n i) (full i iw) refl (subst (λ q. is_available y (states_of y (dead_at mid q)) n i ≡ true) same (complete i iw))
+        unread i iw same full = gone y mid mid-array.order n i (seat y mids n i) (full i iw) refl (subst (λ q. is_available y (states_of y (dead_at mid q)) n i ≡ true) same (complete i iw))
 
         go : (t : Turn) → turn ≡ t → IsTurn g.tells Sync y (contents_of g dev) mids n t → does_count turn ≡ true
         go Left e h = let u = h.unit in no-bool (sym h.missing ∙ step-back.available n u (all u h.within))

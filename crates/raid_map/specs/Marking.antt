@@ -7,19 +7,12 @@ use Rattle.blk_disk.specs.Devices.{device_at, size_of, calls_of, RisesOn, Change
 use Rattle.blk_disk.specs.Stops.{Left}
 use Rattle.eng_cols.specs.declared.column.Column.{Column}
 use Rattle.eng_cols.specs.declared.column.Column.TheVariants as column
+use Rattle.eng_cols.specs.Cols.{device_set}
 use Rattle.eng_cols.specs.Deaths.{Dies}
-
--- the device of a column
-abbrev pub device_in : Option Column → Option ℕ
-device_in (Some (column.Live device)) = Some device
-device_in (Some (column.Filling device)) = Some device
-device_in (Some column.Dead) = None
-device_in (Some column.Spread) = None
-device_in None = None
 
 -- column c has device d
 abbrev pub IsOn : List Column → ℕ → ℕ → Type 0
-IsOn columns c d = device_in (slice_get columns c) ≡ Some d
+IsOn columns c d = device_set (slice_get columns c) ≡ Some d
 
 -- sector 1 of a device in use
 pub record IsMapSector (columns : List Column) (d n : ℕ) : Type 0 where

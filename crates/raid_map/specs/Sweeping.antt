@@ -1,12 +1,12 @@
 -- What a sweep over the marked stripes does.
 use Rattle.std.specs.Prelude.{◌≡◌, ◌<◌, ◌≤◌, ℕ, List, Bool, true, Option}
-use Rattle.raid_recon.specs.Counts.{count_below}
 use Rattle.blk_disk.specs.declared.disk.Disk.{Ghosts}
 use Rattle.blk_disk.specs.Devices.{Changes, contents_of}
 use Rattle.lay_core.specs.Layout.{Shape}
 use Rattle.eng_cols.specs.declared.column.Column.{Column}
 use Rattle.eng_cols.specs.Deaths.{Dies}
-use Rattle.raid_recon.specs.Array.{states_of, IsComplete, IsCheckSector, Failed}
+use Rattle.eng_cols.specs.Stripes.{states_of, count_below}
+use Rattle.raid_recon.specs.Array.{IsComplete, IsCheckSector, Failed}
 use Rattle.raid_recon.specs.Sums.{IsZero, IsNotZero}
 use Rattle.raid_map.specs.Regions.{Marks, region_of, is_marked}
 

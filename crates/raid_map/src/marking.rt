@@ -1,10 +1,10 @@
 //! The marking of the devices in use.
-ghost use Rattle.std.specs.Prelude.{◌≡◌, ◌<◌, ◌≤◌, ℕ, List, length, Some, true, false, slice_index, slice_get};
+ghost use Rattle.std.specs.Prelude.{◌≡◌, ◌<◌, ◌≤◌, ℕ, List, length, Some, true, false};
 ghost use Rattle.blk_disk.specs.Disk.{Rose};
 ghost use Rattle.blk_disk.specs.Devices.{Stays, device_at, size_of};
 ghost use Rattle.blk_disk.specs.Stops.{Left, MayHold};
 ghost use Rattle.raid_map.specs.Regions.{IsBytesOf};
-ghost use Rattle.raid_map.specs.Marking.{device_in, IsOn, CanBeMarked, MarksOn, IsSafeOn, IsMarking, MarksColumn, AreMarked};
+ghost use Rattle.raid_map.specs.Marking.{IsOn, CanBeMarked, MarksOn, IsSafeOn, IsMarking, MarksColumn, AreMarked};
 
 use crate::map::Map;
 use blk_disk::{Failed, SECTOR, StopDisk};
@@ -61,16 +61,6 @@ fn mark_column<D: StopDisk>(
     }
 }
 
-fn device_of(columns: &[Column], column: usize) -> Option<u32>
-    requires { column < length columns.now }
-    ensures { result ≡ device_in (slice_get columns.now column) }
-{
-    match columns[column] {
-        Column::Live { device } | Column::Filling { device } => Some(device),
-        Column::Dead | Column::Spread => None,
-    }
-}
-
 fn mark_each<D: StopDisk>(devices: &mut [Option<D>], columns: &mut [Column], sector: &[u8])
     requires long { length sector.now ≡ 512 }
     requires can { CanBeMarked D.Disk columns.old devices.old }
@@ -78,7 +68,7 @@ fn mark_each<D: StopDisk>(devices: &mut [Option<D>], columns: &mut [Column], sec
     ensures count { length columns.new ≡ length columns.old }
 {
     for column in 0..columns.len() {
-        match device_of(columns, column) {
+        match columns[column].device() {
             Some(device) => mark_column(devices, columns, column, device, sector),
             None => {}
         }

@@ -1,8 +1,11 @@
 //! The sweep over the marked stripes.
 ghost use Rattle.std.specs.Prelude.{◌≡◌, ◌<◌, ◌≤◌, ◌*◌, IfOk, true};
 ghost use Rattle.blk_disk.specs.Devices.{contents_of};
+ghost use Rattle.eng_cols.specs.Cols.{IsFor};
 ghost use Rattle.eng_cols.specs.Contents.{InSync};
-ghost use Rattle.raid_recon.specs.Array.{states_of, IsArray};
+ghost use Rattle.eng_cols.specs.Settable.{IsSettable};
+ghost use Rattle.eng_cols.specs.Stripes.{states_of};
+ghost use Rattle.raid_recon.specs.Array.{IsArray};
 ghost use Rattle.raid_recon.specs.Units.{SweepsStripe};
 ghost use Rattle.raid_recon.specs.declared.kind.Sweep.TheVariants as sweep;
 ghost use Rattle.raid_map.specs.Sweeping.{marks_stripe, UnsoundAreMarked, IsSweptTo, IsCountedTo};
@@ -10,7 +13,7 @@ ghost use Rattle.raid_map.specs.Sweeping.{marks_stripe, UnsoundAreMarked, IsSwep
 use crate::map::Map;
 use crate::memory::Memory;
 use blk_disk::{Disk, StopDisk};
-use eng_cols::Column;
+use eng_cols::{Cols, Column};
 use lay_core::Layout;
 use raid_recon::{Room, sync_one};
 use std::alloc::Global;
@@ -52,10 +55,13 @@ pub fn sweep_marked<L: Layout, D: StopDisk>(
     columns: &mut [Column],
     map: &Map,
     room: &mut MapRoom,
+    judge: &mut Cols,
 ) -> u64
     requires array { IsArray D.Disk (L.shape layout.now) columns.old devices.old }
+    requires columns { IsSettable (L.shape layout.now) columns.old }
     requires map { map.now.stripes ≡ (L.shape layout.now).stripes }
     requires room { 1024 * (L.shape layout.now).unit_sectors ≤ room.old }
+    requires judge { IsFor (L.shape layout.now) judge.old }
     ensures swept { (L.shape layout.now).checks ≡ 1 → IsSweptTo D.Disk (L.shape layout.now)
         (marks_stripe map.now) columns.old devices.old (L.shape layout.now).stripes
         columns.new devices.new }
@@ -67,14 +73,16 @@ pub fn sweep_marked<L: Layout, D: StopDisk>(
     ensures none { (L.shape layout.now).checks ≡ 0 →
         (result ≡ 0) × ((columns.new ≡ columns.old) × (devices.new ≡ devices.old)) }
     ensures room { room.new ≡ room.old }
+    ensures judge { IsFor (L.shape layout.now) judge.new }
 {
     if layout.checks() == 0 {
         return 0;
     }
+    judge.set(layout, columns);
     let mut count = 0;
     for stripe in 0..layout.stripes() {
         if map.marked(stripe) {
-            if sync_one(layout, devices, columns, stripe, &mut room.room) {
+            if sync_one(layout, devices, columns, stripe, &mut room.room, judge) {
                 count += 1;
             }
         }

@@ -1,5 +1,5 @@
 -- Columns of which some died: no unit comes back, none moves, and no device is new.
-use Rattle.std.proofs.Common.{◌≡◌, ◌<◌, ℕ, List, [], ◌∷◌, length, true, Option, Some, None, sym, ap, ◌∙◌, subst}
+use Rattle.std.proofs.Common.{◌≡◌, ◌<◌, ℕ, List, [], ◌∷◌, length, true, false, Option, Some, None, refl, sym, ap, ◌∙◌, subst}
 use Rattle.lay_core.specs.Layout.{Shape, data_units}
 use Rattle.eng_cols.specs.declared.column.Column.{Column}
 use Rattle.eng_cols.specs.declared.spot.Spot.{Spot}
@@ -7,14 +7,15 @@ use Rattle.eng_cols.specs.Cols.{ColumnState, HasDevice, InOrder}
 use Rattle.eng_cols.specs.Changes.{killed}
 use Rattle.eng_cols.specs.Seats.{is_available, seat, spot}
 use Rattle.eng_cols.specs.Contents.{Contents, byte_if, byte_of}
-use Rattle.eng_cols.proofs.Spots.{available-seat}
+use Rattle.eng_cols.proofs.Spots.{available-seat, seat-device}
 use Rattle.eng_cols.proofs.Sums.{below_same}
 use Rattle.eng_cols.proofs.Killing.{available-back, seat-back, device-back, order-kept}
-use Rattle.raid_recon.specs.Array.{states_of, IsCheckSector}
+use Rattle.eng_cols.specs.Stripes.{spreads, states_of}
+use Rattle.raid_recon.specs.Array.{IsCheckSector}
 use Rattle.raid_recon.specs.Sums.{sum_of}
-use Rattle.raid_recon.specs.Turns.{Turn, dead_at, failed_at}
+use Rattle.raid_recon.specs.Turns.{Turn, Left, Unread, Sound, Unsound, Written, Unwritten, dead_at, failed_at, columns_after}
 use Rattle.raid_recon.specs.Log.{columns_in}
-use Rattle.raid_recon.proofs.Places.{spot-seat, states-killed}
+use Rattle.raid_recon.proofs.Places.{spot-seat, device-unspread, states-killed}
 
 -- what the one columns have, the others had
 pub record Back (y : Shape) (new old : List ColumnState) : Type 0 where
@@ -42,14 +43,31 @@ back-killed y cols k = record {
   order = λ h. order-kept cols k h;
 }
 
-pub back-dead : (y : Shape) (columns : List Column) (q : Option Spot) → Back y (states_of y (dead_at columns q)) (states_of y columns)
-back-dead y columns None = back-refl y (states_of y columns)
-back-dead y columns (Some at) = subst (λ cols. Back y cols (states_of y columns)) (sym (states-killed y columns at.column)) (back-killed y (states_of y columns) at.column)
+pub back-dead : (y : Shape) (columns : List Column) → InOrder (states_of y columns) → (q : Option Spot) → ((at : Spot) → q ≡ Some at → spreads columns at.column ≡ false) → Back y (states_of y (dead_at columns q)) (states_of y columns)
+back-dead y columns order None unspread = back-refl y (states_of y columns)
+back-dead y columns order (Some at) unspread = subst (λ cols. Back y cols (states_of y columns)) (sym (states-killed y columns at.column order (unspread at refl))) (back-killed y (states_of y columns) at.column)
 
-pub back-in : (y : Shape) (columns : List Column) (ts : List Turn) → Back y (states_of y (columns_in y columns ts)) (states_of y columns)
-back-in y columns [] = back-refl y (states_of y columns)
-back-in y columns (t ∷ ts) =
-    back-then y _ _ _ (back-dead y (columns_in y columns ts) (failed_at y (states_of y (columns_in y columns ts)) (length ts) t)) (back-in y columns ts)
+-- a column that has a seat isn't spread
+pub seat-unspread : (y : Shape) (columns : List Column) (s i : ℕ) (at : Spot) → seat y (states_of y columns) s i ≡ Some at → spreads columns at.column ≡ false
+seat-unspread y columns s i at is = device-unspread y columns at.column at.device (seat-device y (states_of y columns) s i at is)
+
+-- so one whose device failed in a turn
+pub failed-unspread : (y : Shape) (columns : List Column) (s : ℕ) (t : Turn) (at : Spot) → failed_at y (states_of y columns) s t ≡ Some at → spreads columns at.column ≡ false
+failed-unspread y columns s Left at is = let z : None ≡ Some at = is in absurd (let u : ⊥ = cc in u)
+failed-unspread y columns s (Unread i) at is = seat-unspread y columns s i at is
+failed-unspread y columns s Sound at is = let z : None ≡ Some at = is in absurd (let u : ⊥ = cc in u)
+failed-unspread y columns s Unsound at is = let z : None ≡ Some at = is in absurd (let u : ⊥ = cc in u)
+failed-unspread y columns s Written at is = let z : None ≡ Some at = is in absurd (let u : ⊥ = cc in u)
+failed-unspread y columns s Unwritten at is = seat-unspread y columns s (data_units y) at is
+
+pub back-turn : (y : Shape) (columns : List Column) → InOrder (states_of y columns) → (s : ℕ) (t : Turn) → Back y (states_of y (columns_after y columns s t)) (states_of y columns)
+back-turn y columns order s t = back-dead y columns order (failed_at y (states_of y columns) s t) (failed-unspread y columns s t)
+
+pub back-in : (y : Shape) (columns : List Column) → InOrder (states_of y columns) → (ts : List Turn) → Back y (states_of y (columns_in y columns ts)) (states_of y columns)
+back-in y columns order [] = back-refl y (states_of y columns)
+back-in y columns order (t ∷ ts) =
+    let was = back-in y columns order ts in
+    back-then y _ _ _ (back-turn y (columns_in y columns ts) (was.order order) (length ts) t) was
 
 -- an available unit stands where it stood
 pub spot-back : (y : Shape) (new old : List ColumnState) (s i : ℕ) → Back y new old → is_available y new s i ≡ true → spot y new s i ≡ spot y old s i

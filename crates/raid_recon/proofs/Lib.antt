@@ -9,7 +9,7 @@ pub mod Backs
 pub mod Visits
 pub mod Answered
 pub mod Logs
-pub mod Counting
+pub mod Turning
 pub mod Ends
 pub mod UnitCalls
 pub mod Fitting

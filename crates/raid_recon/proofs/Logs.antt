@@ -16,7 +16,8 @@ use Rattle.eng_cols.proofs.DeathLaws.{dies-refl, dies-more, dies-then, dies-set}
 use Rattle.eng_cols.proofs.Spots.{seat-device, seat-within}
 use Rattle.raid_recon.specs.declared.kind.Sweep.{Sweep}
 use Rattle.raid_recon.specs.declared.kind.Sweep.TheVariants.{Check, Sync, Init}
-use Rattle.raid_recon.specs.Array.{states_of, IsArray, IsCheckSector, Failed}
+use Rattle.eng_cols.specs.Stripes.{states_of}
+use Rattle.raid_recon.specs.Array.{IsArray, IsCheckSector, Failed}
 use Rattle.raid_recon.specs.Sums.{sum_of, IsZero, IsNotZero, HoldsSum}
 use Rattle.raid_recon.specs.Turns.{Turn, Left, Unread, Sound, Unsound, Written, Unwritten, TellsMore, does_count, does_write, failed_at, dead_at, columns_after, units_read, Rewrites, IsTurn, IsVisit}
 use Rattle.raid_recon.specs.Log.{columns_in, count_in, calls_in, turn_at, AreTurns, IsRewritten}
@@ -97,7 +98,7 @@ module _ {D : Type 0} (g : Ghosts D) (kind : Sweep) (y : Shape) (columns : List 
   -- what is still an array
   pub array-swept : (stripes n : ℕ) (mid : List Column) (old cur : List (Option D)) → IsArray g y columns old → IsSwept g kind y stripes columns mid old cur n → IsArray g y mid cur
   array-swept stripes n mid old cur array w =
-      let back : Back y (states_of y mid) (states_of y columns) = subst (λ cs. Back y (states_of y cs) (states_of y columns)) (sym w.columns_are) (back-in y columns w.turns) in
+      let back : Back y (states_of y mid) (states_of y columns) = subst (λ cs. Back y (states_of y cs) (states_of y columns)) (sym w.columns_are) (back-in y columns array.order w.turns) in
       record {
         entries = w.dies.count ∙ array.entries;
         order = back.order array.order;
@@ -121,13 +122,13 @@ module _ {D : Type 0} (g : Ghosts D) (kind : Sweep) (y : Shape) (columns : List 
     before : (i o : ℕ) (at : Spot) → i < y.width → o < y.unit_sectors → seat y (states_of y (columns_in y columns ts)) (length ts) i ≡ Some at → IsRewritten y (states_of y columns) ts at.device (sector_at y at o) → ⊥
     before i o at iw ou is h =
         let lt = turn-below ts h.stripe h.turn h.is in
-        let e = check-alone y (states_of y columns) layout array.order one h.stripe (length ts) i o at (omega (arith, lt, within)) within iw ou ((back-in y columns ts).seats (length ts) i at is) h.sector in
+        let e = check-alone y (states_of y columns) layout array.order one h.stripe (length ts) i o at (omega (arith, lt, within)) within iw ou ((back-in y columns array.order ts).seats (length ts) i at is) h.sector in
         omega (arith, lt, e.0)
 
     -- and this one writes none of theirs
     behind : (s i o : ℕ) (at : Spot) → s < length ts → i < y.width → o < y.unit_sectors → seat y (states_of y columns) s i ≡ Some at → IsCheckSector y (states_of y (columns_in y columns ts)) (length ts) at.device (sector_at y at o) → ⊥
     behind s i o at lt iw ou is h =
-        let e = check-alone y (states_of y columns) layout array.order one (length ts) s i o at within (omega (arith, lt, within)) iw ou is (check-back y _ (states_of y columns) (length ts) at.device (sector_at y at o) (back-in y columns ts) h) in
+        let e = check-alone y (states_of y columns) layout array.order one (length ts) s i o at within (omega (arith, lt, within)) iw ou is (check-back y _ (states_of y columns) (length ts) at.device (sector_at y at o) (back-in y columns array.order ts) h) in
         omega (arith, lt, e.0)
 
     -- a unit that a call failed on is one of the stripe's
@@ -160,7 +161,7 @@ module _ {D : Type 0} (g : Ghosts D) (kind : Sweep) (y : Shape) (columns : List 
       older d n h = record { stripe = h.stripe; turn = h.turn; is = turn-older ts t h.turn h.stripe h.is; writes = h.writes; sector = h.sector }
 
       newest : (d n : ℕ) → (does_write t ≡ true) × IsCheckSector y (states_of y (columns_in y columns ts)) (length ts) d n → IsRewritten y (states_of y columns) (t ∷ ts) d n
-      newest d n h = record { stripe = length ts; turn = t; is = turn-newest ts t; writes = h.0; sector = check-back y _ (states_of y columns) (length ts) d n (back-in y columns ts) h.1 }
+      newest d n h = record { stripe = length ts; turn = t; is = turn-newest ts t; writes = h.0; sector = check-back y _ (states_of y columns) (length ts) d n (back-in y columns array.order ts) h.1 }
 
       framed : Changes g (IsRewritten y (states_of y columns) (t ∷ ts)) old new
       framed = changes-then g _ old cur new (changes-more g _ (IsRewritten y (states_of y columns) (t ∷ ts)) old cur older frame) (changes-more g _ (IsRewritten y (states_of y columns) (t ∷ ts)) cur new newest v.frame)
@@ -168,7 +169,7 @@ module _ {D : Type 0} (g : Ghosts D) (kind : Sweep) (y : Shape) (columns : List 
       -- the newest check unit holds its sum, by the columns as they were at first
       here : g.tells → t ≡ Written → HoldsSum y (contents_of g new) (states_of y columns) (length ts)
       here told e o k ou ku =
-          let back = back-in y columns ts in
+          let back = back-in y columns array.order ts in
           let complete = (subst (IsTurn g.tells kind y (contents_of g cur) (states_of y (columns_in y columns ts)) (length ts)) e v.is).0 in
           sym (byte-back y (contents_of g new) _ (states_of y columns) (length ts) (data_units y) o k back (complete (data_units y) (omega (arith, last-unit y layout one))))
           ∙ (v.sum told e o k ou ku ∙ sum-back y (contents_of g new) _ (states_of y columns) (length ts) (data_units y) o k back (λ i iw. complete i (omega (arith, iw))))
@@ -192,7 +193,7 @@ module _ {D : Type 0} (g : Ghosts D) (kind : Sweep) (y : Shape) (columns : List 
       dying None e = dies-refl _ (columns_in y columns ts)
       dying (Some at) e =
           let unit = failed-unit t at v.is e in
-          let stood = (back-in y columns ts).seats (length ts) unit.0 at unit.2 in
+          let stood = (back-in y columns array.order ts).seats (length ts) unit.0 at unit.2 in
           let column = (seat-within y (states_of y columns) (length ts) unit.0 at layout within unit.1 stood).0 in
           dies-set (Failed g (states_of y columns) old new) (columns_in y columns ts) at.column (omega (arith, column, dies.count, array.entries))
           (record { device = at.device; had = seat-device y (states_of y columns) (length ts) unit.0 at stood; rose = rises-wider g _ (λ d n. ⊥) old cur new new at.device frame (v.cause at e) (changes-refl g (λ d n. ⊥) new) })

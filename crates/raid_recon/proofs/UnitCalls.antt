@@ -17,14 +17,15 @@ use Rattle.eng_cols.proofs.Spots.{seat-device}
 use Rattle.eng_cols.proofs.Killing.{device-back, killed-device}
 use Rattle.raid_recon.specs.declared.kind.Sweep.{Sweep}
 use Rattle.raid_recon.specs.declared.kind.Sweep.TheVariants.{Check, Sync, Init}
-use Rattle.raid_recon.specs.Array.{states_of, IsArray}
+use Rattle.eng_cols.specs.Stripes.{states_of}
+use Rattle.raid_recon.specs.Array.{IsArray}
 use Rattle.raid_recon.specs.Turns.{Turn, Left, Unread, Sound, Unsound, Written, Unwritten, TellsMore, call_if, call_at, seat_calls, read_calls, units_read, turn_calls, failed_at, dead_at, columns_after, IsTurn}
 use Rattle.raid_recon.specs.Log.{columns_in, calls_in, AreTurns}
 use Rattle.raid_recon.specs.Swept.{IsSwept}
 use Rattle.raid_recon.specs.Ends.{AreGoodButLast, IsUnitCall, CallsUnits}
 use Rattle.raid_recon.proofs.Places.{states-killed}
 use Rattle.raid_recon.proofs.Frames.{last-unit}
-use Rattle.raid_recon.proofs.Backs.{Back, back-dead, back-in}
+use Rattle.raid_recon.proofs.Backs.{Back, back-in, back-turn, seat-unspread}
 
 Goods : List Call → Type 0
 Goods [] = Unit {0}
@@ -109,7 +110,7 @@ module _ (y : Shape) (columns : List Column) (order : InOrder (states_of y colum
     | inl e ↦ inr (
       subst (λ b. AreGoodButLast (calls ++ call_if b (call_at y.unit_sectors at kind false))) (sym (eq-eqb d at.device e)) (but-last calls (call_at y.unit_sectors at kind false) good),
       λ c has.
-          let now : HasDevice (killed (states_of y columns) at.column) c d = subst (λ cols. HasDevice cols c d) (states-killed y columns at.column) has in
+          let now : HasDevice (killed (states_of y columns) at.column) c d = subst (λ cols. HasDevice cols c d) (states-killed y columns at.column order (seat-unspread y columns s i at is)) has in
           let had : HasDevice (states_of y columns) at.column d = subst (HasDevice (states_of y columns) at.column) (sym e) (seat-device y (states_of y columns) s i at is) in
           let same = order.one_column c at.column d (device-back (states_of y columns) at.column c d now) had in
           killed-device (states_of y columns) at.column d (subst (λ k. HasDevice (killed (states_of y columns) at.column) k d) same now),
@@ -125,7 +126,7 @@ module _ (y : Shape) (columns : List Column) (order : InOrder (states_of y colum
   -- one turn more
   claim-turn : (kind : Sweep) (calls : List Call) (t : Turn) → Claim calls (states_of y columns) d → Claim (calls ++ turn_calls kind y (states_of y columns) s t d) (states_of y (columns_after y columns s t)) d
   unfolding Claim
-  claim-turn kind calls t (inr h) = inr (subst AreGoodButLast (sym (append-nil calls) ∙ ap (λ l. calls ++ l) (sym (turn-none kind h.1 t))) h.0, λ c has. h.1 c ((back-dead y columns (failed_at y (states_of y columns) s t)).devices c d has))
+  claim-turn kind calls t (inr h) = inr (subst AreGoodButLast (sym (append-nil calls) ∙ ap (λ l. calls ++ l) (sym (turn-none kind h.1 t))) h.0, λ c has. h.1 c ((back-turn y columns order s t).devices c d has))
   claim-turn kind calls Left (inl h) = inl (goods-append calls _ h goods-none)
   claim-turn kind calls (Unread i) (inl h) = reading calls i 0 i h
   claim-turn kind calls Sound (inl h) = inl (goods-append calls _ h (read-goods (units_read kind y)))
@@ -137,7 +138,7 @@ claim-all : (kind : Sweep) (y : Shape) (columns : List Column) → InOrder (stat
 unfolding Claim
 claim-all kind y columns order [] d = inl goods-none
 claim-all kind y columns order (t ∷ ts) d =
-    claim-turn y (columns_in y columns ts) ((back-in y columns ts).order order) (length ts) d kind (calls_in kind y columns ts d) t (claim-all kind y columns order ts d)
+    claim-turn y (columns_in y columns ts) ((back-in y columns order ts).order order) (length ts) d kind (calls_in kind y columns ts d) t (claim-all kind y columns order ts d)
 
 but-last-all : (calls : List Call) (cols : List ColumnState) (d : ℕ) → Claim calls cols d → AreGoodButLast calls
 unfolding Claim
@@ -179,11 +180,11 @@ module _ (y : Shape) (layout : IsLayout y) (one : y.checks ≡ 1) (cols : List C
 unit-back : (y : Shape) (new old : List ColumnState) (d : ℕ) → Back y new old → (call : Call) → IsUnitCall y new d call → IsUnitCall y old d call
 unit-back y new old d b call h = record { stripe = h.stripe; unit = h.unit; at = h.at; in_array = h.in_array; in_stripe = h.in_stripe; stands = b.seats h.stripe h.unit h.at h.stands; device = h.device; call_is = h.call_is }
 
-units-all : (told : Type 0) (kind : Sweep) (y : Shape) (c : Contents) (columns : List Column) → IsLayout y → y.checks ≡ 1 → (ts : List Turn) (d : ℕ) → length ts ≤ y.stripes → AreTurns told kind y c columns ts → All (IsUnitCall y (states_of y columns) d) (calls_in kind y columns ts d)
-units-all told kind y c columns layout one [] d le are = All-nil (IsUnitCall y (states_of y columns) d)
-units-all told kind y c columns layout one (t ∷ ts) d le are =
-    All-append (IsUnitCall y (states_of y columns) d) _ _ (units-all told kind y c columns layout one ts d (omega (arith, le)) are.0)
-    (All-weaker (IsUnitCall y (states_of y (columns_in y columns ts)) d) (IsUnitCall y (states_of y columns) d) (unit-back y _ (states_of y columns) d (back-in y columns ts)) _
+units-all : (told : Type 0) (kind : Sweep) (y : Shape) (c : Contents) (columns : List Column) → InOrder (states_of y columns) → IsLayout y → y.checks ≡ 1 → (ts : List Turn) (d : ℕ) → length ts ≤ y.stripes → AreTurns told kind y c columns ts → All (IsUnitCall y (states_of y columns) d) (calls_in kind y columns ts d)
+units-all told kind y c columns order layout one [] d le are = All-nil (IsUnitCall y (states_of y columns) d)
+units-all told kind y c columns order layout one (t ∷ ts) d le are =
+    All-append (IsUnitCall y (states_of y columns) d) _ _ (units-all told kind y c columns order layout one ts d (omega (arith, le)) are.0)
+    (All-weaker (IsUnitCall y (states_of y (columns_in y columns ts)) d) (IsUnitCall y (states_of y columns) d) (unit-back y _ (states_of y columns) d (back-in y columns order ts)) _
     (turn-units y layout one (states_of y (columns_in y columns ts)) (length ts) d (omega (arith, le)) kind told c t are.1))
 
 calls-are : (y : Shape) (cols : List ColumnState) (d : ℕ) (a b : Option (List Call)) (calls : List Call) → TellsMore a b calls → AreGoodButLast calls → All (IsUnitCall y cols d) calls → CallsUnits y cols d a b
@@ -197,7 +198,7 @@ no-calls y cols d (Some cs) = ([], sym (append-nil cs), tt, All-nil (IsUnitCall 
 
 pub swept-calls : {D : Type 0} (g : Ghosts D) (kind : Sweep) (y : Shape) → IsLayout y → y.checks ≡ 1 → (columns after : List Column) (old new : List (Option D)) (n : ℕ) → IsArray g y columns old → IsSwept g kind y y.stripes columns after old new n → (d : ℕ) → CallsUnits y (states_of y columns) d (calls_of g old d) (calls_of g new d)
 swept-calls g kind y layout one columns after old new n array w d =
-    calls-are y (states_of y columns) d (calls_of g old d) (calls_of g new d) (calls_in kind y columns w.turns d) (w.told d) (but-last-all _ _ d (claim-all kind y columns array.order w.turns d)) (units-all g.tells kind y (contents_of g old) columns layout one w.turns d (omega (arith, w.each)) w.are)
+    calls-are y (states_of y columns) d (calls_of g old d) (calls_of g new d) (calls_in kind y columns w.turns d) (w.told d) (but-last-all _ _ d (claim-all kind y columns array.order w.turns d)) (units-all g.tells kind y (contents_of g old) columns array.order layout one w.turns d (omega (arith, w.each)) w.are)
 
 pub calls-same : {D : Type 0} (g : Ghosts D) (y : Shape) (cols : List ColumnState) (ds : List (Option D)) (d : ℕ) → CallsUnits y cols d (calls_of g ds d) (calls_of g ds d)
 calls-same g y cols ds d = no-calls y cols d (calls_of g ds d)

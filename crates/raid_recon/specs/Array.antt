@@ -1,33 +1,30 @@
 -- What sweeps go over: columns, and the devices that they have.
-use Rattle.std.specs.Prelude.{◌≡◌, ℕ, ◌+◌, ◌*◌, ◌<◌, ◌≤◌, List, length, map, true, false, Option, Some, None}
+use Rattle.std.specs.Prelude.{◌≡◌, ℕ, ◌+◌, ◌*◌, ◌<◌, ◌≤◌, List, length, true, false, Option, Some}
 use Rattle.blk_disk.specs.declared.disk.Disk.{Ghosts}
 use Rattle.blk_disk.specs.Devices.{size_of, RisesOn}
-use Rattle.lay_core.specs.declared.place.Place.{Place}
 use Rattle.lay_core.specs.Layout.{Shape, data_units}
 use Rattle.eng_cols.specs.declared.column.Column.{Column}
-use Rattle.eng_cols.specs.declared.column.Column.TheVariants as column
 use Rattle.eng_cols.specs.declared.spot.Spot.{Spot}
-use Rattle.eng_cols.specs.Cols.{ColumnState, HasDevice, InOrder, state_set}
+use Rattle.eng_cols.specs.Cols.{ColumnState, Columns, HasDevice, InOrder, IsFor}
+use Rattle.eng_cols.specs.Stripes.{states_of}
 use Rattle.eng_cols.specs.Seats.{is_available, seat}
 use Rattle.eng_cols.specs.Contents.{sector_at}
 
--- the columns as they are set: on a spread one each stripe is done, and on a filling one none
-abbrev pub states_of : Shape → List Column → List ColumnState
-states_of y columns = map (state_set y.stripes) columns
-
--- a place on a live column, on that column's device
-abbrev pub live_spot : Option Column → Place → Option Spot
-live_spot (Some (column.Live device)) p = Some (record { column = p.column; device = device; row = p.row })
-live_spot (Some column.Dead) p = None
-live_spot (Some (column.Filling device)) p = None
-live_spot (Some column.Spread) p = None
-live_spot None p = None
+-- Each device that these columns have is in no other of them, and has room for the rows; at most one column is filling, and at most one spread.
+pub record AreSeated {D : Type 0} (g : Ghosts D) (y : Shape) (cols : List ColumnState) (devices : List (Option D)) : Type 0 where
+  pub order : InOrder cols
+  pub there : (c d : ℕ) → HasDevice cols c d → 64 + y.rows * y.unit_sectors ≤ size_of g devices d
 
 -- There is one entry for each column; each device of a column is in no other and has room for the rows; at most one column is filling, and at most one spread.
 pub record IsArray {D : Type 0} (g : Ghosts D) (y : Shape) (columns : List Column) (devices : List (Option D)) : Type 0 where
   pub entries : length columns ≡ y.columns
   pub order : InOrder (states_of y columns)
   pub there : (c d : ℕ) → HasDevice (states_of y columns) c d → 64 + y.rows * y.unit_sectors ≤ size_of g devices d
+
+-- the judge has these columns
+pub record IsJudge (y : Shape) (columns : List Column) (judge : Columns) : Type 0 where
+  pub fit : IsFor y judge
+  pub states : judge.states ≡ states_of y columns
 
 -- no unit of the stripe is missing
 abbrev pub IsComplete : Shape → List ColumnState → ℕ → Type 0

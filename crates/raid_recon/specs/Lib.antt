@@ -5,5 +5,4 @@ pub mod Log
 pub mod Units
 pub mod Swept
 pub mod Samples
-pub mod Counts
 pub mod Ends

@@ -6,7 +6,8 @@ use Rattle.eng_cols.specs.declared.column.Column.{Column}
 use Rattle.eng_cols.specs.Contents.{Contents}
 use Rattle.eng_cols.specs.Cols.{ColumnState}
 use Rattle.raid_recon.specs.declared.kind.Sweep.{Sweep}
-use Rattle.raid_recon.specs.Array.{states_of, IsCheckSector}
+use Rattle.eng_cols.specs.Stripes.{states_of}
+use Rattle.raid_recon.specs.Array.{IsCheckSector}
 use Rattle.raid_recon.specs.Turns.{Turn, does_count, does_write, columns_after, turn_calls, IsTurn}
 
 -- the columns behind these turns

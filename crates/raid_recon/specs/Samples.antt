@@ -10,7 +10,7 @@ use Rattle.eng_cols.specs.declared.column.Column.TheVariants as column
 abbrev pub Fits : {D : Type 0} → Ghosts D → Shape → List (Option D) → ℕ → Option Column → Type 0
 Fits g y devices c (Some (column.Live d)) = (d ≡ c) × (64 + y.rows * y.unit_sectors ≤ size_of g devices c)
 Fits g y devices c (Some column.Dead) = Unit {0}
-Fits g y devices c (Some (column.Filling d)) = ⊥
+Fits g y devices c (Some (column.Filling d done)) = ⊥
 Fits g y devices c (Some column.Spread) = c ≡ 0
 Fits g y devices c None = Unit {0}
 

@@ -6,7 +6,8 @@ use Rattle.lay_core.specs.Layout.{Shape}
 use Rattle.eng_cols.specs.declared.column.Column.{Column}
 use Rattle.eng_cols.specs.Deaths.{Dies}
 use Rattle.raid_recon.specs.declared.kind.Sweep.{Sweep}
-use Rattle.raid_recon.specs.Array.{states_of, Failed}
+use Rattle.eng_cols.specs.Stripes.{states_of}
+use Rattle.raid_recon.specs.Array.{Failed}
 use Rattle.raid_recon.specs.Sums.{HoldsSum}
 use Rattle.raid_recon.specs.Turns.{Turn, Written, TellsMore}
 use Rattle.raid_recon.specs.Log.{columns_in, count_in, calls_in, turn_at, AreTurns, IsRewritten}

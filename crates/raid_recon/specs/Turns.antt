@@ -12,7 +12,8 @@ use Rattle.eng_cols.specs.Seats.{seat}
 use Rattle.eng_cols.specs.Contents.{Contents}
 use Rattle.raid_recon.specs.declared.kind.Sweep.{Sweep}
 use Rattle.raid_recon.specs.declared.kind.Sweep.TheVariants.{Check, Sync, Init}
-use Rattle.raid_recon.specs.Array.{states_of, IsComplete, Lacks, IsCheckSector}
+use Rattle.eng_cols.specs.Stripes.{states_of}
+use Rattle.raid_recon.specs.Array.{IsComplete, Lacks, IsCheckSector}
 use Rattle.raid_recon.specs.Sums.{IsZero, IsNotZero, HoldsSum}
 
 -- A stripe's turn. It lacked a unit and was left alone; or the read of this unit failed; or its units were read, and their sum was zero or wasn't, and nothing was written; or its check unit was written, or that write failed.

@@ -10,7 +10,7 @@ use Rattle.eng_cols.specs.Seats.{seat}
 use Rattle.eng_cols.specs.Contents.{Contents}
 use Rattle.raid_recon.specs.declared.kind.FailedAt.{FailedAt}
 use Rattle.raid_recon.specs.declared.kind.Sweep.{Sweep}
-use Rattle.raid_recon.specs.Array.{states_of}
+use Rattle.eng_cols.specs.Stripes.{states_of}
 use Rattle.raid_recon.specs.Sums.{sum_of, IsZero, IsNotZero}
 use Rattle.raid_recon.specs.Turns.{Turn, TellsMore, call_if, call_at, seat_calls, read_calls, failed_at, does_count, columns_after, IsVisit}
 

@@ -1,62 +1,65 @@
 //! One stripe's turn in a sweep.
 ghost use Rattle.std.specs.Prelude.{◌≡◌, ◌<◌, ◌*◌, length};
-ghost use Rattle.raid_recon.specs.Array.{states_of, IsArray, IsComplete};
-ghost use Rattle.raid_recon.specs.Units.{Visits, SweepsStripe};
+ghost use Rattle.eng_cols.specs.Cols.{IsFor};
+ghost use Rattle.raid_recon.specs.Array.{AreSeated, IsComplete};
+ghost use Rattle.raid_recon.specs.Units.{Visits};
 ghost use Rattle.raid_recon.specs.declared.kind.Sweep.TheVariants as sweep;
 
 use crate::kind::{FailedAt, Sweep};
 use crate::place::is_complete;
 use crate::sums::{is_out_of_sync, sum_data, write_check};
 use blk_disk::Disk;
-use eng_cols::Column;
+use eng_cols::Cols;
 use lay_core::Layout;
 
 fn check_stripe<L: Layout, D: Disk>(
     layout: &L,
     devices: &mut [Option<D>],
-    columns: &[Column],
+    cols: &Cols,
     stripe: u32,
     sum: &mut [u8],
     unit: &mut [u8],
 ) -> Result<bool, FailedAt>
-    requires array { IsArray D.Disk (L.shape layout.now) columns.now devices.old }
+    requires fit { IsFor (L.shape layout.now) cols.now }
+    requires array { AreSeated D.Disk (L.shape layout.now) cols.now.states devices.old }
     requires stripe { stripe < (L.shape layout.now).stripes }
     requires checks { (L.shape layout.now).checks ≡ 1 }
     requires complete { IsComplete (L.shape layout.now)
-        (states_of (L.shape layout.now) columns.now) stripe }
+        cols.now.states stripe }
     requires sum { length sum.old ≡ 512 * (L.shape layout.now).unit_sectors }
     requires unit { length unit.old ≡ 512 * (L.shape layout.now).unit_sectors }
     ensures { Visits D.Disk sweep.Check (L.shape layout.now)
-        (states_of (L.shape layout.now) columns.now) stripe devices.old devices.new result }
+        cols.now.states stripe devices.old devices.new result }
 {
-    is_out_of_sync(layout, devices, columns, stripe, sum, unit)
+    is_out_of_sync(layout, devices, cols, stripe, sum, unit)
 }
 
 // Makes the stripe's check unit the sum of its data units, if it isn't.
 fn sync_stripe<L: Layout, D: Disk>(
     layout: &L,
     devices: &mut [Option<D>],
-    columns: &[Column],
+    cols: &Cols,
     stripe: u32,
     sum: &mut [u8],
     unit: &mut [u8],
 ) -> Result<bool, FailedAt>
-    requires array { IsArray D.Disk (L.shape layout.now) columns.now devices.old }
+    requires fit { IsFor (L.shape layout.now) cols.now }
+    requires array { AreSeated D.Disk (L.shape layout.now) cols.now.states devices.old }
     requires stripe { stripe < (L.shape layout.now).stripes }
     requires checks { (L.shape layout.now).checks ≡ 1 }
     requires complete { IsComplete (L.shape layout.now)
-        (states_of (L.shape layout.now) columns.now) stripe }
+        cols.now.states stripe }
     requires sum { length sum.old ≡ 512 * (L.shape layout.now).unit_sectors }
     requires unit { length unit.old ≡ 512 * (L.shape layout.now).unit_sectors }
     ensures { Visits D.Disk sweep.Sync (L.shape layout.now)
-        (states_of (L.shape layout.now) columns.now) stripe devices.old devices.new result }
+        cols.now.states stripe devices.old devices.new result }
 {
-    match is_out_of_sync(layout, devices, columns, stripe, sum, unit) {
+    match is_out_of_sync(layout, devices, cols, stripe, sum, unit) {
         Ok(true) => {}
         Ok(false) => return Ok(false),
         Err(failed) => return Err(failed),
     }
-    match write_check(layout, devices, columns, stripe, sum) {
+    match write_check(layout, devices, cols, stripe, sum) {
         Ok(()) => Ok(true),
         Err(failed) => Err(failed),
     }
@@ -66,26 +69,27 @@ fn sync_stripe<L: Layout, D: Disk>(
 fn init_stripe<L: Layout, D: Disk>(
     layout: &L,
     devices: &mut [Option<D>],
-    columns: &[Column],
+    cols: &Cols,
     stripe: u32,
     sum: &mut [u8],
     unit: &mut [u8],
 ) -> Result<bool, FailedAt>
-    requires array { IsArray D.Disk (L.shape layout.now) columns.now devices.old }
+    requires fit { IsFor (L.shape layout.now) cols.now }
+    requires array { AreSeated D.Disk (L.shape layout.now) cols.now.states devices.old }
     requires stripe { stripe < (L.shape layout.now).stripes }
     requires checks { (L.shape layout.now).checks ≡ 1 }
     requires complete { IsComplete (L.shape layout.now)
-        (states_of (L.shape layout.now) columns.now) stripe }
+        cols.now.states stripe }
     requires sum { length sum.old ≡ 512 * (L.shape layout.now).unit_sectors }
     requires unit { length unit.old ≡ 512 * (L.shape layout.now).unit_sectors }
     ensures { Visits D.Disk sweep.Init (L.shape layout.now)
-        (states_of (L.shape layout.now) columns.now) stripe devices.old devices.new result }
+        cols.now.states stripe devices.old devices.new result }
 {
-    match sum_data(layout, devices, columns, stripe, sum, unit) {
+    match sum_data(layout, devices, cols, stripe, sum, unit) {
         Ok(()) => {}
         Err(failed) => return Err(failed),
     }
-    match write_check(layout, devices, columns, stripe, sum) {
+    match write_check(layout, devices, cols, stripe, sum) {
         Ok(()) => Ok(true),
         Err(failed) => Err(failed),
     }
@@ -96,54 +100,50 @@ fn visit<L: Layout, D: Disk>(
     kind: Sweep,
     layout: &L,
     devices: &mut [Option<D>],
-    columns: &[Column],
+    cols: &Cols,
     stripe: u32,
     sum: &mut [u8],
     unit: &mut [u8],
 ) -> Result<bool, FailedAt>
-    requires array { IsArray D.Disk (L.shape layout.now) columns.now devices.old }
+    requires fit { IsFor (L.shape layout.now) cols.now }
+    requires array { AreSeated D.Disk (L.shape layout.now) cols.now.states devices.old }
     requires stripe { stripe < (L.shape layout.now).stripes }
     requires checks { (L.shape layout.now).checks ≡ 1 }
     requires complete { IsComplete (L.shape layout.now)
-        (states_of (L.shape layout.now) columns.now) stripe }
+        cols.now.states stripe }
     requires sum { length sum.old ≡ 512 * (L.shape layout.now).unit_sectors }
     requires unit { length unit.old ≡ 512 * (L.shape layout.now).unit_sectors }
     ensures { Visits D.Disk kind (L.shape layout.now)
-        (states_of (L.shape layout.now) columns.now) stripe devices.old devices.new result }
+        cols.now.states stripe devices.old devices.new result }
 {
     match kind {
-        Sweep::Check => check_stripe(layout, devices, columns, stripe, sum, unit),
-        Sweep::Sync => sync_stripe(layout, devices, columns, stripe, sum, unit),
-        Sweep::Init => init_stripe(layout, devices, columns, stripe, sum, unit),
+        Sweep::Check => check_stripe(layout, devices, cols, stripe, sum, unit),
+        Sweep::Sync => sync_stripe(layout, devices, cols, stripe, sum, unit),
+        Sweep::Init => init_stripe(layout, devices, cols, stripe, sum, unit),
     }
 }
 
-/// The stripe's turn, and whether it counts. A device that fails a call makes its column dead.
+/// The stripe's turn, and whether it counts. One that lacks a unit is left alone.
 pub(crate) fn sweep_stripe<L: Layout, D: Disk>(
     kind: Sweep,
     layout: &L,
     devices: &mut [Option<D>],
-    columns: &mut [Column],
+    cols: &Cols,
     stripe: u32,
     sum: &mut [u8],
     unit: &mut [u8],
-) -> bool
-    requires array { IsArray D.Disk (L.shape layout.now) columns.old devices.old }
+) -> Result<bool, FailedAt>
+    requires fit { IsFor (L.shape layout.now) cols.now }
+    requires array { AreSeated D.Disk (L.shape layout.now) cols.now.states devices.old }
     requires stripe { stripe < (L.shape layout.now).stripes }
     requires checks { (L.shape layout.now).checks ≡ 1 }
     requires sum { length sum.old ≡ 512 * (L.shape layout.now).unit_sectors }
     requires unit { length unit.old ≡ 512 * (L.shape layout.now).unit_sectors }
-    ensures { SweepsStripe D.Disk kind (L.shape layout.now)
-        stripe columns.old columns.new devices.old devices.new result }
+    ensures { Visits D.Disk kind (L.shape layout.now)
+        cols.now.states stripe devices.old devices.new result }
 {
-    if !is_complete(layout, columns, stripe) {
-        return false;
+    if !is_complete(layout, cols, stripe) {
+        return Ok(false);
     }
-    match visit(kind, layout, devices, columns, stripe, sum, unit) {
-        Ok(counted) => counted,
-        Err(failed) => {
-            columns[failed.column as usize] = Column::Dead;
-            false
-        }
-    }
+    visit(kind, layout, devices, cols, stripe, sum, unit)
 }

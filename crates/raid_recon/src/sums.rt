@@ -3,14 +3,14 @@ ghost use Rattle.std.specs.Prelude.{◌≡◌, ◌≢◌, ◌<◌, ◌*◌, ℕ,
 ghost use Rattle.lay_core.specs.Layout.{data_units};
 ghost use Rattle.blk_disk.specs.Devices.{contents_of};
 ghost use Rattle.eng_cols.specs.Seats.{is_available};
-ghost use Rattle.raid_recon.specs.Array.{states_of, IsArray, IsComplete};
+ghost use Rattle.eng_cols.specs.Cols.{IsFor};
+ghost use Rattle.raid_recon.specs.Array.{AreSeated, IsComplete};
 ghost use Rattle.raid_recon.specs.Units.{IsSum, ReadsUnit, WritesCheck, AllRead, Stopped, Tested};
 
 use crate::devices::{read_at, write_at};
 use crate::kind::FailedAt;
-use crate::place::spot;
 use blk_disk::{Disk, Failed};
-use eng_cols::Column;
+use eng_cols::Cols;
 use lay_core::Layout;
 use xor_lanes::{clear, is_zero, xor_into};
 
@@ -18,21 +18,22 @@ use xor_lanes::{clear, is_zero, xor_into};
 fn read_unit<L: Layout, D: Disk>(
     layout: &L,
     devices: &mut [Option<D>],
-    columns: &[Column],
+    cols: &Cols,
     stripe: u32,
     unit: u32,
     into: &mut [u8],
 ) -> Result<(), FailedAt>
-    requires array { IsArray D.Disk (L.shape layout.now) columns.now devices.old }
+    requires fit { IsFor (L.shape layout.now) cols.now }
+    requires array { AreSeated D.Disk (L.shape layout.now) cols.now.states devices.old }
     requires stripe { stripe < (L.shape layout.now).stripes }
     requires unit { unit < (L.shape layout.now).width }
     requires complete { IsComplete (L.shape layout.now)
-        (states_of (L.shape layout.now) columns.now) stripe }
+        cols.now.states stripe }
     requires long { length into.old ≡ 512 * (L.shape layout.now).unit_sectors }
-    ensures { ReadsUnit D.Disk (L.shape layout.now) (states_of (L.shape layout.now) columns.now)
+    ensures { ReadsUnit D.Disk (L.shape layout.now) cols.now.states
         stripe unit devices.old devices.new into.new result }
 {
-    let Some(at) = spot(layout, columns, stripe, unit) else {
+    let Some(at) = cols.spot(layout, stripe, unit) else {
         unreachable!()
     };
     match read_at(devices, at, layout.unit_sectors(), into) {
@@ -45,20 +46,21 @@ fn read_unit<L: Layout, D: Disk>(
 pub(crate) fn write_check<L: Layout, D: Disk>(
     layout: &L,
     devices: &mut [Option<D>],
-    columns: &[Column],
+    cols: &Cols,
     stripe: u32,
     from: &[u8],
 ) -> Result<(), FailedAt>
-    requires array { IsArray D.Disk (L.shape layout.now) columns.now devices.old }
+    requires fit { IsFor (L.shape layout.now) cols.now }
+    requires array { AreSeated D.Disk (L.shape layout.now) cols.now.states devices.old }
     requires stripe { stripe < (L.shape layout.now).stripes }
     requires checks { (L.shape layout.now).checks ≡ 1 }
     requires complete { IsComplete (L.shape layout.now)
-        (states_of (L.shape layout.now) columns.now) stripe }
+        cols.now.states stripe }
     requires long { length from.now ≡ 512 * (L.shape layout.now).unit_sectors }
-    ensures { WritesCheck D.Disk (L.shape layout.now) (states_of (L.shape layout.now) columns.now)
+    ensures { WritesCheck D.Disk (L.shape layout.now) cols.now.states
         stripe devices.old devices.new from.now result }
 {
-    let Some(at) = spot(layout, columns, stripe, layout.width() - 1) else {
+    let Some(at) = cols.spot(layout, stripe, layout.width() - 1) else {
         unreachable!()
     };
     match write_at(devices, at, layout.unit_sectors(), from) {
@@ -71,29 +73,30 @@ pub(crate) fn write_check<L: Layout, D: Disk>(
 pub(crate) fn sum_data<L: Layout, D: Disk>(
     layout: &L,
     devices: &mut [Option<D>],
-    columns: &[Column],
+    cols: &Cols,
     stripe: u32,
     sum: &mut [u8],
     unit: &mut [u8],
 ) -> Result<(), FailedAt>
-    requires array { IsArray D.Disk (L.shape layout.now) columns.now devices.old }
+    requires fit { IsFor (L.shape layout.now) cols.now }
+    requires array { AreSeated D.Disk (L.shape layout.now) cols.now.states devices.old }
     requires stripe { stripe < (L.shape layout.now).stripes }
     requires complete { IsComplete (L.shape layout.now)
-        (states_of (L.shape layout.now) columns.now) stripe }
+        cols.now.states stripe }
     requires sum { length sum.old ≡ 512 * (L.shape layout.now).unit_sectors }
     requires unit { length unit.old ≡ 512 * (L.shape layout.now).unit_sectors }
     ensures sum { OnOk result (D.tells → IsSum (L.shape layout.now) (contents_of D.Disk devices.old)
-        (states_of (L.shape layout.now) columns.now) stripe (data_units (L.shape layout.now)) sum.new) }
+        cols.now.states stripe (data_units (L.shape layout.now)) sum.new) }
     ensures read { OnOk result (AllRead D.Disk (L.shape layout.now)
-        (states_of (L.shape layout.now) columns.now)
+        cols.now.states
         stripe (data_units (L.shape layout.now)) devices.old devices.new) }
     ensures stopped { IfErr result (Stopped D.Disk (L.shape layout.now)
-        (states_of (L.shape layout.now) columns.now)
+        cols.now.states
         stripe (data_units (L.shape layout.now)) devices.old devices.new) }
 {
     clear(sum);
     for i in 0..layout.width() - layout.checks() {
-        match read_unit(layout, devices, columns, stripe, i, unit) {
+        match read_unit(layout, devices, cols, stripe, i, unit) {
             Ok(()) => xor_into(sum, unit),
             Err(failed) => return Err(failed),
         }
@@ -117,31 +120,32 @@ fn differ(one: &mut [u8], other: &[u8]) -> bool
 pub(crate) fn is_out_of_sync<L: Layout, D: Disk>(
     layout: &L,
     devices: &mut [Option<D>],
-    columns: &[Column],
+    cols: &Cols,
     stripe: u32,
     sum: &mut [u8],
     unit: &mut [u8],
 ) -> Result<bool, FailedAt>
-    requires array { IsArray D.Disk (L.shape layout.now) columns.now devices.old }
+    requires fit { IsFor (L.shape layout.now) cols.now }
+    requires array { AreSeated D.Disk (L.shape layout.now) cols.now.states devices.old }
     requires stripe { stripe < (L.shape layout.now).stripes }
     requires checks { (L.shape layout.now).checks ≡ 1 }
     requires complete { IsComplete (L.shape layout.now)
-        (states_of (L.shape layout.now) columns.now) stripe }
+        cols.now.states stripe }
     requires sum { length sum.old ≡ 512 * (L.shape layout.now).unit_sectors }
     requires unit { length unit.old ≡ 512 * (L.shape layout.now).unit_sectors }
     ensures sum { OnOk result (D.tells → IsSum (L.shape layout.now) (contents_of D.Disk devices.old)
-        (states_of (L.shape layout.now) columns.now) stripe (data_units (L.shape layout.now)) sum.new) }
+        cols.now.states stripe (data_units (L.shape layout.now)) sum.new) }
     ensures tested { IfOk result (Tested D.Disk (L.shape layout.now)
-        (states_of (L.shape layout.now) columns.now) stripe devices.old devices.new) }
+        cols.now.states stripe devices.old devices.new) }
     ensures stopped { IfErr result (Stopped D.Disk (L.shape layout.now)
-        (states_of (L.shape layout.now) columns.now)
+        cols.now.states
         stripe (L.shape layout.now).width devices.old devices.new) }
 {
-    match sum_data(layout, devices, columns, stripe, sum, unit) {
+    match sum_data(layout, devices, cols, stripe, sum, unit) {
         Ok(()) => {}
         Err(failed) => return Err(failed),
     }
-    match read_unit(layout, devices, columns, stripe, layout.width() - 1, unit) {
+    match read_unit(layout, devices, cols, stripe, layout.width() - 1, unit) {
         Ok(()) => Ok(differ(unit, sum)),
         Err(failed) => Err(failed),
     }

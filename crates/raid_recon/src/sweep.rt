@@ -1,9 +1,14 @@
 //! The sweeps.
-ghost use Rattle.std.specs.Prelude.{◌≡◌, ◌<◌, ◌≤◌, ◌*◌, ℕ, length, false};
+ghost use Rattle.std.specs.Prelude.{◌≡◌, ◌<◌, ◌≤◌, ◌*◌, ℕ, length, slice_set, false};
 ghost use Rattle.blk_disk.specs.Devices.{Changes, contents_of, calls_of};
+ghost use Rattle.eng_cols.specs.declared.column.Column.TheVariants as set;
+ghost use Rattle.eng_cols.specs.Changes.{killed};
+ghost use Rattle.eng_cols.specs.Cols.{IsFor};
 ghost use Rattle.eng_cols.specs.Contents.{InSync};
 ghost use Rattle.eng_cols.specs.Deaths.{Dies};
-ghost use Rattle.raid_recon.specs.Array.{states_of, IsArray, Failed};
+ghost use Rattle.eng_cols.specs.Settable.{IsSettable};
+ghost use Rattle.eng_cols.specs.Stripes.{states_of};
+ghost use Rattle.raid_recon.specs.Array.{IsArray, IsJudge, Failed};
 ghost use Rattle.raid_recon.specs.Ends.{MayRewrite, ChecksHold, IsCounted, CallsUnits};
 ghost use Rattle.raid_recon.specs.Swept.{IsSwept};
 ghost use Rattle.raid_recon.specs.Turns.{is_check};
@@ -14,32 +19,52 @@ use crate::kind::Sweep;
 use crate::room::{Room, SweepRoom};
 use crate::stripe::sweep_stripe;
 use blk_disk::{Disk, SECTOR};
-use eng_cols::Column;
+use eng_cols::{Cols, Column};
 use lay_core::Layout;
 use raid_progress::Progress;
 
-// The turns of all stripes, and how many of them count.
+// A device failed: its column is dead.
+fn lose(columns: &mut [Column], judge: &mut Cols, column: u32)
+    requires there { column < length columns.old }
+    requires within { column < length judge.old.states }
+    ensures columns { columns.new ≡ slice_set columns.old column set.Dead }
+    ensures judge { judge.new ≡ record judge.old { states = killed judge.old.states column } }
+{
+    columns[column as usize] = Column::Dead;
+    judge.kill(column);
+}
+
+// The turns of all stripes, and how many of them count. A device that fails a call makes its column
+// dead.
 fn sweep_stripes<L: Layout, D: Disk, P: Progress>(
     kind: Sweep,
     layout: &L,
     devices: &mut [Option<D>],
     columns: &mut [Column],
+    judge: &mut Cols,
     sum: &mut [u8],
     unit: &mut [u8],
     progress: &P,
 ) -> u64
     requires array { IsArray D.Disk (L.shape layout.now) columns.old devices.old }
     requires checks { (L.shape layout.now).checks ≡ 1 }
+    requires judge { IsJudge (L.shape layout.now) columns.old judge.old }
     requires sum { length sum.old ≡ 512 * (L.shape layout.now).unit_sectors }
     requires unit { length unit.old ≡ 512 * (L.shape layout.now).unit_sectors }
-    ensures { IsSwept D.Disk kind (L.shape layout.now) (L.shape layout.now).stripes
+    ensures swept { IsSwept D.Disk kind (L.shape layout.now) (L.shape layout.now).stripes
         columns.old columns.new devices.old devices.new result }
+    ensures judge { IsJudge (L.shape layout.now) columns.new judge.new }
 {
     let mut counted = 0;
     let all = layout.stripes();
     for stripe in 0..all {
-        if sweep_stripe(kind, layout, devices, columns, stripe, sum, unit) {
-            counted += 1;
+        match sweep_stripe(kind, layout, devices, judge, stripe, sum, unit) {
+            Ok(counts) => {
+                if counts {
+                    counted += 1;
+                }
+            }
+            Err(failed) => lose(columns, judge, failed.column),
         }
         progress.tell(u64::from(stripe) + 1, u64::from(all));
     }
@@ -52,16 +77,19 @@ fn sweep_in<L: Layout, D: Disk, P: Progress>(
     layout: &L,
     devices: &mut [Option<D>],
     columns: &mut [Column],
+    judge: &mut Cols,
     sum: &mut [u8],
     unit: &mut [u8],
     progress: &P,
 ) -> u64
     requires array { IsArray D.Disk (L.shape layout.now) columns.old devices.old }
     requires checks { (L.shape layout.now).checks ≡ 1 }
+    requires judge { IsJudge (L.shape layout.now) columns.old judge.old }
     requires sum { 512 * (L.shape layout.now).unit_sectors ≤ length sum.old }
     requires unit { 512 * (L.shape layout.now).unit_sectors ≤ length unit.old }
-    ensures { IsSwept D.Disk kind (L.shape layout.now) (L.shape layout.now).stripes
+    ensures swept { IsSwept D.Disk kind (L.shape layout.now) (L.shape layout.now).stripes
         columns.old columns.new devices.old devices.new result }
+    ensures judge { IsJudge (L.shape layout.now) columns.new judge.new }
 {
     let bytes = SECTOR * layout.unit_sectors() as usize;
     sweep_stripes(
@@ -69,6 +97,7 @@ fn sweep_in<L: Layout, D: Disk, P: Progress>(
         layout,
         devices,
         columns,
+        judge,
         &mut sum[..bytes],
         &mut unit[..bytes],
         progress,
@@ -82,10 +111,13 @@ fn sweep<L: Layout, D: Disk, P: Progress>(
     devices: &mut [Option<D>],
     columns: &mut [Column],
     room: &mut Room,
+    judge: &mut Cols,
     progress: &P,
 ) -> u64
     requires array { IsArray D.Disk (L.shape layout.now) columns.old devices.old }
+    requires columns { IsSettable (L.shape layout.now) columns.old }
     requires room { 1024 * (L.shape layout.now).unit_sectors ≤ room.old }
+    requires judge { IsFor (L.shape layout.now) judge.old }
     ensures swept { (L.shape layout.now).checks ≡ 1 →
         IsSwept D.Disk kind (L.shape layout.now) (L.shape layout.now).stripes
         columns.old columns.new devices.old devices.new result }
@@ -107,13 +139,15 @@ fn sweep<L: Layout, D: Disk, P: Progress>(
     ensures none { (L.shape layout.now).checks ≡ 0 →
         (result ≡ 0) × ((columns.new ≡ columns.old) × (devices.new ≡ devices.old)) }
     ensures room { room.new ≡ room.old }
+    ensures judge { IsFor (L.shape layout.now) judge.new }
 {
     if layout.checks() == 0 {
         return 0;
     }
+    judge.set(layout, columns);
     let sum = room.sum.as_mut_slice();
     let unit = room.unit.as_mut_slice();
-    sweep_in(kind, layout, devices, columns, sum, unit, progress)
+    sweep_in(kind, layout, devices, columns, judge, sum, unit, progress)
 }
 
 // One stripe's turn in a sync, in the front of buffers that may be longer.
@@ -121,50 +155,58 @@ fn sync_in<L: Layout, D: Disk>(
     layout: &L,
     devices: &mut [Option<D>],
     columns: &mut [Column],
+    judge: &mut Cols,
     stripe: u32,
     sum: &mut [u8],
     unit: &mut [u8],
 ) -> bool
     requires array { IsArray D.Disk (L.shape layout.now) columns.old devices.old }
     requires checks { (L.shape layout.now).checks ≡ 1 }
+    requires judge { IsJudge (L.shape layout.now) columns.old judge.old }
     requires stripe { stripe < (L.shape layout.now).stripes }
     requires sum { 512 * (L.shape layout.now).unit_sectors ≤ length sum.old }
     requires unit { 512 * (L.shape layout.now).unit_sectors ≤ length unit.old }
-    ensures { SweepsStripe D.Disk sweep.Sync (L.shape layout.now) stripe
+    ensures turn { SweepsStripe D.Disk sweep.Sync (L.shape layout.now) stripe
         columns.old columns.new devices.old devices.new result }
+    ensures judge { IsJudge (L.shape layout.now) columns.new judge.new }
 {
     let bytes = SECTOR * layout.unit_sectors() as usize;
-    sweep_stripe(
-        Sweep::Sync,
-        layout,
-        devices,
-        columns,
-        stripe,
-        &mut sum[..bytes],
-        &mut unit[..bytes],
-    )
+    let sum = &mut sum[..bytes];
+    let unit = &mut unit[..bytes];
+    match sweep_stripe(Sweep::Sync, layout, devices, judge, stripe, sum, unit) {
+        Ok(counted) => counted,
+        Err(failed) => {
+            lose(columns, judge, failed.column);
+            false
+        }
+    }
 }
 
 /// Rewrites the check unit of one stripe, if that lacks no unit and doesn't sum to zero. Says whether
-/// it was rewritten.
+/// it was rewritten. A device that fails a call makes its column dead.
+///
+/// `judge` holds the columns, before and then.
 pub fn sync_one<L: Layout, D: Disk>(
     layout: &L,
     devices: &mut [Option<D>],
     columns: &mut [Column],
     stripe: u32,
     room: &mut Room,
+    judge: &mut Cols,
 ) -> bool
     requires array { IsArray D.Disk (L.shape layout.now) columns.old devices.old }
     requires checks { (L.shape layout.now).checks ≡ 1 }
+    requires judge { IsJudge (L.shape layout.now) columns.old judge.old }
     requires stripe { stripe < (L.shape layout.now).stripes }
     requires room { 1024 * (L.shape layout.now).unit_sectors ≤ room.old }
     ensures turn { SweepsStripe D.Disk sweep.Sync (L.shape layout.now) stripe
         columns.old columns.new devices.old devices.new result }
+    ensures judge { IsJudge (L.shape layout.now) columns.new judge.new }
     ensures room { room.new ≡ room.old }
 {
     let sum = room.sum.as_mut_slice();
     let unit = room.unit.as_mut_slice();
-    sync_in(layout, devices, columns, stripe, sum, unit)
+    sync_in(layout, devices, columns, judge, stripe, sum, unit)
 }
 
 /// How many stripes, of those that lack no unit, don't sum to zero.
@@ -173,9 +215,12 @@ pub fn sweep_check<L: Layout, D: Disk, P: Progress>(
     devices: &mut [Option<D>],
     columns: &mut [Column],
     room: &mut SweepRoom<P>,
+    judge: &mut Cols,
 ) -> u64
     requires array { IsArray D.Disk (L.shape layout.now) columns.old devices.old }
+    requires columns { IsSettable (L.shape layout.now) columns.old }
     requires room { 1024 * (L.shape layout.now).unit_sectors ≤ room.old }
+    requires judge { IsFor (L.shape layout.now) judge.old }
     ensures swept { (L.shape layout.now).checks ≡ 1 →
         IsSwept D.Disk sweep.Check (L.shape layout.now) (L.shape layout.now).stripes
         columns.old columns.new devices.old devices.new result }
@@ -190,6 +235,7 @@ pub fn sweep_check<L: Layout, D: Disk, P: Progress>(
     ensures none { (L.shape layout.now).checks ≡ 0 →
         (result ≡ 0) × ((columns.new ≡ columns.old) × (devices.new ≡ devices.old)) }
     ensures room { room.new ≡ room.old }
+    ensures judge { IsFor (L.shape layout.now) judge.new }
 {
     sweep(
         Sweep::Check,
@@ -197,6 +243,7 @@ pub fn sweep_check<L: Layout, D: Disk, P: Progress>(
         devices,
         columns,
         &mut room.room,
+        judge,
         &room.progress,
     )
 }
@@ -208,9 +255,12 @@ pub fn sweep_sync<L: Layout, D: Disk, P: Progress>(
     devices: &mut [Option<D>],
     columns: &mut [Column],
     room: &mut SweepRoom<P>,
+    judge: &mut Cols,
 ) -> u64
     requires array { IsArray D.Disk (L.shape layout.now) columns.old devices.old }
+    requires columns { IsSettable (L.shape layout.now) columns.old }
     requires room { 1024 * (L.shape layout.now).unit_sectors ≤ room.old }
+    requires judge { IsFor (L.shape layout.now) judge.old }
     ensures swept { (L.shape layout.now).checks ≡ 1 →
         IsSwept D.Disk sweep.Sync (L.shape layout.now) (L.shape layout.now).stripes
         columns.old columns.new devices.old devices.new result }
@@ -231,6 +281,7 @@ pub fn sweep_sync<L: Layout, D: Disk, P: Progress>(
     ensures none { (L.shape layout.now).checks ≡ 0 →
         (result ≡ 0) × ((columns.new ≡ columns.old) × (devices.new ≡ devices.old)) }
     ensures room { room.new ≡ room.old }
+    ensures judge { IsFor (L.shape layout.now) judge.new }
 {
     sweep(
         Sweep::Sync,
@@ -238,6 +289,7 @@ pub fn sweep_sync<L: Layout, D: Disk, P: Progress>(
         devices,
         columns,
         &mut room.room,
+        judge,
         &room.progress,
     )
 }
@@ -249,9 +301,12 @@ pub fn sweep_init<L: Layout, D: Disk, P: Progress>(
     devices: &mut [Option<D>],
     columns: &mut [Column],
     room: &mut SweepRoom<P>,
+    judge: &mut Cols,
 ) -> u64
     requires array { IsArray D.Disk (L.shape layout.now) columns.old devices.old }
+    requires columns { IsSettable (L.shape layout.now) columns.old }
     requires room { 1024 * (L.shape layout.now).unit_sectors ≤ room.old }
+    requires judge { IsFor (L.shape layout.now) judge.old }
     ensures swept { (L.shape layout.now).checks ≡ 1 →
         IsSwept D.Disk sweep.Init (L.shape layout.now) (L.shape layout.now).stripes
         columns.old columns.new devices.old devices.new result }
@@ -272,6 +327,7 @@ pub fn sweep_init<L: Layout, D: Disk, P: Progress>(
     ensures none { (L.shape layout.now).checks ≡ 0 →
         (result ≡ 0) × ((columns.new ≡ columns.old) × (devices.new ≡ devices.old)) }
     ensures room { room.new ≡ room.old }
+    ensures judge { IsFor (L.shape layout.now) judge.new }
 {
     sweep(
         Sweep::Init,
@@ -279,6 +335,7 @@ pub fn sweep_init<L: Layout, D: Disk, P: Progress>(
         devices,
         columns,
         &mut room.room,
+        judge,
         &room.progress,
     )
 }

@@ -17,13 +17,18 @@ node_line word id node = line (word ∷ codes " " ∷ decimal id.client ∷ code
 unfoldable pub column_line : List ℕ → ℕ → List ℕ
 column_line word column = line (word ∷ codes " " ∷ decimal column ∷ codes "\n" ∷ [])
 
--- fill COLUMN DEVICE
-unfoldable pub fill_line : ℕ → ℕ → List ℕ
-fill_line column device = line (codes "fill " ∷ decimal column ∷ codes " " ∷ decimal device ∷ codes "\n" ∷ [])
+-- fill COLUMN DEVICE COUNT
+unfoldable pub fill_line : ℕ → ℕ → ℕ → List ℕ
+fill_line column device count = line (codes "fill " ∷ decimal column ∷ codes " " ∷ decimal device ∷ codes " " ∷ decimal count ∷ codes "\n" ∷ [])
+
+-- resume COLUMN COUNT
+unfoldable pub resume_line : ℕ → ℕ → List ℕ
+resume_line column count = line (codes "resume " ∷ decimal column ∷ codes " " ∷ decimal count ∷ codes "\n" ∷ [])
 
 -- the line of an event
 abbrev pub event_line : Traced → List ℕ
-event_line (traced.Fill column device) = fill_line column device
+event_line (traced.Fill column device count) = fill_line column device count
+event_line (traced.Resume column count) = resume_line column count
 event_line (traced.Spread column) = column_line (codes "spread") column
 event_line (traced.Fail column) = column_line (codes "fail") column
 event_line (traced.Begin id) = id_line (codes "begin") id

@@ -2,7 +2,7 @@
 ghost use Rattle.std.specs.Prelude.{◌≡◌, ◌≤◌, length, is_ok, OnErr};
 ghost use Rattle.blk_disk.specs.Disk.{Rose};
 ghost use Rattle.raid_bay.specs.Sink.{Puts};
-ghost use Rattle.raid_script.specs.Trace.{id_line, node_line, column_line, fill_line, event_line, trace_text};
+ghost use Rattle.raid_script.specs.Trace.{id_line, node_line, column_line, fill_line, resume_line, event_line, trace_text};
 
 use blk_disk::Failed;
 use blk_plain::OpId;
@@ -54,14 +54,28 @@ fn set_column(line: &mut Line, word: &[u8], column: u32)
 }
 
 #[tactic(auto, unfolding(crate::specs::Trace::fill_line))]
-fn set_fill(line: &mut Line, column: u32, device: u32)
-    ensures { line.new ≡ fill_line column device }
+fn set_fill(line: &mut Line, column: u32, device: u32, count: u32)
+    ensures { line.new ≡ fill_line column device count }
 {
     line.clear();
     line.push(b"fill ");
     line.push_number(column);
     line.push(b" ");
     line.push_number(device);
+    line.push(b" ");
+    line.push_number(count);
+    line.push(b"\n");
+}
+
+#[tactic(auto, unfolding(crate::specs::Trace::resume_line))]
+fn set_resume(line: &mut Line, column: u32, count: u32)
+    ensures { line.new ≡ resume_line column count }
+{
+    line.clear();
+    line.push(b"resume ");
+    line.push_number(column);
+    line.push(b" ");
+    line.push_number(count);
     line.push(b"\n");
 }
 
@@ -69,7 +83,12 @@ fn set_event(line: &mut Line, event: Traced)
     ensures { line.new ≡ event_line event }
 {
     match event {
-        Traced::Fill { column, device } => set_fill(line, column, device),
+        Traced::Fill {
+            column,
+            device,
+            count,
+        } => set_fill(line, column, device, count),
+        Traced::Resume { column, count } => set_resume(line, column, count),
         Traced::Spread { column } => set_column(line, b"spread", column),
         Traced::Fail { column } => set_column(line, b"fail", column),
         Traced::Begin { id } => set_id(line, b"begin", id),
@@ -84,8 +103,8 @@ fn set_event(line: &mut Line, event: Traced)
 
 /// Prints the trace: a line for each event, in their order, those of client 16, the array's own,
 /// too. `begin C.I`, `take C.I`, `back C.I`, and with the number of a node `fire C.I N`,
-/// `good C.I N`, `bad C.I N` and `skip C.I N`; `fill COLUMN DEVICE` and `spread COLUMN` where a
-/// rebuild begins; and `fail COLUMN`.
+/// `good C.I N`, `bad C.I N` and `skip C.I N`; `fill COLUMN DEVICE COUNT`, `resume COLUMN COUNT` and
+/// `spread COLUMN` where a rebuild begins or goes on, COUNT the rebuilds; and `fail COLUMN`.
 ///
 /// It puts one line a call, and takes no memory. Failed, only where the sink's count of faults
 /// rose, has put a front of the text.

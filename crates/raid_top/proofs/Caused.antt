@@ -1,14 +1,17 @@
 -- Each death has its cause, and each loss its dead columns.
-use Rattle.std.specs.Prelude.{◌≡◌, ◌≢◌, ◌⊎◌, ℕ, Bool, List, Option, Some, None, slice_get}
+use Rattle.std.specs.Prelude.{◌≡◌, ◌≢◌, ◌⊎◌, ℕ, Bool, List, length, count_by, Option, Some, None, slice_get}
 use Rattle.std.proofs.Common.{refl, sym, ap, subst, inl, inr, ◌∙◌}
+use Rattle.std.proofs.lemmas.List.{length-set}
 use Rattle.blk_disk.specs.declared.disk.Disk.{Ghosts}
 use Rattle.blk_disk.specs.Devices.{RisesOn}
 use Rattle.eng_cols.specs.declared.column.Column.{Column}
-use Rattle.eng_cols.specs.Cols.{HasDevice}
+use Rattle.eng_cols.specs.declared.column.Column.TheVariants as column
+use Rattle.eng_cols.specs.declared.spot.Loss.{Loss}
+use Rattle.eng_cols.specs.Cols.{HasDevice, is_set_filling}
 use Rattle.eng_cols.specs.Deaths.{Dies}
 use Rattle.eng_cols.proofs.DeathLaws.{dies-more}
-use Rattle.eng_array.specs.Starts.{column_of}
 use Rattle.eng_array.specs.declared.start.Start.{Start}
+use Rattle.eng_array.specs.declared.start.Start.TheVariants as start
 use Rattle.eng_world.specs.World.{World}
 use Rattle.eng_world.specs.declared.item.Item.{Item}
 use Rattle.eng_world.specs.declared.item.Reply.{Reply}
@@ -16,29 +19,39 @@ use Rattle.raid_label.specs.declared.label.Label.{Label}
 use Rattle.top_acts.specs.declared.done.Done.{Done}
 use Rattle.top_acts.specs.declared.sweeping.Renewal.{Renewal}
 use Rattle.top_acts.specs.declared.sweeping.Renewal.TheVariants as renewal
+use Rattle.top_acts.specs.Checked.{IsChecked}
+use Rattle.top_acts.specs.Failed.{EndsFailed}
+use Rattle.top_acts.specs.Labelled.{IsFirstLabelled, unlabelled}
+use Rattle.top_acts.proofs.Having.{has_live}
+use Rattle.top_acts.proofs.Kills.{alive_died, alive_given}
+use Rattle.top_labelled.specs.Begun.{IsAnew, without}
 use Rattle.top_labelled.specs.Ran.{IsLostBefore, RanLabelled}
+use Rattle.top_labelled.proofs.Without.{without-dies}
 use Rattle.top_open.specs.declared.fronts.Front.{Front}
 use Rattle.top_close.specs.Settled.{LosesDevice}
-use Rattle.top_run.specs.Outliving.{IsRebuiltIn}
-use Rattle.top_run.specs.Ran.{IsDeadBy, Ran as Run, RanPlain, RisesAt, WasFailed, begun_in}
+use Rattle.top_rounds.specs.Rounds.{DiesIn, HaveRounds, IsGivenUp, IsGivenUpIn, in_end}
+use Rattle.top_rounds.proofs.RoundLaws.{given_after, none_given_in}
+use Rattle.top_run.specs.Ran.{IsDeadBy, Ran as Run, RanPlain, RisesAt, WasFailed, begun_for}
 use Rattle.top_run.specs.Told.{IsToldFailed, IsToldUnbuilt}
 use Rattle.top_run.specs.Work.{Ending, Service, Work}
 use Rattle.top_run.proofs.Starting.{rebuilds-none}
 use Rattle.top_serve.specs.Served.{IsUnbuilt}
-use Rattle.top_words.specs.Asked.{Action, Io, Sweep, Show, Init, Check, Rewrite, Print, Fail, ShowLabel, Label as Labels, Rebuild}
+use Rattle.top_serve.specs.Setups.{with_start}
+use Rattle.top_words.specs.Asked.{Action, Io, Sweep, Show, Init, Check, Rewrite, Print, Fail, ShowLabel, Label as Labels, Rebuild, Resume}
 use Rattle.top_duty.specs.Duty.{Admitted, Duty, OnArray, Shows, OneLabel, PrintConf, columns_of, layout_of, states_in}
 use Rattle.top_duty.specs.Opening.{needs_for, needs_of}
 use Rattle.top_duty.specs.Start.{has_failed}
 use Rattle.raid_top.specs.Arrays.{Renews}
 use Rattle.raid_top.specs.Does.{Does, DoesArray, DoesIt, DoesRun}
-use Rattle.raid_top.specs.Losses.{AreCaused, DeathsHaveCauses, IsCauseOfDeath, columns_due, columns_in_end}
+use Rattle.raid_top.specs.Losses.{AreCaused, DeathsHaveCauses, EndsForCause, IsCauseOfDeath, columns_due, columns_in_end, loss_of}
 use Rattle.raid_top.specs.Orders.{kill_of}
 use Rattle.raid_top.specs.Outcome.{Outcome, Ran, Did, Looked}
+use Rattle.raid_top.specs.Served.{AreUnfilledIf}
 use Rattle.raid_top.specs.Works.{work_of}
-use Rattle.raid_top.proofs.Deaths.{checked_dies, killed_dies, labelled_dies, live_has, renewed_dies}
+use Rattle.raid_top.proofs.Deaths.{checked_dies, killed_ends, kept_or_dead, labelled_dies, renewed_dies}
 use Rattle.raid_top.proofs.Gone.{AreOrdered, lost_by_dead}
 use Rattle.raid_top.proofs.Losing.{array_gone}
-use Rattle.raid_top.proofs.Ordered.{IsArrayInOrder, IsInOrder, died_ordered}
+use Rattle.raid_top.proofs.Ordered.{IsArrayInOrder, IsInOrder, ended_ordered}
 
 -- ## Items
 
@@ -51,11 +64,15 @@ item_told g a taken back s ran c w = record {
 }
   where
     other : w.id.client ≢ 16
-    other is = rebuilds-none a.layout (begun_in a) a.start (ran.now.clients 16).items w.id.index c ran.rests.rebuilds (ap (λ k. slice_get (ran.now.clients k).items w.id.index) (sym is) ∙ w.asked)
+    other is = rebuilds-none a.layout (begun_for a) a.start (ran.now.clients 16).items w.id.index c ran.rests.rebuilds (ap (λ k. slice_get (ran.now.clients k).items w.id.index) (sym is) ∙ w.asked)
 
 module _ {D : Type 0} (g : Ghosts D) (a : Admitted) (old back : List (Option D)) where
-  abbrev Dying : Outcome → Type 0
-  Dying o = Dies (IsCauseOfDeath g a old back o) (columns_due a o) (columns_in_end o)
+  abbrev Each : Outcome → Type 0
+  Each o = (c : ℕ) → EndsForCause g a old back o c
+
+  -- and there are as many columns as there were, of which none is filling where the array is lost
+  abbrev Ends : Outcome → Type 0
+  Ends o = (length (columns_in_end o) ≡ length (columns_of a)) × Each o × IsGivenUpIn (loss_of o) (columns_in_end o)
 
   -- ## Runs
 
@@ -64,58 +81,126 @@ module _ {D : Type 0} (g : Ghosts D) (a : Admitted) (old back : List (Option D))
   none_unbuilt None e now c h = absurd h
   none_unbuilt (Some how) e now c h = absurd (let z : ⊥ = cc e in z)
 
-  plain_dies : (action : Action) (s : Service) → RanPlain g (work_of a) old s back → Dying (Ran action s)
-  plain_dies action s r = dies-more _ (IsCauseOfDeath g a old back (Ran action s)) (columns_due a (Ran action s)) s.ending.columns why r.run.causes.dies
-    where
-      why : (c : ℕ) → IsDeadBy g (work_of a) old s back r.run.now c → IsCauseOfDeath g a old back (Ran action s) c
-      why c (inl w) = inr (inl (item_told g (work_of a) old back s r.run c w))
-      why c (inr (inl rose)) = inr (inr rose)
-      why c (inr (inr unbuilt)) = none_unbuilt a.start r.none.0 r.run.now c unbuilt
+  module _ (action : Action) (s : Service) where
+    abbrev Why : ℕ → Type 0
+    Why c = IsCauseOfDeath g a old back (Ran action s) c
 
-  labelled_run_dies : (newest : Label) (failed : Bool) (action : Action) (s : Service) → RanLabelled g (work_of a) newest old s back failed → Dying (Ran action s)
-  labelled_run_dies newest failed action s r = dies-more _ (IsCauseOfDeath g a old back (Ran action s)) (columns_due a (Ran action s)) s.ending.columns why r.dies
-    where
-      why : (c : ℕ) → WasFailed r.run.now c ⊎ (RisesAt g (work_of a) old s back c ⊎ IsToldUnbuilt s c) → IsCauseOfDeath g a old back (Ran action s) c
-      why c (inl w) = inr (inl (item_told g _ r.opened back s r.run c w))
-      why c (inr (inl rose)) = inr (inr rose)
-      why c (inr (inr told)) = inl told
+    plain_each : RanPlain g (work_of a) old s back → Each (Ran action s)
+    plain_each r c = elim (r.run.causes.ends c) [
+      | inl ends ↦ elim ends [
+        | inl kept ↦ inl kept
+        | inr dead ↦ inr (dead.0, why dead.1)
+      ]
+      | inr gave ↦ inr (gave.0, inr (inr (inr (given s.ending.lost gave.1))))
+    ]
+      where
+        why : IsDeadBy g (work_of a) old s back r.run.now c → Why c
+        why (inl w) = inr (inl (item_told g (work_of a) old back s r.run c w))
+        why (inr (inl rose)) = inr (inr (inl rose))
+        why (inr (inr unbuilt)) = none_unbuilt a.start r.none.0 r.run.now c unbuilt
+
+        given : (lost : Option Loss) → IsGivenUp lost (with_start a.start (columns_of a)) c → IsGivenUp lost (columns_of a) c
+        given lost gave = subst (λ (how : Option Start). IsGivenUp lost (with_start how (columns_of a)) c) r.none.0 gave
+
+    plain_ends : RanPlain g (work_of a) old s back → Ends (Ran action s)
+    plain_ends r = (r.run.causes.count, plain_each r, r.run.ends.given_up)
+
+    labelled_each : (newest : Label) (failed : Bool) → RanLabelled g (work_of a) newest old s back failed → Each (Ran action s)
+    labelled_each newest failed r c = elim (r.ends c) [
+      | inl kept ↦ inl kept
+      | inr dead ↦ inr (dead.0, why dead.1)
+    ]
+      where
+        why : WasFailed r.run.now c ⊎ (RisesAt g (work_of a) old s back c ⊎ ((IsAnew a.start c × IsToldUnbuilt s c) ⊎ IsGivenUp s.ending.lost (columns_of a) c)) → Why c
+        why (inl w) = inr (inl (item_told g _ r.opened back s r.run c w))
+        why (inr (inl rose)) = inr (inr (inl rose))
+        why (inr (inr (inl told))) = inl told
+        why (inr (inr (inr gave))) = inr (inr (inr gave))
+
+    labelled_run_ends : (newest : Label) (failed : Bool) → RanLabelled g (work_of a) newest old s back failed → Ends (Ran action s)
+    labelled_run_ends newest failed r = (r.count, labelled_each newest failed r, r.run.ends.given_up)
 
   -- ## Without a core
 
-  module _ (named : (s : Start) → a.start ≡ Some s → (needs_of a.asked).excused ≡ Some (column_of s)) (act : Done) (e : Ending) where
+  module _ (named : (c : ℕ) → IsAnew a.start c → (needs_of a.asked).excused ≡ Some c) (act : Done) (e : Ending) where
     abbrev may : ℕ → Type 0
     may = IsCauseOfDeath g a old back (Did act e)
 
     rises : (c d : ℕ) → HasDevice (states_in a) c d → RisesOn g old back d → may c
-    rises c d had rose = inr (inr (d, had, rose))
+    rises c d had rose = inr (inr (inl (d, had, rose)))
 
-    before_dies : (newest : Label) → IsLostBefore g (work_of a) newest old e back → Dying (Did act e)
+    gives : (c : ℕ) → IsGivenUp e.lost (columns_of a) c → may c
+    gives c gave = inr (inr (inr gave))
+
+    dead_ends : Dies may (columns_of a) e.columns → IsGivenUpIn e.lost e.columns → Ends (Did act e)
+    dead_ends dies gave = (dies.count, kept_or_dead may (columns_of a) e.columns dies, gave)
+
+    before_dies : (newest : Label) → IsLostBefore g (work_of a) newest old e back → Dies may (columns_of a) e.columns
     before_dies newest h = dies-more _ may (columns_of a) e.columns why h.dies
       where
-        why : (c : ℕ) → IsRebuiltIn (work_of a) c ⊎ LosesDevice g (columns_of a) old back c → may c
-        why c (inl rebuilt) = inl (named rebuilt.0 rebuilt.1 ∙ ap (λ (n : ℕ). Some n) rebuilt.2)
-        why c (inr lost) = rises c lost.device (live_has (layout_of a) (columns_of a) c lost.device lost.had) lost.rose
+        why : (c : ℕ) → IsAnew a.start c ⊎ DiesIn g (Some h.loss) (columns_of a) old back c → may c
+        why c (inl anew) = inl (named c anew)
+        why c (inr (inl lost)) = rises c lost.device (has_live (layout_of a) (columns_of a) c lost.device lost.had) lost.rose
+        why c (inr (inr gave)) = gives c (subst (λ (l : Option Loss). IsGivenUp l (columns_of a) c) (sym h.lost) gave)
 
-    kill_dies : (comp : Option ℕ) (newest : Option Label) (failed : Bool) → (needs_of a.asked).excused ≡ comp → DoesIt g a failed old back (kill_of comp newest) (Did act e) → Dying (Did act e)
-    kill_dies None newest failed is h = absurd h
-    kill_dies (Some c) None failed is h = absurd h
-    kill_dies (Some c) (Some l) failed is h = killed_dies g (layout_of a) (columns_of a) old back may rises act e c l h.0 (inl is) h.1
+    before_given : (newest : Label) → IsLostBefore g (work_of a) newest old e back → IsGivenUpIn e.lost e.columns
+    before_given newest h = by h.before h.begins.has.given_up e.lost h.fails
+      where
+        by : (before : Option Loss) → IsGivenUpIn before h.begun → (lost : Option Loss) → EndsFailed g before lost h.first h.last (without a.start h.begun) e.columns h.opened back → IsGivenUpIn lost e.columns
+        by None none None fails = tt
+        by None none (Some loss) fails = fails.rounds.1.given_up
+        by (Some before) none None fails = absurd fails
+        by (Some before) none (Some loss) fails =
+            subst (λ (l : List Column). IsGivenUpIn (Some loss) l) (sym fails.columns_are)
+            (given_after (IsAnew a.start) (Some loss) h.begun (without a.start h.begun) (without-dies a.start h.begun) none)
 
-    renew_dies : (kind : Renewal) (newest : Option Label) → Renews g (layout_of a) (columns_of a) old back act e kind newest → Dying (Did act e)
-    renew_dies kind newest h = renewed_dies g (layout_of a) (columns_of a) old back may rises act e kind newest h
+    checked_given : IsChecked g (layout_of a) (columns_of a) e.columns old back e.lost act → IsGivenUpIn e.lost e.columns
+    checked_given h = subst (λ (l : List Column). IsGivenUpIn e.lost l) (sym h.after_is) (of e.lost)
+      where
+        of : (lost : Option Loss) → IsGivenUpIn lost (in_end lost h.mid)
+        of None = tt
+        of (Some loss) = none_given_in (Some loss) h.mid
+
+    unfilled_given : (lost : Option Loss) → count_by is_set_filling (columns_of a) ≡ 0 → IsGivenUpIn lost (columns_of a)
+    unfilled_given None none = tt
+    unfilled_given (Some loss) none = none
+
+    renewed_given : (kind : Renewal) (newest : Option Label) → AreUnfilledIf newest (columns_of a) → Renews g (layout_of a) (columns_of a) old back act e kind newest → IsGivenUpIn e.lost e.columns
+    renewed_given kind None none h = given_after (LosesDevice g (columns_of a) old back) e.lost (columns_of a) e.columns h.dies (unfilled_given e.lost none)
+    renewed_given kind (Some l) none h = h.1.given_up
+
+    labelled_given : (l next : Label) → IsFirstLabelled g (layout_of a) l next (columns_of a) e.columns old back e.lost act → IsGivenUpIn e.lost e.columns
+    labelled_given l next h = by e.lost h.rounds
+      where
+        by : (lost : Option Loss) → HaveRounds g lost (unlabelled l) next (columns_of a) e.columns old back → IsGivenUpIn lost e.columns
+        by None r = tt
+        by (Some loss) r = r.1.given_up
+
+    kill_ends : (comp : Option ℕ) (newest : Option Label) (failed : Bool) → (needs_of a.asked).excused ≡ comp → DoesIt g a failed old back (kill_of comp newest) (Did act e) → Ends (Did act e)
+    kill_ends None newest failed is h = absurd h
+    kill_ends (Some c) None failed is h = absurd h
+    kill_ends (Some c) (Some l) failed is h =
+        let k = h.1 in (
+          (alive_died g (layout_of a) l h.0 k.left e.columns old back e.lost k.ends).count ∙ k.without.entries,
+          killed_ends g (layout_of a) (columns_of a) old back may rises act e gives c l h.0 (inl is) k,
+          alive_given g (layout_of a) l h.0 k.left e.columns old back e.lost k.ends,
+        )
+
+    renew_dies : (kind : Renewal) (newest : Option Label) → Renews g (layout_of a) (columns_of a) old back act e kind newest → Dies may (columns_of a) e.columns
+    renew_dies kind newest h = renewed_dies g (layout_of a) (columns_of a) old back may rises act e gives kind newest h
 
   -- ## Both
 
-  module _ (failed : Bool) (named : (s : Start) → a.start ≡ Some s → (needs_of a.asked).excused ≡ Some (column_of s)) where
-    run_dies : (newest : Option Label) (o : Outcome) → DoesRun g a failed old back newest o → Dying o
-    run_dies None (Ran action s) h = plain_dies action s h.1.ran
-    run_dies None (Did act e) h = absurd h
-    run_dies (Some l) (Ran action s) h = labelled_run_dies l failed action s h.1.ran
-    run_dies (Some l) (Did act e) h = before_dies named act e l h.1
-    run_dies newest (Looked text) h = absurd h
+  module _ (failed : Bool) (named : (c : ℕ) → IsAnew a.start c → (needs_of a.asked).excused ≡ Some c) (none : AreUnfilledIf a.opened.newest (columns_of a)) where
+    run_ends : (newest : Option Label) (o : Outcome) → DoesRun g a failed old back newest o → Ends o
+    run_ends None (Ran action s) h = plain_ends action s h.1.ran
+    run_ends None (Did act e) h = absurd h
+    run_ends (Some l) (Ran action s) h = labelled_run_ends action s l failed h.1.ran
+    run_ends (Some l) (Did act e) h = dead_ends named act e (before_dies named act e l h.1) (before_given named act e l h.1)
+    run_ends newest (Looked text) h = absurd h
 
-    kills : (comp : Option ℕ) (newest : Option Label) (o : Outcome) → (needs_of a.asked).excused ≡ comp → DoesIt g a failed old back (kill_of comp newest) o → Dying o
-    kills comp newest (Did act e) is h = kill_dies named act e comp newest failed is h
+    kills : (comp : Option ℕ) (newest : Option Label) (o : Outcome) → (needs_of a.asked).excused ≡ comp → DoesIt g a failed old back (kill_of comp newest) o → Ends o
+    kills comp newest (Did act e) is h = kill_ends named act e comp newest failed is h
     kills None newest (Ran action s) is h = absurd h
     kills (Some c) None (Ran action s) is h = absurd h
     kills (Some c) (Some l) (Ran action s) is h = absurd h
@@ -123,42 +208,58 @@ module _ {D : Type 0} (g : Ghosts D) (a : Admitted) (old back : List (Option D))
     kills (Some c) None (Looked text) is h = absurd h
     kills (Some c) (Some l) (Looked text) is h = absurd h
 
-    array_dies : (action : Action) (o : Outcome) → a.asked.command.action ≡ action → DoesArray g a failed old back action o → Dying o
-    array_dies (Io beside workers) o same h = run_dies a.opened.newest o h
-    array_dies (Sweep seed clients ops workers) o same h = run_dies a.opened.newest o h
-    array_dies Init (Did act e) same h = renew_dies named act e renewal.Init a.opened.newest h
-    array_dies Init (Ran action s) same h = absurd h
-    array_dies Init (Looked text) same h = absurd h
-    array_dies Check (Did act e) same h = checked_dies g (layout_of a) (columns_of a) old back (may named act e) (rises named act e) act e h
-    array_dies Check (Ran action s) same h = absurd h
-    array_dies Check (Looked text) same h = absurd h
-    array_dies Rewrite (Did act e) same h = renew_dies named act e renewal.Rewrite a.opened.newest h
-    array_dies Rewrite (Ran action s) same h = absurd h
-    array_dies Rewrite (Looked text) same h = absurd h
-    array_dies (Fail comp) o same h = kills a.asked.comp a.opened.newest o (ap (λ (act : Action). (needs_for act a.asked.comp).excused) same) h
-    array_dies (Labels serial) (Did act e) same h = labelled_dies g (layout_of a) (columns_of a) old back (may named act e) (rises named act e) act e _ h.0 h.1
-    array_dies (Labels serial) (Ran action s) same h = absurd h
-    array_dies (Labels serial) (Looked text) same h = absurd h
-    array_dies Show o same h = absurd h
-    array_dies Print o same h = absurd h
-    array_dies (ShowLabel comp) o same h = absurd h
-    array_dies (Rebuild in_place comp beside workers) o same h = run_dies a.opened.newest o h
+    array_ends : (action : Action) (o : Outcome) → a.asked.command.action ≡ action → DoesArray g a failed old back action o → Ends o
+    array_ends (Io beside workers) o same h = run_ends a.opened.newest o h
+    array_ends (Sweep seed clients ops workers) o same h = run_ends a.opened.newest o h
+    array_ends Init (Did act e) same h = dead_ends named act e (renew_dies named act e renewal.Init a.opened.newest h) (renewed_given named act e renewal.Init a.opened.newest none h)
+    array_ends Init (Ran action s) same h = absurd h
+    array_ends Init (Looked text) same h = absurd h
+    array_ends Check (Did act e) same h = dead_ends named act e (checked_dies g (layout_of a) (columns_of a) old back (may named act e) (rises named act e) act e (gives named act e) h) (checked_given named act e h)
+    array_ends Check (Ran action s) same h = absurd h
+    array_ends Check (Looked text) same h = absurd h
+    array_ends Rewrite (Did act e) same h = dead_ends named act e (renew_dies named act e renewal.Rewrite a.opened.newest h) (renewed_given named act e renewal.Rewrite a.opened.newest none h)
+    array_ends Rewrite (Ran action s) same h = absurd h
+    array_ends Rewrite (Looked text) same h = absurd h
+    array_ends (Fail comp) o same h = kills a.asked.comp a.opened.newest o (ap (λ (act : Action). (needs_for act a.asked.comp).excused) same) h
+    array_ends (Labels serial) (Did act e) same h = dead_ends named act e (labelled_dies g (layout_of a) (columns_of a) old back (may named act e) (rises named act e) act e (gives named act e) _ h.0 h.1) (labelled_given named act e _ h.0 h.1)
+    array_ends (Labels serial) (Ran action s) same h = absurd h
+    array_ends (Labels serial) (Looked text) same h = absurd h
+    array_ends Show o same h = absurd h
+    array_ends Print o same h = absurd h
+    array_ends (ShowLabel comp) o same h = absurd h
+    array_ends (Rebuild in_place comp limit beside workers) o same h = run_ends a.opened.newest o h
+    array_ends (Resume limit beside workers) o same h = run_ends a.opened.newest o h
 
 -- ## All
 
 module _ {D : Type 0} (g : Ghosts D) where
   due_ordered : (a : Admitted) (o : Outcome) → IsArrayInOrder a → AreOrdered (layout_of a) (columns_due a o)
-  due_ordered a (Ran action s) order = order.rebuilt
+  due_ordered a (Ran action s) order = order.started
   due_ordered a (Did act e) order = order.opened
   due_ordered a (Looked text) order = order.opened
 
+  -- as many are due as were opened
+  due_count : (a : Admitted) (o : Outcome) → length (columns_due a o) ≡ length (columns_of a)
+  due_count a (Ran action s) = by a.start
+    where
+      by : (how : Option Start) → length (with_start how (columns_of a)) ≡ length (columns_of a)
+      by None = refl
+      by (Some (start.Fill c d most)) = length-set (columns_of a) c (column.Filling d 0)
+      by (Some (start.Resume c most)) = refl
+      by (Some (start.Spread c)) = length-set (columns_of a) c column.Spread
+  due_count a (Did act e) = refl
+  due_count a (Looked text) = refl
+
   array_caused : (a : Admitted) (fronts : List Front) (old back : List (Option D)) (o : Outcome) → IsArrayInOrder a → Does g (OnArray a) fronts old back o → DeathsHaveCauses g a old back o
   array_caused a fronts old back o order h =
-      let dies = array_dies g a old back (has_failed a.start fronts) order.named a.asked.command.action o refl h in
+      let ends = array_ends g a old back (has_failed a.start fronts) order.named order.unfilled a.asked.command.action o refl h in
       record {
-        dies = dies;
+        count = ends.0;
+        each = ends.1;
+        given_up = ends.2;
         lost = λ loss is. lost_by_dead (layout_of a) (columns_in_end o) loss order.law
-            (died_ordered (layout_of a) (IsCauseOfDeath g a old back o) (columns_due a o) (columns_in_end o) dies (due_ordered a o order))
+            (ended_ordered (layout_of a) (IsCauseOfDeath g a old back o) (columns_due a o) (columns_in_end o) (ends.0 ∙ sym (due_count a o)) ends.1 (due_ordered a o order))
+            (subst (λ (l : Option Loss). IsGivenUpIn l (columns_in_end o)) is ends.2)
             (array_gone g a fronts old back o h loss is);
       }
 

@@ -78,6 +78,8 @@ module _ {D : Type 0} (g : Ghosts D) (b : Told D) (words : List Text) (told : b.
   of_command command (status.Label f s t u) e h = absurd h
   of_command command (status.Small f s t) e h = absurd h
   of_command command status.NoSpare e h = absurd h
+  of_command command status.NoRebuild e h = absurd h
+  of_command command (status.Rebuilding column) e h = absurd h
   of_command command (status.LongText n) e h = absurd h
 
   follows_well : (i : Invocation) (o : CallOutcome) → invocation_of words ≡ Ok i → IsRightFor g b i → Follows g b i o → EndsWell words (call_status o)

@@ -42,6 +42,8 @@ module _ (rose : Type 0) where
   early_is (status.Small f s t) early cause = absurd early
   early_is (status.NotInSync n) early cause = absurd early
   early_is status.NoSpare early cause = absurd early
+  early_is status.NoRebuild early cause = absurd early
+  early_is (status.Rebuilding column) early cause = absurd early
 
   -- and has the cause that is wanted
   pub refused_as : {A : Type 0} (s : Status) (wanted : Result A Refused) → IsEarly s → (s ≡ status.BayFault → rose) → RefusedAs s wanted → IsRefusedAs rose wanted (only s)
@@ -60,6 +62,8 @@ module _ (rose : Type 0) where
   refused_as (status.Small f s t) wanted early cause h = absurd early
   refused_as (status.NotInSync n) wanted early cause h = absurd early
   refused_as status.NoSpare wanted early cause h = absurd early
+  refused_as status.NoRebuild wanted early cause h = absurd early
+  refused_as (status.Rebuilding column) wanted early cause h = absurd early
 
 module _ {D : Type 0} (g : Ghosts D) (b : Told D) where
   -- ## A list of components

@@ -1,12 +1,11 @@
 -- What was done to devices: sizes stay, counts of faults don't fall, and calls come behind those of before.
-use Rattle.std.specs.Prelude.{ℕ, Bool, List, [], ◌∷◌, Option, Some, None, slice_set}
+use Rattle.std.specs.Prelude.{ℕ, Bool, List, [], ◌∷◌, Option, Some, None}
 use Rattle.std.proofs.Common.{sym, subst}
 use Rattle.blk_disk.specs.declared.disk.Disk.{Ghosts}
 use Rattle.blk_disk.specs.Devices.{Changes}
 use Rattle.blk_disk.proofs.DeviceLaws.{changes-more, changes-refl}
 use Rattle.lay_core.specs.Layout.{Shape}
 use Rattle.eng_cols.specs.declared.column.Column.{Column}
-use Rattle.eng_cols.specs.declared.column.Column.TheVariants as column
 use Rattle.eng_cols.specs.declared.spot.Loss.{Loss}
 use Rattle.raid_label.specs.declared.label.Label.{Label}
 use Rattle.top_acts.proofs.Kills.{alive_frame}
@@ -15,7 +14,7 @@ use Rattle.top_acts.specs.declared.sweeping.Renewal.{Renewal}
 use Rattle.top_rounds.specs.Rounds.{HaveRounds}
 use Rattle.top_run.specs.Work.{Ending}
 use Rattle.top_open.specs.declared.fronts.Front.{Front}
-use Rattle.top_words.specs.Asked.{Action, Io, Sweep, Show, Init, Check, Rewrite, Print, Fail, ShowLabel, Label as Labels, Rebuild}
+use Rattle.top_words.specs.Asked.{Action, Io, Sweep, Show, Init, Check, Rewrite, Print, Fail, ShowLabel, Label as Labels, Rebuild, Resume}
 use Rattle.top_duty.specs.Duty.{Admitted, Duty, OnArray, Shows, OneLabel, PrintConf}
 use Rattle.top_duty.specs.Start.{has_failed}
 use Rattle.raid_top.specs.declared.array.Order.{Order}
@@ -47,7 +46,7 @@ module _ {D : Type 0} (g : Ghosts D) where
     pub order_moves : (o : Order) → DoesOrder g y columns old back act e o → Moves old back
     order_moves order.Check h = moved _ old back h.frame
     order_moves (order.Renew kind newest) h = renewal_moves kind newest h
-    order_moves (order.Kill c l) h = moved _ old back (alive_frame g y l h.0 (slice_set columns c column.Dead) e.columns old back e.lost (h.1).ends)
+    order_moves (order.Kill c l) h = moved _ old back (alive_frame g y l h.0 (h.1).left e.columns old back e.lost (h.1).ends)
     order_moves (order.Label l) h = rounds_move e.lost _ h.0 e.columns (h.1).rounds
 
   module _ (a : Admitted) (failed : Bool) (old back : List (Option D)) where
@@ -75,7 +74,8 @@ module _ {D : Type 0} (g : Ghosts D) where
     array_moves (Fail comp) o h = it_moves (order_of g a failed old back (Fail comp)) o h
     array_moves (ShowLabel comp) o h = it_moves (order_of g a failed old back (ShowLabel comp)) o h
     array_moves (Labels serial) o h = it_moves (order_of g a failed old back (Labels serial)) o h
-    array_moves (Rebuild in_place comp beside workers) o h = run_moves a.opened.newest o h
+    array_moves (Rebuild in_place comp limit beside workers) o h = run_moves a.opened.newest o h
+    array_moves (Resume limit beside workers) o h = run_moves a.opened.newest o h
 
   saying_moves : (old back : List (Option D)) (said : List ℕ) (o : Outcome) → Says g old back said o → Moves old back
   saying_moves old back said (Looked text) h = subst (λ (ds : List (Option D)). Moves old ds) (sym h.1) (changes-refl g AnySector old)

@@ -1,6 +1,6 @@
 -- The columns of a loss are gone in the end.
 use Rattle.std.proofs.Common.{◌≡◌, ◌⊎◌, ◌∙◌, ℕ, zero, suc, ◌<◌, arith, List, length, Bool, true, false, Option, Some, None, refl, sym, ap, subst, inl, inr}
-use Rattle.std.specs.Prelude.{slice_get, option_map, ◌==◌, IsSome}
+use Rattle.std.specs.Prelude.{count_by, slice_get, option_map, ◌==◌, IsSome}
 use Rattle.std.proofs.lemmas.Bool.{and_from, or_left, or_right, eq-eqb}
 use Rattle.std.proofs.lemmas.Option.{slice_get-get_or, slice_get-map}
 use Rattle.lay_core.specs.declared.place.Place.{Place}
@@ -8,27 +8,28 @@ use Rattle.lay_core.specs.Layout.{Shape, IsLayout}
 use Rattle.eng_cols.specs.declared.column.Column.{Column}
 use Rattle.eng_cols.specs.declared.column.Column.TheVariants as column
 use Rattle.eng_cols.specs.declared.spot.Loss.{Loss}
-use Rattle.eng_cols.specs.Cols.{ColumnState, Live, Dead, Filling, Spread, all_done, is_done, is_done_on, is_spread, passes, state_set}
+use Rattle.eng_cols.specs.Cols.{ColumnState, Live, Dead, Filling, Spread, all_done, is_done, is_done_on, is_set_filling, is_spread, passes, state_set}
 use Rattle.eng_cols.specs.Lost.{IsLost}
 use Rattle.eng_cols.specs.Seats.{stands_for, spare_stands, available_on, is_available, is_place_on, IsStripeOf, IsWhole}
 use Rattle.top_close.specs.Closes.{SpreadEnds, FillingEnds, ClosesAs}
-use Rattle.top_close.specs.Ended.{states_of}
+use Rattle.eng_cols.specs.Stripes.{filled_in, leading, states_of}
+use Rattle.top_close.proofs.Counts.{none_passes}
 use Rattle.top_close.proofs.LackingLaws.{min_or, max_or}
 use Rattle.raid_top.specs.Losses.{IsLostByDead, IsLostOn}
 
 false_is : {A : Type 0} → false ≡ true → A
 false_is h = absurd (let u : ⊥ = cc in u)
 
--- no device stands for the column
+-- the column isn't live: not all of its units stand on a device
 abbrev pub IsOut : List Column → ℕ → Type 0
 IsOut cols c = (d : ℕ) → slice_get cols c ≡ Some (column.Live d) → ⊥
 
--- nor for the column of the spare place, if there is one
+-- nor is that of the spare place, if there is one
 abbrev pub IsSpareOut : List Column → Option Place → Type 0
 IsSpareOut cols None = Unit {0}
 IsSpareOut cols (Some p) = IsOut cols p.column
 
--- A unit of the stripe lies on the column and is missing: no device stands for the column; and where it's spread, none does for that of the stripe's spare place.
+-- A unit of the stripe lies on the column and is missing: the column isn't live; and where it's spread, that of the stripe's spare place isn't.
 pub record IsGone (y : Shape) (cols : List Column) (s c : ℕ) : Type 0 where
   pub unit : ℕ
   pub below : unit < y.width
@@ -114,10 +115,10 @@ done_all (suc n) zero h = refl
 done_all (suc n) (suc s) h = done_all n s (omega (arith, h))
 
 set_live : (y : Shape) (cols : List Column) (c d : ℕ) → slice_get cols c ≡ Some (column.Live d) → slice_get (states_of y cols) c ≡ Some (Live d)
-set_live y cols c d h = slice_get-map (state_set y.stripes) cols c ∙ ap (option_map (state_set y.stripes)) h
+set_live y cols c d h = slice_get-map (state_set y.stripes (filled_in y cols)) cols c ∙ ap (option_map (state_set y.stripes (filled_in y cols))) h
 
 pub set_spread : (y : Shape) (cols : List Column) (c : ℕ) → slice_get cols c ≡ Some column.Spread → slice_get (states_of y cols) c ≡ Some (Spread (all_done y.stripes))
-set_spread y cols c h = slice_get-map (state_set y.stripes) cols c ∙ ap (option_map (state_set y.stripes)) h
+set_spread y cols c h = slice_get-map (state_set y.stripes (filled_in y cols)) cols c ∙ ap (option_map (state_set y.stripes (filled_in y cols))) h
 
 set_ends : (y : Shape) (cols : List Column) (s : ℕ) → s < y.stripes → Ends y (states_of y cols) (states_of y cols) cols s
 set_ends y cols s within = record {
@@ -163,7 +164,7 @@ module _ (y : Shape) (was now : List ColumnState) (kept last : List Column) (clo
   mid_stands c d (Some Dead) is of ends h = let z : Some column.Dead ≡ Some (column.Live d) = sym ends ∙ h in absurd (let u : ⊥ = cc in u)
   mid_stands c d (Some (Filling e done)) is of ends h = elim ends [
     | inl whole ↦ ap (λ x. is_done_on x s) (sym is) ∙ whole.0 s stripe of
-    | inr left ↦ let z : Some column.Dead ≡ Some (column.Live d) = sym left.1 ∙ h in absurd (let u : ⊥ = cc in u)
+    | inr left ↦ let z : Some (column.Filling e (leading y closes.mid c)) ≡ Some (column.Live d) = sym left.1 ∙ h in absurd (let u : ⊥ = cc in u)
   ]
   mid_stands c d (Some (Spread done)) is of ends h = let z : Some column.Spread ≡ Some (column.Live d) = sym ends ∙ h in absurd (let u : ⊥ = cc in u)
   mid_stands c d None is of ends h = let z : None ≡ Some (column.Live d) = sym ends ∙ h in absurd (let u : ⊥ = cc in u)
@@ -176,7 +177,7 @@ module _ (y : Shape) (was now : List ColumnState) (kept last : List Column) (clo
   mid_spread c (Some Dead) is ends h = let z : Some column.Dead ≡ Some column.Spread = sym ends ∙ h in absurd (let u : ⊥ = cc in u)
   mid_spread c (Some (Filling e done)) is ends h = elim ends [
     | inl whole ↦ let z : Some (column.Live e) ≡ Some column.Spread = sym whole.1 ∙ h in absurd (let u : ⊥ = cc in u)
-    | inr left ↦ let z : Some column.Dead ≡ Some column.Spread = sym left.1 ∙ h in absurd (let u : ⊥ = cc in u)
+    | inr left ↦ let z : Some (column.Filling e (leading y closes.mid c)) ≡ Some column.Spread = sym left.1 ∙ h in absurd (let u : ⊥ = cc in u)
   ]
   mid_spread c (Some (Spread done)) is ends h = (done, is)
   mid_spread c None is ends h = let z : None ≡ Some column.Spread = sym ends ∙ h in absurd (let u : ⊥ = cc in u)
@@ -217,10 +218,9 @@ run_are_gone y was now kept last loss lost closes same die = are_gone y was clos
 
 -- ## What they are in the end
 
--- There is one column for each of the layout's; none is filling, at most one is spread, and then each stripe has a spare place.
+-- There is one column for each of the layout's; at most one is spread, and then each stripe has a spare place.
 pub record AreOrdered (y : Shape) (cols : List Column) : Type 0 where
   pub count : length cols ≡ y.columns
-  pub filling : (c d : ℕ) → slice_get cols c ≡ Some (column.Filling d) → ⊥
   pub spread : (c k : ℕ) → slice_get cols c ≡ Some column.Spread → slice_get cols k ≡ Some column.Spread → c ≡ k
   pub spares : (c s : ℕ) → slice_get cols c ≡ Some column.Spread → s < y.stripes → IsSome (y.spare s)
 
@@ -228,11 +228,14 @@ pub record AreOrdered (y : Shape) (cols : List Column) : Type 0 where
 there : {A : Type 0} (cols : List Column) (c : ℕ) → c < length cols → slice_get cols c ≡ None → A
 there cols c within none = let z : Some _ ≡ None = sym (slice_get-get_or cols c column.Dead within) ∙ none in absurd (let u : ⊥ = cc in u)
 
-module _ (y : Shape) (law : IsLayout y) (cols : List Column) (order : AreOrdered y cols) (s c : ℕ) (stripe : s < y.stripes) (gone : IsGone y cols s c) where
+module _ (y : Shape) (law : IsLayout y) (cols : List Column) (order : AreOrdered y cols) (none : count_by is_set_filling cols ≡ 0) (s c : ℕ) (stripe : s < y.stripes) (gone : IsGone y cols s c) where
+  unfilled : {A : Type 0} (k d n : ℕ) → slice_get cols k ≡ Some (column.Filling d n) → A
+  unfilled k d n is = false_is (sym (none_passes is_set_filling cols none k) ∙ ap (passes is_set_filling) is)
+
   spare_dead : slice_get cols c ≡ Some column.Spread → (p : Place) → y.spare s ≡ Some p → IsOut cols p.column → (o : Option Column) → slice_get cols p.column ≡ o → slice_get cols p.column ≡ Some column.Dead
   spare_dead spread p e out (Some (column.Live d)) is = absurd (out d is)
   spare_dead spread p e out (Some column.Dead) is = is
-  spare_dead spread p e out (Some (column.Filling d)) is = absurd (order.filling p.column d is)
+  spare_dead spread p e out (Some (column.Filling d n)) is = unfilled p.column d n is
   spare_dead spread p e out (Some column.Spread) is = absurd (law.spare_column s gone.unit p stripe gone.below e (gone.lies ∙ order.spread c p.column spread is))
   spare_dead spread p e out None is = there cols p.column (subst (λ n. p.column < n) (sym order.count) (law.spare_within s p stripe e).0) is
 
@@ -243,12 +246,12 @@ module _ (y : Shape) (law : IsLayout y) (cols : List Column) (order : AreOrdered
   lost_on : (o : Option Column) → slice_get cols c ≡ o → IsLostOn y cols s c
   lost_on (Some (column.Live d)) is = absurd (gone.out d is)
   lost_on (Some column.Dead) is = inl is
-  lost_on (Some (column.Filling d)) is = absurd (order.filling c d is)
+  lost_on (Some (column.Filling d n)) is = unfilled c d n is
   lost_on (Some column.Spread) is = inr (is, over is (y.spare s) refl (gone.spare is))
   lost_on None is = there cols c (subst (λ n. c < n) (sym order.count) (subst (λ k. k < y.columns) gone.lies (law.within s gone.unit stripe gone.below).0)) is
 
-pub lost_by_dead : (y : Shape) (cols : List Column) (loss : Loss) → IsLayout y → AreOrdered y cols → AreGone y cols loss → IsLostByDead y cols loss
-lost_by_dead y cols loss law order gone = record {
-  first = lost_on y law cols order loss.stripe loss.first gone.stripe gone.first (slice_get cols loss.first) refl;
-  second = lost_on y law cols order loss.stripe loss.second gone.stripe gone.second (slice_get cols loss.second) refl;
+pub lost_by_dead : (y : Shape) (cols : List Column) (loss : Loss) → IsLayout y → AreOrdered y cols → count_by is_set_filling cols ≡ 0 → AreGone y cols loss → IsLostByDead y cols loss
+lost_by_dead y cols loss law order none gone = record {
+  first = lost_on y law cols order none loss.stripe loss.first gone.stripe gone.first (slice_get cols loss.first) refl;
+  second = lost_on y law cols order none loss.stripe loss.second gone.stripe gone.second (slice_get cols loss.second) refl;
 }

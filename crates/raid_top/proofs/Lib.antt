@@ -2,6 +2,8 @@ mod Endings
 mod Frames
 mod Reading
 mod Wanted
+mod Filling
+mod Failing
 mod Deaths
 mod Surviving
 mod Rebuilds

@@ -12,7 +12,8 @@ use Rattle.raid_label.specs.declared.label.Label.{Label}
 use Rattle.top_acts.specs.declared.done.Done.{Done}
 use Rattle.top_acts.specs.declared.sweeping.Renewal.{Renewal}
 use Rattle.top_close.specs.Closes.{ClosesAs}
-use Rattle.top_close.specs.Ended.{IsLossBy, states_of}
+use Rattle.eng_cols.specs.Stripes.{states_of}
+use Rattle.top_close.specs.Ended.{IsLossBy}
 use Rattle.top_duty.specs.Duty.{Admitted, OnArray, columns_of, layout_of}
 use Rattle.top_duty.specs.Start.{has_failed}
 use Rattle.top_open.specs.declared.fronts.Front.{Front}

@@ -1,6 +1,6 @@
 -- What an action asks to be done to an array may be done to it.
 use Rattle.std.specs.Prelude.{◌≡◌, ◌<◌, ℕ, Bool, true, List, Option, Some, None}
-use Rattle.std.proofs.Common.{arith, refl, sym, ap, subst}
+use Rattle.std.proofs.Common.{arith, refl, sym, ap, subst, inr}
 use Rattle.blk_disk.specs.declared.disk.Disk.{Ghosts}
 use Rattle.raid_conf.specs.declared.conf.Conf.{Conf}
 use Rattle.raid_conf.specs.Layouts.{shape_of}
@@ -9,7 +9,7 @@ use Rattle.raid_recon.specs.Array.{IsArray}
 use Rattle.top_bay.specs.Asked.{Asked, names_by, names_of}
 use Rattle.top_bay.specs.Views.{IsKnown, IsWithinLimits}
 use Rattle.top_open.specs.Opening.{Opened}
-use Rattle.top_words.specs.Asked.{Action, Io, Sweep, Show, Init, Check, Rewrite, Print, Fail, ShowLabel, Label as Labels, Rebuild}
+use Rattle.top_words.specs.Asked.{Action, Io, Sweep, Show, Init, Check, Rewrite, Print, Fail, ShowLabel, Label as Labels, Rebuild, Resume}
 use Rattle.top_duty.specs.Duty.{Admitted, columns_of, layout_of}
 use Rattle.top_duty.specs.Fit.{IsFit}
 use Rattle.top_duty.specs.Opening.{kind_of, needs_for, needs_of}
@@ -46,7 +46,8 @@ serves Print comp newest conf rows kind known labels e = absurd (let z : ⊥ = c
 serves (Fail name) comp newest conf rows kind known labels e = let l = labels refl in absurd (no_kill comp newest known.at known.is l.0 l.1 e)
 serves (ShowLabel name) comp newest conf rows kind known labels e = absurd (let z : ⊥ = cc kind in z)
 serves (Labels serial) comp newest conf rows kind known labels e = absurd (let z : ⊥ = cc e in z)
-serves (Rebuild in_place name beside workers) comp newest conf rows kind known labels e = tt
+serves (Rebuild in_place name limit beside workers) comp newest conf rows kind known labels e = tt
+serves (Resume limit beside workers) comp newest conf rows kind known labels e = tt
 
 -- and such an action writes labels
 pub run_writes : (action : Action) (comp : Option ℕ) → IsRun action → (needs_for action comp).writes ≡ true
@@ -60,7 +61,8 @@ run_writes Print comp is = absurd is
 run_writes (Fail name) comp is = absurd is
 run_writes (ShowLabel name) comp is = absurd is
 run_writes (Labels serial) comp is = absurd is
-run_writes (Rebuild in_place name beside workers) comp is = refl
+run_writes (Rebuild in_place name limit beside workers) comp is = refl
+run_writes (Resume limit beside workers) comp is = refl
 
 -- ## What may be done
 
@@ -68,10 +70,10 @@ same_order : (x z : Order) → Some x ≡ Some z → x ≡ z
 same_order x z e = cc e
 
 module _ {D : Type 0} (g : Ghosts D) (k : Asked) (o : Opened) (devices : List (Option D)) (within : IsWithinLimits k) (fit : IsFit g k o devices) where
-  rounds_of : (l : Label) → (needs_of k).writes ≡ true → o.newest ≡ Some l → HasRounds l
+  rounds_of : (l : Label) → (needs_of k).writes ≡ true → o.newest ≡ Some l → HasRounds o.columns l
   rounds_of l writes is = let at = fit.newest l is in record { held = at.0; counter = omega (arith, at.1 writes) }
 
-  newest_is : (newest : Option Label) → (needs_of k).writes ≡ true → o.newest ≡ newest → IsNewest newest
+  newest_is : (newest : Option Label) → (needs_of k).writes ≡ true → o.newest ≡ newest → IsNewest o.columns newest
   newest_is None writes is = tt
   newest_is (Some l) writes is = rounds_of l writes is
 
@@ -98,13 +100,14 @@ module _ {D : Type 0} (g : Ghosts D) (k : Asked) (o : Opened) (devices : List (O
       let known = subst (λ (a : Action). IsKnown k.conf a k.comp) same within.known in
       may_kill k.comp o.newest it known.at known.is known.within (ap (λ (a : Action). (needs_for a k.comp).writes) same) refl e
   may_do (Labels serial) it same e = subst (λ (x : Order). MayDo g (shape_of k.conf o.rows) o.columns x devices) (same_order _ it e)
-      (record { version = refl; clean = omega arith })
+      (record { held = record { version = inr refl; clean = omega arith; filling = omega arith; done = λ none. refl; first = λ one. refl }; count = sym fit.entries })
   may_do (Io beside workers) it same e = absurd (let z : ⊥ = cc e in z)
   may_do (Sweep seed clients ops workers) it same e = absurd (let z : ⊥ = cc e in z)
   may_do Show it same e = absurd (let z : ⊥ = cc e in z)
   may_do Print it same e = absurd (let z : ⊥ = cc e in z)
   may_do (ShowLabel name) it same e = absurd (let z : ⊥ = cc e in z)
-  may_do (Rebuild in_place name beside workers) it same e = absurd (let z : ⊥ = cc e in z)
+  may_do (Rebuild in_place name limit beside workers) it same e = absurd (let z : ⊥ = cc e in z)
+  may_do (Resume limit beside workers) it same e = absurd (let z : ⊥ = cc e in z)
 
 -- ## What was done
 
@@ -127,7 +130,8 @@ module _ {D : Type 0} (g : Ghosts D) (a : Admitted) (failed : Bool) (old back : 
   it_does Show o it e h = absurd (let z : ⊥ = cc e in z)
   it_does Print o it e h = absurd (let z : ⊥ = cc e in z)
   it_does (ShowLabel name) o it e h = absurd (let z : ⊥ = cc e in z)
-  it_does (Rebuild in_place name beside workers) o it e h = absurd (let z : ⊥ = cc e in z)
+  it_does (Rebuild in_place name limit beside workers) o it e h = absurd (let z : ⊥ = cc e in z)
+  it_does (Resume limit beside workers) o it e h = absurd (let z : ⊥ = cc e in z)
 
   -- what was asked was done
   pub order_does : (action : Action) (conf : Conf) (it : Order) (c : Came) → order_of g a failed old back action ≡ Some it → ComesOfOrder g (layout_of a) (columns_of a) old back it c → DoesArray g a failed old back action (outcome_seen action conf c)
@@ -145,7 +149,8 @@ module _ {D : Type 0} (g : Ghosts D) (a : Admitted) (failed : Bool) (old back : 
   run_does (Fail name) o is h = absurd is
   run_does (ShowLabel name) o is h = absurd is
   run_does (Labels serial) o is h = absurd is
-  run_does (Rebuild in_place name beside workers) o is h = h
+  run_does (Rebuild in_place name limit beside workers) o is h = h
+  run_does (Resume limit beside workers) o is h = h
 
 -- ## Names
 
@@ -161,4 +166,5 @@ array_names conf Print e = absurd (let z : ⊥ = cc e in z)
 array_names conf (Fail name) e = refl
 array_names conf (ShowLabel name) e = absurd (let z : ⊥ = cc e in z)
 array_names conf (Labels serial) e = refl
-array_names conf (Rebuild in_place name beside workers) e = refl
+array_names conf (Rebuild in_place name limit beside workers) e = refl
+array_names conf (Resume limit beside workers) e = refl

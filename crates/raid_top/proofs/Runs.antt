@@ -1,8 +1,9 @@
 -- What came of clients is what was to come of those that were admitted.
-use Rattle.std.specs.Prelude.{◌≡◌, ◌<◌, ◌≤◌, ℕ, Bool, List, length, map, Option, Some, None, Vec}
+use Rattle.std.specs.Prelude.{◌≡◌, ◌<◌, ◌≤◌, ℕ, Bool, List, length, map, All, Contains, Option, Some, None, Vec}
 use Rattle.std.specs.declared.alloc.Global.{Global}
 use Rattle.std.proofs.Common.{arith, refl, sym, ap, subst, ◌∙◌}
 use Rattle.std.proofs.lemmas.List.{length-map}
+use Rattle.std.proofs.lemmas.List.Elements.{All-contains}
 use Rattle.blk_disk.specs.declared.disk.Disk.{Ghosts}
 use Rattle.eng_array.specs.declared.start.Start.{Start}
 use Rattle.eng_world.specs.declared.item.Item.{Item as AnyItem}
@@ -10,7 +11,7 @@ use Rattle.lay_core.specs.Layout.{IsLayout, SparesLieByUnits, blocks_in}
 use Rattle.raid_conf.specs.declared.conf.Conf.{Conf}
 use Rattle.raid_conf.specs.Layouts.{shape_of}
 use Rattle.raid_label.specs.declared.label.Label.{Label}
-use Rattle.raid_script.specs.Asked.{AreFew, Asked as Item}
+use Rattle.raid_script.specs.Asked.{AreFew, Asked as Item, IsAsked, Other}
 use Rattle.raid_script.specs.Drawn.{drawn}
 use Rattle.top_bay.specs.Asked.{Asked}
 use Rattle.top_bay.specs.Views.{IsWithinLimits}
@@ -46,6 +47,12 @@ use Rattle.top_run.specs.Works as run_works
 use Rattle.raid_top.specs.Views.{CanBePrinted, came_from, outcome_seen}
 use Rattle.raid_top.specs.Works.{work_of}
 
+-- ## What a script may have
+
+-- items that are asked so
+pub scripted : (columns graphs : ℕ) (rows : List (List Item)) → All (All (IsAsked columns graphs)) rows → (row : List Item) → Contains rows row → Contains row Other → ⊥
+scripted columns graphs rows all row in_rows other = All-contains (IsAsked columns graphs) row Other (All-contains (All (IsAsked columns graphs)) rows row all in_rows) other
+
 -- ## Clients that are drawn
 
 drawn_are : (seed clients ops workers : ℕ) (scripted : List (List Item)) (blocks : ℕ) → clients_by (Sweep seed clients ops workers) scripted blocks ≡ drawn seed clients ops blocks
@@ -56,7 +63,7 @@ no_start : (action : Action) (comp : Option ℕ) (conf : Conf) (o : Opened) (siz
 no_start action comp conf o sizes fronts seed clients ops workers is = ap (λ (x : Action). start_by x comp conf o sizes fronts) is
 
 module _ {D : Type 0} (g : Ghosts D) (k : Asked) (o : Opened) (start : Option Start) (failed : Bool) (sizes : List ℕ) (fronts : List Front) (starts : start ≡ start_in k o sizes fronts) (views : List View)
-    (old back : List (Option D)) (within : IsWithinLimits k) (law : IsLayout (shape_of k.conf o.rows)) (units : SparesLieByUnits (shape_of k.conf o.rows)) where
+    (old back : List (Option D)) (within : IsWithinLimits k) (law : IsLayout (shape_of k.conf o.rows)) (units : SparesLieByUnits (shape_of k.conf o.rows)) (asks : run.AsksAsScripts (work_of (admitted_with k o start views))) where
   abbrev a : Admitted
   a = admitted_with k o start views
 
@@ -74,6 +81,7 @@ module _ {D : Type 0} (g : Ghosts D) (k : Asked) (o : Opened) (start : Option St
   runs_plain : (s : Service) → run.RanPlain g (work_of a) old s back → RunsPlain g a failed old back s
   runs_plain s ran = record {
     ran = ran;
+    asks = asks;
     answered = answered g (work_of a) old back s ran;
     in_turn = λ seed clients ops workers is none. swept-by-seed g (work_of a) old back s ran seed clients ops (some seed clients ops workers is) (some_blocks (layout_of a) law) (drawn_so seed clients ops workers is) none;
   }
@@ -81,6 +89,7 @@ module _ {D : Type 0} (g : Ghosts D) (k : Asked) (o : Opened) (start : Option St
   runs_labelled : (l : Label) (s : Service) → RanLabelled g (work_of a) l old s back failed → RunsLabelled g a failed old back l s
   runs_labelled l s ran = record {
     ran = ran;
+    asks = asks;
     answered = runs-answered g (opened_as (work_of a) (without start ran.begun) ran.began) ran.opened back s ran.run;
     in_turn = λ seed clients ops workers is none. labelled.by-seed g (work_of a) l old s back failed ran seed clients ops (unstarted seed clients ops workers is) (some seed clients ops workers is) (some_blocks (layout_of a) law) (drawn_so seed clients ops workers is) none;
     rebuilt = λ how done. worth g (opened_as (work_of a) (without start ran.begun) ran.began) ran.opened back s ran.run how done law units;

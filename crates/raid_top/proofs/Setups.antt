@@ -1,5 +1,5 @@
 -- What was admitted may be served.
-use Rattle.std.specs.Prelude.{◌≡◌, ◌+◌, ◌*◌, ◌<◌, ◌≤◌, ◌&&◌, ℕ, zero, suc, Bool, true, false, List, [], ◌∷◌, ◌++◌, length, map, All, Vec, Option, Some, None, Ok, nat_lt, count_by, slice_get, slice_set}
+use Rattle.std.specs.Prelude.{◌≡◌, ◌+◌, ◌*◌, ◌<◌, ◌≤◌, ◌&&◌, ℕ, zero, suc, Bool, true, false, List, [], ◌∷◌, ◌++◌, length, map, All, Vec, Option, Some, None, Ok, nat_lt, count_by, slice_get}
 use Rattle.std.specs.Option.{ForSome}
 use Rattle.std.specs.declared.alloc.Global.{Global}
 use Rattle.std.proofs.Common.{arith, refl, sym, ap, subst, inl, inr, ◌∙◌}
@@ -11,13 +11,15 @@ use Rattle.lay_core.specs.Layout.{Shape}
 use Rattle.lay_core.specs.declared.layout.Layout.{Ghosts as LayoutGhosts}
 use Rattle.eng_cols.specs.declared.column.Column.{Column}
 use Rattle.eng_cols.specs.declared.column.Column.TheVariants as column
-use Rattle.eng_cols.specs.Cols.{HasDevice, is_set_filling, is_set_spread, state_set}
-use Rattle.eng_array.specs.Fitting.{FitsRebuilding, HasAtMost}
-use Rattle.eng_array.specs.Starts.{column_of}
+use Rattle.eng_cols.specs.Cols.{Columns, Filling, HasDevice, Spread, is_set_filling, is_set_spread, none_done, state_set}
+use Rattle.eng_array.specs.Fitting.{BeginsAtMost, FitsRebuilding}
+use Rattle.eng_array.specs.Starts.{begun_by, column_of, most_of}
 use Rattle.eng_array.specs.declared.start.Start.{Start}
+use Rattle.eng_array.specs.declared.start.Start.TheVariants as start
 use Rattle.eng_cols.specs.Laws.{HaveSpares}
 use Rattle.eng_state.specs.Beginning as begin
-use Rattle.eng_events.specs.Opened.{IsSetup, NamesGraph, states_of}
+use Rattle.eng_cols.specs.Stripes.{filled_in, states_of}
+use Rattle.eng_events.specs.Opened.{IsSetup, NamesGraph}
 use Rattle.eng_log.specs.Given.{items_at, items_in}
 use Rattle.eng_parts.specs.declared.setup.Setup.{Setup}
 use Rattle.eng_world.specs.declared.item.Item.{Item}
@@ -30,7 +32,7 @@ use Rattle.top_bound.proofs.Counted.{what-fits, what-fits-rebuilt}
 use Rattle.top_bound.specs.Traced.{AreScriptAndGraphs}
 use Rattle.top_bound.proofs.Limits.{few-have-room, graphs-fit}
 use Rattle.top_bound.proofs.Patched.{asked-few, has-blocks}
-use Rattle.std.proofs.lemmas.List.{length-append}
+use Rattle.std.proofs.lemmas.List.{length-append, length-set}
 use Rattle.lay_core.specs.Layout.{blocks_in}
 use Rattle.eng_cols.specs.Lost.{NotLost}
 use Rattle.raid_conf.specs.Layouts.{shape_of}
@@ -40,7 +42,7 @@ use Rattle.top_bay.specs.Views.{IsWithinLimits}
 use Rattle.top_open.specs.Opening.{Opened}
 use Rattle.top_open.specs.declared.fronts.Front.{Front}
 use Rattle.top_duty.specs.Duty.{ComesOfJoins, admitted_with, clients_by, rebuilds_by, rebuilds_of, traces, with_dead}
-use Rattle.top_duty.specs.Fit.{IsFit, IsStart, IsStartIf}
+use Rattle.top_duty.specs.Fit.{IsFit, IsStart, IsStartIf, begun_in}
 use Rattle.top_duty.specs.Opening.{needs_of}
 use Rattle.top_duty.specs.Views.{IsReady, drawn_by, graphs_with}
 use Rattle.top_join.proofs.Fitting.{joined_count, joined_small}
@@ -49,12 +51,14 @@ use Rattle.top_duty.proofs.Drawing.{either_asked, either_few}
 use Rattle.top_duty.proofs.Fits.{fit_apart, fit_labelled, fit_there}
 use Rattle.raid_conf.proofs.TableLaws.{shape-columns}
 use Rattle.raid_label.specs.declared.label.Label.{Label}
-use Rattle.top_rounds.specs.Settable.{IsSettable}
+use Rattle.eng_cols.specs.Settable.{IsSettable}
+use Rattle.top_rounds.specs.Labels.{IsLabelFor}
 use Rattle.top_rounds.specs.Passes.{CanBeLabelled}
 use Rattle.top_labelled.specs.Given as given
+use Rattle.top_serve.specs.Setups.{columns_in}
 use Rattle.top_labelled.specs.Given.{RebuildsIf}
 use Rattle.raid_top.specs.Served.{MayLabelIf, MayServe}
-use Rattle.raid_top.proofs.Rebuilds.{is_dead, kept_as_opened, may_rebuild}
+use Rattle.raid_top.proofs.Rebuilds.{columns_before, kept_as_opened, may_rebuild}
 use Rattle.graph_text.specs.Format.{Named}
 use Rattle.graph_text.specs.FormatForm.{AreGraphs}
 
@@ -145,11 +149,11 @@ module _ {L D : Type 0} (lay : LayoutGhosts L) (disk : Ghosts D) (setup : Setup 
       let as_many : length all ≡ length setup.graphs.items = ap (λ l. length l) (sym are) ∙ length-mapped (λ g. g.drawn) setup.graphs.items in
       record {
         entries = ap (λ (l : List Column). length l) cols ∙ (fit.entries ∙ (many ∙ same));
-        filling = ap (λ (l : List Column). count_by is_set_filling l) cols ∙ fit.filling;
+        filling = subst (λ (l : List Column). count_by is_set_filling l ≤ 1) (sym cols) fit.filling;
         spread = subst (λ (l : List Column). count_by is_set_spread l ≤ 1) (sym cols) fit.spread;
         spares = subst (λ (z : Shape). HaveSpares z (states_of z setup.columns.items)) (sym shape) (subst (λ (l : List Column). HaveSpares (shape_of k.conf o.rows) (states_of (shape_of k.conf o.rows) l)) (sym cols) fit.spares);
-        there = subst (λ (z : Shape). IsThere disk setup.devices.items z setup.columns.items) (sym shape) (subst (λ (l : List Column). IsThere disk setup.devices.items (shape_of k.conf o.rows) l) (sym cols) (λ c d h. fit_there disk k o setup.devices.items fit within.conf (shape_of k.conf o.rows).stripes c d h));
-        one_column = subst (λ (z : Shape). IsApart z setup.columns.items) (sym shape) (subst (λ (l : List Column). IsApart (shape_of k.conf o.rows) l) (sym cols) (λ c e d one other. fit_apart disk k o setup.devices.items fit (shape_of k.conf o.rows).stripes c e d one other));
+        there = subst (λ (z : Shape). IsThere disk setup.devices.items z setup.columns.items) (sym shape) (subst (λ (l : List Column). IsThere disk setup.devices.items (shape_of k.conf o.rows) l) (sym cols) (λ c d h. fit_there disk k o setup.devices.items fit within.conf (shape_of k.conf o.rows) c d h));
+        one_column = subst (λ (z : Shape). IsApart z setup.columns.items) (sym shape) (subst (λ (l : List Column). IsApart (shape_of k.conf o.rows) l) (sym cols) (λ c e d one other. fit_apart disk k o setup.devices.items fit (shape_of k.conf o.rows) c e d one other));
         asked = λ c n i at. subst (λ (j : ℕ). begin.IsAsked y i × MayBeAsked y i × NamesGraph j i) as_many (may_run y columns (length all) i same (item_is columns (length all) setup.clients.items c n i asked at));
         fit = graphs-fit book views setup.graphs.items graphs small are;
       }
@@ -175,7 +179,7 @@ module _ {L D : Type 0} (lay : LayoutGhosts L) (disk : Ghosts D) (setup : Setup 
       let same : k.conf.columns ≡ y.columns = sym (shape-columns k.conf o.rows conf) ∙ sym (ap (λ (z : Shape). z.columns) shape) in
       let entries : length setup.columns.items ≡ k.conf.columns = ap (λ (l : List Column). length l) columns ∙ fit.entries in
       let names : length (names_of k.conf) ≡ k.conf.columns + k.conf.spares = length-append k.conf.disks k.conf.spare_names ∙ (ap (λ (n : ℕ). n + length k.conf.spare_names) conf.disk_count ∙ ap (λ (n : ℕ). k.conf.columns + n) conf.spare_count) in
-      let alive : NotLost (shape_of k.conf o.rows) (states_of (shape_of k.conf o.rows) o.columns) = kept_as_opened (shape_of k.conf o.rows) (needs_of k).excused o.columns ready.may.kept in
+      let alive : NotLost (shape_of k.conf o.rows) (states_of (shape_of k.conf o.rows) o.columns) = kept_as_opened (shape_of k.conf o.rows) (needs_of k).excused (states_of (shape_of k.conf o.rows) o.columns) ready.may.kept in
       record {
         opens = is_setup k.conf.columns k.book views k o same within fit refl shape columns asked within.graphs (joined_small (shape_of k.conf o.rows) k.book k.clients (length k.book) k.joins views ready.may.joins) graphs;
         few = record { clients = room.clients; items = room.items; sectors = room.sectors; devices = omega (arith, many, names, conf.columns_most, conf.spares_most) };
@@ -187,44 +191,56 @@ module _ {L D : Type 0} (lay : LayoutGhosts L) (disk : Ghosts D) (setup : Setup 
 
 -- ## A rebuild
 
-length-set : (columns : List Column) (c : ℕ) (x : Column) → length (slice_set columns c x) ≡ length columns
-length-set [] c x = refl
-length-set (y ∷ columns) zero x = refl
-length-set (y ∷ columns) (suc c) x = ap suc (length-set columns c x)
+dead_length : (e : Option ℕ) (columns : List Column) → length (with_dead e columns) ≡ length columns
+dead_length None columns = refl
+dead_length (Some c) columns = length-set columns c column.Dead
 
--- how many rebuilds there are, where the column is dead that the action names
-named_bound : (y : Shape) (columns : List Column) (s : Start) (c : ℕ) (excused : Option ℕ) (t : Bool) (n devices : ℕ) → excused ≡ Some c
-    → (t && nat_lt 1048576 (n + rebuilds_sum y devices (rebuilds_by y (with_dead excused columns) (Some s)))) ≡ false
-    → (t && nat_lt 1048576 (n + rebuilds_sum y devices (rebuilds_by y (slice_set columns c column.Dead) (Some s)))) ≡ false
-named_bound y columns s c excused t n devices named h =
-    subst (λ (e : Option ℕ). (t && nat_lt 1048576 (n + rebuilds_sum y devices (rebuilds_by y (with_dead e columns) (Some s)))) ≡ false) named h
+begun_length : (cols : Columns) (s : Start) → length (begun_by cols s) ≡ length cols.states
+begun_length cols (start.Fill c d most) = length-set cols.states c (Filling d (none_done cols.stripes))
+begun_length cols (start.Resume c most) = refl
+begun_length cols (start.Spread c) = length-set cols.states c (Spread (none_done cols.stripes))
 
-module _ {L D : Type 0} (lay : LayoutGhosts L) (disk : Ghosts D) (setup : Setup L D) where
-  -- a trace that is kept has room for the rebuild of this column
-  fits_so : (k : Asked) (o : Opened) (s : Start) (views : List View) (sizes : List ℕ) (fronts : List Front) → IsWithinLimits k → IsReady k sizes fronts o (Some s) views → IsFit disk k o setup.devices.items → IsStart disk k o setup.devices.items s
-      → lay.shape setup.layout ≡ shape_of k.conf o.rows → setup.columns.items ≡ o.columns → column_of s < length setup.columns.items
+-- as the rebuild begins with these columns, a trace that is kept has room for it
+module _ {L D : Type 0} (lay : LayoutGhosts L) (setup : Setup L D) where
+  fits_with : (k : Asked) (o : Opened) (s : Start) (views : List View) (sizes : List ℕ) (fronts : List Front) → IsWithinLimits k → IsReady k sizes fronts o (Some s) views → length o.columns ≡ k.conf.columns
+      → BeginsAtMost (shape_of k.conf o.rows) (begun_in k o s) (column_of s) (most_of s) (rebuilds_by (shape_of k.conf o.rows) (with_dead (needs_of k).excused o.columns) (Some s))
+      → lay.shape setup.layout ≡ shape_of k.conf o.rows → setup.columns.items ≡ with_dead (needs_of k).excused o.columns
       → asked_of setup.clients.items ≡ clients_by k.command.action k.clients (blocks_in (shape_of k.conf o.rows))
       → AreScriptAndGraphs k.conf.columns (graphs_with k views) setup.graphs.items setup.clients.items
       → setup.trace ≡ traces k.command.action
-      → FitsRebuilding lay (given.with_dead setup (column_of s)) (column_of s)
-  fits_so k o s views sizes fronts within ready fit h shape columns below clients script trace kept =
+      → FitsRebuilding lay setup (begun_by (columns_in lay setup) s) (column_of s) (most_of s)
+  fits_with k o s views sizes fronts within ready count few shape columns clients script trace kept =
       let y = lay.shape setup.layout in
       let z = shape_of k.conf o.rows in
-      let c = column_of s in
+      let dead = with_dead (needs_of k).excused o.columns in
       let n = length (names_of k.conf) in
       let conf = within.conf in
       let others = clients_by k.command.action k.clients (blocks_in z) in
-      let rebuilds = rebuilds_by z (slice_set o.columns c column.Dead) (Some s) in
+      let rebuilds = rebuilds_by z dead (Some s) in
       let same : k.conf.columns ≡ y.columns = sym (shape-columns k.conf o.rows conf) ∙ sym (ap (λ (x : Shape). x.columns) shape) in
-      let entries : length setup.columns.items ≡ k.conf.columns = ap (λ (l : List Column). length l) columns ∙ fit.entries in
+      let entries : length setup.columns.items ≡ k.conf.columns = ap (λ (l : List Column). length l) columns ∙ (dead_length (needs_of k).excused o.columns ∙ count) in
       let names : n ≡ k.conf.columns + k.conf.spares = length-append k.conf.disks k.conf.spare_names ∙ (ap (λ (m : ℕ). m + length k.conf.spare_names) conf.disk_count ∙ ap (λ (m : ℕ). k.conf.columns + m) conf.spare_count) in
-      let most : HasAtMost y (states_of y (slice_set setup.columns.items c column.Dead)) c rebuilds =
-      subst (λ (x : Shape). HasAtMost x (states_of x (slice_set setup.columns.items c column.Dead)) c rebuilds) (sym shape)
-      (subst (λ (l : List Column). HasAtMost z (states_of z (slice_set l c column.Dead)) c rebuilds) (sym columns) h.few) in
-      let bound = named_bound z o.columns s c (needs_of k).excused (traces k.command.action) (trace_sum z (graphs_with k views) n others) n h.named ready.may.bound in
-      what-fits-rebuilt lay (given.with_dead setup c) (graphs_with k views) n k.conf.columns c rebuilds (length-set setup.columns.items c column.Dead ∙ (entries ∙ same)) (omega (arith, same, names)) script
-      (map_at (state_set y.stripes) (slice_set setup.columns.items c column.Dead) c column.Dead (is_dead setup.columns.items c below)) most
-      (within_sum y z (graphs_with k views) n rebuilds (asked_of setup.clients.items) others (traces k.command.action) shape clients (sym trace ∙ kept) bound) kept
+      let most : BeginsAtMost y (begun_by (columns_in lay setup) s) (column_of s) (most_of s) rebuilds =
+      subst (λ (x : Shape). BeginsAtMost x (begun_by (record { states = states_of x setup.columns.items; stripes = x.stripes }) s) (column_of s) (most_of s) rebuilds) (sym shape)
+      (subst (λ (l : List Column). BeginsAtMost z (begun_by (record { states = states_of z l; stripes = z.stripes }) s) (column_of s) (most_of s) rebuilds) (sym columns) few) in
+      let long : length (begun_by (columns_in lay setup) s) ≡ y.columns = begun_length (columns_in lay setup) s ∙ (length-mapped (state_set y.stripes (filled_in y setup.columns.items)) setup.columns.items ∙ (entries ∙ same)) in
+      what-fits-rebuilt lay setup (graphs_with k views) (begun_by (columns_in lay setup) s) n k.conf.columns (column_of s) (most_of s) rebuilds (entries ∙ same) (omega (arith, same, names)) script long most
+      (within_sum y z (graphs_with k views) n rebuilds (asked_of setup.clients.items) others (traces k.command.action) shape clients (sym trace ∙ kept) ready.may.bound) kept
+
+module _ {L D : Type 0} (lay : LayoutGhosts L) (disk : Ghosts D) (setup : Setup L D) where
+  -- a trace that is kept has room for the rebuild of this column
+  fits_so : (k : Asked) (o : Opened) (s : Start) (views : List View) (sizes : List ℕ) (fronts : List Front) → IsWithinLimits k → IsReady k sizes fronts o (Some s) views → length o.columns ≡ k.conf.columns → IsStart disk k o setup.devices.items s
+      → lay.shape setup.layout ≡ shape_of k.conf o.rows → (given.before_start setup s).columns.items ≡ with_dead (needs_of k).excused o.columns
+      → asked_of setup.clients.items ≡ clients_by k.command.action k.clients (blocks_in (shape_of k.conf o.rows))
+      → AreScriptAndGraphs k.conf.columns (graphs_with k views) setup.graphs.items setup.clients.items
+      → setup.trace ≡ traces k.command.action
+      → FitsRebuilding lay (given.before_start setup s) (begun_by (columns_in lay (given.before_start setup s)) s) (column_of s) (most_of s)
+  fits_so k o (start.Fill c d most) views sizes fronts within ready count h shape columns clients script trace =
+      fits_with lay (given.with_dead setup c) k o (start.Fill c d most) views sizes fronts within ready count h.few shape columns clients script trace
+  fits_so k o (start.Resume c most) views sizes fronts within ready count h shape columns clients script trace =
+      fits_with lay setup k o (start.Resume c most) views sizes fronts within ready count h.few shape columns clients script trace
+  fits_so k o (start.Spread c) views sizes fronts within ready count h shape columns clients script trace =
+      fits_with lay (given.with_dead setup c) k o (start.Spread c) views sizes fronts within ready count h.few shape columns clients script trace
 
   -- a column that was admitted to be rebuilt may be, if one was
   pub may_rebuild_if : (k : Asked) (o : Opened) (start : Option Start) (views : List View) (sizes : List ℕ) (fronts : List Front) → IsWithinLimits k → IsReady k sizes fronts o start views → IsFit disk k o setup.devices.items → IsStartIf disk k o setup.devices.items start
@@ -243,8 +259,8 @@ module _ {L D : Type 0} (lay : LayoutGhosts L) (disk : Ghosts D) (setup : Setup 
       (subst (λ (n : ℕ). All (All (IsAsked k.conf.columns n)) k.clients) (sym (graph_count k o (Some s) views ready.may.joins)) within.asked) drawn_asked) in
       let few = subst (λ (rows : List (List Asks)). AreFew rows) (sym clients) (either_few k.command.action k.clients blocks within.few drawn_few) in
       let script : AreScriptAndGraphs k.conf.columns (graphs_with k views) setup.graphs.items setup.clients.items = record { clients = (few-have-room setup.clients.items few).clients; asked = asked; graphs_are = graphs } in
-      let below : column_of s < length setup.columns.items = subst (λ (n : ℕ). column_of s < n) (sym (ap (λ (l : List Column). length l) columns ∙ fit.entries)) h.within in
-      may_rebuild lay disk setup k o within fit columns shape s h ready.may.kept (fits_so k o s views sizes fronts within ready fit h shape columns below clients script trace)
+      may_rebuild lay disk setup k o within fit columns shape s h ready.may.kept
+      (fits_so k o s views sizes fronts within ready fit.entries h shape (columns_before lay disk setup k o within fit columns shape s h.may) clients script trace)
 
 -- ## Labels
 
@@ -255,7 +271,7 @@ module _ {L D : Type 0} (lay : LayoutGhosts L) (disk : Ghosts D) (setup : Setup 
   may_label k o start None within fit writes columns is rebuilds unlabelled = unlabelled is
   may_label k o start (Some l) within fit writes columns is rebuilds unlabelled = record {
     array = subst (λ (cols : List Column). CanBeLabelled disk cols setup.devices.items) (sym columns) (fit_labelled disk k o setup.devices.items fit within.conf);
-    held = (fit.newest l is).0;
+    held = subst (λ (cols : List Column). IsLabelFor cols l) (sym columns) (fit.newest l is).0;
     counter = (fit.newest l is).1 writes;
     rebuilds = rebuilds;
   }

@@ -1,10 +1,10 @@
 -- What is wanted is one: a duty, or one refusal.
-use Rattle.std.specs.Prelude.{◌≡◌, ℕ, Bool, true, false, List, [], ◌∷◌, length, Option, Some, None, Result, Ok, Err, if◌then◌else◌}
+use Rattle.std.specs.Prelude.{◌≡◌, ◌&&◌, ℕ, Bool, true, false, List, [], ◌∷◌, length, Option, Some, None, Result, Ok, Err, if◌then◌else◌, is_none}
 use Rattle.std.proofs.Common.{refl, sym, ap, subst, ◌∙◌}
 use Rattle.blk_disk.specs.declared.disk.Disk.{Ghosts}
-use Rattle.eng_array.specs.Starts.{column_of}
 use Rattle.eng_array.specs.declared.start.Start.{Start}
 use Rattle.eng_array.specs.declared.start.Start.TheVariants as start
+use Rattle.eng_cols.specs.declared.column.Column.{Column}
 use Rattle.eng_cols.specs.declared.spot.Loss.{Loss}
 use Rattle.eng_cols.proofs.Losing.{lost-excludes}
 use Rattle.raid_conf.specs.declared.conf.Conf.{Conf}
@@ -18,20 +18,22 @@ use Rattle.top_open.specs.Opening.{Opened}
 use Rattle.top_open.specs.declared.fronts.Front.{Front}
 use Rattle.top_status.specs.declared.status.Status.TheVariants as status
 use Rattle.top_status.specs.Refusals.{Refused, ◌then◌, only}
-use Rattle.top_words.specs.Asked.{Action, Command, Io, Sweep, Show, Init, Check, Rewrite, Print, Fail, ShowLabel, Label as Labels, Rebuild}
+use Rattle.top_words.specs.Asked.{Action, Command, Io, Sweep, Show, Init, Check, Rewrite, Print, Fail, ShowLabel, Label as Labels, Rebuild, Resume}
+use Rattle.top_duty.specs.Duty.{Admitted, ComesOfJoins, Duty, OnArray, Shows, OneLabel, PrintConf, IsWanted, WantsMemory, admitted_with, asked_of, beside_dead, columns_of, duty_by, duty_for, duty_in, first_of, if_apart, if_past, if_short, is_past_bound, is_short, judged, judged_states, layout_of, refused_beside, unless, with_joined}
 use Rattle.top_close.specs.Ended.{IsLossBy}
-use Rattle.top_duty.specs.Duty.{Admitted, ComesOfJoins, Duty, OnArray, Shows, OneLabel, PrintConf, IsWanted, WantsMemory, admitted_with, asked_of, beside_dead, duty_by, duty_for, duty_in, first_of, if_apart, if_past, is_past_bound, is_short, judged, judged_states, layout_of, unless, with_joined}
-use Rattle.top_duty.specs.Opening.{kind_of, needs_for, needs_of, opened_by, sizes_in}
-use Rattle.top_duty.specs.Start.{free_spare, has_places, onto_spare, rebuild_if, start_by, start_in}
+use Rattle.top_duty.specs.Opening.{filling_at, kind_of, needs_for, needs_of, opened_by, sizes_in}
+use Rattle.top_duty.specs.Start.{free_spare, has_places, most_by, onto_spare, rebuild_elsewhere, rebuild_further, rebuild_in_place, start_by, start_in}
+use Rattle.top_duty.specs.Views.{other_of, short_of}
 use Rattle.top_words.specs.declared.profile.Kind.{Kind}
 use Rattle.top_duty.proofs.Sized.{duty_err}
 use Rattle.top_words.specs.declared.profile.Kind.TheVariants as kind
 
--- An array is judged well: it isn't lost by the columns as the action makes them, there is somewhere to rebuild a column to that is to be, graphs are joined, and its trace has room.
+-- An array is judged well: it isn't lost by the columns as the action makes them, no other column is filling, there is somewhere to rebuild a column to that is to be, or something to go on with, graphs are joined, and its trace has room.
 record IsKept (a : Admitted) (d : Duty) : Type 0 where
   views : List View
   is : OnArray (record a { joined = views }) ≡ d
   loss : IsLossBy (layout_of a) None (judged_states a) None
+  alone : other_of a ≡ None
   found : is_short a ≡ false
   joins : ComesOfJoins a (Ok views)
   bound : is_past_bound (record a { joined = views }) ≡ false
@@ -54,24 +56,30 @@ past_or true d e r h = absurd (let z : ⊥ = cc h in z)
 past_or false d e r h = (refl, cc h)
 
 -- and if graphs are joined, or aren't
-module _ (a : Admitted) (d : Duty) (loss : IsLossBy (layout_of a) None (judged_states a) None) (found : is_short a ≡ false) where
+module _ (a : Admitted) (d : Duty) (loss : IsLossBy (layout_of a) None (judged_states a) None) (alone : other_of a ≡ None) (found : is_short a ≡ false) where
   apart_or : (joined : Result (List View) At) → ComesOfJoins a joined
       → Ok d ≡ unless (first_of (if_apart a joined ∷ if_past (with_joined a joined) ∷ [])) (OnArray (with_joined a joined)) → IsKept a d
   apart_or (Err at) comes h = absurd (let z : ⊥ = cc h in z)
   apart_or (Ok views) comes h =
       let last = past_or (is_past_bound (record a { joined = views })) d (OnArray (record a { joined = views })) (beside_dead (record a { joined = views }) (status.Script 0 8)) h in
-      record { views = views; is = last.1; loss = loss; found = found; joins = comes; bound = last.0 }
+      record { views = views; is = last.1; loss = loss; alone = alone; found = found; joins = comes; bound = last.0 }
 
--- and if there is somewhere to rebuild to, or not
-short_or : (a : Admitted) (d : Duty) (joined : Result (List View) At) → IsLossBy (layout_of a) None (judged_states a) None → (is_short a ≡ false → ComesOfJoins a joined) → (b : Bool) → is_short a ≡ b
-    → Ok d ≡ unless (first_of ((if b then Some (only status.NoSpare) else None) ∷ if_apart a joined ∷ if_past (with_joined a joined) ∷ [])) (OnArray (with_joined a joined)) → IsKept a d
-short_or a d joined loss comes true is h = absurd (let z : ⊥ = cc h in z)
-short_or a d joined loss comes false is h = apart_or a d loss is joined (comes is) h
+-- and if there is somewhere to rebuild to, or something to go on with, or not; and if another column is filling
+module _ (a : Admitted) (d : Duty) (joined : Result (List View) At) (loss : IsLossBy (layout_of a) None (judged_states a) None) where
+  short_or : other_of a ≡ None → (is_short a ≡ false → ComesOfJoins a joined) → (b : Bool) → is_short a ≡ b → (r : Refused)
+      → Ok d ≡ unless (first_of ((if b then Some r else None) ∷ if_apart a joined ∷ if_past (with_joined a joined) ∷ [])) (OnArray (with_joined a joined)) → IsKept a d
+  short_or alone comes true is r h = absurd (let z : ⊥ = cc h in z)
+  short_or alone comes false is r h = apart_or a d loss alone is joined (comes is) h
+
+  other_or : (other_of a ≡ None → is_short a ≡ false → ComesOfJoins a joined) → (other : Option ℕ) → other_of a ≡ other
+      → Ok d ≡ unless (first_of (refused_beside other ∷ if_short a ∷ if_apart a joined ∷ if_past (with_joined a joined) ∷ [])) (OnArray (with_joined a joined)) → IsKept a d
+  other_or comes None is h = short_or is (comes is) (is_short a) refl (only (short_of a)) h
+  other_or comes (Some c) is h = absurd (let z : ⊥ = cc h in z)
 
 -- and if it isn't lost
-kept_or : (a : Admitted) (d : Duty) (joined : Result (List View) At) (l : Option Loss) → IsLossBy (layout_of a) None (judged_states a) l → (l ≡ None → is_short a ≡ false → ComesOfJoins a joined)
+kept_or : (a : Admitted) (d : Duty) (joined : Result (List View) At) (l : Option Loss) → IsLossBy (layout_of a) None (judged_states a) l → (l ≡ None → other_of a ≡ None → is_short a ≡ false → ComesOfJoins a joined)
     → Ok d ≡ judged (OnArray a) l joined → IsKept a d
-kept_or a d joined None loss comes h = short_or a d joined loss (comes refl) (is_short a) refl h
+kept_or a d joined None loss comes h = other_or a d joined loss (comes refl) (other_of a) refl h
 kept_or a d joined (Some x) loss comes h = absurd (let z : ⊥ = cc h in z)
 
 made_from : (w x : Result Duty Refused) (d : Duty) → IsWanted w (Ok d) → x ≡ w → IsMade w d
@@ -129,22 +137,27 @@ module _ (a : Admitted) (d : Duty) (r : Refused) (kept : IsKept a d) where
       refused_past (is_past_bound (record a { joined = views })) (OnArray (record a { joined = views })) r (beside_dead (record a { joined = views }) (status.Script 0 8))
       (subst (λ (vs : List View). is_past_bound (record a { joined = vs }) ≡ false) same kept.bound) h
 
-  refused_short : (joined : Result (List View) At) → Ok kept.views ≡ joined → (b : Bool) → b ≡ false
-      → Err r ≡ unless (first_of ((if b then Some (only status.NoSpare) else None) ∷ if_apart a joined ∷ if_past (with_joined a joined) ∷ [])) (OnArray (with_joined a joined)) → ⊥
-  refused_short joined is true found h = cc found
-  refused_short joined is false found h = refused_apart joined is h
+  refused_short : (joined : Result (List View) At) → Ok kept.views ≡ joined → (b : Bool) → b ≡ false → (x : Refused)
+      → Err r ≡ unless (first_of ((if b then Some x else None) ∷ if_apart a joined ∷ if_past (with_joined a joined) ∷ [])) (OnArray (with_joined a joined)) → ⊥
+  refused_short joined is true found x h = cc found
+  refused_short joined is false found x h = refused_apart joined is h
 
-  refused_not : (joined : Result (List View) At) (l : Option Loss) → IsLossBy (layout_of a) None (judged_states a) l → (l ≡ None → is_short a ≡ false → ComesOfJoins a joined)
+  refused_other : (joined : Result (List View) At) → Ok kept.views ≡ joined → (other : Option ℕ) → other ≡ None
+      → Err r ≡ unless (first_of (refused_beside other ∷ if_short a ∷ if_apart a joined ∷ if_past (with_joined a joined) ∷ [])) (OnArray (with_joined a joined)) → ⊥
+  refused_other joined is (Some c) alone h = cc alone
+  refused_other joined is None alone h = refused_short joined is (is_short a) kept.found (only (short_of a)) h
+
+  refused_not : (joined : Result (List View) At) (l : Option Loss) → IsLossBy (layout_of a) None (judged_states a) l → (l ≡ None → other_of a ≡ None → is_short a ≡ false → ComesOfJoins a joined)
       → Err r ≡ judged (OnArray a) l joined → ⊥
   refused_not joined None is comes h =
-      refused_short joined
-      (one_end (layout_of a) a.asked.book a.asked.clients (length a.asked.book) a.asked.joins (Ok kept.views) joined kept.joins (comes refl kept.found))
-      (is_short a) kept.found h
+      refused_other joined
+      (one_end (layout_of a) a.asked.book a.asked.clients (length a.asked.book) a.asked.joins (Ok kept.views) joined kept.joins (comes refl kept.alone kept.found))
+      (other_of a) kept.alone h
   refused_not joined (Some loss) is comes h = lost-excludes (layout_of a) (judged_states a) loss is kept.loss
 
 not_refused : (due d : Duty) (r : Refused) (l : Option Loss) (joined : Result (List View) At) → IsJudged due d
     → ((a : Admitted) → due ≡ OnArray a → IsLossBy (layout_of a) None (judged_states a) l)
-    → ((a : Admitted) → due ≡ OnArray a → l ≡ None → is_short a ≡ false → ComesOfJoins a joined)
+    → ((a : Admitted) → due ≡ OnArray a → l ≡ None → other_of a ≡ None → is_short a ≡ false → ComesOfJoins a joined)
     → Err r ≡ judged due l joined → ⊥
 not_refused (OnArray a) d r l joined kept loss comes e = refused_not a d r kept joined l (loss a refl) (comes a refl) e
 not_refused (Shows k o) d r l joined kept loss comes e = cc e
@@ -222,35 +235,49 @@ asked_made g b command fronts d h = go (asked_in b command) refl
 
 -- ## What is rebuilt
 
--- the column that is rebuilt is the one that the action names
+-- the column that is rebuilt anew is the one that the action names; one that goes on is the one that is filling
+abbrev pub IsNamedFor : Option ℕ → List Column → Start → Type 0
+IsNamedFor excused columns (start.Fill c device most) = excused ≡ Some c
+IsNamedFor excused columns (start.Resume c most) = filling_at columns ≡ Some c
+IsNamedFor excused columns (start.Spread c) = excused ≡ Some c
+
 abbrev pub IsNamed : Duty → Type 0
-IsNamed (OnArray a) = (s : Start) → a.start ≡ Some s → (needs_of a.asked).excused ≡ Some (column_of s)
+IsNamed (OnArray a) = (s : Start) → a.start ≡ Some s → IsNamedFor (needs_of a.asked).excused (columns_of a) s
 IsNamed (Shows k o) = Unit {0}
 IsNamed (OneLabel k) = Unit {0}
 IsNamed (PrintConf k) = Unit {0}
 
-onto_named : (c : ℕ) (device : Option ℕ) (places : Bool) (s : Start) → onto_spare c device places ≡ Some s → c ≡ column_of s
-onto_named c (Some d) places s e = let same : start.Fill c d ≡ s = cc e in ap column_of same
-onto_named c None true s e = let same : start.Spread c ≡ s = cc e in ap column_of same
-onto_named c None false s e = cc e
+onto_named : (columns : List Column) (most c : ℕ) (free : Option ℕ) (places : Bool) (s : Start) → onto_spare most c free places ≡ Some s → IsNamedFor (Some c) columns s
+onto_named columns most c (Some d) places s e = let same : start.Fill c d most ≡ s = cc e in subst (IsNamedFor (Some c) columns) same refl
+onto_named columns most c None true s e = let same : start.Spread c ≡ s = cc e in subst (IsNamedFor (Some c) columns) same refl
+onto_named columns most c None false s e = absurd (let z : ⊥ = cc e in z)
 
-rebuild_named : (in_place : Bool) (conf : Conf) (o : Opened) (sizes : List ℕ) (fronts : List Front) (comp : Option ℕ) (s : Start) → rebuild_if in_place conf o sizes fronts comp ≡ Some s → comp ≡ Some (column_of s)
-rebuild_named in_place conf o sizes fronts None s e = cc e
-rebuild_named true conf o sizes fronts (Some c) s e = let same : start.Fill c c ≡ s = cc e in ap (λ (x : Start). Some (column_of x)) same
-rebuild_named false conf o sizes fronts (Some c) s e = ap (λ (n : ℕ). Some n) (onto_named c (free_spare conf o sizes fronts) (has_places conf o.columns) s e)
+elsewhere_named : (limit : Option ℕ) (conf : Conf) (o : Opened) (sizes : List ℕ) (fronts : List Front) (comp : Option ℕ) (s : Start) → rebuild_elsewhere limit conf o sizes fronts comp ≡ Some s → IsNamedFor comp o.columns s
+elsewhere_named limit conf o sizes fronts None s e = absurd (let z : ⊥ = cc e in z)
+elsewhere_named limit conf o sizes fronts (Some c) s e = onto_named o.columns (most_by limit) c (free_spare conf o sizes fronts) (is_none limit && has_places conf o.columns) s e
 
-start_named : (action : Action) (comp : Option ℕ) (conf : Conf) (o : Opened) (sizes : List ℕ) (fronts : List Front) (s : Start) → start_by action comp conf o sizes fronts ≡ Some s → (needs_for action comp).excused ≡ Some (column_of s)
-start_named (Rebuild in_place name beside workers) comp conf o sizes fronts s e = rebuild_named in_place conf o sizes fronts comp s e
-start_named (Io beside workers) comp conf o sizes fronts s e = cc e
-start_named (Sweep seed clients ops workers) comp conf o sizes fronts s e = cc e
-start_named Show comp conf o sizes fronts s e = cc e
-start_named Init comp conf o sizes fronts s e = cc e
-start_named Check comp conf o sizes fronts s e = cc e
-start_named Rewrite comp conf o sizes fronts s e = cc e
-start_named Print comp conf o sizes fronts s e = cc e
-start_named (Fail name) comp conf o sizes fronts s e = cc e
-start_named (ShowLabel name) comp conf o sizes fronts s e = cc e
-start_named (Labels serial) comp conf o sizes fronts s e = cc e
+in_place_named : (columns : List Column) (limit comp : Option ℕ) (s : Start) → rebuild_in_place limit comp ≡ Some s → IsNamedFor comp columns s
+in_place_named columns limit None s e = absurd (let z : ⊥ = cc e in z)
+in_place_named columns limit (Some c) s e = let same : start.Fill c c (most_by limit) ≡ s = cc e in subst (IsNamedFor (Some c) columns) same refl
+
+further_named : (excused : Option ℕ) (columns : List Column) (limit filling : Option ℕ) (s : Start) → filling_at columns ≡ filling → rebuild_further limit filling ≡ Some s → IsNamedFor excused columns s
+further_named excused columns limit None s is e = absurd (let z : ⊥ = cc e in z)
+further_named excused columns limit (Some c) s is e = let same : start.Resume c (most_by limit) ≡ s = cc e in subst (IsNamedFor excused columns) same is
+
+start_named : (action : Action) (comp : Option ℕ) (conf : Conf) (o : Opened) (sizes : List ℕ) (fronts : List Front) (s : Start) → start_by action comp conf o sizes fronts ≡ Some s → IsNamedFor (needs_for action comp).excused o.columns s
+start_named (Rebuild true name limit beside workers) comp conf o sizes fronts s e = in_place_named o.columns limit comp s e
+start_named (Rebuild false name limit beside workers) comp conf o sizes fronts s e = elsewhere_named limit conf o sizes fronts comp s e
+start_named (Resume limit beside workers) comp conf o sizes fronts s e = further_named None o.columns limit (filling_at o.columns) s refl e
+start_named (Io beside workers) comp conf o sizes fronts s e = absurd (let z : ⊥ = cc e in z)
+start_named (Sweep seed clients ops workers) comp conf o sizes fronts s e = absurd (let z : ⊥ = cc e in z)
+start_named Show comp conf o sizes fronts s e = absurd (let z : ⊥ = cc e in z)
+start_named Init comp conf o sizes fronts s e = absurd (let z : ⊥ = cc e in z)
+start_named Check comp conf o sizes fronts s e = absurd (let z : ⊥ = cc e in z)
+start_named Rewrite comp conf o sizes fronts s e = absurd (let z : ⊥ = cc e in z)
+start_named Print comp conf o sizes fronts s e = absurd (let z : ⊥ = cc e in z)
+start_named (Fail name) comp conf o sizes fronts s e = absurd (let z : ⊥ = cc e in z)
+start_named (ShowLabel name) comp conf o sizes fronts s e = absurd (let z : ⊥ = cc e in z)
+start_named (Labels serial) comp conf o sizes fronts s e = absurd (let z : ⊥ = cc e in z)
 
 array_named : (k : Asked) (sizes : List ℕ) (fronts : List Front) (r : Result Opened Refused) (d : Duty) → (r then λ o. Ok (OnArray (admitted_with k o (start_in k o sizes fronts) []))) ≡ Ok d → IsNamed d
 array_named k sizes fronts (Ok o) d e =

@@ -1,8 +1,12 @@
 -- What was done ends well where the array outlives it.
-use Rattle.std.specs.Prelude.{◌≡◌, ℕ, Bool, List, [], ◌∷◌, Option, Some, None}
+use Rattle.std.specs.Prelude.{◌≡◌, ℕ, Bool, true, List, [], ◌∷◌, Option, Some, None, slice_get}
 use Rattle.std.proofs.Common.{refl, sym, ap, subst, inl, inr, ◌∙◌}
 use Rattle.blk_disk.specs.declared.disk.Disk.{Ghosts}
 use Rattle.blk_disk.specs.Devices.{Changes}
+use Rattle.eng_array.specs.Starts.{column_of}
+use Rattle.eng_array.specs.declared.start.Start.{Start}
+use Rattle.eng_array.specs.declared.start.Start.TheVariants as start
+use Rattle.eng_cols.specs.Cols.{is_set_filling, passes}
 use Rattle.eng_cols.specs.declared.spot.Loss.{Loss}
 use Rattle.eng_cols.proofs.DeathLaws.{dies-more}
 use Rattle.raid_label.specs.declared.label.Label.{Label}
@@ -16,7 +20,7 @@ use Rattle.top_open.specs.declared.fronts.Front.{Front}
 use Rattle.top_run.specs.Outliving.{MayDie as MayDieOf, OutlivesCall}
 use Rattle.top_run.proofs.Outlived.{outlived}
 use Rattle.top_status.specs.Status.{status_of_loss}
-use Rattle.top_words.specs.Asked.{Action, Io, Sweep, Show, Init, Check, Rewrite, Print, Fail, ShowLabel, Label as Labels, Rebuild, Command}
+use Rattle.top_words.specs.Asked.{Action, Io, Sweep, Show, Init, Check, Rewrite, Print, Fail, ShowLabel, Label as Labels, Rebuild, Resume, Command}
 use Rattle.top_duty.specs.Duty.{Admitted, Duty, OnArray, Shows, OneLabel, PrintConf, asked_of, columns_of, layout_of}
 use Rattle.top_duty.specs.Opening.{needs_for, needs_of}
 use Rattle.top_duty.specs.Start.{has_failed}
@@ -27,8 +31,9 @@ use Rattle.raid_top.specs.Acted.{CommandEndsWell, MayEndDead, SurvivesCall}
 use Rattle.raid_top.specs.Orders.{kill_of}
 use Rattle.raid_top.specs.Outcome.{Outcome, Ran, Did, Looked, status_of, status_of_done}
 use Rattle.raid_top.specs.Works.{work_of}
+use Rattle.raid_top.proofs.Filling.{filling_passes}
 use Rattle.raid_top.proofs.Reading.{NoSector, rises_late}
-use Rattle.raid_top.proofs.Wanted.{IsNamed}
+use Rattle.raid_top.proofs.Wanted.{IsNamed, IsNamedFor}
 use Rattle.raid_top.proofs.Surviving.{check_well, checked, done_well, killed, labelled, renewed}
 
 module _ {D : Type 0} (g : Ghosts D) (command : Command) where
@@ -36,10 +41,17 @@ module _ {D : Type 0} (g : Ghosts D) (command : Command) where
   run_well lost none = subst (λ (l : Option Loss). CommandEndsWell command (status_of_loss l)) (sym none) tt
 
   module _ (a : Admitted) (failed : Bool) (taken old back : List (Option D)) (read : Changes g NoSector taken old) (survives : SurvivesCall g (OnArray a) taken back) (command_is : a.asked.command ≡ command) (named : IsNamed (OnArray a)) where
+    rebuilt_so : (c : ℕ) (s : Start) → IsNamedFor (needs_of a.asked).excused (columns_of a) s → column_of s ≡ c → MayEndDead g a taken back c
+    rebuilt_so c (start.Fill e d most) is same = inl (is ∙ ap (λ (n : ℕ). Some n) same)
+    rebuilt_so c (start.Resume e most) is same =
+        inr (inl (subst (λ (n : ℕ). passes is_set_filling (slice_get (columns_of a) n) ≡ true) same (filling_passes (columns_of a) e is)))
+    rebuilt_so c (start.Spread e) is same = inl (is ∙ ap (λ (n : ℕ). Some n) same)
+
     may_so : (c : ℕ) → MayDieOf g (work_of a) old back c → MayEndDead g a taken back c
-    may_so c (inl fail) = inr (inl fail)
-    may_so c (inr (inl rebuilt)) = inl (named rebuilt.0 rebuilt.1 ∙ ap (λ (n : ℕ). Some n) rebuilt.2)
-    may_so c (inr (inr device)) = inr (inr (device.0, device.1, rises_late g taken old back [] device.0 read device.2))
+    may_so c (inl fail) = inr (inr (inl fail))
+    may_so c (inr (inl rebuilt)) = rebuilt_so c rebuilt.0 (named rebuilt.0 rebuilt.1) rebuilt.2
+    may_so c (inr (inr (inl fills))) = inr (inl fills)
+    may_so c (inr (inr (inr device))) = inr (inr (inr (device.0, device.1, rises_late g taken old back [] device.0 read device.2)))
 
     -- whatever may die of the devices as they were read may die of those that were taken
     outlives : OutlivesCall g (work_of a) old back
@@ -84,7 +96,8 @@ module _ {D : Type 0} (g : Ghosts D) (command : Command) where
     array_well Show o same h = absurd h
     array_well Print o same h = absurd h
     array_well (ShowLabel comp) o same h = absurd h
-    array_well (Rebuild in_place comp beside workers) o same h = ran_well a.opened.newest o h
+    array_well (Rebuild in_place comp limit beside workers) o same h = ran_well a.opened.newest o h
+    array_well (Resume limit beside workers) o same h = ran_well a.opened.newest o h
 
   said_well : (old back : List (Option D)) (said : List ℕ) (o : Outcome) → Says g old back said o → CommandEndsWell command (status_of o)
   said_well old back said (Looked text) h = tt

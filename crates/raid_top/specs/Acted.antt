@@ -1,9 +1,9 @@
 -- What was done of a command on the array of a configuration, and when that ends well.
-use Rattle.std.specs.Prelude.{◌≡◌, ◌⊎◌, ℕ, List, Bool, Option, Some, Ok, Contains}
+use Rattle.std.specs.Prelude.{◌≡◌, ◌⊎◌, ℕ, List, Bool, true, Option, Some, Ok, Contains, slice_get}
 use Rattle.blk_disk.specs.Devices.{AreNamed, Changes, RisesOn}
 use Rattle.blk_disk.specs.declared.disk.Disk.{Ghosts}
 use Rattle.eng_cols.specs.declared.column.Column.{Column}
-use Rattle.eng_cols.specs.Cols.{HasDevice}
+use Rattle.eng_cols.specs.Cols.{HasDevice, is_set_filling, passes}
 use Rattle.eng_cols.specs.Deaths.{Dies}
 use Rattle.eng_cols.specs.Lost.{NotLost}
 use Rattle.raid_text.specs.Text.{Text}
@@ -13,8 +13,8 @@ use Rattle.top_status.specs.declared.status.Status.{Status}
 use Rattle.top_status.specs.declared.status.Status.TheVariants as status
 use Rattle.top_open.specs.declared.fronts.Front.{Front}
 use Rattle.top_words.specs.Asked.{Check, Command}
+use Rattle.eng_cols.specs.Stripes.{states_of}
 use Rattle.top_duty.specs.Duty.{Admitted, Duty, OnArray, Shows, OneLabel, PrintConf, IsWanted, asked_of, columns_of, duty_in, layout_of, states_in}
-use Rattle.top_close.specs.Ended.{states_of}
 use Rattle.top_duty.specs.Opening.{needs_of, reads_fronts}
 use Rattle.top_duty.specs.Taken.{Reads}
 use Rattle.top_run.specs.Outliving.{HasFail}
@@ -47,11 +47,11 @@ module _ {D : Type 0} (g : Ghosts D) (b : Told D) (command : Command) where
 
 module _ {D : Type 0} (g : Ghosts D) where
   module _ (a : Admitted) (taken back : List (Option D)) where
-    -- a column that may be dead in the end: the action names it, an item asks that it fail, or its
-    -- device's count of faults rose
+    -- a column that may be dead in the end: the action names it, it is filling by the labels, an item
+    -- asks that it fail, or its device's count of faults rose
     abbrev pub MayEndDead : ℕ → Type 0
     MayEndDead c = ((needs_of a.asked).excused ≡ Some c)
-        ⊎ (HasFail (work_of a) c ⊎ ((d : ℕ) × HasDevice (states_in a) c d × RisesOn g taken back d))
+        ⊎ ((passes is_set_filling (slice_get (columns_of a) c) ≡ true) ⊎ (HasFail (work_of a) c ⊎ ((d : ℕ) × HasDevice (states_in a) c d × RisesOn g taken back d)))
 
   -- an array that something is done to outlives the call: it isn't lost, whichever of these columns
   -- be dead

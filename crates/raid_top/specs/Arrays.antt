@@ -6,10 +6,10 @@ use Rattle.lay_core.specs.declared.layout.Layout.{Ghosts as LayoutGhosts}
 use Rattle.eng_cols.specs.declared.column.Column.{Column}
 use Rattle.eng_cols.specs.Cols.{IsFor}
 use Rattle.raid_label.specs.declared.label.Label.{Label}
-use Rattle.raid_label.specs.Bytes.{IsHeld}
 use Rattle.raid_recon.specs.Array.{IsArray}
+use Rattle.top_rounds.specs.Labels.{IsLabelFor}
 use Rattle.top_rounds.specs.Passes.{CanBeLabelled}
-use Rattle.top_rounds.specs.Settable.{IsSettable}
+use Rattle.eng_cols.specs.Settable.{IsSettable}
 use Rattle.top_acts.specs.Checked.{IsChecked}
 use Rattle.top_acts.specs.Killed.{IsKilled}
 use Rattle.top_acts.specs.Labelled.{IsFirstLabelled}
@@ -26,16 +26,16 @@ use Rattle.raid_top.specs.declared.array.Order.TheVariants as order
 abbrev pub ending_seen : declared_ending.Ending → Ending
 ending_seen e = record { columns = e.columns.items; lost = e.lost }
 
--- A label as a device holds it, whose counter has room for all rounds of a call.
-pub record HasRounds (l : Label) : Type 0 where
-  pub held : IsHeld l
+-- A label of an array of these columns, as a device holds it, whose counter has room for all rounds of a call.
+pub record HasRounds (columns : List Column) (l : Label) : Type 0 where
+  pub held : IsLabelFor columns l
   pub counter : l.counter + 200 < 2 ^ 32
 
-abbrev pub IsNewest : Option Label → Type 0
-IsNewest None = Unit {0}
-IsNewest (Some l) = HasRounds l
+abbrev pub IsNewest : List Column → Option Label → Type 0
+IsNewest columns None = Unit {0}
+IsNewest columns (Some l) = HasRounds columns l
 
--- Its columns have devices of their own, on which a label has place; none is filling and at most one spread; and what is held beside them is as large as it has to be.
+-- Its columns have devices of their own, on which a label has place; at most one is filling, and at most one is spread; and what is held beside them is as large as it has to be.
 pub record IsSoundArray {L D P : Type 0} (lay : LayoutGhosts L) (g : Ghosts D) (a : Array L P) (devices : List (Option D)) : Type 0 where
   pub columns : IsSettable (lay.shape a.layout) a.ending.columns.items
   pub labels : CanBeLabelled g a.ending.columns.items devices
@@ -46,9 +46,9 @@ module _ {D : Type 0} (g : Ghosts D) (y : Shape) (columns : List Column) where
   -- this may be done: for what goes over the stripes the devices are large enough, and labels have room for their rounds
   abbrev pub MayDo : Order → List (Option D) → Type 0
   MayDo order.Check devices = IsArray g y columns devices
-  MayDo (order.Renew kind newest) devices = IsArray g y columns devices × IsNewest newest
-  MayDo (order.Kill c l) devices = (c < length columns) × HasRounds l
-  MayDo (order.Label l) devices = IsHeld l
+  MayDo (order.Renew kind newest) devices = IsArray g y columns devices × IsNewest columns newest
+  MayDo (order.Kill c l) devices = (c < length columns) × HasRounds columns l
+  MayDo (order.Label l) devices = IsLabelFor columns l
 
   module _ (old back : List (Option D)) (act : Done) (e : Ending) where
     abbrev pub Renews : Renewal → Option Label → Type 0

@@ -33,9 +33,10 @@ use Rattle.raid_top.specs.declared.array.Order.{Order}
 module _ {D : Type 0} (g : Ghosts D) where
   -- whether the device onto which a column is rebuilt has failed before
   module _ (a : Admitted) (failed : Bool) (old back : List (Option D)) where
-    -- The clients were served over an array without labels. Where it isn't lost, each item has the reply that it ought to have, and clients that were drawn leave, and are replied, what they would one after another.
+    -- The clients were served over an array without labels. Each item is one that a script may have. Where the array isn't lost, each item has the reply that it ought to have, and clients that were drawn leave, and are replied, what they would one after another.
     pub record RunsPlain (s : Service) : Type 0 where
       pub ran : run.RanPlain g (work_of a) old s back
+      pub asks : run.AsksAsScripts (work_of a)
       pub answered : s.ending.lost ≡ None → AllAnswered g (work_of a) old back s ran.run
       pub in_turn : (seed clients ops workers : ℕ) → a.asked.command.action ≡ Sweep seed clients ops workers → s.ending.lost ≡ None
           → SweptInTurn g (work_of a) old s back (decode (layout_of a) (contents_of g old) (states_in a))
@@ -43,6 +44,7 @@ module _ {D : Type 0} (g : Ghosts D) where
     -- The same over an array whose newest label is this one, by its columns and devices as the core was opened; beside them a column is rebuilt, if one is to be, unless the device onto which that goes has failed before. Where that is done its column's units are there again.
     pub record RunsLabelled (newest : Label) (s : Service) : Type 0 where
       pub ran : RanLabelled g (work_of a) newest old s back failed
+      pub asks : run.AsksAsScripts (work_of a)
       pub answered : s.ending.lost ≡ None → AllAnswered g (opened_as (work_of a) (without a.start ran.begun) ran.began) ran.opened back s ran.run
       pub in_turn : (seed clients ops workers : ℕ) → a.asked.command.action ≡ Sweep seed clients ops workers → s.ending.lost ≡ None
           → SweptInTurn g (opened_as (work_of a) (without a.start ran.begun) ran.began) ran.opened s back ran.run.start.blocks

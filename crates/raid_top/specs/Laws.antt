@@ -16,7 +16,7 @@ use Rattle.raid_top.specs.Ends.{Answers, IsDone, IsRight}
 
 -- the exit numbers that only a call has that was refused
 abbrev pub refusing_numbers : List ℕ
-refusing_numbers = 1 ∷ 2 ∷ 3 ∷ 4 ∷ 5 ∷ 6 ∷ 9 ∷ 10 ∷ 12 ∷ 13 ∷ 70 ∷ []
+refusing_numbers = 1 ∷ 2 ∷ 3 ∷ 4 ∷ 5 ∷ 6 ∷ 9 ∷ 10 ∷ 12 ∷ 13 ∷ 14 ∷ 15 ∷ 70 ∷ []
 
 abbrev pub is_refusing : Status → Bool
 is_refusing s = list_any (λ n. n == exit_number s) refusing_numbers

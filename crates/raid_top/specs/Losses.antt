@@ -1,5 +1,5 @@
 -- Why columns are dead in the end, and by which of them the array is lost.
-use Rattle.std.specs.Prelude.{◌≡◌, ◌⊎◌, ℕ, List, [], Option, Some, None, slice_get}
+use Rattle.std.specs.Prelude.{◌≡◌, ◌⊎◌, ℕ, List, [], length, Option, Some, None, slice_get}
 use Rattle.blk_disk.specs.Devices.{RisesOn}
 use Rattle.blk_disk.specs.declared.disk.Disk.{Ghosts}
 use Rattle.lay_core.specs.declared.place.Place.{Place}
@@ -8,12 +8,14 @@ use Rattle.eng_cols.specs.declared.column.Column.{Column}
 use Rattle.eng_cols.specs.declared.column.Column.TheVariants as column
 use Rattle.eng_cols.specs.declared.spot.Loss.{Loss}
 use Rattle.eng_cols.specs.Cols.{ColumnState, HasDevice}
-use Rattle.eng_cols.specs.Deaths.{Dies}
 use Rattle.top_duty.specs.Duty.{Admitted, Duty, OnArray, Shows, OneLabel, PrintConf, columns_of, layout_of, states_in}
 use Rattle.top_duty.specs.Opening.{needs_of}
+use Rattle.top_labelled.specs.Begun.{IsAnew}
+use Rattle.top_rounds.specs.Rounds.{IsGivenUp, IsGivenUpIn}
 use Rattle.top_run.specs.Ran.{begun_in}
 use Rattle.top_run.specs.Told.{IsToldFailed, IsToldUnbuilt}
-use Rattle.top_serve.specs.Setups.{with_rebuilt}
+use Rattle.top_serve.specs.Served.{IsKeptAs}
+use Rattle.top_serve.specs.Setups.{with_start}
 use Rattle.raid_top.specs.Outcome.{Outcome, Ran, Did, Looked}
 use Rattle.raid_top.specs.Works.{work_of}
 
@@ -39,15 +41,19 @@ WasAskedToFail (Ran action s) c = IsToldFailed s c
 WasAskedToFail (Did act e) c = ⊥
 WasAskedToFail (Looked text) c = ⊥
 
--- The action names the column: to fail it; or to rebuild it, and it isn't told to be done.
+-- The action names the column: to fail it; or to rebuild it anew, and it is told neither to be done nor to be paused.
 abbrev pub WasNamed : Admitted → Outcome → ℕ → Type 0
-WasNamed a (Ran action s) c = IsToldUnbuilt s c
+WasNamed a (Ran action s) c = IsAnew a.start c × IsToldUnbuilt s c
 WasNamed a (Did act e) c = (needs_of a.asked).excused ≡ Some c
 WasNamed a (Looked text) c = ⊥
 
--- the columns as they are if none dies: as the array was opened, and one that a run rebuilds as its rebuild makes it
+-- it was filling as the array was opened, and the array is lost in the end
+abbrev pub WasGivenUp : Admitted → Outcome → ℕ → Type 0
+WasGivenUp a o c = IsGivenUp (loss_of o) (columns_of a) c
+
+-- the columns as they are kept if none dies: as the array was opened, and one that a run rebuilds as its rebuild begins
 abbrev pub columns_due : Admitted → Outcome → List Column
-columns_due a (Ran action s) = with_rebuilt a.start (columns_of a)
+columns_due a (Ran action s) = with_start a.start (columns_of a)
 columns_due a (Did act e) = columns_of a
 columns_due a (Looked text) = columns_of a
 
@@ -63,7 +69,11 @@ module _ {D : Type 0} (g : Ghosts D) (a : Admitted) (old back : List (Option D))
   HasRisen c = (d : ℕ) × HasDevice (states_due a o) c d × RisesOn g old back d
 
   abbrev pub IsCauseOfDeath : ℕ → Type 0
-  IsCauseOfDeath c = WasNamed a o c ⊎ (WasAskedToFail o c ⊎ HasRisen c)
+  IsCauseOfDeath c = WasNamed a o c ⊎ (WasAskedToFail o c ⊎ (HasRisen c ⊎ WasGivenUp a o c))
+
+  -- it is kept as what it is if none dies, or it is dead for a cause
+  abbrev pub EndsForCause : ℕ → Type 0
+  EndsForCause c = IsKeptAs (slice_get (columns_due a o) c) (slice_get (columns_in_end o) c) ⊎ ((slice_get (columns_in_end o) c ≡ Some column.Dead) × IsCauseOfDeath c)
 
 -- ## A loss
 
@@ -77,9 +87,11 @@ pub record IsLostByDead (y : Shape) (cols : List Column) (loss : Loss) : Type 0 
   pub first : IsLostOn y cols loss.stripe loss.first
   pub second : IsLostOn y cols loss.stripe loss.second
 
--- Whatever was done and however it came to a loss: in the end each column is what it is if none dies, or is dead for a cause; and both columns of a loss are dead, or spread over a dead one.
+-- Whatever was done and however it came to a loss: in the end each column is kept as what it is if none dies, or is dead for a cause; of a lost array no column is filling any more; and both columns of a loss are dead, or spread over a dead one.
 pub record DeathsHaveCauses {D : Type 0} (g : Ghosts D) (a : Admitted) (old back : List (Option D)) (o : Outcome) : Type 0 where
-  pub dies : Dies (IsCauseOfDeath g a old back o) (columns_due a o) (columns_in_end o)
+  pub count : length (columns_in_end o) ≡ length (columns_of a)
+  pub each : (c : ℕ) → EndsForCause g a old back o c
+  pub given_up : IsGivenUpIn (loss_of o) (columns_in_end o)
   pub lost : (loss : Loss) → loss_of o ≡ Some loss → IsLostByDead (layout_of a) (columns_in_end o) loss
 
 -- of an array that something was due with

@@ -13,7 +13,7 @@ use Rattle.raid_top.specs.declared.array.Order.TheVariants as order
 -- the label of an array of this configuration that was never labelled: rounds count from 1 on, and none has said that the array is clean
 abbrev pub first_label : Conf → ℕ → ℕ → Label
 first_label conf rows serial = record {
-  version = 1;
+  version = 2;
   serial = serial;
   counter = 0;
   column = 0;
@@ -27,6 +27,8 @@ first_label conf rows serial = record {
   r = (plan_of conf).r;
   lambda = (plan_of conf).lambda;
   seats = replicate 32 0;
+  filling = 0;
+  done = 0;
 }
 
 -- a column is failed where one is named and the array has labels

@@ -1,5 +1,5 @@
 -- What may be served, and what came of it.
-use Rattle.std.specs.Prelude.{◌≡◌, ◌⊎◌, ◌≤◌, ◌<◌, ◌↔◌, ℕ, Bool, List, [], length, Option, Some, None, IsSome, slice_get}
+use Rattle.std.specs.Prelude.{◌≡◌, ◌⊎◌, ◌≤◌, ◌<◌, ◌↔◌, ℕ, Bool, List, [], length, Option, Some, None, IsSome, count_by, slice_get}
 use Rattle.blk_disk.specs.Devices.{device_at}
 use Rattle.blk_disk.specs.declared.disk.Disk.{Ghosts}
 use Rattle.lay_core.specs.Layout.{Shape}
@@ -7,13 +7,14 @@ use Rattle.lay_core.specs.declared.layout.Layout.{Ghosts as LayoutGhosts}
 use Rattle.eng_array.specs.Fitting.{FitsTrace}
 use Rattle.eng_array.specs.declared.start.Start.{Start}
 use Rattle.eng_cols.specs.declared.column.Column.{Column}
+use Rattle.eng_cols.specs.Cols.{is_set_filling}
 use Rattle.eng_events.specs.Opened.{IsSetup}
 use Rattle.eng_parts.specs.declared.setup.Setup.{Setup}
 use Rattle.raid_label.specs.declared.label.Label.{Label}
-use Rattle.raid_label.specs.Bytes.{IsHeld}
 use Rattle.top_acts.specs.declared.done.Done.TheVariants as done
 use Rattle.top_labelled.specs.Given.{RebuildsIf}
 use Rattle.top_labelled.specs.Ran.{IsLostBefore, RanLabelled}
+use Rattle.top_rounds.specs.Labels.{IsLabelFor}
 use Rattle.top_rounds.specs.Passes.{CanBeLabelled}
 use Rattle.top_run.specs.Ran as run
 use Rattle.top_run.specs.Work.{Work}
@@ -45,7 +46,7 @@ pub record MayServe {L D : Type 0} (lay : LayoutGhosts L) (disk : Ghosts D) (set
 -- Its devices can be labelled, the newest label leaves room for rounds, and a column may be rebuilt so, if one is.
 pub record MayLabel {L D : Type 0} (lay : LayoutGhosts L) (disk : Ghosts D) (setup : Setup L D) (start : Option Start) (newest : Label) : Type 0 where
   pub array : CanBeLabelled disk setup.columns.items setup.devices.items
-  pub held : IsHeld newest
+  pub held : IsLabelFor setup.columns.items newest
   pub counter : newest.counter ≤ 4294901760
   pub rebuilds : RebuildsIf lay disk setup start
 
@@ -53,6 +54,11 @@ pub record MayLabel {L D : Type 0} (lay : LayoutGhosts L) (disk : Ghosts D) (set
 abbrev pub MayLabelIf : {L D : Type 0} → LayoutGhosts L → Ghosts D → Setup L D → Option Start → Option Label → Type 0
 MayLabelIf lay disk setup start None = start ≡ None
 MayLabelIf lay disk setup start (Some newest) = MayLabel lay disk setup start newest
+
+-- and none is filling
+abbrev pub AreUnfilledIf : Option Label → List Column → Type 0
+AreUnfilledIf None columns = count_by is_set_filling columns ≡ 0
+AreUnfilledIf (Some newest) columns = Unit {0}
 
 -- What came of it, over the devices as they were and as they are in the end: it was served.
 abbrev pub ComesPlain : {D : Type 0} → Ghosts D → Work → (old back : List (Option D)) → Came → Type 0

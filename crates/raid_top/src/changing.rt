@@ -1,7 +1,7 @@
 //! An array that was admitted is changed without a core.
 ghost use Rattle.std.specs.Prelude.{◌≤◌, ◌*◌};
 ghost use Rattle.eng_cols.specs.Cols.{IsFor};
-ghost use Rattle.top_rounds.specs.Settable.{IsSettable};
+ghost use Rattle.eng_cols.specs.Settable.{IsSettable};
 ghost use Rattle.raid_conf.specs.Layouts.{shape_in};
 ghost use Rattle.top_rounds.specs.Passes.{CanBeLabelled};
 ghost use Rattle.raid_top.specs.Arrays.{MayDo};

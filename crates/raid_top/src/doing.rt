@@ -18,7 +18,7 @@ fn rewrite<L: Layout, D: Disk, P: Progress>(
 ) -> Done
     requires sound { IsSoundArray L.Layout D.Disk array.old devices.old }
     requires large { IsArray D.Disk (L.shape array.old.layout) array.old.ending.columns.items devices.old }
-    requires newest { IsNewest newest }
+    requires newest { IsNewest array.old.ending.columns.items newest }
     ensures { Renews D.Disk (L.shape array.old.layout) array.old.ending.columns.items devices.old
         devices.new result (ending_seen array.new.ending) kind newest }
 {

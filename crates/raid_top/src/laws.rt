@@ -10,7 +10,7 @@ ghost use Rattle.raid_top.specs.Bays.{told_of};
 use blk_disk::Disk;
 use raid_bay::{Bay, Sink};
 
-/// What is refused changes nothing: behind a call with exit number 1 to 6, 9, 10, 12, 13 or 70, or
+/// What is refused changes nothing: behind a call with exit number 1 to 6, 9, 10, 12 to 15 or 70, or
 /// with 7 in its place, each component is back, and every sector of it is as it was.
 pub fn what_is_refused_changes_nothing<B: Bay, K: Sink>()
     ensures { (old new : B) (out_old out_new : K) (words : List (List ℕ)) (answer : Status)

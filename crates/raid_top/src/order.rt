@@ -18,7 +18,7 @@ fn first_label(conf: &Conf, rows: u32, serial: u32) -> Label
 {
     let plan = plan_of(conf);
     Label {
-        version: 1,
+        version: 2,
         serial,
         counter: 0,
         column: 0,
@@ -32,6 +32,8 @@ fn first_label(conf: &Conf, rows: u32, serial: u32) -> Label
         r: plan.r,
         lambda: plan.lambda,
         seats: [0; 32],
+        filling: 0,
+        done: 0,
     }
 }
 

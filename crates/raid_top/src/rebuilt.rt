@@ -7,7 +7,7 @@ ghost use Rattle.raid_top.specs.Rebuilt.{end_text, place_text, rebuild_line, reb
 use blk_disk::Failed;
 use put_line::Line;
 use raid_bay::Sink;
-use top_run::Line as Told;
+use top_run::{Line as Rebuild, Told};
 
 // Where its units went.
 #[tactic(auto, unfolding(crate::specs::Rebuilt::place_text))]
@@ -26,41 +26,46 @@ fn push_place(line: &mut Line, device: Option<u32>)
 }
 
 #[tactic(auto, unfolding(crate::specs::Rebuilt::end_text))]
-fn push_end(line: &mut Line, done: Option<u32>)
+fn push_end(line: &mut Line, told: Told)
     requires { length line.old ≤ 200 }
-    ensures { line.new ≡ line.old ++ end_text done }
+    ensures { line.new ≡ line.old ++ end_text told }
 {
-    match done {
-        Some(count) => {
+    match told {
+        Told::Done(count) => {
             line.push(b" done ");
             line.push_number(count);
             line.push(b"\n");
         }
-        None => line.push(b" stopped\n"),
+        Told::Paused(count) => {
+            line.push(b" paused ");
+            line.push_number(count);
+            line.push(b"\n");
+        }
+        Told::Stopped => line.push(b" stopped\n"),
     }
 }
 
 #[tactic(auto, unfolding(crate::specs::Rebuilt::rebuild_line))]
-fn set_rebuilt(line: &mut Line, told: Told)
-    ensures { line.new ≡ rebuild_line told }
+fn set_rebuilt(line: &mut Line, rebuild: Rebuild)
+    ensures { line.new ≡ rebuild_line rebuild }
 {
     line.clear();
     line.push(b"reconstruct column ");
-    line.push_number(told.column);
-    push_place(line, told.device);
-    push_end(line, told.done);
+    line.push_number(rebuild.column);
+    push_place(line, rebuild.device);
+    push_end(line, rebuild.told);
 }
 
 /// Prints the line of a rebuild, if there was one, by one call of the sink.
-pub(crate) fn put_rebuilt<K: Sink>(told: Option<Told>, out: &mut K) -> Result<(), Failed>
-    ensures output { K.tells → Puts (is_ok result) (K.output out.old) (rebuild_text told) (K.output out.new) }
+pub(crate) fn put_rebuilt<K: Sink>(rebuild: Option<Rebuild>, out: &mut K) -> Result<(), Failed>
+    ensures output { K.tells → Puts (is_ok result) (K.output out.old) (rebuild_text rebuild) (K.output out.new) }
     ensures later { K.faults out.old ≤ K.faults out.new }
     ensures cause { OnErr result (Rose (K.faults out.old) (K.faults out.new)) }
 {
-    match told {
-        Some(told) => {
+    match rebuild {
+        Some(rebuild) => {
             let mut line = Line::new();
-            set_rebuilt(&mut line, told);
+            set_rebuilt(&mut line, rebuild);
             line.put(out)
         }
         None => Ok(()),

@@ -1,10 +1,10 @@
 //! Clients are served.
-ghost use Rattle.std.specs.Prelude.{◌≡◌, ◌≤◌, ◌*◌, IfOk, IfErr, OnErr};
-ghost use Rattle.eng_cols.specs.Cols.{IsFor};
+ghost use Rattle.std.specs.Prelude.{◌≡◌, ◌≤◌, ◌*◌, IfOk, IfErr, OnErr, count_by};
+ghost use Rattle.eng_cols.specs.Cols.{IsFor, is_set_filling};
 ghost use Rattle.top_run.specs.Works.{work_of};
 ghost use Rattle.top_serve.specs.Setups.{shape_in};
 ghost use Rattle.top_status.specs.Dead.{dead_columns};
-ghost use Rattle.raid_top.specs.Served.{CameOf, ComesLabelled, ComesPlain, MayLabel, MayLabelIf, MayServe};
+ghost use Rattle.raid_top.specs.Served.{AreUnfilledIf, CameOf, ComesLabelled, ComesPlain, MayLabel, MayLabelIf, MayServe};
 ghost use Rattle.raid_top.specs.Views.{CanBePrinted, came_from};
 
 use crate::came::Came;
@@ -47,6 +47,7 @@ fn run_plain<
 >(rt: &R, alloc: Global, setup: Setup<L, D>, workers: u32, progress: &P) -> Served<D>
     requires workers { workers ≤ 16 }
     requires may { MayServe L.Layout D.Disk setup }
+    requires filling { count_by is_set_filling setup.columns.items ≡ 0 }
     ensures came { IfOk result.came (ComesPlain D.Disk (work_of L.Layout setup None)
         setup.devices.items result.devices.items) }
     ensures printed { IfOk result.came CanBePrinted }
@@ -115,6 +116,7 @@ pub(crate) fn serve<D: Disk + Drop + Send, R: Threads + Wait + Sync, P: Progress
     requires workers { workers ≤ 16 }
     requires may { MayServe ⟦<AnyLayout as Layout>⟧ D.Disk work.setup }
     requires label { MayLabelIf ⟦<AnyLayout as Layout>⟧ D.Disk work.setup work.start work.newest }
+    requires filling { AreUnfilledIf work.newest work.setup.columns.items }
     requires judge { IsFor (shape_in ⟦<AnyLayout as Layout>⟧ work.setup) work.judge }
     requires room { 1024 * (shape_in ⟦<AnyLayout as Layout>⟧ work.setup).unit_sectors ≤ work.room }
     ensures came { IfOk result.came (CameOf D.Disk (work_of ⟦<AnyLayout as Layout>⟧ work.setup work.start) work.newest work.failed

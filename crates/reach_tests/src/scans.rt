@@ -104,6 +104,8 @@ fn sector_of(mark: Mark) -> [u8; SECTOR] {
             r: 0,
             lambda: 0,
             seats: [0; 32],
+            filling: 0,
+            done: 0,
         };
         write_label(&label, &mut sector);
     }

@@ -19,6 +19,7 @@ mod levels;
 mod progress;
 mod rebuilds;
 mod refused;
+mod resumed;
 mod rows;
 mod scans;
 mod several;
@@ -51,6 +52,8 @@ enum Step {
     Copy(&'static str, &'static str),
     /// Its sector of this number is filled with this byte.
     Spoil(&'static str, u16, u8),
+    /// Its byte of this number is replaced by this one.
+    Put(&'static str, u16, u8),
     /// The bay has it no more.
     Lose(&'static str),
 }
@@ -267,6 +270,21 @@ fn spoil(
     replace(alloc, bay, name, bytes)
 }
 
+fn put(
+    alloc: Global,
+    bay: &mut MemBay<MemDisk>,
+    name: &str,
+    place: u16,
+    byte: u8,
+) -> Result<(), Fail> {
+    let mut bytes = found(bay, name)?.bytes().to_vec(alloc)?;
+    match bytes.iter_mut().nth(usize::from(place)) {
+        Some(old) => *old = byte,
+        None => return Err("no such byte".into()),
+    }
+    replace(alloc, bay, name, bytes)
+}
+
 // Does what a step says, and looks at what comes of it.
 fn act_out<R: Abort + Threads + Wait + Sync>(
     rt: &R,
@@ -296,6 +314,7 @@ fn act_out<R: Abort + Threads + Wait + Sync>(
         Step::Resize(name, sectors) => resize(alloc, bay, name, sectors)?,
         Step::Copy(from, to) => copy(alloc, bay, from, to)?,
         Step::Spoil(name, sector, byte) => spoil(alloc, bay, name, sector, byte)?,
+        Step::Put(name, place, byte) => put(alloc, bay, name, place, byte)?,
         Step::Lose(name) => lose(alloc, bay, name)?,
     }
     Ok(())

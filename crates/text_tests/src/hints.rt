@@ -40,17 +40,17 @@ fn each_refused_word_is_named(rt: HostRuntime) -> Result<(), Fail> {
     let unformed = format!(in alloc;
         "raidctl: the words can't be taken apart: an option twice or without its value, a word too many, one that isn't UTF-8, or no CONF\n{HELP}"
     )?;
-    let rows: [(&[&str], u8, &str); 11] = [
+    let rows: [(&[&str], u8, &str); 12] = [
         (&["CONF", "-f"], 0, unformed.as_str()),
         (
             &["CONF"],
             1,
-            "raidctl: no action: one of --io, --sweep, --scan, --sim and the letters is wanted; see raidctl --help\n",
+            "raidctl: no action: one of --io, --sweep, --resume, --scan, --sim and the letters is wanted; see raidctl --help\n",
         ),
         (
             &["CONF", "-s", "-p"],
             1,
-            "raidctl: more than one action: only --io goes beside another, -F or -R\n",
+            "raidctl: more than one action: only --io goes beside another: -F, -R or --resume\n",
         ),
         (
             &["CONF", "-s", "--trace"],
@@ -60,7 +60,12 @@ fn each_refused_word_is_named(rt: HostRuntime) -> Result<(), Fail> {
         (
             &["CONF", "-i", "-w", "2"],
             2,
-            "raidctl: -w needs --io, --sweep, -F or -R\n",
+            "raidctl: -w needs --io, --sweep, -F, -R or --resume\n",
+        ),
+        (
+            &["CONF", "--io", "S", "--limit", "3"],
+            2,
+            "raidctl: --limit needs -F, -R or --resume\n",
         ),
         (
             &["CONF", "--sweep", "1"],
@@ -105,19 +110,21 @@ fn an_option_that_there_isnt_is_named(rt: HostRuntime) -> Result<(), Fail> {
     let unformed = format!(in alloc;
         "raidctl: the words can't be taken apart: an option twice or without its value, a word too many, one that isn't UTF-8, or no CONF\n{HELP}"
     )?;
-    let rows: [(&[&str], &str); 14] = [
+    let rows: [(&[&str], &str); 16] = [
         (&["-v", "-i", "CONF"], "-v"),
         (&["CONF", "-B"], "-B"),
         (&["CONF", "--copyback", "-S"], "--copyback"),
         (&["CONF", "--ops=3", "--ioo=S"], "--ioo=S"),
         (&["CONF", "--i", "S"], "--i"),
         (&["CONF", "-f", "-d1"], "-d1"),
+        (&["CONF", "--resume", "--limits", "3"], "--limits"),
         (&[], ""),
         (&["--io", "S", "--graphs", "G", "--trace", "-w", "4"], ""),
         (&["--sweep", "1", "--clients", "2", "--ops", "3"], ""),
         (&["-s", "-i", "-p", "-P", "-G", "-f", "d0", "-g", "d1"], ""),
         (&["-I", "7", "-F", "d2", "-R", "d3"], ""),
         (&["--scan", "--sim", "fifo"], ""),
+        (&["--resume", "--limit", "3"], ""),
         (&["CONF", "--", "-S"], ""),
         (&["CONF", "-", "-sS"], ""),
     ];
@@ -244,6 +251,14 @@ fn rows(alloc: Global) -> Result<Vec<(Status, &'static str)>, Fail> {
         (
             Status::NoSpare,
             "raidctl: no free spare (each is used, failed or small: see -s); -f fails the column alone, -R rebuilds it on its own disk\n"
+        ),
+        (
+            Status::NoRebuild,
+            "raidctl: no column is being rebuilt (see -s): there is nothing to resume; -F or -R begins a rebuild\n"
+        ),
+        (
+            Status::Rebuilding(2),
+            "raidctl: column 2 is being rebuilt: --resume goes on with it, before another can be begun\n"
         ),
         (
             Status::LongText(Name::new(alloc, "big")?),

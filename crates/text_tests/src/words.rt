@@ -68,7 +68,7 @@ fn rebuilds_that_are_refused(rt: HostRuntime) -> Result<(), Fail> {
 
 #[test]
 fn letters_that_are_refused(rt: HostRuntime) -> Result<(), Fail> {
-    let rows: [(&[&str], u8); 8] = [
+    let rows: [(&[&str], u8); 12] = [
         (&["CONF", "-s", "-s"], 0),
         (&["CONF", "-f"], 0),
         (&["CONF", "-s", "-p"], 1),
@@ -77,6 +77,10 @@ fn letters_that_are_refused(rt: HostRuntime) -> Result<(), Fail> {
         (&["CONF", "-i", "-w", "17"], 2),
         (&["CONF", "-I", "one"], 3),
         (&["CONF", "-I", "4294967296"], 3),
+        (&["CONF", "--resume", "-F", "d0"], 1),
+        (&["CONF", "--io", "S", "--limit", "1"], 2),
+        (&["CONF", "--resume", "--limit", "0"], 3),
+        (&["CONF", "-F", "d0", "--limit", "4294967296"], 3),
     ];
     see(&rt, rt.alloc(), &rows)
 }
@@ -130,6 +134,7 @@ fn see_rebuild_beside(rt: &impl Abort, action: Action<'_>) -> Result<(), Fail> {
     let Action::Rebuild {
         in_place: false,
         comp,
+        limit: Some(7),
         beside: Some(beside),
         workers: 2,
     } = action
@@ -147,6 +152,7 @@ fn see_rebuild_alone(rt: &impl Abort, action: Action<'_>) -> Result<(), Fail> {
     let Action::Rebuild {
         in_place: true,
         comp,
+        limit: None,
         beside: None,
         workers: 4,
     } = action
@@ -157,15 +163,32 @@ fn see_rebuild_alone(rt: &impl Abort, action: Action<'_>) -> Result<(), Fail> {
     Ok(())
 }
 
+// One that was paused goes on, by itself.
+fn see_resume(action: Action<'_>) -> Result<(), Fail> {
+    let Action::Resume {
+        limit: Some(4_294_967_295),
+        beside: None,
+        workers: 4,
+    } = action
+    else {
+        return Err("another action".into());
+    };
+    Ok(())
+}
+
 #[test]
 fn rebuilds_that_are_commands(rt: HostRuntime) -> Result<(), Fail> {
     let words = names(
         rt.alloc(),
-        &["C", "--io", "S", "-F", "d1", "--trace", "-w", "2"],
+        &[
+            "C", "--io", "S", "-F", "d1", "--trace", "-w", "2", "--limit", "7",
+        ],
     )?;
     see_rebuild_beside(&rt, command(rt.alloc(), words.as_slice())?.action)?;
     let words = names(rt.alloc(), &["C", "-R", "d1"])?;
-    see_rebuild_alone(&rt, command(rt.alloc(), words.as_slice())?.action)
+    see_rebuild_alone(&rt, command(rt.alloc(), words.as_slice())?.action)?;
+    let words = names(rt.alloc(), &["C", "--limit", "4294967295", "--resume"])?;
+    see_resume(command(rt.alloc(), words.as_slice())?.action)
 }
 
 // A script runs.

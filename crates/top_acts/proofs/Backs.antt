@@ -1,7 +1,7 @@
 -- Columns of which some died: what those of the end have, those of before had.
 use Rattle.std.proofs.Common.{◌≡◌, ◌⊎◌, ℕ, List, Bool, Option, Some, None, inl, inr, subst, arith}
 use Rattle.std.proofs.lemmas.Bool.{cases_Bool, cases_eq}
-use Rattle.std.specs.Prelude.{◌<◌, suc, zero, slice_get, true, false}
+use Rattle.std.specs.Prelude.{◌<◌, ◌≤◌, suc, zero, count_by, slice_get, true, false}
 use Rattle.blk_disk.specs.declared.disk.Disk.{Ghosts}
 use Rattle.blk_disk.specs.Devices.{Changes}
 use Rattle.blk_disk.proofs.DeviceLaws.{changes_size}
@@ -9,10 +9,13 @@ use Rattle.lay_core.specs.declared.place.Place.{Place}
 use Rattle.lay_core.specs.Layout.{Shape}
 use Rattle.eng_cols.specs.declared.column.Column.{Column}
 use Rattle.eng_cols.specs.declared.spot.Spot.{Spot}
-use Rattle.eng_cols.specs.Cols.{ColumnState, Live, Dead, Filling, Spread, HasDevice}
+use Rattle.eng_cols.specs.Cols.{ColumnState, Live, Dead, Filling, Spread, HasDevice, is_set_filling}
 use Rattle.eng_cols.specs.Deaths.{Dies}
 use Rattle.eng_cols.specs.Seats.{is_available, open_on, spare_open, seat_on, seat}
-use Rattle.raid_recon.specs.Array.{states_of, IsArray, IsComplete, Lacks}
+use Rattle.eng_cols.specs.Fewer.{DieApart}
+use Rattle.eng_cols.specs.Stripes.{states_of}
+use Rattle.eng_cols.proofs.Lists.{count_at_most}
+use Rattle.raid_recon.specs.Array.{IsArray, IsComplete, Lacks}
 use Rattle.raid_recon.proofs.Backs.{Back}
 use Rattle.top_close.specs.Dying.{OnlyDie}
 use Rattle.top_close.proofs.DyingLaws.{columns_die, unit_back}
@@ -73,13 +76,13 @@ module _ (y : Shape) (old new : List ColumnState) (die : OnlyDie old new) where
   }
 
 -- whatever they died of
-pub died : (cause : ℕ → Type 0) (y : Shape) (columns after : List Column) → Dies cause columns after → Back y (states_of y after) (states_of y columns)
-died cause y columns after dies = back y (states_of y columns) (states_of y after) (columns_die cause y columns after dies)
+pub died : (cause : ℕ → Type 0) (y : Shape) (columns after : List Column) → Dies cause columns after → DieApart columns after → count_by is_set_filling columns ≤ 1 → Back y (states_of y after) (states_of y columns)
+died cause y columns after dies apart few = back y (states_of y columns) (states_of y after) (columns_die cause y columns after dies apart (count_at_most is_set_filling columns few))
 
 -- and they are an array still
-pub array_after : {D : Type 0} (g : Ghosts D) (y : Shape) (cause : ℕ → Type 0) (may : ℕ → ℕ → Type 0) (columns after : List Column) (old new : List (Option D)) → Dies cause columns after → Changes g may old new → IsArray g y columns old → IsArray g y after new
-array_after g y cause may columns after old new dies changes array =
-    let b = died cause y columns after dies in
+pub array_after : {D : Type 0} (g : Ghosts D) (y : Shape) (cause : ℕ → Type 0) (may : ℕ → ℕ → Type 0) (columns after : List Column) (old new : List (Option D)) → Dies cause columns after → DieApart columns after → count_by is_set_filling columns ≤ 1 → Changes g may old new → IsArray g y columns old → IsArray g y after new
+array_after g y cause may columns after old new dies apart few changes array =
+    let b = died cause y columns after dies apart few in
     record {
       entries = omega (arith, dies.count, array.entries);
       order = b.order array.order;

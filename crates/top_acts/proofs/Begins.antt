@@ -9,24 +9,25 @@ use Rattle.lay_core.specs.Layout.{Shape, IsLayout}
 use Rattle.eng_cols.specs.declared.column.Column.{Column}
 use Rattle.eng_cols.specs.declared.spot.Loss.{Loss}
 use Rattle.eng_cols.specs.Cols.{InOrder, is_set_filling}
+use Rattle.eng_cols.specs.Deaths.{Dies}
 use Rattle.raid_label.specs.declared.label.Label.{Label}
 use Rattle.raid_recon.specs.declared.kind.Sweep.{Sweep}
-use Rattle.raid_recon.specs.Array.{states_of}
+use Rattle.eng_cols.specs.Stripes.{states_of}
 use Rattle.raid_recon.specs.Ends.{MayRewrite}
 use Rattle.top_rounds.specs.Calls.{IsLabelWrite}
-use Rattle.top_rounds.specs.Labels.{with_round}
+use Rattle.top_rounds.specs.Labels.{seating_in, with_round}
 use Rattle.top_rounds.specs.Passes.{IsFirstInUse}
+use Rattle.top_rounds.specs.Rounds.{AreRounds, DiesIn, HaveRounds, IsGivenUpIn, clean_in_end}
 use Rattle.top_close.specs.Settled.{LosesDevice}
-use Rattle.top_rounds.specs.Rounds.{AreRounds, HaveRounds, clean_in_end}
 use Rattle.top_rounds.proofs.PassLaws.{live_before}
 use Rattle.top_rounds.proofs.RoundLaws.{round_again}
-use Rattle.top_acts.specs.Begun.{AreLast, HasBegun, HasSwept, MayBegin, MaySweep, SweepHas}
+use Rattle.top_acts.specs.Begun.{AreLast, HasBegun, HasSeats, HasSwept, MayBegin, MaySweep, SweepHas}
 use Rattle.top_acts.specs.Sweeping.{DoesSweep, SweepsLabelled}
 use Rattle.top_acts.proofs.Backs.{died}
 use Rattle.top_acts.proofs.Counted.{counted_rounds}
-use Rattle.top_acts.proofs.Ended.{clean_none, no_loss}
+use Rattle.top_acts.proofs.Ended.{clean_none, no_loss, rounds_of}
 use Rattle.top_acts.proofs.Later.{Quiet, may_was, swept_first, swept_later, sync_later}
-use Rattle.top_acts.proofs.Named.{loses_of, named-as, named-counted, named-few, named-none, named-then}
+use Rattle.top_acts.proofs.Named.{apart_in, loses_of, named-as, named-counted, named-few, named-none, named-then, only_lose}
 use Rattle.top_acts.proofs.Seated.{seats-kept, seats-then, seats_of_rounds}
 use Rattle.top_acts.proofs.Uncalled.{told-others, told-then, told-units}
 use Rattle.top_acts.proofs.Staged.{AreNone, more-writes, staged-as, staged-behind, staged-first, staged-labels, staged-sweep}
@@ -52,46 +53,48 @@ module _ {D : Type 0} (g : Ghosts D) (y : Shape) where
   ]
 
   -- behind which the array isn't lost
-  pub sweeps_kept : (kind : Sweep) (label : Label) (columns after : List Column) (old new : List (Option D)) (lost : Option Loss) (n : ℕ) → y.checks ≤ 1 → count_by is_set_filling columns ≡ 0 → lost ≡ None → DoesSweep g kind y columns after old new n
+  pub sweeps_kept : (kind : Sweep) (label : Label) (columns after : List Column) (old new : List (Option D)) (lost : Option Loss) (n : ℕ) → y.checks ≤ 1 → lost ≡ None → DoesSweep g kind y columns after old new n
       → SweepsLabelled g kind y label label columns after old new lost n
-  sweeps_kept kind label columns after old new lost n most none kept s = record {
+  sweeps_kept kind label columns after old new lost n most kept s = record {
     rounds = 0;
     few = omega arith;
     none = λ e. refl;
-    named = named-none g label columns after old new (loses_of g y columns after old new none s.dies);
-    label_is = ap (λ o. with_round label label.counter (clean_in_end o label.clean) label.seats) (sym kept);
-    seated = inl refl;
+    named = named-none g lost label columns after old new (loses_of g y lost columns after old new s.dies);
+    label_is = ap (λ o. with_round label label.counter (clean_in_end o label.clean) (seating_in label)) (sym kept);
+    seated = inl (kept, refl);
+    given_up = subst (λ o. IsGivenUpIn o after) (sym kept) tt;
     held = λ c d live was told. changes_sector g (MayRewrite g kind y columns old) old new d 0 s.frame told (λ m. omega (arith, m.sector.sector)) ∙ was told;
     frame = changes-more g (MaySweep g (Some kind) y columns old) (MayBegin g (Some kind) y columns old) old new (λ d m h. inr h) (sweep_frame kind columns after old new n most s);
     told = λ d. staged-as AreNone AreNone (AreLast lost) (Some kind) y (states_of y columns) d (calls_of g old d) (calls_of g new d) (λ calls h. subst (λ o. AreLast o calls) (sym kept) h)
         (staged-sweep kind y (states_of y columns) d (calls_of g old d) (calls_of g new d) (s.calls d));
-    uncalled = told-units g y columns old new none s.calls;
+    uncalled = told-units g y columns old new s.calls;
     swept = swept_now kind columns after old new n s;
   }
 
   -- by which it is lost, and which has one round behind it
-  pub sweeps_lost : (kind : Sweep) (label next : Label) (columns mid after : List Column) (old dev new : List (Option D)) (lost : Option Loss) (n : ℕ) → y.checks ≤ 1 → count_by is_set_filling columns ≡ 0 → is_some lost ≡ true → DoesSweep g kind y columns mid old dev n
-      → next ≡ with_round label next.counter 0 next.seats → HaveRounds g lost label next mid after dev new → SweepsLabelled g kind y label next columns after old new lost n
-  sweeps_lost kind label next columns mid after old dev new None n most none some s is h = no_loss some
-  sweeps_lost kind label next columns mid after old dev new (Some loss) n most none some s is h =
+  pub sweeps_lost : (kind : Sweep) (label next : Label) (columns mid after : List Column) (old dev new : List (Option D)) (lost : Option Loss) (n : ℕ) → y.checks ≤ 1 → count_by is_set_filling mid ≤ 1 → is_some lost ≡ true → DoesSweep g kind y columns mid old dev n
+      → next ≡ with_round label next.counter 0 (seating_in next) → HaveRounds g lost label next mid after dev new → SweepsLabelled g kind y label next columns after old new lost n
+  sweeps_lost kind label next columns mid after old dev new None n most few some s is h = no_loss some
+  sweeps_lost kind label next columns mid after old dev new (Some loss) n most few some s is h =
       let r = h.1 in
-      let last = counted_rounds g label next mid h.0 after dev new r in
-      let dies = loses_of g y columns mid old dev none s.dies in
+      let last = counted_rounds g (Some loss) label next mid h.0 after dev new r in
+      let dies = loses_of g y None columns mid old dev s.dies in
       record {
         rounds = 1;
         few = omega arith;
         none = λ e. no_none e;
-        named = named-then g 0 1 label label next columns mid after old dev new (MayRewrite g kind y columns old) (IsFirstInUse mid) s.frame r.frame (named-none g label columns mid old dev dies) (named-counted g 1 label next mid after dev new last);
+        named = named-then g (Some loss) 0 1 label label next columns mid after old dev new (MayRewrite g kind y columns old) (IsFirstInUse mid) s.frame r.frame (named-none g None label columns mid old dev dies) (named-counted g (Some loss) 1 label next mid after dev new last);
         label_is = is;
-        seated = inr (seats-then g columns mid old dev new (MayRewrite g kind y columns old) (IsFirstInUse mid) s.frame r.frame next after dies (seats_of_rounds g label next mid h.0 after dev new r));
+        seated = inr (seats-then g columns mid old dev new (MayRewrite g kind y columns old) (IsFirstInUse mid) s.frame r.frame (Some loss) next after dies (seats_of_rounds g (Some loss) label next mid h.0 after dev new r));
+        given_up = r.given_up;
         held = λ c d live was. r.held c d live;
         frame = changes-then g (MayBegin g (Some kind) y columns old) old dev new
             (changes-more g (MaySweep g (Some kind) y columns old) (MayBegin g (Some kind) y columns old) old dev (λ d m f. inr f) (sweep_frame kind columns mid old dev n most s))
-            (changes-more g (IsFirstInUse mid) (MayBegin g (Some kind) y columns old) dev new (λ d m f. inl (record { col = f.col; live = live_before (LosesDevice g columns old dev) columns mid f.col d dies f.live; first = f.first })) r.frame);
+            (changes-more g (IsFirstInUse mid) (MayBegin g (Some kind) y columns old) dev new (λ d m f. inl (record { col = f.col; live = live_before (DiesIn g None columns old dev) columns mid f.col d dies f.live; first = f.first })) r.frame);
         told = λ d. staged-behind (All IsLabelWrite) AreNone (AreLast (Some loss)) (Some kind) y (states_of y columns) d (calls_of g old d) (calls_of g dev d) (calls_of g new d) (λ calls w. w)
             (staged-sweep kind y (states_of y columns) d (calls_of g old d) (calls_of g dev d) (s.calls d)) (more-writes (calls_of g dev d) (calls_of g new d) (r.told d));
-        uncalled = told-then g (LosesDevice g columns old dev) columns mid old dev new dies (told-units g y columns old dev none s.calls) (told-others g mid dev new r.others);
-        swept = swept_later g y kind columns mid after old dev new n (died (LosesDevice g mid dev new) y mid after last.dies) (quiet_in_use mid dev new r.frame) (swept_now kind columns mid old dev n s);
+        uncalled = told-then g (DiesIn g None columns old dev) columns mid old dev new dies (told-units g y columns old dev s.calls) (told-others g mid dev new r.others);
+        swept = swept_later g y kind columns mid after old dev new n (died (DiesIn g (Some loss) mid dev new) y mid after last.dies (apart_in g (Some loss) mid after dev new last.dies) few) (quiet_in_use mid dev new r.frame) (swept_now kind columns mid old dev n s);
       }
 
   -- ## The opening round
@@ -101,43 +104,49 @@ module _ {D : Type 0} (g : Ghosts D) (y : Shape) where
   unswept (Some kind) columns after old new e = no_none e
 
   -- and nothing behind it
-  pub begun_only : (sweep : Option Sweep) (label before next : Label) (columns mid after : List Column) (old new : List (Option D)) (lost : Option Loss) → before ≡ record label { clean = 0 } → length columns ≤ 32 → (lost ≡ None → sweep ≡ None)
-      → next ≡ with_round label next.counter 0 next.seats → AreRounds g before next columns mid after old new → HasBegun g sweep y label next columns after old new lost 0
-  begun_only sweep label before next columns mid after old new lost same many none is r =
-      let counted = counted_rounds g before next columns mid after old new r in
-      let named = named-as g 1 label before next columns after old new (ap (λ (l : Label). l.counter) same) (named-counted g 1 before next columns after old new counted) in
+  pub begun_only : (sweep : Option Sweep) (label before next : Label) (columns after : List Column) (old new : List (Option D)) (lost : Option Loss) → before ≡ record label { clean = 0 } → length columns ≤ 32 → count_by is_set_filling columns ≤ 1 → (lost ≡ None → sweep ≡ None)
+      → next ≡ with_round label next.counter 0 (seating_in next) → HaveRounds g lost before next columns after old new → HasBegun g sweep y label next columns after old new lost 0
+  begun_only sweep label before next columns after old new lost same many few none is have =
+      let rounds = rounds_of g lost before next columns after old new have in
+      let mid = rounds.0 in
+      let r = rounds.1 in
+      let counted = counted_rounds g lost before next columns mid after old new r in
+      let named = named-as g lost 1 label before next columns after old new (ap (λ (l : Label). l.counter) same) (named-counted g lost 1 before next columns after old new counted) in
       record {
         rounds = 1;
         some = omega arith;
         few = omega arith;
         one = λ e. refl;
         named = named;
-        bounded = omega (arith, named-few g 1 label next columns after old new named many);
+        bounded = omega (arith, named-few g lost 1 label next columns after old new named many);
         label_is = is;
-        seated = record { round = mid; seats = r.seats; came = r.began; went = r.ended };
+        seated = seats_of_rounds g lost before next columns mid after old new r;
+        given_up = r.given_up;
         held = r.held;
         frame = changes-more g (IsFirstInUse columns) (MayBegin g sweep y columns old) old new (λ d m f. inl f) r.frame;
         others = λ e. r.others;
         told = λ d. staged-labels lost sweep y (states_of y columns) d (calls_of g old d) (calls_of g new d) (r.told d);
         uncalled = told-others g columns old new r.others;
         swept = λ e. unswept sweep columns after old new (none e);
-        still = λ told h. sync_later g y (states_of y columns) (states_of y after) old new (died (LosesDevice g columns old new) y columns after counted.dies) (quiet_in_use columns old new r.frame) told h;
+        still = λ told h. sync_later g y (states_of y columns) (states_of y after) old new (died (DiesIn g lost columns old new) y columns after counted.dies (apart_in g lost columns after old new counted.dies) few) (quiet_in_use columns old new r.frame) told h;
         left = after;
         dev = new;
         first = next;
-        opens = (mid, subst (λ (l : Label). AreRounds g l next columns mid after old new) same r);
+        opened = lost;
+        opens = subst (λ (l : Label). HaveRounds g lost l next columns after old new) same have;
+        stays = λ some. refl;
         behind = told-others g after new new (λ d none. refl);
       }
 
   -- and a sweep behind it
-  pub begun_swept : IsLayout y → (kind : Sweep) (label before first next : Label) (columns mid after : List Column) (old dev new : List (Option D)) (lost : Option Loss) (n : ℕ) → InOrder (states_of y columns) → before ≡ record label { clean = 0 } → length columns ≤ 32
-      → first ≡ with_round label first.counter 0 first.seats → AreRounds g before first columns mid mid old dev → SweepsLabelled g kind y first next mid after dev new lost n → HasBegun g (Some kind) y label next columns after old new lost n
-  begun_swept layout kind label before first next columns mid after old dev new lost n order same many is r s =
-      let counted = counted_rounds g before first columns mid mid old dev r in
-      let opened = named-as g 1 label before first columns mid old dev (ap (λ (l : Label). l.counter) same) (named-counted g 1 before first columns mid old dev counted) in
-      let named = named-then g 1 s.rounds label first next columns mid after old dev new (IsFirstInUse columns) (MayBegin g (Some kind) y mid dev) r.frame s.frame opened s.named in
-      let back = died (LosesDevice g columns old dev) y columns mid counted.dies in
-      let later = died (LosesDevice g mid dev new) y mid after s.named.dies in
+  pub begun_swept : IsLayout y → (kind : Sweep) (label before first next : Label) (columns mid after : List Column) (old dev new : List (Option D)) (lost : Option Loss) (n : ℕ) → InOrder (states_of y columns) → before ≡ record label { clean = 0 } → length columns ≤ 32 → count_by is_set_filling columns ≤ 1 → count_by is_set_filling mid ≤ 1
+      → first ≡ with_round label first.counter 0 (seating_in first) → AreRounds g None before first columns mid mid old dev → SweepsLabelled g kind y first next mid after dev new lost n → HasBegun g (Some kind) y label next columns after old new lost n
+  begun_swept layout kind label before first next columns mid after old dev new lost n order same many few fewer is r s =
+      let counted = counted_rounds g None before first columns mid mid old dev r in
+      let opened = named-as g None 1 label before first columns mid old dev (ap (λ (l : Label). l.counter) same) (named-counted g None 1 before first columns mid old dev counted) in
+      let named = named-then g lost 1 s.rounds label first next columns mid after old dev new (IsFirstInUse columns) (MayBegin g (Some kind) y mid dev) r.frame s.frame opened s.named in
+      let back = died (DiesIn g None columns old dev) y columns mid counted.dies (apart_in g None columns mid old dev counted.dies) few in
+      let later = died (DiesIn g lost mid dev new) y mid after s.named.dies (apart_in g lost mid after dev new s.named.dies) fewer in
       let quiet = quiet_in_use columns old dev r.frame in
       record {
         rounds = 1 + s.rounds;
@@ -145,29 +154,34 @@ module _ {D : Type 0} (g : Ghosts D) (y : Shape) where
         few = omega (arith, s.few);
         one = λ e. omega (arith, s.none e);
         named = named;
-        bounded = omega (arith, named-few g (1 + s.rounds) label next columns after old new named many, s.few);
-        label_is = round_again label first next 0 next.counter 0 next.seats is
-            (s.label_is ∙ ap (λ k. with_round first next.counter k next.seats) (ap (clean_in_end lost) (ap (λ (l : Label). l.clean) is) ∙ clean_none lost));
+        bounded = omega (arith, named-few g lost (1 + s.rounds) label next columns after old new named many, s.few);
+        label_is = round_again label first next 0 next.counter 0 (seating_in next) is
+            (s.label_is ∙ ap (λ k. with_round first next.counter k (seating_in next)) (ap (clean_in_end lost) (ap (λ (l : Label). l.clean) is) ∙ clean_none lost));
         seated = elim s.seated [
-          | inl same ↦ seats-kept g columns mid old dev new (IsFirstInUse columns) (MayBegin g (Some kind) y mid dev) r.frame s.frame next after counted.dies (record { round = mid; seats = same ∙ r.seats; came = r.began; went = r.ended }) s.named.dies
-          | inr h ↦ seats-then g columns mid old dev new (IsFirstInUse columns) (MayBegin g (Some kind) y mid dev) r.frame s.frame next after counted.dies h
+          | inl same ↦ subst (λ o. HasSeats g o next columns after old new) (sym same.0)
+              (seats-kept g columns mid old dev new (IsFirstInUse columns) (MayBegin g (Some kind) y mid dev) r.frame s.frame next after counted.dies (record { round = mid; seating = same.1 ∙ r.seating; came = r.began; went = r.ended })
+              (only_lose g mid after dev new (subst (λ o. Dies (DiesIn g o mid dev new) mid after) same.0 s.named.dies)))
+          | inr h ↦ seats-then g columns mid old dev new (IsFirstInUse columns) (MayBegin g (Some kind) y mid dev) r.frame s.frame lost next after counted.dies h
         ];
-        held = λ c d live. s.held c d live (r.held c d (live_before (LosesDevice g mid dev new) mid after c d s.named.dies live));
+        given_up = s.given_up;
+        held = λ c d live. s.held c d live (r.held c d (live_before (DiesIn g lost mid dev new) mid after c d s.named.dies live));
         frame = changes-then g (MayBegin g (Some kind) y columns old) old dev new
             (changes-more g (IsFirstInUse columns) (MayBegin g (Some kind) y columns old) old dev (λ d m f. inl f) r.frame)
             (changes-more g (MayBegin g (Some kind) y mid dev) (MayBegin g (Some kind) y columns old) dev new
             (λ d m f. elim f [
-              | inl used ↦ inl (record { col = used.col; live = live_before (LosesDevice g columns old dev) columns mid used.col d counted.dies used.live; first = used.first })
+              | inl used ↦ inl (record { col = used.col; live = live_before (DiesIn g None columns old dev) columns mid used.col d counted.dies used.live; first = used.first })
               | inr may ↦ inr (may.0, may_was g y kind columns mid old dev back quiet d m may.1)
             ]) s.frame);
         others = λ e. no_none e;
         told = λ d. staged-first (AreLast lost) (Some kind) y (states_of y mid) (states_of y columns) d (calls_of g old d) (calls_of g dev d) (calls_of g new d) back (r.told d) (s.told d);
-        uncalled = told-then g (LosesDevice g columns old dev) columns mid old dev new counted.dies (told-others g columns old dev r.others) s.uncalled;
+        uncalled = told-then g (DiesIn g None columns old dev) columns mid old dev new counted.dies (told-others g columns old dev r.others) s.uncalled;
         swept = λ e. swept_first g y kind columns mid old dev back quiet layout order after new n later s.frame s.swept;
         still = λ told h. s.swept.in_sync told;
         left = mid;
         dev = dev;
         first = first;
-        opens = (mid, subst (λ (l : Label). AreRounds g l first columns mid mid old dev) same r);
+        opened = None;
+        opens = subst (λ (l : Label). AreRounds g None l first columns mid mid old dev) same r;
+        stays = λ some. no_loss some;
         behind = s.uncalled;
       }

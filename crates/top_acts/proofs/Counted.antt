@@ -1,5 +1,5 @@
 -- Rounds of labels, and the settling between them.
-use Rattle.std.proofs.Common.{◌≡◌, ◌≢◌, ◌∙◌, ℕ, zero, suc, ◌+◌, ◌-◌, ◌<◌, ◌≤◌, List, [], ◌∷◌, ◌++◌, length, get_or, Option, refl, sym, ap, subst, inl, inr, arith}
+use Rattle.std.proofs.Common.{◌≡◌, ◌≢◌, ◌∙◌, ℕ, zero, suc, ◌+◌, ◌-◌, ◌<◌, ◌≤◌, List, [], ◌∷◌, ◌++◌, length, get_or, Option, None, refl, sym, ap, subst, inl, inr, arith}
 use Rattle.std.specs.Prelude.{All, AllPairs}
 use Rattle.std.proofs.lemmas.Bool.{cases_lt}
 use Rattle.std.proofs.lemmas.List.{length-append}
@@ -8,13 +8,15 @@ use Rattle.blk_disk.specs.declared.disk.Disk.{Ghosts}
 use Rattle.blk_disk.specs.Devices.{calls_of, Changes, RisesOn}
 use Rattle.blk_disk.proofs.DeviceLaws.{changes-more, changes-refl, changes-then, rises-wider}
 use Rattle.eng_cols.specs.declared.column.Column.{Column}
+use Rattle.eng_cols.specs.declared.spot.Loss.{Loss}
 use Rattle.eng_cols.specs.Deaths.{Dies}
 use Rattle.eng_cols.proofs.DeathLaws.{dies-more, dies-then}
 use Rattle.raid_label.specs.declared.label.Label.{Label}
-use Rattle.top_close.specs.Settled.{IsLiveOn, LosesDevice}
+use Rattle.top_close.specs.Settled.{HasDeviceOn, LosesDevice}
 use Rattle.top_rounds.specs.Passes.{IsFirstInUse}
-use Rattle.top_rounds.specs.Rounds.{AreRounds, HaveFailed, IsInUse, IsUncalled, live_count}
+use Rattle.top_rounds.specs.Rounds.{AreRounds, DiesIn, HaveFailed, IsInUse, IsUncalled, device_count}
 use Rattle.top_rounds.proofs.PassLaws.{live_before}
+use Rattle.top_rounds.proofs.RoundLaws.{given_before}
 use Rattle.top_acts.specs.Closed.{AreCounted}
 use Rattle.top_acts.specs.Stages.{ClosesOn}
 use Rattle.top_acts.proofs.Staged.{closes-then, closes-writes}
@@ -44,20 +46,20 @@ pairs_append xs ys one two cross i j z lt within =
 
 module _ {D : Type 0} (g : Ghosts D) where
   -- what comes behind, as far as devices that failed are counted
-  pub record Behind (columns after : List Column) (old new : List (Option D)) : Type 0 where
+  pub record Behind (lost : Option Loss) (columns after : List Column) (old new : List (Option D)) : Type 0 where
     pub rises : List ℕ
     pub failed : HaveFailed g old new rises
     pub had : All (IsInUse columns) rises
-    pub gone : All (λ d. (c : ℕ) → IsLiveOn after c d → ⊥) rises
-    pub fewer : live_count after + length rises ≤ live_count columns
+    pub gone : All (λ d. (c : ℕ) → HasDeviceOn after c d → ⊥) rises
+    pub fewer : device_count after + length rises ≤ device_count columns
     pub frame : Changes g (IsFirstInUse columns) old new
     pub others : IsUncalled columns old new
-    pub dies : Dies (LosesDevice g columns old new) columns after
+    pub dies : Dies (DiesIn g lost columns old new) columns after
     pub told : (d : ℕ) → ClosesOn (calls_of g old d) (calls_of g new d)
 
-  module _ (rounds : ℕ) (label before next : Label) (columns mid after : List Column) (old dev new : List (Option D)) (was : AreCounted g rounds label before columns mid old dev) (is : Behind mid after dev new) where
-    live : (c d : ℕ) → IsLiveOn mid c d → IsLiveOn columns c d
-    live c d h = live_before (LosesDevice g columns old dev) columns mid c d was.dies h
+  module _ (lost : Option Loss) (rounds : ℕ) (label before next : Label) (columns mid after : List Column) (old dev new : List (Option D)) (was : AreCounted g None rounds label before columns mid old dev) (is : Behind lost mid after dev new) where
+    live : (c d : ℕ) → HasDeviceOn mid c d → HasDeviceOn columns c d
+    live c d h = live_before (DiesIn g None columns old dev) columns mid c d was.dies h
 
     behind : Changes g (IsFirstInUse columns) dev new
     behind = changes-more g (IsFirstInUse mid) (IsFirstInUse columns) dev new (λ d m h. record { col = h.col; live = live h.col d h.live; first = h.first }) is.frame
@@ -71,10 +73,10 @@ module _ {D : Type 0} (g : Ghosts D) where
     apart : (k m z : ℕ) → k < length was.rises → m < length is.rises → get_or was.rises k z ≢ get_or is.rises m z
     apart k m z one other = λ e.
         let held = All-get_or (IsInUse mid) is.rises m z other is.had in
-        All-get_or (λ (d : ℕ). (c : ℕ) → IsLiveOn mid c d → ⊥) was.rises k z one was.gone held.col (subst (λ d. IsLiveOn mid held.col d) (sym e) held.live)
+        All-get_or (λ (d : ℕ). (c : ℕ) → HasDeviceOn mid c d → ⊥) was.rises k z one was.gone held.col (subst (λ d. HasDeviceOn mid held.col d) (sym e) held.live)
 
     -- of both together so many rounds were named
-    pub counted-then : (named : ℕ) → label.counter + named ≤ next.counter → next.counter ≤ label.counter + named + (length was.rises + length is.rises) → AreCounted g named label next columns after old new
+    pub counted-then : (named : ℕ) → label.counter + named ≤ next.counter → next.counter ≤ label.counter + named + (length was.rises + length is.rises) → AreCounted g lost named label next columns after old new
     counted-then named least most = record {
       rises = was.rises ++ is.rises;
       failed = record {
@@ -82,22 +84,28 @@ module _ {D : Type 0} (g : Ghosts D) where
         rose = All-append (RisesOn g old new) was.rises is.rises (All-weaker (RisesOn g old dev) (RisesOn g old new) rose_before was.rises was.failed.rose) (All-weaker (RisesOn g dev new) (RisesOn g old new) rose_behind is.rises is.failed.rose);
       };
       had = All-append (IsInUse columns) was.rises is.rises was.had (All-weaker (IsInUse mid) (IsInUse columns) (λ d h. record { col = h.col; live = live h.col d h.live }) is.rises is.had);
-      gone = All-append (λ (d : ℕ). (c : ℕ) → IsLiveOn after c d → ⊥) was.rises is.rises
-          (All-weaker (λ (d : ℕ). (c : ℕ) → IsLiveOn mid c d → ⊥) (λ (d : ℕ). (c : ℕ) → IsLiveOn after c d → ⊥) (λ d none c h. none c (live_before (LosesDevice g mid dev new) mid after c d is.dies h)) was.rises was.gone) is.gone;
+      gone = All-append (λ (d : ℕ). (c : ℕ) → HasDeviceOn after c d → ⊥) was.rises is.rises
+          (All-weaker (λ (d : ℕ). (c : ℕ) → HasDeviceOn mid c d → ⊥) (λ (d : ℕ). (c : ℕ) → HasDeviceOn after c d → ⊥) (λ d none c h. none c (live_before (DiesIn g lost mid dev new) mid after c d is.dies h)) was.rises was.gone) is.gone;
       fewer = omega (arith, was.fewer, is.fewer, length-append was.rises is.rises);
       least = least;
       most = omega (arith, most, length-append was.rises is.rises);
       frame = changes-then g (IsFirstInUse columns) old dev new was.frame behind;
       others = λ d none. is.others d (λ c h. none c (live c d h)) ∙ was.others d none;
-      dies = dies-then (LosesDevice g columns old new) columns mid after
-          (dies-more (LosesDevice g columns old dev) (LosesDevice g columns old new) columns mid (λ c f. record { device = f.device; had = f.had; rose = rose_before f.device f.rose }) was.dies)
-          (dies-more (LosesDevice g mid dev new) (LosesDevice g columns old new) mid after (λ c f. record { device = f.device; had = live c f.device f.had; rose = rose_behind f.device f.rose }) is.dies);
+      dies = dies-then (DiesIn g lost columns old new) columns mid after
+          (dies-more (DiesIn g None columns old dev) (DiesIn g lost columns old new) columns mid (λ c f. elim f [
+            | inl l ↦ inl (record { device = l.device; had = l.had; rose = rose_before l.device l.rose })
+            | inr given ↦ absurd given
+          ]) was.dies)
+          (dies-more (DiesIn g lost mid dev new) (DiesIn g lost columns old new) mid after (λ c f. elim f [
+            | inl l ↦ inl (record { device = l.device; had = live c l.device l.had; rose = rose_behind l.device l.rose })
+            | inr gave ↦ inr (given_before (DiesIn g None columns old dev) lost columns mid c was.dies gave)
+          ]) is.dies);
       told = λ d. closes-then (calls_of g old d) (calls_of g dev d) (calls_of g new d) (was.told d) (is.told d);
     }
 
   -- rounds are counted
-  abbrev pub counted_rounds : (label next : Label) (columns mid after : List Column) (old new : List (Option D)) → AreRounds g label next columns mid after old new → AreCounted g 1 label next columns after old new
-  counted_rounds label next columns mid after old new r = record {
+  abbrev pub counted_rounds : (lost : Option Loss) (label next : Label) (columns mid after : List Column) (old new : List (Option D)) → AreRounds g lost label next columns mid after old new → AreCounted g lost 1 label next columns after old new
+  counted_rounds lost label next columns mid after old new r = record {
     rises = r.rises;
     failed = r.failed;
     had = r.had;
@@ -107,6 +115,6 @@ module _ {D : Type 0} (g : Ghosts D) where
     most = r.most;
     frame = r.frame;
     others = r.others;
-    dies = dies-then (LosesDevice g columns old new) columns mid after r.began r.ended;
+    dies = dies-then (DiesIn g lost columns old new) columns mid after r.began (dies-more (LosesDevice g columns old new) (DiesIn g lost columns old new) mid after (λ c h. inl h) r.ended);
     told = λ d. closes-writes (calls_of g old d) (calls_of g new d) (r.told d);
   }

@@ -1,19 +1,25 @@
 -- The end of an array that is lost, and of one that is settled first.
-use Rattle.std.proofs.Common.{◌≡◌, ◌∙◌, ℕ, Bool, List, true, false, length, Option, Some, None, refl, sym, ap, arith}
-use Rattle.std.specs.Prelude.{is_some}
+use Rattle.std.proofs.Common.{◌≡◌, ◌∙◌, ℕ, ◌≤◌, Bool, List, true, false, length, Option, Some, None, refl, sym, ap, subst, inl, inr, arith}
+use Rattle.std.specs.Prelude.{count_by, is_some}
 use Rattle.blk_disk.specs.declared.disk.Disk.{Ghosts}
+use Rattle.blk_disk.specs.Devices.{RisesOn, sector_of}
+use Rattle.blk_disk.proofs.DeviceLaws.{changes-refl, rises-wider}
 use Rattle.lay_core.specs.Layout.{Shape}
 use Rattle.eng_cols.specs.declared.column.Column.{Column}
 use Rattle.eng_cols.specs.declared.spot.Loss.{Loss}
-use Rattle.eng_cols.specs.Cols.{ColumnState}
+use Rattle.eng_cols.specs.Cols.{ColumnState, device_set, is_set_filling}
 use Rattle.eng_cols.specs.Deaths.{Dies}
 use Rattle.raid_label.specs.declared.label.Label.{Label}
-use Rattle.top_close.specs.Ended.{IsLossBy, states_of}
-use Rattle.top_close.specs.Settled.{AreSettled, LosesDevice}
+use Rattle.eng_cols.specs.Fewer.{DieApart}
+use Rattle.eng_cols.specs.Stripes.{states_of}
+use Rattle.eng_cols.proofs.Lists.{count_at_most}
+use Rattle.top_close.specs.Ended.{IsLossBy}
+use Rattle.top_close.specs.Settled.{AreSettled, HasDeviceOn, LosesDevice}
 use Rattle.top_close.proofs.DyingLaws.{columns_die, lost_no_less}
-use Rattle.top_rounds.specs.Labels.{with_round}
+use Rattle.top_rounds.specs.Labels.{seating_in, with_round}
 use Rattle.top_rounds.specs.Passes.{IsFirstInUse}
-use Rattle.top_rounds.specs.Rounds.{AreRounds, HaveRounds, clean_in_end}
+use Rattle.top_rounds.specs.Rounds.{AreRounds, DiesIn, HaveRounds, HoldsTried, IsGivenUp, clean_in_end}
+use Rattle.top_rounds.proofs.RoundLaws.{given_kept}
 use Rattle.top_acts.specs.Closed.{AreCounted, CallInTurn, ClosesLabelled}
 use Rattle.top_acts.proofs.Closes.{behind, counted-none}
 use Rattle.top_acts.proofs.Counted.{counted-then, counted_rounds}
@@ -26,11 +32,11 @@ pub no_loss : {A : Type 0} → false ≡ true → A
 no_loss h = absurd (let u : ⊥ = cc in u)
 
 -- an array that was lost is lost
-pub still_lost : (y : Shape) (cause : ℕ → Type 0) (columns after : List Column) (before lost : Option Loss) → Dies cause columns after → IsLossBy y None (states_of y columns) before → is_some before ≡ true → IsLossBy y None (states_of y after) lost → is_some lost ≡ true
-still_lost y cause columns after before None dies was some is =
-    let none = not_lost y (states_of y columns) before was (lost_no_less y (states_of y columns) (states_of y after) (columns_die cause y columns after dies) is) in
+pub still_lost : (y : Shape) (cause : ℕ → Type 0) (columns after : List Column) (before lost : Option Loss) → Dies cause columns after → DieApart columns after → count_by is_set_filling columns ≤ 1 → IsLossBy y None (states_of y columns) before → is_some before ≡ true → IsLossBy y None (states_of y after) lost → is_some lost ≡ true
+still_lost y cause columns after before None dies apart few was some is =
+    let none = not_lost y (states_of y columns) before was (lost_no_less y (states_of y columns) (states_of y after) (columns_die cause y columns after dies apart (count_at_most is_set_filling columns few)) is) in
     let z : false ≡ true = ap is_some (sym none) ∙ some in absurd (let u : ⊥ = cc in u)
-still_lost y cause columns after before (Some loss) dies was some is = refl
+still_lost y cause columns after before (Some loss) dies apart few was some is = refl
 
 -- and one that stays lost by what it was
 pub kept_loss : (y : Shape) (cols : List ColumnState) (before lost : Option Loss) → is_some before ≡ true → IsLossBy y before cols lost → is_some lost ≡ true
@@ -47,28 +53,48 @@ clean_none (Some loss) = refl
 
 module _ {D : Type 0} (g : Ghosts D) where
   -- the rounds began with some columns, lost or not
-  pub rounds_of : (lost : Option Loss) (label next : Label) (columns after : List Column) (old new : List (Option D)) → HaveRounds g lost label next columns after old new → (mid : List Column) × AreRounds g label next columns mid after old new
+  pub rounds_of : (lost : Option Loss) (label next : Label) (columns after : List Column) (old new : List (Option D)) → HaveRounds g lost label next columns after old new → (mid : List Column) × AreRounds g lost label next columns mid after old new
   rounds_of None label next columns after old new h = (after, h)
   rounds_of (Some loss) label next columns after old new h = h
 
+  -- what the device holds of a column that is given up, where no label was written before the rounds of a lost array
+  given_settled : (label next : Label) (columns mid round after : List Column) (old dev new : List (Option D)) (loss : Loss) → AreCounted g None 0 label label columns mid old dev → ((c d : ℕ) → HasDeviceOn mid c d → g.tells → sector_of g dev d 0 ≡ sector_of g old d 0)
+      → AreRounds g (Some loss) label next mid round after dev new → (c d : ℕ) → IsGivenUp (Some loss) columns c → HasDeviceOn columns c d → (RisesOn g old new d → ⊥) → HoldsTried g label next.counter old new c d
+  given_settled label next columns mid round after old dev new loss was still rounds c d gave live quiet tells = elim (was.dies.each c) [
+    | inr dead ↦ elim dead.1 [
+      | inr never ↦ absurd never
+      | inl loses ↦
+          let e : d ≡ loses.device = (let z : Some d ≡ Some loses.device = sym live ∙ loses.had in cc) in
+          absurd (quiet (rises-wider g (IsFirstInUse columns) (IsFirstInUse mid) old old dev new d (changes-refl g (IsFirstInUse columns) old) (subst (λ k. RisesOn g old dev k) (sym e) loses.rose) rounds.frame))
+    ]
+    | inl kept ↦
+        let here : HasDeviceOn mid c d = ap device_set kept ∙ live in
+        elim (rounds.given c d (given_kept (Some loss) columns mid c kept gave) here (λ rose. quiet (rises-wider g (IsFirstInUse columns) (IsFirstInUse mid) old dev new new d was.frame rose (changes-refl g (IsFirstInUse mid) new))) tells) [
+          | inl held ↦ inl (held ∙ still c d here tells)
+          | inr t ↦ inr t
+        ]
+  ]
+
   -- one round of a lost array ends it
-  pub closed_lost : (a b : Bool) (lost : Option Loss) (label next : Label) (columns mid after : List Column) (old dev new : List (Option D)) → AreApart columns → CallInTurn g a b columns mid old dev → is_some lost ≡ true → AreCounted g 0 label label columns mid old dev → next ≡ with_round label next.counter 0 next.seats → HaveRounds g lost label next mid after dev new → ClosesLabelled g a label next columns after old new lost
-  closed_lost a b None label next columns mid after old dev new apart turns some was is h = no_loss some
-  closed_lost a b (Some loss) label next columns mid after old dev new apart turns some was is h =
+  pub closed_lost : (a b : Bool) (lost : Option Loss) (label next : Label) (columns mid after : List Column) (old dev new : List (Option D)) → AreApart columns → CallInTurn g None a b columns mid old dev → is_some lost ≡ true → AreCounted g None 0 label label columns mid old dev → next ≡ with_round label next.counter 0 (seating_in next) → ((c d : ℕ) → HasDeviceOn mid c d → g.tells → sector_of g dev d 0 ≡ sector_of g old d 0) → HaveRounds g lost label next mid after dev new → ClosesLabelled g a label next columns after old new lost
+  closed_lost a b None label next columns mid after old dev new apart turns some was is still h = no_loss some
+  closed_lost a b (Some loss) label next columns mid after old dev new apart turns some was is still h =
       let rounds = h.1 in
-      let last = counted_rounds g label next mid h.0 after dev new rounds in
+      let last = counted_rounds g (Some loss) label next mid h.0 after dev new rounds in
       record {
-        counted = counted-then g 0 label label next columns mid after old dev new was (behind g 1 label next mid after dev new last) 1 (omega (arith, was.least, rounds.least)) (omega (arith, was.most, rounds.most));
+        counted = counted-then g (Some loss) 0 label label next columns mid after old dev new was (behind g (Some loss) 1 label next mid after dev new last) 1 (omega (arith, was.least, rounds.least)) (omega (arith, was.most, rounds.most));
         label_is = is;
-        seated = seats-then g columns mid old dev new (IsFirstInUse columns) (IsFirstInUse mid) was.frame rounds.frame next after was.dies (seats_of_rounds g label next mid h.0 after dev new rounds);
-        seats = λ e. let z : Some loss ≡ None = e in absurd (let u : ⊥ = cc in u);
+        seated = seats-then g columns mid old dev new (IsFirstInUse columns) (IsFirstInUse mid) was.frame rounds.frame (Some loss) next after was.dies (seats_of_rounds g (Some loss) label next mid h.0 after dev new rounds);
+        seating = λ e. let z : Some loss ≡ None = e in absurd (let u : ⊥ = cc in u);
+        given_up = rounds.given_up;
         held = rounds.held;
         settled = λ e. let z : Some loss ≡ None = e in absurd (let u : ⊥ = cc in u);
-        each = in_turn-then g (LosesDevice g columns old dev) (LosesDevice g mid dev new) a b false columns mid after old dev new apart was.dies last.dies turns rounds.others (in_turn-writes g b mid after dev new rounds.each);
+        given = given_settled label next columns mid h.0 after old dev new loss was still rounds;
+        each = in_turn-then g (Some loss) (DiesIn g None columns old dev) (DiesIn g (Some loss) mid dev new) a b false columns mid after old dev new apart was.dies last.dies turns rounds.others (in_turn-writes g (Some loss) b mid after dev new rounds.each);
       }
 
   -- devices were settled, and no round was written
-  pub counted_settled : (label : Label) (columns after : List Column) (old new : List (Option D)) → AreSettled g (length columns) columns after old new → AreCounted g 0 label label columns after old new
+  pub counted_settled : (label : Label) (columns after : List Column) (old new : List (Option D)) → AreSettled g (length columns) columns after old new → AreCounted g None 0 label label columns after old new
   counted_settled label columns after old new s =
-      let quiet = settled g (length columns) columns after old new s refl in
-      counted-then g 0 label label label columns columns after old old new (counted-none g label columns old) quiet 0 (omega arith) (omega arith)
+      let quiet = settled g None (length columns) columns after old new s refl in
+      counted-then g None 0 label label label columns columns after old old new (counted-none g label columns old) quiet 0 (omega arith) (omega arith)

@@ -1,23 +1,33 @@
 -- The devices of an array.
-use Rattle.std.proofs.Common.{◌∙◌, ℕ, ◌≤◌, List, Option, Some, None, refl, ap, inl, arith}
-use Rattle.std.specs.Prelude.{IsSome, option_map}
+use Rattle.std.proofs.Common.{◌≡◌, ◌∙◌, ℕ, ◌≤◌, List, Option, Some, None, refl, ap, inl, inr, arith}
+use Rattle.std.specs.Prelude.{IsSome, slice_get}
 use Rattle.std.specs.Option.{option_map_or}
-use Rattle.std.proofs.lemmas.Option.{slice_get-map}
 use Rattle.blk_disk.specs.declared.disk.Disk.{Ghosts}
 use Rattle.blk_disk.specs.Devices.{Changes, device_at}
 use Rattle.lay_core.specs.Layout.{Shape}
 use Rattle.eng_cols.specs.declared.column.Column.{Column}
-use Rattle.eng_cols.specs.Cols.{HasDevice, is_set_filling, is_set_spread, state_set}
+use Rattle.eng_cols.specs.declared.column.Column.TheVariants as column
+use Rattle.eng_cols.specs.Cols.{HasDevice, device_set, is_set_filling, is_set_spread}
 use Rattle.eng_cols.specs.Deaths.{Dies}
 use Rattle.std.specs.Prelude.{count_by}
-use Rattle.raid_recon.specs.Array.{states_of, IsArray}
-use Rattle.top_close.specs.Settled.{HaveDevices, IsLiveOn}
+use Rattle.eng_cols.specs.Fewer.{DieApart}
+use Rattle.eng_cols.specs.Stripes.{filled_in, states_of}
+use Rattle.eng_cols.proofs.Fewer.{states-at}
+use Rattle.raid_recon.specs.Array.{IsArray}
+use Rattle.top_close.specs.Settled.{HaveDevices, HasDeviceOn}
 use Rattle.top_rounds.proofs.RoundLaws.{any_death, can-after, settable_after}
 use Rattle.top_acts.specs.Begun.{CanAct}
 use Rattle.top_acts.proofs.Backs.{array_after}
 
-has_live : (y : Shape) (columns : List Column) (c d : ℕ) → IsLiveOn columns c d → HasDevice (states_of y columns) c d
-has_live y columns c d live = inl (slice_get-map (state_set y.stripes) columns c ∙ ap (option_map (state_set y.stripes)) live)
+pub has_live : (y : Shape) (columns : List Column) (c d : ℕ) → HasDeviceOn columns c d → HasDevice (states_of y columns) c d
+has_live y columns c d has = go (slice_get columns c) refl has
+  where
+    go : (o : Option Column) → slice_get columns c ≡ o → device_set o ≡ Some d → HasDevice (states_of y columns) c d
+    go (Some (column.Live e)) is h = let same : e ≡ d = cc in inl (states-at y columns c (column.Live d) (is ∙ ap (λ k. Some (column.Live k)) same))
+    go (Some column.Dead) is h = absurd (let u : ⊥ = cc in u)
+    go (Some (column.Filling e m)) is h = let same : e ≡ d = cc in inr (filled_in y columns, states-at y columns c (column.Filling d m) (is ∙ ap (λ k. Some (column.Filling k m)) same))
+    go (Some column.Spread) is h = absurd (let u : ⊥ = cc in u)
+    go None is h = absurd (let u : ⊥ = cc in u)
 
 module _ {D : Type 0} (g : Ghosts D) where
   sized : (o : Option D) → 64 ≤ option_map_or g.size o 0 → IsSome o
@@ -31,10 +41,10 @@ module _ {D : Type 0} (g : Ghosts D) where
   }
 
   -- columns that died can be acted on as before
-  pub acts_after : (y : Shape) (cause : ℕ → Type 0) (may : ℕ → ℕ → Type 0) (columns after : List Column) (old new : List (Option D)) → Dies cause columns after → Changes g may old new
+  pub acts_after : (y : Shape) (cause : ℕ → Type 0) (may : ℕ → ℕ → Type 0) (columns after : List Column) (old new : List (Option D)) → Dies cause columns after → DieApart columns after → Changes g may old new
       → count_by is_set_filling after ≤ count_by is_set_filling columns → count_by is_set_spread after ≤ count_by is_set_spread columns → CanAct g y columns old → CanAct g y after new
-  acts_after y cause may columns after old new dies changes filling spread can = record {
-    array = array_after g y cause may columns after old new dies changes can.array;
+  acts_after y cause may columns after old new dies apart changes filling spread can = record {
+    array = array_after g y cause may columns after old new dies apart can.settable.filling changes can.array;
     labels = can-after g cause may columns after old new dies changes can.labels;
     settable = settable_after y columns after (any_death cause columns after dies) filling spread can.settable;
   }

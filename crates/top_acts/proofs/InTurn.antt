@@ -1,6 +1,6 @@
 -- Label writes and settles in turn, stage behind stage.
-use Rattle.std.proofs.Common.{◌≡◌, ◌∙◌, ℕ, Bool, true, false, List, [], ◌∷◌, ◌++◌, Option, Some, None, refl, sym, ap, subst, inl, inr, append-nil, append_assoc}
-use Rattle.std.specs.Prelude.{All, option_and_then, slice_get}
+use Rattle.std.proofs.Common.{◌≡◌, ◌⊎◌, ◌∙◌, ℕ, Bool, true, false, List, [], ◌∷◌, ◌++◌, Option, Some, None, refl, sym, ap, subst, inl, inr, append-nil, append_assoc}
+use Rattle.std.specs.Prelude.{All, is_some, option_and_then, slice_get}
 use Rattle.std.proofs.lemmas.List.Elements.{All-head, All-tail}
 use Rattle.blk_disk.specs.declared.disk.Call.{Call}
 use Rattle.blk_disk.specs.declared.disk.Disk.{Ghosts}
@@ -9,10 +9,13 @@ use Rattle.blk_disk.specs.Devices.{calls_of}
 use Rattle.eng_cols.specs.declared.column.Column.{Column}
 use Rattle.eng_cols.specs.declared.column.Column.TheVariants as column
 use Rattle.eng_cols.specs.Deaths.{Dies}
-use Rattle.top_close.specs.Settled.{IsLiveOn, is_live}
-use Rattle.top_rounds.specs.Calls.{IsLabelled, WritesTo}
-use Rattle.top_rounds.specs.Rounds.{IsUncalled}
+use Rattle.eng_cols.specs.declared.spot.Loss.{Loss}
+use Rattle.eng_cols.specs.Cols.{device_set}
+use Rattle.top_close.specs.Settled.{HasDeviceOn, has_device}
+use Rattle.top_rounds.specs.Calls.{IsLabelled, WritesTo, WritesWell}
+use Rattle.top_rounds.specs.Rounds.{AreWritten, IsGivenUp, IsUncalled}
 use Rattle.top_rounds.proofs.PassLaws.{live_before}
+use Rattle.top_rounds.proofs.RoundLaws.{given_before}
 use Rattle.top_acts.specs.Closed.{CallInTurn}
 use Rattle.top_acts.specs.Stages.{AreInTurn, EndInTurn, FailInTurn, InTurnOn}
 
@@ -70,6 +73,12 @@ on-writes stays a x None h = tt
 on-writes stays a None (Some bs) h = absurd h
 on-writes stays a (Some xs) (Some bs) h = (h.0 ++ call_of 1 0 512 stays ∷ [], h.1, writes-end stays a h.0 h.2)
 
+-- writes that all went well, or none
+on-well : (a : Bool) (x y : Option (List Call)) → WritesWell x y → (is : Bool) × InTurnOn true a x y is
+on-well a x None h = (a, tt)
+on-well a None (Some bs) h = absurd h
+on-well a (Some xs) (Some bs) h = let w = writes-are a h.0 h.2 in (w.0, (h.0, h.1, w.1))
+
 on-settle : (stays : Bool) (x y : Option (List Call)) → Tells x y (call_of 2 0 0 stays) → InTurnOn stays false x y true
 on-settle stays x None h = tt
 on-settle stays None (Some bs) h = absurd h
@@ -83,37 +92,50 @@ on-failed a b e (Some xs) (Some bs) h = h
 
 -- ## All devices in use
 
--- no live column shares its device
+-- no column shares its device
 abbrev pub AreApart : List Column → Type 0
-AreApart columns = (c k d : ℕ) → IsLiveOn columns c d → IsLiveOn columns k d → c ≡ k
+AreApart columns = (c k d : ℕ) → HasDeviceOn columns c d → HasDeviceOn columns k d → c ≡ k
 
 module _ {D : Type 0} (g : Ghosts D) where
-  pub in_turn-none : (a : Bool) (columns : List Column) (ds : List (Option D)) → CallInTurn g a a columns columns ds ds
-  in_turn-none a columns ds c d live = subst (λ b. InTurnOn b a (calls_of g ds d) (calls_of g ds d) a) (sym (ap is_live live)) (on-none a (calls_of g ds d))
+  pub in_turn-none : (a : Bool) (columns : List Column) (ds : List (Option D)) → CallInTurn g None a a columns columns ds ds
+  in_turn-none a columns ds c d live = inl (subst (λ b. InTurnOn b a (calls_of g ds d) (calls_of g ds d) a) (sym (ap is_some live)) (on-none a (calls_of g ds d)))
 
-  pub in_turn-writes : (a : Bool) (columns after : List Column) (old new : List (Option D)) → ((c d : ℕ) → IsLiveOn columns c d → WritesTo (is_live (slice_get after c)) (calls_of g old d) (calls_of g new d)) → CallInTurn g a false columns after old new
-  in_turn-writes a columns after old new h c d live = on-writes (is_live (slice_get after c)) a (calls_of g old d) (calls_of g new d) (h c d live)
+  pub in_turn-writes : (lost : Option Loss) (a : Bool) (columns after : List Column) (old new : List (Option D)) → ((c d : ℕ) → HasDeviceOn columns c d → AreWritten lost columns after c (calls_of g old d) (calls_of g new d)) → CallInTurn g lost a false columns after old new
+  in_turn-writes lost a columns after old new h c d live = elim (h c d live) [
+    | inl told ↦ inl (on-writes (has_device (slice_get after c)) a (calls_of g old d) (calls_of g new d) told)
+    | inr given ↦ inr (given.0, on-well a (calls_of g old d) (calls_of g new d) given.1)
+  ]
 
-  pub in_turn-settles : (columns after : List Column) (old new : List (Option D)) → ((c d : ℕ) → IsLiveOn columns c d → Tells (calls_of g old d) (calls_of g new d) (call_of 2 0 0 (is_live (slice_get after c)))) → CallInTurn g false true columns after old new
-  in_turn-settles columns after old new h c d live = on-settle (is_live (slice_get after c)) (calls_of g old d) (calls_of g new d) (h c d live)
+  pub in_turn-settles : (columns after : List Column) (old new : List (Option D)) → ((c d : ℕ) → HasDeviceOn columns c d → Tells (calls_of g old d) (calls_of g new d) (call_of 2 0 0 (has_device (slice_get after c)))) → CallInTurn g None false true columns after old new
+  in_turn-settles columns after old new h c d live = inl (on-settle (has_device (slice_get after c)) (calls_of g old d) (calls_of g new d) (h c d live))
 
-  module _ (cause more : ℕ → Type 0) (a b e : Bool) (columns mid after : List Column) (old dev new : List (Option D)) (apart : AreApart columns) (died : Dies cause columns mid) (dies : Dies more mid after) (was : CallInTurn g a b columns mid old dev) (others : IsUncalled mid dev new)
-      (is : CallInTurn g b e mid after dev new) where
+  -- two stages, of which the array wasn't lost in the first
+  module _ (lost : Option Loss) (cause more : ℕ → Type 0) (a b e : Bool) (columns mid after : List Column) (old dev new : List (Option D)) (apart : AreApart columns) (died : Dies cause columns mid) (dies : Dies more mid after) (was : CallInTurn g None a b columns mid old dev) (others : IsUncalled mid dev new)
+      (is : CallInTurn g lost b e mid after dev new) where
     -- a device that failed isn't called any more
-    failed : (c d : ℕ) → IsLiveOn columns c d → slice_get mid c ≡ Some column.Dead → InTurnOn (is_live (slice_get after c)) a (calls_of g old d) (calls_of g new d) e
-    failed c d live dead =
+    failed : (c d : ℕ) → HasDeviceOn columns c d → slice_get mid c ≡ Some column.Dead → InTurnOn (has_device (slice_get mid c)) a (calls_of g old d) (calls_of g dev d) b → InTurnOn (has_device (slice_get after c)) a (calls_of g old d) (calls_of g new d) e
+    failed c d live dead told =
         let gone : slice_get after c ≡ Some column.Dead = elim (dies.each c) [ inl same ↦ same ∙ dead | inr h ↦ h.0 ] in
-        let free : (k : ℕ) → IsLiveOn mid k d → ⊥ = λ k other.
+        let free : (k : ℕ) → HasDeviceOn mid k d → ⊥ = λ k other.
         let same : c ≡ k = apart c k d live (live_before cause columns mid k d died other) in
-        let z : true ≡ false = ap is_live (sym other ∙ (ap (slice_get mid) (sym same) ∙ dead)) in absurd (let u : ⊥ = cc in u) in
-        subst (λ s. InTurnOn s a (calls_of g old d) (calls_of g new d) e) (sym (ap is_live gone))
+        let z : Some d ≡ None = sym other ∙ ap device_set (ap (slice_get mid) (sym same) ∙ dead) in absurd (let u : ⊥ = cc in u) in
+        subst (λ s. InTurnOn s a (calls_of g old d) (calls_of g new d) e) (sym (ap has_device gone))
         (subst (λ o. InTurnOn false a (calls_of g old d) o e) (ap (λ o. option_and_then g.calls o) (sym (others d free)))
-        (on-failed a b e (calls_of g old d) (calls_of g dev d) (subst (λ s. InTurnOn s a (calls_of g old d) (calls_of g dev d) b) (ap is_live dead) (was c d live))))
+        (on-failed a b e (calls_of g old d) (calls_of g dev d) (subst (λ s. InTurnOn s a (calls_of g old d) (calls_of g dev d) b) (ap has_device dead) told)))
 
-    pub in_turn-then : CallInTurn g a e columns after old new
-    in_turn-then c d live = elim (died.each c) [
-      | inr dead ↦ failed c d live dead.0
-      | inl same ↦
-          let here : IsLiveOn mid c d = same ∙ live in
-          on-then (is_live (slice_get after c)) a b e (calls_of g old d) (calls_of g dev d) (calls_of g new d) (subst (λ s. InTurnOn s a (calls_of g old d) (calls_of g dev d) b) (ap is_live here) (was c d live)) (is c d here)
+    -- what came behind calls that all went well
+    behind : (c d : ℕ) → HasDeviceOn columns c d → slice_get mid c ≡ slice_get columns c → InTurnOn true a (calls_of g old d) (calls_of g dev d) b
+        → InTurnOn (has_device (slice_get after c)) a (calls_of g old d) (calls_of g new d) e ⊎ (IsGivenUp lost columns c × ((settled : Bool) × InTurnOn true a (calls_of g old d) (calls_of g new d) settled))
+    behind c d live same told = elim (is c d (ap device_set same ∙ live)) [
+      | inl went ↦ inl (on-then (has_device (slice_get after c)) a b e (calls_of g old d) (calls_of g dev d) (calls_of g new d) told went)
+      | inr given ↦ inr (given_before cause lost columns mid c died given.0, (given.1.0, on-then true a b given.1.0 (calls_of g old d) (calls_of g dev d) (calls_of g new d) told given.1.1))
+    ]
+
+    pub in_turn-then : CallInTurn g lost a e columns after old new
+    in_turn-then c d live = elim (was c d live) [
+      | inr given ↦ absurd given.0
+      | inl told ↦ elim (died.each c) [
+        | inr dead ↦ inl (failed c d live dead.0 told)
+        | inl same ↦ behind c d live same (subst (λ s. InTurnOn s a (calls_of g old d) (calls_of g dev d) b) (ap has_device same ∙ ap is_some live) told)
+      ]
     ]

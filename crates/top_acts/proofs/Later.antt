@@ -10,7 +10,8 @@ use Rattle.eng_cols.specs.Seats.{seat}
 use Rattle.eng_cols.specs.Contents.{byte_of, sector_at, InSync}
 use Rattle.raid_recon.specs.declared.kind.Sweep.{Sweep}
 use Rattle.raid_recon.specs.declared.kind.Sweep.TheVariants.{Check, Sync, Init}
-use Rattle.raid_recon.specs.Array.{states_of, IsComplete, Lacks}
+use Rattle.eng_cols.specs.Stripes.{states_of}
+use Rattle.raid_recon.specs.Array.{IsComplete, Lacks}
 use Rattle.raid_recon.specs.Ends.{IsToCount, MayRewrite, ChecksHold, IsCounted}
 use Rattle.raid_recon.specs.Sums.{sum_of, IsNotZero}
 use Rattle.raid_recon.specs.Turns.{Rewrites}

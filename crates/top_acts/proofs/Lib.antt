@@ -1,14 +1,15 @@
 pub mod Backs
 pub mod Begins
-pub mod Checks
 pub mod Closes
 pub mod Counted
 pub mod Ended
 pub mod Fails
 pub mod Having
+pub mod Held
 pub mod InTurn
 pub mod Kills
 pub mod Later
+pub mod Leaving
 pub mod Named
 pub mod Renews
 pub mod Seated
@@ -16,3 +17,4 @@ pub mod Settled
 pub mod Staged
 pub mod Tried
 pub mod Uncalled
+pub mod Without

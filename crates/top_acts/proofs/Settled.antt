@@ -7,11 +7,12 @@ use Rattle.blk_disk.specs.Devices.{calls_of, RisesOn}
 use Rattle.blk_disk.proofs.DeviceLaws.{changes-more}
 use Rattle.eng_cols.specs.declared.column.Column.{Column}
 use Rattle.eng_cols.specs.declared.column.Column.TheVariants as column
+use Rattle.eng_cols.specs.declared.spot.Loss.{Loss}
 use Rattle.eng_cols.specs.Deaths.{Dies}
 use Rattle.eng_cols.proofs.DeathLaws.{dies-more}
-use Rattle.top_close.specs.Settled.{AreSettled, IsLiveOn, LosesDevice}
+use Rattle.top_close.specs.Settled.{AreSettled, LosesDevice, HasDeviceOn}
 use Rattle.top_rounds.specs.Passes.{IsFirstInUse}
-use Rattle.top_rounds.specs.Rounds.{IsInUse}
+use Rattle.top_rounds.specs.Rounds.{DiesIn, IsInUse}
 use Rattle.top_rounds.proofs.RoundLaws.{live_less}
 use Rattle.top_acts.proofs.Counted.{Behind}
 use Rattle.top_acts.proofs.Staged.{closes-settles}
@@ -38,18 +39,18 @@ death_of cause (x ∷ xs) (y ∷ ys) dies = elim (dies.each 0) [
   ]
 ]
 
-module _ {D : Type 0} (g : Ghosts D) (n : ℕ) (columns after : List Column) (old new : List (Option D)) (s : AreSettled g n columns after old new) (all : n ≡ length columns) where
-  pub dies : Dies (LosesDevice g columns old new) columns after
-  dies = dies-more (LosesDevice g columns old new) (LosesDevice g columns old new) columns after (λ c f. record { device = f.device; had = f.had; rose = f.rose }) s.dies
+module _ {D : Type 0} (g : Ghosts D) (lost : Option Loss) (n : ℕ) (columns after : List Column) (old new : List (Option D)) (s : AreSettled g n columns after old new) (all : n ≡ length columns) where
+  pub dies : Dies (DiesIn g lost columns old new) columns after
+  dies = dies-more (LosesDevice g columns old new) (DiesIn g lost columns old new) columns after (λ c f. inl (record { device = f.device; had = f.had; rose = f.rose })) s.dies
 
   -- devices were settled, and none is counted
-  abbrev pub settled : Behind g columns after old new
+  abbrev pub settled : Behind g lost columns after old new
   settled = record {
     rises = [];
     failed = record { apart = λ i j d before within. absurd (omega (arith, within)); rose = All-nil (RisesOn g old new) };
     had = All-nil (IsInUse columns);
-    gone = All-nil (λ (d : ℕ). (c : ℕ) → IsLiveOn after c d → ⊥);
-    fewer = omega (arith, live_less (LosesDevice g columns old new) columns after dies);
+    gone = All-nil (λ (d : ℕ). (c : ℕ) → HasDeviceOn after c d → ⊥);
+    fewer = omega (arith, live_less (DiesIn g lost columns old new) columns after dies);
     frame = changes-more g (λ _ _. ⊥) (IsFirstInUse columns) old new (λ d m h. absurd h) s.frame;
     others = λ d none. s.others d (λ c below live. none c live);
     dies = dies;

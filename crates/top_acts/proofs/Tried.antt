@@ -1,7 +1,6 @@
 -- An array that is closed, or whose device failed as it was settled.
 use Rattle.std.proofs.Common.{◌≡◌, ◌≢◌, ◌∙◌, ℕ, zero, suc, ◌≤◌, Bool, true, false, cond, List, [], ◌∷◌, length, Option, Some, None, refl, sym, ap, subst, inl, inr, arith}
-use Rattle.std.specs.Prelude.{is_some, slice_get}
-use Rattle.std.proofs.lemmas.Option.{slice_get_within}
+use Rattle.std.specs.Prelude.{◌+◌, is_some, slice_get}
 use Rattle.std.proofs.lemmas.List.Elements.{All-cons, All-nil}
 use Rattle.std.proofs.lemmas.List.Sums.{sum_by-cons}
 use Rattle.blk_disk.specs.declared.disk.Disk.{Ghosts}
@@ -11,22 +10,26 @@ use Rattle.lay_core.specs.Layout.{Shape}
 use Rattle.eng_cols.specs.declared.column.Column.{Column}
 use Rattle.eng_cols.specs.declared.column.Column.TheVariants as column
 use Rattle.eng_cols.specs.declared.spot.Loss.{Loss}
-use Rattle.eng_cols.specs.Cols.{ColumnState}
+use Rattle.eng_cols.specs.Cols.{ColumnState, device_set}
 use Rattle.eng_cols.specs.Deaths.{Dies}
 use Rattle.eng_cols.specs.Lost.{NotLost}
 use Rattle.raid_label.specs.declared.label.Label.{Label}
 use Rattle.top_close.specs.Calls.{EndsSettled}
 use Rattle.top_close.specs.Dying.{AnyCause}
-use Rattle.top_close.specs.Ended.{IsLossBy, states_of}
-use Rattle.top_close.specs.Settled.{AreSettled, HaveDevices, IsLiveOn, LosesDevice, is_live}
-use Rattle.top_rounds.specs.Labels.{seats_of, with_round}
+use Rattle.eng_cols.specs.Stripes.{states_of}
+use Rattle.top_close.specs.Ended.{IsLossBy}
+use Rattle.top_close.specs.Settled.{AreSettled, LosesDevice, HaveDevices, HasDeviceOn, has_device}
+use Rattle.top_close.proofs.SettledLaws.{device_within}
+use Rattle.top_rounds.specs.Labels.{seating_in, seating_of, with_round}
 use Rattle.top_rounds.specs.Passes.{IsFirstInUse}
-use Rattle.top_rounds.specs.Rounds.{AreRounds, IsInUse, clean_in_end, live_count}
+use Rattle.top_rounds.specs.Rounds.{AreRounds, DiesIn, HoldsTried, IsGivenUp, IsGivenUpIn, IsInUse, clean_in_end, device_count}
 use Rattle.top_rounds.proofs.PassLaws.{live_before}
 use Rattle.top_rounds.proofs.RoundLaws.{any_death, live_less}
+use Rattle.top_acts.specs.Begun.{HasSeats}
 use Rattle.top_acts.specs.Closed.{CallInTurn, IsBroken, ClosesLabelled, TriesToClose, settled_in_end}
 use Rattle.top_acts.proofs.Counted.{Behind, counted-then, counted_rounds}
 use Rattle.top_acts.proofs.InTurn.{AreApart, in_turn-settles, in_turn-then, in_turn-writes}
+use Rattle.top_acts.proofs.Named.{only_lose}
 use Rattle.top_acts.proofs.Seated.{seats-kept, seats_of_rounds}
 use Rattle.top_acts.proofs.Settled.{Death, death_of, settled}
 
@@ -45,10 +48,10 @@ none_of (Some loss) h = let z : true ≡ false = h in absurd (let u : ⊥ = cc i
 -- ## Live columns
 
 abbrev one_of : Option Column → ℕ
-one_of x = cond (is_live x) 1 0
+one_of x = cond (has_device x) 1 0
 
 -- one that was live and is dead makes fewer of them
-strict : (xs ys : List Column) → Dies AnyCause xs ys → (i : ℕ) → is_live (slice_get xs i) ≡ true → slice_get ys i ≡ Some column.Dead → suc (live_count ys) ≤ live_count xs
+strict : (xs ys : List Column) → Dies AnyCause xs ys → (i : ℕ) → has_device (slice_get xs i) ≡ true → slice_get ys i ≡ Some column.Dead → suc (device_count ys) ≤ device_count xs
 strict [] ys dies i live dead = let z : false ≡ true = live in absurd (let u : ⊥ = cc in u)
 strict (x ∷ xs) [] dies i live dead = absurd (omega (arith, dies.count))
 strict (x ∷ xs) (y ∷ ys) dies zero live dead =
@@ -69,50 +72,58 @@ strict (x ∷ xs) (y ∷ ys) dies (suc i) live dead =
 -- ## The close
 
 module _ {D : Type 0} (g : Ghosts D) (y : Shape) (label next : Label) (columns mid after : List Column) (old dev new : List (Option D)) (lost : Option Loss)
-    (rounds : AreRounds g label next columns mid mid old dev) (label_is : next ≡ with_round label next.counter label.clean next.seats) (have : HaveDevices mid dev) (kept : NotLost y (states_of y mid)) (lost_is : IsLossBy y None (states_of y after) lost)
-    (apart : AreApart columns) (s : AreSettled g (length mid) mid after dev new) (last : (c d : ℕ) → IsLiveOn after c d → EndsSettled (calls_of g new d)) where
-  died : Dies (LosesDevice g columns old dev) columns mid
-  died = (counted_rounds g label next columns mid mid old dev rounds).dies
+    (rounds : AreRounds g None label next columns mid mid old dev) (label_is : next ≡ with_round label next.counter label.clean (seating_in next)) (have : HaveDevices mid dev) (kept : NotLost y (states_of y mid)) (lost_is : IsLossBy y None (states_of y after) lost)
+    (apart : AreApart columns) (s : AreSettled g (length mid) mid after dev new) (last : (c d : ℕ) → HasDeviceOn after c d → EndsSettled (calls_of g new d)) where
+  died : Dies (DiesIn g None columns old dev) columns mid
+  died = (counted_rounds g None label next columns mid mid old dev rounds).dies
 
   -- labels, and then a settle
-  turns : CallInTurn g true true columns after old new
+  turns : CallInTurn g None true true columns after old new
   turns =
-      let quiet = settled g (length mid) mid after dev new s refl in
-      in_turn-then g (LosesDevice g columns old dev) (LosesDevice g mid dev new) true false true columns mid after old dev new apart died quiet.dies (in_turn-writes g true columns mid old dev rounds.each) quiet.others
-      (in_turn-settles g mid after dev new (λ c d live. s.once c d (slice_get_within mid c _ live) live))
+      let quiet = settled g None (length mid) mid after dev new s refl in
+      in_turn-then g None (DiesIn g None columns old dev) (DiesIn g None mid dev new) true false true columns mid after old dev new apart died quiet.dies (in_turn-writes g None true columns mid old dev rounds.each) quiet.others
+      (in_turn-settles g mid after dev new (λ c d live. s.once c d (device_within mid c d live) live))
+
+  -- the round that was whole says what the columns were
+  seats : HasSeats g None next columns after old new
+  seats =
+      let quiet = settled g None (length mid) mid after dev new s refl in
+      seats-kept g columns mid old dev new (IsFirstInUse columns) (λ _ _. ⊥) rounds.frame s.frame next after died (seats_of_rounds g None label next columns mid mid old dev rounds) (only_lose g mid after dev new quiet.dies)
 
   closed : after ≡ mid → ClosesLabelled g true label next columns after old new lost
   closed same =
       let none = not_lost y (states_of y after) lost lost_is (subst (λ l. NotLost y (states_of y l)) (sym same) kept) in
-      let quiet = settled g (length mid) mid after dev new s refl in
+      let quiet = settled g lost (length mid) mid after dev new s refl in
       record {
-        counted = counted-then g 1 label next next columns mid after old dev new (counted_rounds g label next columns mid mid old dev rounds) quiet 1 rounds.least (omega (arith, rounds.most));
-        label_is = label_is ∙ ap (λ k. with_round label next.counter k next.seats) (sym (ap (λ o. clean_in_end o label.clean) none));
-        seated = seats-kept g columns mid old dev new (IsFirstInUse columns) (λ _ _. ⊥) rounds.frame s.frame next after died (seats_of_rounds g label next columns mid mid old dev rounds) quiet.dies;
-        seats = λ _. rounds.seats ∙ ap seats_of (sym same);
-        held = λ c d live told. changes_sector g (λ _ _. ⊥) dev new d 0 s.frame told (λ h. h) ∙ rounds.held c d (subst (λ l. IsLiveOn l c d) same live) told;
+        counted = counted-then g lost 1 label next next columns mid after old dev new (counted_rounds g None label next columns mid mid old dev rounds) quiet 1 rounds.least (omega (arith, rounds.most));
+        label_is = label_is ∙ ap (λ k. with_round label next.counter k (seating_in next)) (sym (ap (λ o. clean_in_end o label.clean) none));
+        seated = subst (λ o. HasSeats g o next columns after old new) (sym none) seats;
+        seating = λ _. rounds.seating ∙ ap seating_of (sym same);
+        given_up = subst (λ o. IsGivenUpIn o after) (sym none) tt;
+        held = λ c d live told. changes_sector g (λ _ _. ⊥) dev new d 0 s.frame told (λ h. h) ∙ rounds.held c d (subst (λ l. HasDeviceOn l c d) same live) told;
         settled = λ _. last;
-        each = subst (λ o. CallInTurn g true (settled_in_end o) columns after old new) (sym none) turns;
+        given = λ c d gave. absurd (subst (λ o. IsGivenUp o columns c) none gave);
+        each = subst (λ o. CallInTurn g o true (settled_in_end o) columns after old new) (sym none) turns;
       }
 
-  fewer : Death (LosesDevice g mid dev new) after → suc (live_count after) ≤ live_count mid
-  fewer death = strict mid after (any_death (LosesDevice g mid dev new) mid after s.dies) death.col (ap is_live death.why.had) death.dead
+  fewer : Death (LosesDevice g mid dev new) after → suc (device_count after) ≤ device_count mid
+  fewer death = strict mid after (any_death (LosesDevice g mid dev new) mid after s.dies) death.col (ap is_some death.why.had) death.dead
 
-  gone : (death : Death (LosesDevice g mid dev new) after) (c : ℕ) → IsLiveOn after c death.why.device → ⊥
+  gone : (death : Death (LosesDevice g mid dev new) after) (c : ℕ) → HasDeviceOn after c death.why.device → ⊥
   gone death c live =
       let d = death.why.device in
       let same : c ≡ death.col = have.apart c death.col d (live_before (LosesDevice g mid dev new) mid after c d s.dies live) death.why.had in
-      let z : true ≡ false = ap is_live (sym live ∙ (ap (slice_get after) same ∙ death.dead)) in absurd (let u : ⊥ = cc in u)
+      let z : Some d ≡ None = sym live ∙ ap device_set (ap (slice_get after) same ∙ death.dead) in absurd (let u : ⊥ = cc in u)
 
-  abbrev broke : Death (LosesDevice g mid dev new) after → Behind g mid after dev new
+  abbrev broke : Death (LosesDevice g mid dev new) after → Behind g None mid after dev new
   broke death =
       let d = death.why.device in
-      let quiet = settled g (length mid) mid after dev new s refl in
+      let quiet = settled g None (length mid) mid after dev new s refl in
       record {
         rises = d ∷ [];
         failed = record { apart = λ i j z before within. absurd (omega (arith, before, within)); rose = All-cons (RisesOn g dev new) d [] death.why.rose (All-nil (RisesOn g dev new)) };
         had = All-cons (IsInUse mid) d [] (record { col = death.col; live = death.why.had }) (All-nil (IsInUse mid));
-        gone = All-cons (λ (k : ℕ). (c : ℕ) → IsLiveOn after c k → ⊥) d [] (gone death) (All-nil (λ (k : ℕ). (c : ℕ) → IsLiveOn after c k → ⊥));
+        gone = All-cons (λ (k : ℕ). (c : ℕ) → HasDeviceOn after c k → ⊥) d [] (gone death) (All-nil (λ (k : ℕ). (c : ℕ) → HasDeviceOn after c k → ⊥));
         fewer = omega (arith, fewer death);
         frame = quiet.frame;
         others = quiet.others;
@@ -120,20 +131,31 @@ module _ {D : Type 0} (g : Ghosts D) (y : Shape) (label next : Label) (columns m
         told = quiet.told;
       }
 
+  -- the label of the round that was whole
+  holds : (c d : ℕ) → HasDeviceOn after c d → HoldsTried g label (next.counter + 1) old new c d
+  holds c d live tells = inr (record {
+    tried = next;
+    newer = rounds.least;
+    older = omega arith;
+    label_is = label_is;
+    holds = changes_sector g (λ _ _. ⊥) dev new d 0 s.frame tells (λ h. h) ∙ rounds.held c d (live_before (LosesDevice g mid dev new) mid after c d s.dies live) tells;
+  })
+
   broken : Death (LosesDevice g mid dev new) after → IsBroken g label next columns after old new
   broken death = record {
-    counted = counted-then g 1 label next next columns mid after old dev new (counted_rounds g label next columns mid mid old dev rounds) (broke death) 0 (omega (arith, rounds.least)) (omega (arith, rounds.most));
+    counted = counted-then g None 1 label next next columns mid after old dev new (counted_rounds g None label next columns mid mid old dev rounds) (broke death) 0 (omega (arith, rounds.least)) (omega (arith, rounds.most));
     label_is = label_is;
     fewer = omega (arith, fewer death, rounds.fewer);
     each = turns;
+    holds = holds;
   }
 
-  pub tried : (b : Bool) → (b ≡ true → live_count after ≡ live_count mid) → (b ≡ false → live_count after ≢ live_count mid) → TriesToClose g label next columns after old new lost b
+  pub tried : (b : Bool) → (b ≡ true → device_count after ≡ device_count mid) → (b ≡ false → device_count after ≢ device_count mid) → TriesToClose g label next columns after old new lost b
   tried true same apart = elim (death_of (LosesDevice g mid dev new) mid after s.dies) [
     | inl e ↦ closed e
     | inr death ↦ absurd (omega (arith, same refl, fewer death))
   ]
   tried false same apart = elim (death_of (LosesDevice g mid dev new) mid after s.dies) [
-    | inl e ↦ absurd (apart refl (ap live_count e))
+    | inl e ↦ absurd (apart refl (ap device_count e))
     | inr death ↦ broken death
   ]

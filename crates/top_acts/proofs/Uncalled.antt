@@ -1,16 +1,16 @@
 -- Devices that no column has, which aren't called.
 use Rattle.std.proofs.Common.{◌≡◌, ◌∙◌, ℕ, List, [], ◌∷◌, ◌++◌, Option, Some, None, refl, ap, sym, subst, arith, append-nil}
-use Rattle.std.specs.Prelude.{All, count_by, option_and_then}
+use Rattle.std.specs.Prelude.{All, option_and_then}
 use Rattle.std.proofs.lemmas.List.Elements.{All-get_or}
 use Rattle.blk_disk.specs.declared.disk.Call.{Call}
 use Rattle.blk_disk.specs.declared.disk.Disk.{Ghosts}
 use Rattle.blk_disk.specs.Devices.{calls_of}
 use Rattle.lay_core.specs.Layout.{Shape}
 use Rattle.eng_cols.specs.declared.column.Column.{Column}
-use Rattle.eng_cols.specs.Cols.{ColumnState, HasDevice, is_set_filling}
+use Rattle.eng_cols.specs.Cols.{ColumnState, HasDevice}
 use Rattle.eng_cols.specs.Deaths.{Dies}
 use Rattle.eng_cols.proofs.Spots.{seat-device}
-use Rattle.raid_recon.specs.Array.{states_of}
+use Rattle.eng_cols.specs.Stripes.{states_of}
 use Rattle.raid_recon.specs.Ends.{CallsUnits, IsUnitCall}
 use Rattle.top_rounds.specs.Rounds.{IsUncalled}
 use Rattle.top_rounds.proofs.PassLaws.{live_before}
@@ -45,8 +45,8 @@ module _ {D : Type 0} (g : Ghosts D) where
   pub told-others : (columns : List Column) (old new : List (Option D)) → IsUncalled columns old new → ToldNothing g columns old new
   told-others columns old new others d none = subst (λ o. NoCalls (calls_of g old d) (option_and_then g.calls o)) (sym (others d none)) (no_calls-refl (calls_of g old d))
 
-  pub told-units : (y : Shape) (columns : List Column) (old new : List (Option D)) → count_by is_set_filling columns ≡ 0 → ((d : ℕ) → CallsUnits y (states_of y columns) d (calls_of g old d) (calls_of g new d)) → ToldNothing g columns old new
-  told-units y columns old new filling calls d none = no_units y (states_of y columns) d (calls_of g old d) (calls_of g new d) (λ c has. none c (live_of y columns c d filling has)) (calls d)
+  pub told-units : (y : Shape) (columns : List Column) (old new : List (Option D)) → ((d : ℕ) → CallsUnits y (states_of y columns) d (calls_of g old d) (calls_of g new d)) → ToldNothing g columns old new
+  told-units y columns old new calls d none = no_units y (states_of y columns) d (calls_of g old d) (calls_of g new d) (λ c has. none c (live_of y columns c d has)) (calls d)
 
   pub told-then : (cause : ℕ → Type 0) (columns mid : List Column) (old dev new : List (Option D)) → Dies cause columns mid → ToldNothing g columns old dev → ToldNothing g mid dev new → ToldNothing g columns old new
   told-then cause columns mid old dev new dies one two d none =

@@ -7,22 +7,26 @@ use Rattle.eng_cols.specs.declared.column.Column.{Column}
 use Rattle.eng_cols.specs.declared.spot.Loss.{Loss}
 use Rattle.eng_cols.specs.Deaths.{Dies}
 use Rattle.raid_recon.specs.declared.kind.Sweep.TheVariants as sweep
-use Rattle.raid_recon.specs.Array.{states_of, Failed}
+use Rattle.eng_cols.specs.Stripes.{states_of}
+use Rattle.raid_recon.specs.Array.{Failed}
 use Rattle.raid_recon.specs.Ends.{IsCounted, CallsUnits}
 use Rattle.raid_recon.specs.Swept.{IsSwept}
 use Rattle.top_close.specs.Ended.{IsLossBy}
+use Rattle.top_rounds.specs.Rounds.{in_end}
 use Rattle.top_acts.specs.declared.done.Done.{Done}
 use Rattle.top_acts.specs.declared.done.Done.TheVariants as done
 use Rattle.top_acts.specs.Done.{unless_lost}
 
--- The stripes that lack no unit were tested, and as many as were found not to be in sync are told, or nothing where the array is lost. A column has died where its device's count of faults rose, and no other died. No sector has changed. Where there is no check unit no device was called.
+-- The stripes that lack no unit were tested, and as many as were found not to be in sync are told, or nothing where the array is lost. By that a column has died where its device's count of faults rose, and no other died; then one that was filling, where the array is lost. No sector has changed. Where there is no check unit no device was called.
 pub record IsChecked {D : Type 0} (g : Ghosts D) (y : Shape) (columns after : List Column) (old new : List (Option D)) (lost : Option Loss) (result : Done) : Type 0 where
   pub found : ℕ
+  pub mid : List Column
   pub told : result ≡ unless_lost lost (done.Check found)
-  pub counted : y.checks ≡ 1 → IsCounted g sweep.Check y columns after old found
-  pub none : y.checks ≡ 0 → (found ≡ 0) × ((after ≡ columns) × (new ≡ old))
+  pub counted : y.checks ≡ 1 → IsCounted g sweep.Check y columns mid old found
+  pub none : y.checks ≡ 0 → (found ≡ 0) × ((mid ≡ columns) × (new ≡ old))
   pub frame : Changes g (λ _ _. ⊥) old new
-  pub dies : Dies (Failed g (states_of y columns) old new) columns after
-  pub swept : y.checks ≡ 1 → IsSwept g sweep.Check y y.stripes columns after old new found
+  pub dies : Dies (Failed g (states_of y columns) old new) columns mid
+  pub swept : y.checks ≡ 1 → IsSwept g sweep.Check y y.stripes columns mid old new found
   pub calls : (d : ℕ) → CallsUnits y (states_of y columns) d (calls_of g old d) (calls_of g new d)
+  pub after_is : after ≡ in_end lost mid
   pub lost_is : IsLossBy y None (states_of y after) lost

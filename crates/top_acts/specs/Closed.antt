@@ -1,16 +1,16 @@
 -- The labels of an array's end.
-use Rattle.std.specs.Prelude.{◌≡◌, ◌≤◌, ◌+◌, ℕ, suc, List, length, Bool, true, false, Option, Some, None, All, slice_get}
+use Rattle.std.specs.Prelude.{◌≡◌, ◌⊎◌, ◌≤◌, ◌+◌, ℕ, suc, List, length, Bool, true, false, Option, Some, None, All, slice_get}
 use Rattle.blk_disk.specs.declared.disk.Disk.{Ghosts}
-use Rattle.blk_disk.specs.Devices.{Changes, calls_of}
+use Rattle.blk_disk.specs.Devices.{Changes, RisesOn, calls_of}
 use Rattle.eng_cols.specs.declared.column.Column.{Column}
 use Rattle.eng_cols.specs.declared.spot.Loss.{Loss}
 use Rattle.eng_cols.specs.Deaths.{Dies}
 use Rattle.raid_label.specs.declared.label.Label.{Label}
 use Rattle.top_close.specs.Calls.{EndsSettled}
-use Rattle.top_close.specs.Settled.{AreSettled, IsLiveOn, is_live, LosesDevice}
-use Rattle.top_rounds.specs.Labels.{seats_of, with_round}
+use Rattle.top_close.specs.Settled.{AreSettled, HasDeviceOn, has_device, LosesDevice}
+use Rattle.top_rounds.specs.Labels.{seating_in, seating_of, with_round}
 use Rattle.top_rounds.specs.Passes.{HoldsLabel, IsFirstInUse}
-use Rattle.top_rounds.specs.Rounds.{HaveFailed, IsInUse, IsUncalled, clean_in_end, live_count}
+use Rattle.top_rounds.specs.Rounds.{DiesIn, HaveFailed, HoldsTried, IsGivenUp, IsGivenUpIn, IsInUse, IsUncalled, clean_in_end, device_count}
 use Rattle.top_acts.specs.Begun.{HasSeats}
 use Rattle.top_acts.specs.Stages.{ClosesOn, InTurnOn}
 
@@ -20,33 +20,36 @@ settled_in_end None = true
 settled_in_end (Some loss) = false
 
 module _ {D : Type 0} (g : Ghosts D) where
-  -- The calls of each device in use came in turn, none behind one that failed; the last failed exactly where its column died.
-  abbrev pub CallInTurn : (was is : Bool) → List Column → List Column → List (Option D) → List (Option D) → Type 0
-  CallInTurn was is columns after old new = (c d : ℕ) → IsLiveOn columns c d → InTurnOn (is_live (slice_get after c)) was (calls_of g old d) (calls_of g new d) is
+  -- The calls of each device in use came in turn, none behind one that failed; the last failed exactly where its column died. In a lost array the device of a column that was filling isn't called in the last round: all its calls may have gone well, though the column is dead.
+  abbrev pub CallInTurn : Option Loss → (was is : Bool) → List Column → List Column → List (Option D) → List (Option D) → Type 0
+  CallInTurn lost was is columns after old new = (c d : ℕ) → HasDeviceOn columns c d → InTurnOn (has_device (slice_get after c)) was (calls_of g old d) (calls_of g new d) is
+      ⊎ (IsGivenUp lost columns c × ((settled : Bool) × InTurnOn true was (calls_of g old d) (calls_of g new d) settled))
 
-  -- Labels were written in rounds: so many, and at most one more for each of some devices that were in use, that failed, and that no column has now. No sector has changed but sector 0 of devices that were in use; a column has died where its device failed, and no other died; the calls are label writes and settles alone, and no other device was called.
-  pub record AreCounted (rounds : ℕ) (label next : Label) (columns after : List Column) (old new : List (Option D)) : Type 0 where
+  -- Labels were written in rounds: so many, and at most one more for each of some devices that were in use, that failed, and that no column has now. No sector has changed but sector 0 of devices that were in use; a column has died where its device failed, or where it was filling and the array is lost, and no other died; the calls are label writes and settles alone, and no other device was called.
+  pub record AreCounted (lost : Option Loss) (rounds : ℕ) (label next : Label) (columns after : List Column) (old new : List (Option D)) : Type 0 where
     pub rises : List ℕ
     pub failed : HaveFailed g old new rises
     pub had : All (IsInUse columns) rises
-    pub gone : All (λ d. (c : ℕ) → IsLiveOn after c d → ⊥) rises
-    pub fewer : live_count after + length rises ≤ live_count columns
+    pub gone : All (λ d. (c : ℕ) → HasDeviceOn after c d → ⊥) rises
+    pub fewer : device_count after + length rises ≤ device_count columns
     pub least : label.counter + rounds ≤ next.counter
     pub most : next.counter ≤ label.counter + rounds + length rises
     pub frame : Changes g (IsFirstInUse columns) old new
     pub others : IsUncalled columns old new
-    pub dies : Dies (LosesDevice g columns old new) columns after
+    pub dies : Dies (DiesIn g lost columns old new) columns after
     pub told : (d : ℕ) → ClosesOn (calls_of g old d) (calls_of g new d)
 
-  -- One round is named. Each device in use in the end has its label, which isn't clean where the array is lost; its seats are those of the columns of the last round, which are those in the end unless the array is lost. Each device in use was called in turn: label writes, and settles none of which comes right behind another, none behind a call that failed; `was` says whether its call before was a settle. Its last is a settle, or a label write where the array is lost.
+  -- One round is named. Each device in use in the end has its label, which isn't clean where the array is lost, and says what the columns of the last round were, which are those in the end unless the array is lost; of a lost one no column is filling any more, and the device of one that was, if its count of faults didn't rise, has what it had, or the label of a round before the last. Each device in use was called in turn: label writes, and settles none of which comes right behind another, none behind a call that failed; `was` says whether its call before was a settle. Its last is a settle, or a label write where the array is lost.
   pub record ClosesLabelled (was : Bool) (label next : Label) (columns after : List Column) (old new : List (Option D)) (lost : Option Loss) : Type 0 where
-    pub counted : AreCounted 1 label next columns after old new
-    pub label_is : next ≡ with_round label next.counter (clean_in_end lost label.clean) next.seats
-    pub seated : HasSeats g next columns after old new
-    pub seats : lost ≡ None → next.seats ≡ seats_of after
-    pub held : (c d : ℕ) → IsLiveOn after c d → HoldsLabel g new next c d
-    pub settled : lost ≡ None → (c d : ℕ) → IsLiveOn after c d → EndsSettled (calls_of g new d)
-    pub each : CallInTurn was (settled_in_end lost) columns after old new
+    pub counted : AreCounted lost 1 label next columns after old new
+    pub label_is : next ≡ with_round label next.counter (clean_in_end lost label.clean) (seating_in next)
+    pub seated : HasSeats g lost next columns after old new
+    pub seating : lost ≡ None → seating_in next ≡ seating_of after
+    pub given_up : IsGivenUpIn lost after
+    pub held : (c d : ℕ) → HasDeviceOn after c d → HoldsLabel g new next c d
+    pub settled : lost ≡ None → (c d : ℕ) → HasDeviceOn after c d → EndsSettled (calls_of g new d)
+    pub given : (c d : ℕ) → IsGivenUp lost columns c → HasDeviceOn columns c d → (RisesOn g old new d → ⊥) → HoldsTried g label next.counter old new c d
+    pub each : CallInTurn lost was (settled_in_end lost) columns after old new
 
   -- First each device in use was settled, once, before any label was written; a column died whose device failed. The array was then closed with the columns and devices that this left.
   pub record ClosesSettled (label next : Label) (columns after : List Column) (old new : List (Option D)) (lost : Option Loss) : Type 0 where
@@ -55,12 +58,13 @@ module _ {D : Type 0} (g : Ghosts D) where
     pub settles : AreSettled g (length columns) columns mid old dev
     pub closes : ClosesLabelled true label next mid after dev new lost
 
-  -- A device failed as it was settled, so that no label of before is the last.
+  -- A device failed as it was settled, so that no label of before is the last. Each that is in use still has one of those.
   pub record IsBroken (label next : Label) (columns after : List Column) (old new : List (Option D)) : Type 0 where
-    pub counted : AreCounted 0 label next columns after old new
-    pub label_is : next ≡ with_round label next.counter label.clean next.seats
-    pub fewer : suc (live_count after) ≤ live_count columns
-    pub each : CallInTurn true true columns after old new
+    pub counted : AreCounted None 0 label next columns after old new
+    pub label_is : next ≡ with_round label next.counter label.clean (seating_in next)
+    pub fewer : suc (device_count after) ≤ device_count columns
+    pub each : CallInTurn None true true columns after old new
+    pub holds : (c d : ℕ) → HasDeviceOn after c d → HoldsTried g label (next.counter + 1) old new c d
 
   -- the array was closed, or a device failed as it was settled
   abbrev pub TriesToClose : Label → Label → List Column → List Column → List (Option D) → List (Option D) → Option Loss → Bool → Type 0

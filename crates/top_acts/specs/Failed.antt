@@ -4,7 +4,7 @@ use Rattle.blk_disk.specs.declared.disk.Disk.{Ghosts}
 use Rattle.eng_cols.specs.declared.column.Column.{Column}
 use Rattle.eng_cols.specs.declared.spot.Loss.{Loss}
 use Rattle.raid_label.specs.declared.label.Label.{Label}
-use Rattle.top_rounds.specs.Labels.{with_round}
+use Rattle.top_rounds.specs.Labels.{seating_in, with_round}
 use Rattle.top_rounds.specs.Rounds.{HaveRounds}
 
 module _ {D : Type 0} (g : Ghosts D) where
@@ -16,7 +16,7 @@ module _ {D : Type 0} (g : Ghosts D) where
 
   -- the one round of a lost array was written, which isn't clean
   pub record IsLeftLost (loss : Loss) (label next : Label) (columns after : List Column) (old new : List (Option D)) : Type 0 where
-    pub label_is : next ≡ with_round label next.counter 0 next.seats
+    pub label_is : next ≡ with_round label next.counter 0 (seating_in next)
     pub rounds : HaveRounds g (Some loss) label next columns after old new
 
   -- By what the array was lost before, if it was, and by what it is lost in the end; the columns are those with the one dead that died. Where it is lost by that death, its one round was written, and else nothing was called. What was lost stays lost.

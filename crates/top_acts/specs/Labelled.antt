@@ -6,8 +6,9 @@ use Rattle.eng_cols.specs.declared.column.Column.{Column}
 use Rattle.eng_cols.specs.declared.column.Column.TheVariants as column
 use Rattle.eng_cols.specs.declared.spot.Loss.{Loss}
 use Rattle.raid_label.specs.declared.label.Label.{Label}
-use Rattle.top_close.specs.Ended.{states_of, IsLossBy}
-use Rattle.top_rounds.specs.Labels.{with_round}
+use Rattle.eng_cols.specs.Stripes.{states_of}
+use Rattle.top_close.specs.Ended.{IsLossBy}
+use Rattle.top_rounds.specs.Labels.{seating_in, with_round}
 use Rattle.top_rounds.specs.Rounds.{HaveRounds}
 use Rattle.top_acts.specs.declared.done.Done.{Done}
 use Rattle.top_acts.specs.declared.done.Done.TheVariants as done
@@ -16,7 +17,7 @@ use Rattle.top_acts.specs.Done.{unless_lost}
 abbrev pub is_alive : Column → Bool
 is_alive (column.Live device) = true
 is_alive column.Dead = false
-is_alive (column.Filling device) = true
+is_alive (column.Filling device done) = true
 is_alive column.Spread = true
 
 -- how many columns aren't dead
@@ -30,6 +31,6 @@ unlabelled label = record label { counter = 0; clean = 0 }
 -- Labels were written in rounds that began at counter 1, none of them clean, and it is told how many columns aren't dead, or nothing where the array is lost.
 pub record IsFirstLabelled {D : Type 0} (g : Ghosts D) (y : Shape) (label next : Label) (columns after : List Column) (old new : List (Option D)) (lost : Option Loss) (result : Done) : Type 0 where
   pub told : result ≡ unless_lost lost (done.Labelled (alive after))
-  pub label_is : next ≡ with_round label next.counter 0 next.seats
+  pub label_is : next ≡ with_round label next.counter 0 (seating_in next)
   pub rounds : HaveRounds g lost (unlabelled label) next columns after old new
   pub lost_is : IsLossBy y None (states_of y after) lost

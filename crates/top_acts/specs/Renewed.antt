@@ -9,14 +9,14 @@ use Rattle.eng_cols.specs.Deaths.{Dies}
 use Rattle.raid_label.specs.declared.label.Label.{Label}
 use Rattle.raid_recon.specs.declared.kind.Sweep.{Sweep}
 use Rattle.raid_recon.specs.declared.kind.Sweep.TheVariants as sweep
-use Rattle.raid_recon.specs.Array.{states_of}
+use Rattle.eng_cols.specs.Stripes.{states_of}
 use Rattle.top_close.specs.Calls.{EndsSettled, IsSettle}
 use Rattle.top_close.specs.Ended.{IsLossBy}
-use Rattle.top_close.specs.Settled.{AreSettled, IsLiveOn, LosesDevice}
+use Rattle.top_close.specs.Settled.{AreSettled, HasDeviceOn, LosesDevice}
 use Rattle.top_rounds.specs.Calls.{IsLabelWrite}
-use Rattle.top_rounds.specs.Labels.{seats_of, with_round}
+use Rattle.top_rounds.specs.Labels.{seating_in, seating_of, with_round}
 use Rattle.top_rounds.specs.Passes.{HoldsLabel}
-use Rattle.top_rounds.specs.Rounds.{clean_in_end}
+use Rattle.top_rounds.specs.Rounds.{IsGivenUpIn, clean_in_end}
 use Rattle.top_acts.specs.declared.done.Done.{Done}
 use Rattle.top_acts.specs.declared.done.Done.TheVariants as done
 use Rattle.top_acts.specs.declared.sweeping.Renewal.{Renewal}
@@ -53,12 +53,13 @@ module _ {D : Type 0} (g : Ghosts D) where
     pub some : 1 ≤ rounds
     pub few : rounds ≤ 2
     pub two : lost ≡ None → rounds ≡ 2
-    pub named : CountsRounds g rounds label next columns after old new
-    pub label_is : next ≡ with_round label next.counter (clean_in_end lost 1) next.seats
-    pub seats : lost ≡ None → next.seats ≡ seats_of after
-    pub held : (c d : ℕ) → IsLiveOn after c d → HoldsLabel g new next c d
-    pub settled : lost ≡ None → (c d : ℕ) → IsLiveOn after c d → EndsSettled (calls_of g new d)
-    pub ordered : lost ≡ None → (c d : ℕ) → IsLiveOn after c d → StagesOn (All IsLabelWrite) SettlesFirst (Some (sweep_of kind)) y (states_of y columns) d (calls_of g old d) (calls_of g new d)
+    pub named : CountsRounds g lost rounds label next columns after old new
+    pub label_is : next ≡ with_round label next.counter (clean_in_end lost 1) (seating_in next)
+    pub seating : lost ≡ None → seating_in next ≡ seating_of after
+    pub given_up : IsGivenUpIn lost after
+    pub held : (c d : ℕ) → HasDeviceOn after c d → HoldsLabel g new next c d
+    pub settled : lost ≡ None → (c d : ℕ) → HasDeviceOn after c d → EndsSettled (calls_of g new d)
+    pub ordered : lost ≡ None → (c d : ℕ) → HasDeviceOn after c d → StagesOn (All IsLabelWrite) SettlesFirst (Some (sweep_of kind)) y (states_of y columns) d (calls_of g old d) (calls_of g new d)
     pub frame : Changes g (MayBegin g (Some (sweep_of kind)) y columns old) old new
     pub calls : (d : ℕ) → StagesOn (All IsLabelWrite) (All IsClosing) (Some (sweep_of kind)) y (states_of y columns) d (calls_of g old d) (calls_of g new d)
     pub uncalled : ToldNothing g columns old new
@@ -76,7 +77,7 @@ module _ {D : Type 0} (g : Ghosts D) where
     pub told : result ≡ unless_lost lost (renewed kind found)
     pub swept : HasSwept g (sweep_of kind) y columns after old new found
     pub dies : Dies (LosesDevice g columns old new) columns after
-    pub settled : (c d : ℕ) → IsLiveOn after c d → EndsSettled (calls_of g new d)
+    pub settled : (c d : ℕ) → HasDeviceOn after c d → EndsSettled (calls_of g new d)
     pub frame : Changes g (MaySweep g (Some (sweep_of kind)) y columns old) old new
     pub calls : (d : ℕ) → StagesOn (λ calls. calls ≡ []) (All IsSettle) (Some (sweep_of kind)) y (states_of y columns) d (calls_of g old d) (calls_of g new d)
     pub uncalled : ToldNothing g columns old new

@@ -9,12 +9,13 @@ use Rattle.eng_cols.specs.Contents.{InSync}
 use Rattle.eng_cols.specs.Deaths.{Dies}
 use Rattle.raid_label.specs.declared.label.Label.{Label}
 use Rattle.raid_recon.specs.declared.kind.Sweep.{Sweep}
-use Rattle.raid_recon.specs.Array.{states_of, Failed}
+use Rattle.eng_cols.specs.Stripes.{states_of}
+use Rattle.raid_recon.specs.Array.{Failed}
 use Rattle.raid_recon.specs.Ends.{MayRewrite, ChecksHold, IsCounted, CallsUnits}
-use Rattle.top_close.specs.Settled.{IsLiveOn}
-use Rattle.top_rounds.specs.Labels.{with_round}
+use Rattle.top_close.specs.Settled.{HasDeviceOn}
+use Rattle.top_rounds.specs.Labels.{seating_in, with_round}
 use Rattle.top_rounds.specs.Passes.{HoldsLabel}
-use Rattle.top_rounds.specs.Rounds.{clean_in_end}
+use Rattle.top_rounds.specs.Rounds.{IsGivenUpIn, clean_in_end}
 use Rattle.top_acts.specs.Begun.{AreLast, CountsRounds, HasSeats, HasSwept, MayBegin, ToldNothing}
 use Rattle.top_acts.specs.Stages.{StagesOn}
 
@@ -34,10 +35,11 @@ module _ {D : Type 0} (g : Ghosts D) (kind : Sweep) (y : Shape) where
     pub rounds : ℕ
     pub few : rounds ≤ 1
     pub none : lost ≡ None → rounds ≡ 0
-    pub named : CountsRounds g rounds label next columns after old new
-    pub label_is : next ≡ with_round label next.counter (clean_in_end lost label.clean) next.seats
-    pub seated : (next.seats ≡ label.seats) ⊎ HasSeats g next columns after old new
-    pub held : (c d : ℕ) → IsLiveOn after c d → HoldsLabel g old label c d → HoldsLabel g new next c d
+    pub named : CountsRounds g lost rounds label next columns after old new
+    pub label_is : next ≡ with_round label next.counter (clean_in_end lost label.clean) (seating_in next)
+    pub seated : ((lost ≡ None) × (seating_in next ≡ seating_in label)) ⊎ HasSeats g lost next columns after old new
+    pub given_up : IsGivenUpIn lost after
+    pub held : (c d : ℕ) → HasDeviceOn after c d → HoldsLabel g old label c d → HoldsLabel g new next c d
     pub frame : Changes g (MayBegin g (Some kind) y columns old) old new
     pub told : (d : ℕ) → StagesOn (λ calls. calls ≡ []) (AreLast lost) (Some kind) y (states_of y columns) d (calls_of g old d) (calls_of g new d)
     pub uncalled : ToldNothing g columns old new

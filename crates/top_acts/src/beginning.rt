@@ -2,11 +2,12 @@
 ghost use Rattle.std.specs.Prelude.{◌≡◌, ◌≤◌, ◌<◌, ◌+◌, ◌*◌, ◌^◌, None};
 ghost use Rattle.std.specs.Option.{option_map};
 ghost use Rattle.eng_cols.specs.Cols.{IsFor};
-ghost use Rattle.raid_label.specs.Bytes.{IsHeld};
 ghost use Rattle.top_acts.specs.Begun.{CanAct, HasBegun, sweep_if};
 ghost use Rattle.top_acts.specs.Renewed.{sweep_of};
 ghost use Rattle.top_acts.specs.Sweeping.{SweepsLabelled};
-ghost use Rattle.top_close.specs.Ended.{IsLossBy, states_of};
+ghost use Rattle.eng_cols.specs.Stripes.{states_of};
+ghost use Rattle.top_close.specs.Ended.{IsLossBy};
+ghost use Rattle.top_rounds.specs.Labels.{IsLabelFor};
 
 use crate::ending::write_lost;
 use crate::sweeping::{Renewal, sweep_and_judge};
@@ -30,12 +31,13 @@ fn sweep_labelled<L: Layout, D: Disk, P: Progress>(
     judge: &mut Cols,
 ) -> u64
     requires can { CanAct D.Disk (L.shape layout.now) ending.old.columns.items devices.old }
-    requires held { IsHeld label.old }
+    requires held { IsLabelFor ending.old.columns.items label.old }
     requires counter { label.old.counter + 33 < 2 ^ 32 }
     requires room { 1024 * (L.shape layout.now).unit_sectors ≤ room.old }
     requires judge { IsFor (L.shape layout.now) judge.old }
     ensures swept { SweepsLabelled D.Disk (sweep_of kind) (L.shape layout.now) label.old label.new
         ending.old.columns.items ending.new.columns.items devices.old devices.new ending.new.lost result }
+    ensures held { IsLabelFor ending.new.columns.items label.new }
     ensures lost { IsLossBy (L.shape layout.now) None
         (states_of (L.shape layout.now) ending.new.columns.items) ending.new.lost }
     ensures room { room.new ≡ room.old }
@@ -61,12 +63,13 @@ pub(crate) fn begin<L: Layout, D: Disk, P: Progress>(
     judge: &mut Cols,
 ) -> u64
     requires can { CanAct D.Disk (L.shape layout.now) ending.old.columns.items devices.old }
-    requires held { IsHeld label.old }
+    requires held { IsLabelFor ending.old.columns.items label.old }
     requires counter { label.old.counter + 66 < 2 ^ 32 }
     requires room { 1024 * (L.shape layout.now).unit_sectors ≤ room.old }
     requires judge { IsFor (L.shape layout.now) judge.old }
     ensures begun { HasBegun D.Disk (option_map sweep_of sweep) (L.shape layout.now) label.old label.new
         ending.old.columns.items ending.new.columns.items devices.old devices.new ending.new.lost result }
+    ensures held { IsLabelFor ending.new.columns.items label.new }
     ensures lost { IsLossBy (L.shape layout.now) None
         (states_of (L.shape layout.now) ending.new.columns.items) ending.new.lost }
     ensures room { room.new ≡ room.old }
@@ -105,7 +108,7 @@ pub fn begin_labelled<L: Layout, D: Disk, P: Progress>(
     judge: &mut Cols,
 ) -> u64
     requires can { CanAct D.Disk (L.shape layout.now) ending.old.columns.items devices.old }
-    requires held { IsHeld label.old }
+    requires held { IsLabelFor ending.old.columns.items label.old }
     requires counter { label.old.counter + 66 < 2 ^ 32 }
     requires room { 1024 * (L.shape layout.now).unit_sectors ≤ room.old }
     requires judge { IsFor (L.shape layout.now) judge.old }
@@ -114,7 +117,7 @@ pub fn begin_labelled<L: Layout, D: Disk, P: Progress>(
     ensures lost { IsLossBy (L.shape layout.now) None
         (states_of (L.shape layout.now) ending.new.columns.items) ending.new.lost }
     ensures can { CanAct D.Disk (L.shape layout.now) ending.new.columns.items devices.new }
-    ensures held { IsHeld label.new }
+    ensures held { IsLabelFor ending.new.columns.items label.new }
     ensures room { room.new ≡ room.old }
     ensures judge { IsFor (L.shape layout.now) judge.new }
 {

@@ -2,11 +2,11 @@
 ghost use Rattle.std.specs.Prelude.{◌≡◌, ◌≤◌, ◌*◌};
 ghost use Rattle.eng_cols.specs.Cols.{IsFor};
 ghost use Rattle.raid_recon.specs.Array.{IsArray};
-ghost use Rattle.top_rounds.specs.Settable.{IsSettable};
+ghost use Rattle.eng_cols.specs.Settable.{IsSettable};
 ghost use Rattle.top_acts.specs.Checked.{IsChecked};
 
 use crate::done::Done;
-use crate::judging::loss_of;
+use crate::judging::judge_end;
 use blk_disk::Disk;
 use eng_cols::Cols;
 use lay_core::Layout;
@@ -15,7 +15,7 @@ use raid_recon::{SweepRoom, sweep_check};
 use top_close::{Ending, deaths_bring_no_unit_back};
 
 /// Counts the stripes that aren't in sync, of those that lack no unit. A column is dead whose device
-/// fails a read; then the array may be lost.
+/// fails a read; then the array may be lost, and a column that was filling is dead.
 ///
 /// No sector changes: no label is written, and nothing is settled. The array isn't lost as it is
 /// opened. `room` has 1,024 bytes for each sector of a unit, and `judge` may hold any columns, as
@@ -38,8 +38,8 @@ pub fn check<L: Layout, D: Disk, P: Progress>(
 {
     deaths_bring_no_unit_back();
     let columns = ending.columns.as_mut_slice();
-    let count = sweep_check(layout, devices, columns, room);
-    ending.lost = loss_of(layout, columns, judge);
+    let count = sweep_check(layout, devices, columns, room, judge);
+    judge_end(layout, ending, judge);
     match ending.lost {
         Some(_) => Done::Nothing,
         None => Done::Check(count),

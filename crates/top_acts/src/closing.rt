@@ -1,14 +1,14 @@
 //! The labels of an array's end: each device in use gets them, and is then settled.
 ghost use Rattle.std.specs.Prelude.{◌≡◌, ◌≤◌, ◌<◌, ◌+◌, ◌^◌, length};
 ghost use Rattle.eng_cols.specs.Cols.{IsFor};
-ghost use Rattle.raid_label.specs.Bytes.{IsHeld};
-ghost use Rattle.top_rounds.specs.Settable.{IsSettable};
+ghost use Rattle.eng_cols.specs.Settable.{IsSettable};
 ghost use Rattle.top_acts.specs.Closed.{ClosesLabelled, TriesToClose};
-ghost use Rattle.top_close.specs.Ended.{IsLossBy, states_of};
-ghost use Rattle.top_close.specs.Settled.{is_live};
-ghost use Rattle.std.specs.Prelude.{true, Some, None};
+ghost use Rattle.eng_cols.specs.Stripes.{states_of};
+ghost use Rattle.top_close.specs.Ended.{IsLossBy};
+ghost use Rattle.std.specs.Prelude.{true, None};
+ghost use Rattle.top_rounds.specs.Labels.{IsLabelFor};
 ghost use Rattle.top_rounds.specs.Passes.{CanBeLabelled};
-ghost use Rattle.top_rounds.specs.Rounds.{live_count};
+ghost use Rattle.top_rounds.specs.Rounds.{device_count};
 
 use blk_disk::Disk;
 use eng_cols::{Cols, Column};
@@ -17,22 +17,13 @@ use raid_label::Label;
 use top_close::{Ending, deaths_bring_no_unit_back, end_unlabelled};
 use top_rounds::round;
 
-fn is_live(column: Column) -> bool
-    ensures { result ≡ is_live (Some column) }
-{
-    match column {
-        Column::Live { .. } => true,
-        Column::Dead | Column::Filling { .. } | Column::Spread => false,
-    }
-}
-
-fn count_live(columns: &[Column]) -> u32
+fn count_devices(columns: &[Column]) -> u32
     requires { length columns.now ≤ 32 }
-    ensures { result ≡ live_count columns.now }
+    ensures { result ≡ device_count columns.now }
 {
     let mut count = 0;
     for column in columns {
-        if is_live(*column) {
+        if column.device().is_some() {
             count += 1;
         }
     }
@@ -50,9 +41,10 @@ fn try_close<L: Layout, D: Disk>(
 ) -> bool
     requires array { CanBeLabelled D.Disk ending.old.columns.items devices.old }
     requires columns { IsSettable (L.shape layout.now) ending.old.columns.items }
-    requires held { IsHeld label.old }
+    requires held { IsLabelFor ending.old.columns.items label.old }
     requires counter { label.old.counter + 33 < 2 ^ 32 }
     requires judge { IsFor (L.shape layout.now) judge.old }
+    ensures held { IsLabelFor ending.new.columns.items label.new }
     ensures tried { TriesToClose D.Disk label.old label.new ending.old.columns.items
         ending.new.columns.items devices.old devices.new ending.new.lost result }
     ensures lost { IsLossBy (L.shape layout.now) None
@@ -65,14 +57,15 @@ fn try_close<L: Layout, D: Disk>(
     if ending.lost.is_some() {
         return true;
     }
-    let live = count_live(&ending.columns);
+    let had = count_devices(&ending.columns);
     end_unlabelled(layout, devices, ending, judge);
-    count_live(&ending.columns) == live
+    count_devices(&ending.columns) == had
 }
 
 /// Ends what is done to a labelled array: rounds of labels are written, and then each device in use
 /// is settled, last of all its calls. Where one fails as it is settled there are rounds again, until
-/// none does or the array is lost; then one last round is written, which isn't clean.
+/// none does or the array is lost; then a column that was filling is dead, and one last round is
+/// written, which isn't clean.
 ///
 /// `label` is the label that was written last, or that the newest device had, with the clean field
 /// that the labels are to have. Before this the caller settles each device in use. `judge` may hold
@@ -86,7 +79,7 @@ pub fn close<L: Layout, D: Disk>(
 )
     requires array { CanBeLabelled D.Disk ending.old.columns.items devices.old }
     requires columns { IsSettable (L.shape layout.now) ending.old.columns.items }
-    requires held { IsHeld label.old }
+    requires held { IsLabelFor ending.old.columns.items label.old }
     requires counter { label.old.counter + 65 < 2 ^ 32 }
     requires judge { IsFor (L.shape layout.now) judge.old }
     ensures closed { ClosesLabelled D.Disk true label.old label.new ending.old.columns.items

@@ -1,11 +1,11 @@
 //! The end of what was done to a labelled array, lost or not.
 ghost use Rattle.std.specs.Prelude.{◌≡◌, ◌<◌, ◌+◌, ◌^◌, true, false, None, is_some};
 ghost use Rattle.eng_cols.specs.Cols.{IsFor};
-ghost use Rattle.raid_label.specs.Bytes.{IsHeld};
-ghost use Rattle.top_rounds.specs.Settable.{IsSettable};
+ghost use Rattle.eng_cols.specs.Settable.{IsSettable};
 ghost use Rattle.top_acts.specs.Closed.{ClosesLabelled, ClosesSettled};
-ghost use Rattle.top_close.specs.Ended.{IsLossBy, states_of};
-ghost use Rattle.top_rounds.specs.Labels.{with_round};
+ghost use Rattle.eng_cols.specs.Stripes.{states_of};
+ghost use Rattle.top_close.specs.Ended.{IsLossBy};
+ghost use Rattle.top_rounds.specs.Labels.{IsLabelFor, seating_in, with_round};
 ghost use Rattle.top_rounds.specs.Passes.{CanBeLabelled};
 ghost use Rattle.top_rounds.specs.Rounds.{HaveRounds};
 
@@ -28,13 +28,14 @@ pub(crate) fn write_lost<L: Layout, D: Disk>(
 )
     requires array { CanBeLabelled D.Disk ending.old.columns.items devices.old }
     requires columns { IsSettable (L.shape layout.now) ending.old.columns.items }
-    requires held { IsHeld label.old }
+    requires held { IsLabelFor ending.old.columns.items label.old }
     requires counter { label.old.counter + 33 < 2 ^ 32 }
     requires lost { is_some ending.old.lost ≡ true }
     requires by { IsLossBy (L.shape layout.now) None
         (states_of (L.shape layout.now) ending.old.columns.items) ending.old.lost }
     requires judge { IsFor (L.shape layout.now) judge.old }
-    ensures label { label.new ≡ with_round label.old label.new.counter 0 label.new.seats }
+    ensures label { label.new ≡ with_round label.old label.new.counter 0 (seating_in label.new) }
+    ensures held { IsLabelFor ending.new.columns.items label.new }
     ensures rounds { HaveRounds D.Disk ending.new.lost label.old label.new
         ending.old.columns.items ending.new.columns.items devices.old devices.new }
     ensures lost { is_some ending.new.lost ≡ true }
@@ -58,7 +59,7 @@ fn settle_and_end<L: Layout, D: Disk>(
 )
     requires array { CanBeLabelled D.Disk ending.old.columns.items devices.old }
     requires columns { IsSettable (L.shape layout.now) ending.old.columns.items }
-    requires held { IsHeld label.old }
+    requires held { IsLabelFor ending.old.columns.items label.old }
     requires counter { label.old.counter + 65 < 2 ^ 32 }
     requires judge { IsFor (L.shape layout.now) judge.old }
     ensures closed { ClosesLabelled D.Disk false label.old label.new ending.old.columns.items
@@ -97,7 +98,7 @@ pub fn end_labelled<L: Layout, D: Disk>(
 )
     requires array { CanBeLabelled D.Disk ending.old.columns.items devices.old }
     requires columns { IsSettable (L.shape layout.now) ending.old.columns.items }
-    requires held { IsHeld label.old }
+    requires held { IsLabelFor ending.old.columns.items label.old }
     requires counter { label.old.counter + 65 < 2 ^ 32 }
     requires judge { IsFor (L.shape layout.now) judge.old }
     ensures closed { ClosesLabelled D.Disk false label.old label.new ending.old.columns.items

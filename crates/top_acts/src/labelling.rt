@@ -1,9 +1,9 @@
 //! The first labels of an array.
 ghost use Rattle.std.specs.Prelude.{◌≡◌, ◌≤◌, length, count_by, Some};
 ghost use Rattle.eng_cols.specs.Cols.{IsFor};
-ghost use Rattle.raid_label.specs.Bytes.{IsHeld};
-ghost use Rattle.top_rounds.specs.Settable.{IsSettable};
+ghost use Rattle.eng_cols.specs.Settable.{IsSettable};
 ghost use Rattle.top_acts.specs.Labelled.{IsFirstLabelled, is_alive, alive};
+ghost use Rattle.top_rounds.specs.Labels.{IsLabelFor};
 ghost use Rattle.top_rounds.specs.Passes.{CanBeLabelled};
 
 use crate::done::Done;
@@ -53,7 +53,7 @@ pub fn label<L: Layout, D: Disk>(
 ) -> Done
     requires array { CanBeLabelled D.Disk ending.old.columns.items devices.old }
     requires columns { IsSettable (L.shape layout.now) ending.old.columns.items }
-    requires held { IsHeld label.old }
+    requires held { IsLabelFor ending.old.columns.items label.old }
     requires judge { IsFor (L.shape layout.now) judge.old }
     ensures labelled { IsFirstLabelled D.Disk (L.shape layout.now) label.old label.new ending.old.columns.items
         ending.new.columns.items devices.old devices.new ending.new.lost result }

@@ -1,12 +1,12 @@
 //! The check units of an array are initialised, or those rewritten that aren't in sync.
 ghost use Rattle.std.specs.Prelude.{◌≡◌, ◌≤◌, ◌<◌, ◌+◌, ◌*◌, ◌^◌};
 ghost use Rattle.eng_cols.specs.Cols.{IsFor};
-ghost use Rattle.raid_label.specs.Bytes.{IsHeld};
 ghost use Rattle.raid_recon.specs.Array.{IsArray};
-ghost use Rattle.top_rounds.specs.Settable.{IsSettable};
+ghost use Rattle.eng_cols.specs.Settable.{IsSettable};
 ghost use Rattle.top_acts.specs.Begun.{CanAct};
 ghost use Rattle.top_acts.specs.Done.{unless_lost};
 ghost use Rattle.top_acts.specs.Renewed.{IsRenewed, IsRenewedPlain, renewed};
+ghost use Rattle.top_rounds.specs.Labels.{IsLabelFor};
 
 use crate::beginning::begin;
 use crate::done::Done;
@@ -51,7 +51,7 @@ pub fn renew<L: Layout, D: Disk, P: Progress>(
     judge: &mut Cols,
 ) -> Done
     requires can { CanAct D.Disk (L.shape layout.now) ending.old.columns.items devices.old }
-    requires held { IsHeld label.old }
+    requires held { IsLabelFor ending.old.columns.items label.old }
     requires counter { label.old.counter + 99 < 2 ^ 32 }
     requires room { 1024 * (L.shape layout.now).unit_sectors ≤ room.old }
     requires judge { IsFor (L.shape layout.now) judge.old }

@@ -2,10 +2,11 @@
 ghost use Rattle.std.specs.Prelude.{◌≡◌, ◌≤◌, ◌*◌, None};
 ghost use Rattle.eng_cols.specs.Cols.{IsFor};
 ghost use Rattle.raid_recon.specs.Array.{IsArray};
-ghost use Rattle.top_rounds.specs.Settable.{IsSettable};
+ghost use Rattle.eng_cols.specs.Settable.{IsSettable};
 ghost use Rattle.top_acts.specs.Renewed.{sweep_of};
 ghost use Rattle.top_acts.specs.Sweeping.{DoesSweep};
-ghost use Rattle.top_close.specs.Ended.{IsLossBy, states_of};
+ghost use Rattle.eng_cols.specs.Stripes.{states_of};
+ghost use Rattle.top_close.specs.Ended.{IsLossBy};
 
 use crate::judging::loss_of;
 use blk_disk::Disk;
@@ -31,16 +32,20 @@ fn sweep<L: Layout, D: Disk, P: Progress>(
     devices: &mut [Option<D>],
     columns: &mut [Column],
     room: &mut SweepRoom<P>,
+    judge: &mut Cols,
 ) -> u64
     requires array { IsArray D.Disk (L.shape layout.now) columns.old devices.old }
+    requires columns { IsSettable (L.shape layout.now) columns.old }
     requires room { 1024 * (L.shape layout.now).unit_sectors ≤ room.old }
+    requires judge { IsFor (L.shape layout.now) judge.old }
     ensures swept { DoesSweep D.Disk (sweep_of kind) (L.shape layout.now)
         columns.old columns.new devices.old devices.new result }
     ensures room { room.new ≡ room.old }
+    ensures judge { IsFor (L.shape layout.now) judge.new }
 {
     match kind {
-        Renewal::Init => sweep_init(layout, devices, columns, room),
-        Renewal::Rewrite => sweep_sync(layout, devices, columns, room),
+        Renewal::Init => sweep_init(layout, devices, columns, room, judge),
+        Renewal::Rewrite => sweep_sync(layout, devices, columns, room, judge),
     }
 }
 
@@ -66,7 +71,7 @@ pub(crate) fn sweep_and_judge<L: Layout, D: Disk, P: Progress>(
 {
     deaths_bring_no_unit_back();
     let columns = ending.columns.as_mut_slice();
-    let count = sweep(kind, layout, devices, columns, room);
+    let count = sweep(kind, layout, devices, columns, room, judge);
     ending.lost = loss_of(layout, columns, judge);
     count
 }

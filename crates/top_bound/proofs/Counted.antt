@@ -120,6 +120,6 @@ what-fits lay setup views devices columns entries few is sum =
     (subst (λ (n : ℕ). n ≤ 1048576) (traced-alike (lay.shape setup.layout) views setup.graphs.items devices columns setup.clients.items is) sum)
 
 pub what-fits-rebuilt : {L D : Type 0} (lay : LayoutGhosts L) (setup : Setup L D) → WhatFitsARebuild lay setup
-what-fits-rebuilt lay setup views devices columns column rebuilds entries few is dead most sum =
-    counted-rebuilds lay setup devices entries few column rebuilds dead most
+what-fits-rebuilt lay setup views cols devices columns column asked rebuilds entries few is long most sum =
+    counted-rebuilds lay setup devices entries few cols column asked rebuilds long most
     (subst (λ (n : ℕ). n + rebuilds_sum (lay.shape setup.layout) devices rebuilds ≤ 1048576) (traced-alike (lay.shape setup.layout) views setup.graphs.items devices columns setup.clients.items is) sum)

@@ -1,11 +1,10 @@
 -- That what a trace is judged to have room for has room in a core's trace.
-use Rattle.std.specs.Prelude.{◌≡◌, ◌≤◌, ◌+◌, ℕ, List, length, map, All, Some, Vec, slice_get}
+use Rattle.std.specs.Prelude.{◌≡◌, ◌≤◌, ◌+◌, ℕ, List, length, map, All, Vec}
 use Rattle.std.specs.declared.alloc.Global.{Global}
 use Rattle.lay_core.specs.Layout.{Shape}
 use Rattle.lay_core.specs.declared.layout.Layout.{Ghosts as LayoutGhosts}
 use Rattle.graph_mean.specs.Graph.{Held, View}
-use Rattle.eng_cols.specs.Cols.{Dead}
-use Rattle.eng_events.specs.Opened.{states_of}
+use Rattle.eng_cols.specs.Cols.{ColumnState}
 use Rattle.eng_world.specs.declared.item.Item.{Item}
 use Rattle.eng_parts.specs.declared.setup.Setup.{Setup}
 use Rattle.eng_array.specs.Fitting as core
@@ -30,11 +29,11 @@ WhatFitsHasRoom lay setup = (views : List View) (devices columns : ℕ) → leng
     → AreScriptAndGraphs columns views setup.graphs.items setup.clients.items
     → trace_sum (lay.shape setup.layout) views devices (asked_of setup.clients.items) ≤ 1048576 → core.FitsTrace lay setup
 
--- so it has for the rebuild of a dead column too, where that has at most so many stripes, and so many rebuilds are judged to fit beside the items
+-- so it has for the rebuild of a column too that begins with these columns, where no more rebuilds are begun of those that are asked, and so many are judged to fit beside the items
 abbrev pub WhatFitsARebuild : {L D : Type 0} → LayoutGhosts L → Setup L D → Type 0
-WhatFitsARebuild lay setup = (views : List View) (devices columns column rebuilds : ℕ) → length setup.columns.items ≡ (lay.shape setup.layout).columns → (lay.shape setup.layout).columns ≤ devices
+WhatFitsARebuild lay setup = (views : List View) (cols : List ColumnState) (devices columns column asked rebuilds : ℕ) → length setup.columns.items ≡ (lay.shape setup.layout).columns → (lay.shape setup.layout).columns ≤ devices
     → AreScriptAndGraphs columns views setup.graphs.items setup.clients.items
-    → slice_get (states_of (lay.shape setup.layout) setup.columns.items) column ≡ Some Dead
-    → core.HasAtMost (lay.shape setup.layout) (states_of (lay.shape setup.layout) setup.columns.items) column rebuilds
+    → length cols ≡ (lay.shape setup.layout).columns
+    → core.BeginsAtMost (lay.shape setup.layout) cols column asked rebuilds
     → trace_sum (lay.shape setup.layout) views devices (asked_of setup.clients.items) + rebuilds_sum (lay.shape setup.layout) devices rebuilds ≤ 1048576
-    → core.FitsRebuilding lay setup column
+    → core.FitsRebuilding lay setup cols column asked

@@ -1,20 +1,24 @@
 -- Columns that die bring no unit back.
 use Rattle.std.proofs.Common.{◌≡◌, ◌∙◌, ℕ, List, Bool, true, false, Option, Some, None, refl, sym, ap, subst, inl, inr, arith}
-use Rattle.std.specs.Prelude.{slice_get, option_map}
+use Rattle.std.specs.Prelude.{slice_get, count_by}
 use Rattle.std.proofs.lemmas.Bool.{and_parts, and_from}
-use Rattle.std.proofs.lemmas.Option.{slice_get-map}
 use Rattle.std.proofs.lemmas.List.{length-map}
 use Rattle.lay_core.specs.declared.place.Place.{Place}
 use Rattle.lay_core.specs.Layout.{Shape, Blocks}
 use Rattle.eng_cols.specs.declared.column.Column.{Column}
-use Rattle.eng_cols.specs.Cols.{ColumnState, Live, Dead, Filling, Spread, is_done, state_set}
+use Rattle.eng_cols.specs.declared.column.Column.TheVariants as column
+use Rattle.eng_cols.specs.Cols.{ColumnState, Live, Dead, Filling, Spread, AtMostOne, device_set, is_done, is_set_filling, is_set_spread, passes, state_set}
 use Rattle.eng_cols.specs.Seats.{stands_for, spare_stands, available_on, is_available, open_on, spare_open, seat_on, seat}
 use Rattle.eng_cols.specs.Lost.{NotLost}
 use Rattle.eng_cols.specs.Contents.{Contents, Agrees, sector_at}
 use Rattle.eng_cols.specs.Deaths.{Dies}
+use Rattle.eng_cols.proofs.Fewer.{states-die}
 use Rattle.eng_cols.proofs.Spots.{seat-device}
+use Rattle.top_close.proofs.Counts.{none_passes}
 use Rattle.top_close.specs.Dying.{OnlyDie, HoldSame}
-use Rattle.top_close.specs.Ended.{states_of}
+use Rattle.top_close.specs.Settled.{HasDeviceOn}
+use Rattle.eng_cols.specs.Stripes.{filled_in, spreads, states_of}
+use Rattle.eng_cols.specs.Fewer.{DieApart}
 
 module _ (y : Shape) (old new : List ColumnState) (die : OnlyDie old new) where
   -- a column of which something holds that holds of no dead one is what it was
@@ -66,13 +70,40 @@ module _ (y : Shape) (old new : List ColumnState) (die : OnlyDie old new) where
   pub lost_no_less : NotLost y new → NotLost y old
   lost_no_less not s si i j ii ji one two = not s si i j ii ji (missing_still s i one) (missing_still s j two)
 
-pub columns_die : (cause : ℕ → Type 0) (y : Shape) (old new : List Column) → Dies cause old new → OnlyDie (states_of y old) (states_of y new)
-columns_die cause y old new dies = record {
-  count = length-map new (state_set y.stripes) ∙ (dies.count ∙ sym (length-map old (state_set y.stripes)));
-  each = λ c. elim (dies.each c) [
-    | inl same ↦ inl (slice_get-map (state_set y.stripes) new c ∙ (ap (option_map (state_set y.stripes)) same ∙ sym (slice_get-map (state_set y.stripes) old c)))
-    | inr dead ↦ inr (slice_get-map (state_set y.stripes) new c ∙ ap (option_map (state_set y.stripes)) dead.0)
+pub columns_die : (cause : ℕ → Type 0) (y : Shape) (old new : List Column) → Dies cause old new → DieApart old new → AtMostOne is_set_filling old → OnlyDie (states_of y old) (states_of y new)
+columns_die cause y old new dies apart one = record {
+  count = length-map new (state_set y.stripes (filled_in y new)) ∙ (dies.count ∙ sym (length-map old (state_set y.stripes (filled_in y old))));
+  each = states-die y old new apart one;
+}
+
+-- ## Which deaths leave a filling column its stripes
+
+-- a column with a device isn't spread
+pub unspread : (columns : List Column) (c d : ℕ) → HasDeviceOn columns c d → spreads columns c ≡ false
+unspread columns c d h = by (slice_get columns c) h
+  where
+    by : (o : Option Column) → device_set o ≡ Some d → passes is_set_spread o ≡ false
+    by (Some (column.Live e)) h = refl
+    by (Some column.Dead) h = refl
+    by (Some (column.Filling e done)) h = refl
+    by (Some column.Spread) h = let z : None ≡ Some d = h in absurd (let u : ⊥ = cc in u)
+    by None h = refl
+
+-- deaths of columns that weren't spread
+pub dies_apart : (cause : ℕ → Type 0) (old new : List Column) → Dies cause old new → ((c : ℕ) → cause c → spreads old c ≡ false) → DieApart old new
+dies_apart cause old new dies unspread = record {
+  each = λ c. elim (dies.each c) [ inl same ↦ inl same | inr dead ↦ inr dead.0 ];
+  spread = λ c d m is k. elim (dies.each k) [
+    | inl same ↦ ap (passes is_set_spread) same
+    | inr dead ↦ ap (passes is_set_spread) dead.0 ∙ sym (unspread k dead.1)
   ];
+}
+
+-- and deaths that leave none filling
+pub dies_unfilled : (cause : ℕ → Type 0) (old new : List Column) → Dies cause old new → count_by is_set_filling new ≡ 0 → DieApart old new
+dies_unfilled cause old new dies none = record {
+  each = λ c. elim (dies.each c) [ inl same ↦ inl same | inr dead ↦ inr dead.0 ];
+  spread = λ c d m is k. let z : true ≡ false = sym (ap (passes is_set_filling) is) ∙ none_passes is_set_filling new none c in absurd (let u : ⊥ = cc in u);
 }
 
 pub agrees_by_devices : (y : Shape) (old new : Contents) (cols : List ColumnState) (blocks : Blocks) (stripes : ℕ → Type 0) → HoldSame cols old new → Agrees y old cols blocks stripes → Agrees y new cols blocks stripes

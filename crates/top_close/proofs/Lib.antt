@@ -1,5 +1,5 @@
 mod Settling
-mod SettledLaws
+pub mod SettledLaws
 pub mod Counts
 pub mod DyingLaws
 pub mod ClosingLaws

@@ -1,6 +1,6 @@
 -- Columns that are settled one after the other.
 use Rattle.std.proofs.Common.{◌≡◌, ◌≢◌, ◌∙◌, ℕ, zero, suc, ◌+◌, ◌<◌, Bool, true, false, List, [], ◌∷◌, ◌++◌, length, Option, Some, None, refl, sym, ap, subst, inl, inr, arith, rules, append_assoc}
-use Rattle.std.specs.Prelude.{set, slice_get, All, IsSome, option_and_then, if◌then◌else◌}
+use Rattle.std.specs.Prelude.{set, slice_get, All, IsSome, is_some, option_and_then, if◌then◌else◌}
 use Rattle.std.proofs.lemmas.Bool.{cases_order, cases_lt}
 use Rattle.std.proofs.lemmas.Option.{slice_get_within}
 use Rattle.std.proofs.lemmas.List.Elements.{All-append, All-cons}
@@ -11,10 +11,11 @@ use Rattle.blk_disk.specs.Devices.{device_at, calls_of, Changes}
 use Rattle.blk_disk.proofs.DeviceLaws.{changes-refl, changes-then, rises-wider}
 use Rattle.eng_cols.specs.declared.column.Column.{Column}
 use Rattle.eng_cols.specs.declared.column.Column.TheVariants as column
+use Rattle.eng_cols.specs.Cols.{device_set}
 use Rattle.eng_cols.specs.Deaths.{Dies}
 use Rattle.eng_cols.proofs.DeathLaws.{dies-refl, dies-more, dies-then, dies-set}
 use Rattle.top_close.specs.Calls.{IsSettle, SettlesOn, EndsSettled}
-use Rattle.top_close.specs.Settled.{IsLiveOn, is_live, HaveDevices, LosesDevice, SettlesColumn, AreSettled}
+use Rattle.top_close.specs.Settled.{HasDeviceOn, has_device, HaveDevices, LosesDevice, SettlesColumn, AreSettled}
 
 -- ## Calls
 
@@ -45,12 +46,13 @@ ends_settled-one (Some xs) (Some bs) h = (xs, h)
 
 -- ## Lists of columns
 
-device_in : Option Column → ℕ
-device_in (Some (column.Live d)) = d
-device_in (Some column.Dead) = 0
-device_in (Some (column.Filling d)) = d
-device_in (Some column.Spread) = 0
-device_in None = 0
+-- a column with a device is there
+pub device_within : (columns : List Column) (c d : ℕ) → HasDeviceOn columns c d → c < length columns
+device_within columns c d h = go (slice_get columns c) refl h
+  where
+    go : (o : Option Column) → slice_get columns c ≡ o → device_set o ≡ Some d → c < length columns
+    go None e on = let z : None ≡ Some d = on in absurd (let u : ⊥ = cc in u)
+    go (Some x) e on = slice_get_within columns c x e
 
 set_here : (xs : List Column) (i : ℕ) (x : Column) → i < length xs → slice_get (set xs i x) i ≡ Some x
 set_here [] i x h = absurd (omega arith)
@@ -64,17 +66,17 @@ set_other (y ∷ xs) zero (suc k) x apart = refl
 set_other (y ∷ xs) (suc i) zero x apart = refl
 set_other (y ∷ xs) (suc i) (suc k) x apart = set_other xs i k x (λ e. apart (omega (arith, e)))
 
-if_live : (columns : List Column) (c d : ℕ) (good : Bool) → IsLiveOn columns c d → is_live (slice_get (if good then columns else set columns c column.Dead) c) ≡ good
-if_live columns c d true h = ap is_live h
-if_live columns c d false h = ap is_live (set_here columns c column.Dead (slice_get_within columns c _ h))
+if_live : (columns : List Column) (c d : ℕ) (good : Bool) → HasDeviceOn columns c d → has_device (slice_get (if good then columns else set columns c column.Dead) c) ≡ good
+if_live columns c d true h = ap is_some h
+if_live columns c d false h = ap has_device (set_here columns c column.Dead (device_within columns c d h))
 
 if_other : (columns : List Column) (c k : ℕ) (good : Bool) → k ≢ c → slice_get (if good then columns else set columns c column.Dead) k ≡ slice_get columns k
 if_other columns c k true apart = refl
 if_other columns c k false apart = set_other columns c k column.Dead apart
 
-if_dies : (cause : ℕ → Type 0) (columns : List Column) (c d : ℕ) (good : Bool) → IsLiveOn columns c d → (good ≡ false → cause c) → Dies cause columns (if good then columns else set columns c column.Dead)
+if_dies : (cause : ℕ → Type 0) (columns : List Column) (c d : ℕ) (good : Bool) → HasDeviceOn columns c d → (good ≡ false → cause c) → Dies cause columns (if good then columns else set columns c column.Dead)
 if_dies cause columns c d true h why = dies-refl cause columns
-if_dies cause columns c d false h why = dies-set cause columns c (slice_get_within columns c _ h) (why refl)
+if_dies cause columns c d false h why = dies-set cause columns c (device_within columns c d h) (why refl)
 
 -- ## The first columns
 
@@ -90,13 +92,13 @@ module _ {D : Type 0} (g : Ghosts D) where
   }
 
   -- the next column isn't live
-  pub settled-skip : (n : ℕ) (columns after : List Column) (old new : List (Option D)) → ((d : ℕ) → IsLiveOn after n d → ⊥) → AreSettled g n columns after old new → AreSettled g (n + 1) columns after old new
+  pub settled-skip : (n : ℕ) (columns after : List Column) (old new : List (Option D)) → ((d : ℕ) → HasDeviceOn after n d → ⊥) → AreSettled g n columns after old new → AreSettled g (n + 1) columns after old new
   settled-skip n columns after old new not was = record {
     frame = was.frame;
     dies = was.dies;
     once = λ c d below live. elim (cases_lt c n) [
       | inl lt ↦ was.once c d lt live
-      | inr le ↦ let e : c ≡ n = omega (arith, below, le) in absurd (not d (was.left n (omega arith) ∙ (ap (slice_get columns) (sym e) ∙ live)))
+      | inr le ↦ let e : c ≡ n = omega (arith, below, le) in absurd (not d (ap device_set (was.left n (omega arith) ∙ ap (slice_get columns) (sym e)) ∙ live))
     ];
     others = λ d none. was.others d (λ c below. none c (omega (arith, below)));
     left = λ c h. was.left c (omega (arith, h));
@@ -107,9 +109,9 @@ module _ {D : Type 0} (g : Ghosts D) where
     d : ℕ
     d = step.device
 
-    live : IsLiveOn columns n d
+    live : HasDeviceOn columns n d
     unfolding d
-    live = sym (was.left n (omega arith)) ∙ step.live
+    live = ap device_set (sym (was.left n (omega arith))) ∙ step.live
 
     frame : Changes g (λ _ _. ⊥) old new
     frame = changes-then g (λ _ _. ⊥) old dev new was.frame step.settling.frame
@@ -129,23 +131,24 @@ module _ {D : Type 0} (g : Ghosts D) where
         (λ c f. record { device = f.device; had = f.had; rose = rises-wider g (λ _ _. ⊥) (λ _ _. ⊥) old old dev new f.device (changes-refl g (λ _ _. ⊥) old) f.rose step.settling.frame }) was.dies)
         (subst (Dies (LosesDevice g columns old new) mid) (sym step.after_is) (if_dies (LosesDevice g columns old new) mid n step.device step.good step.live fails))
 
-    here : (k : ℕ) → IsLiveOn columns n k → Tells (calls_of g old k) (calls_of g new k) (call_of 2 0 0 (is_live (slice_get after n)))
-    unfolding d device_in
+    here : (k : ℕ) → HasDeviceOn columns n k → Tells (calls_of g old k) (calls_of g new k) (call_of 2 0 0 (has_device (slice_get after n)))
+    unfolding d
     here k h =
-        let e : d ≡ k = ap device_in (sym live ∙ h) in
-        let good : step.good ≡ is_live (slice_get after n) = sym (if_live mid n d step.good step.live) ∙ ap (λ (l : List Column). is_live (slice_get l n)) (sym step.after_is) in
-        subst (λ j. Tells (calls_of g old j) (calls_of g new j) (call_of 2 0 0 (is_live (slice_get after n)))) e
+        let z : Some d ≡ Some k = sym live ∙ h in
+        let e : d ≡ k = cc in
+        let good : step.good ≡ has_device (slice_get after n) = sym (if_live mid n d step.good step.live) ∙ ap (λ (l : List Column). has_device (slice_get l n)) (sym step.after_is) in
+        subst (λ j. Tells (calls_of g old j) (calls_of g new j) (call_of 2 0 0 (has_device (slice_get after n)))) e
         (subst (λ b. Tells (calls_of g old d) (calls_of g new d) (call_of 2 0 0 b)) good
         (subst (λ o. Tells o (calls_of g new d) (call_of 2 0 0 step.good)) (ap (λ o. option_and_then g.calls o) fresh) step.settling.told))
 
-    before : (c k : ℕ) → c < n → IsLiveOn columns c k → Tells (calls_of g old k) (calls_of g new k) (call_of 2 0 0 (is_live (slice_get after c)))
+    before : (c k : ℕ) → c < n → HasDeviceOn columns c k → Tells (calls_of g old k) (calls_of g new k) (call_of 2 0 0 (has_device (slice_get after c)))
     unfolding d
     before c k below h =
-        let apart : k ≢ d = λ e. omega (arith, below, have.apart c n d (h ∙ ap (λ j. Some (column.Live j)) e) live) in
+        let apart : k ≢ d = λ e. omega (arith, below, have.apart c n d (h ∙ ap (λ j. Some j) e) live) in
         let same : calls_of g dev k ≡ calls_of g new k = ap (λ o. option_and_then g.calls o) (sym (step.settling.others k apart)) in
-        let state : is_live (slice_get mid c) ≡ is_live (slice_get after c) = ap is_live (sym (ap (λ (l : List Column). slice_get l c) step.after_is ∙ if_other mid n c step.good (λ e. omega (arith, below, e)))) in
+        let state : has_device (slice_get mid c) ≡ has_device (slice_get after c) = ap has_device (sym (ap (λ (l : List Column). slice_get l c) step.after_is ∙ if_other mid n c step.good (λ e. omega (arith, below, e)))) in
         subst (λ b. Tells (calls_of g old k) (calls_of g new k) (call_of 2 0 0 b)) state
-        (subst (λ o. Tells (calls_of g old k) o (call_of 2 0 0 (is_live (slice_get mid c)))) same (was.once c k below h))
+        (subst (λ o. Tells (calls_of g old k) o (call_of 2 0 0 (has_device (slice_get mid c)))) same (was.once c k below h))
 
     told : (k : ℕ) → SettlesOn (calls_of g dev k) (calls_of g new k)
     unfolding d
@@ -163,24 +166,24 @@ module _ {D : Type 0} (g : Ghosts D) where
       dies = dies;
       once = λ c k below h. elim (cases_lt c n) [
         | inl lt ↦ before c k lt h
-        | inr le ↦ let e : n ≡ c = omega (arith, below, le) in subst (λ j. Tells (calls_of g old k) (calls_of g new k) (call_of 2 0 0 (is_live (slice_get after j)))) e (here k (ap (slice_get columns) e ∙ h))
+        | inr le ↦ let e : n ≡ c = omega (arith, below, le) in subst (λ j. Tells (calls_of g old k) (calls_of g new k) (call_of 2 0 0 (has_device (slice_get after j)))) e (here k (ap (λ j. device_set (slice_get columns j)) e ∙ h))
       ];
-      others = λ k none. step.settling.others k (λ e. none n (omega arith) (live ∙ ap (λ j. Some (column.Live j)) (sym e))) ∙ was.others k (λ c below. none c (omega (arith, below)));
+      others = λ k none. step.settling.others k (λ e. none n (omega arith) (live ∙ ap (λ j. Some j) (sym e))) ∙ was.others k (λ c below. none c (omega (arith, below)));
       left = λ c h. ap (λ (l : List Column). slice_get l c) step.after_is ∙ (if_other mid n c step.good (λ e. omega (arith, h, e)) ∙ was.left c (omega (arith, h)));
       told = λ k. settles_on-then (calls_of g old k) (calls_of g dev k) (calls_of g new k) (was.told k) (told k);
     }
 
   -- a device still in use has settled last
-  pub settled_last : (columns after : List Column) (old new : List (Option D)) (c d : ℕ) → AreSettled g (length columns) columns after old new → IsLiveOn after c d → EndsSettled (calls_of g new d)
+  pub settled_last : (columns after : List Column) (old new : List (Option D)) (c d : ℕ) → AreSettled g (length columns) columns after old new → HasDeviceOn after c d → EndsSettled (calls_of g new d)
   settled_last columns after old new c d all h = elim (all.dies.each c) [
     | inl same ↦
-        let was : IsLiveOn columns c d = sym same ∙ h in
-        ends_settled-one _ _ (subst (λ b. Tells (calls_of g old d) (calls_of g new d) (call_of 2 0 0 b)) (ap is_live h) (all.once c d (slice_get_within columns c _ was) was))
-    | inr dead ↦ let z : true ≡ false = ap is_live (sym h ∙ dead.0) in absurd (let u : ⊥ = cc in u)
+        let was : HasDeviceOn columns c d = ap device_set (sym same) ∙ h in
+        ends_settled-one _ _ (subst (λ b. Tells (calls_of g old d) (calls_of g new d) (call_of 2 0 0 b)) (ap is_some h) (all.once c d (device_within columns c d was) was))
+    | inr dead ↦ let z : Some d ≡ None = sym h ∙ ap device_set dead.0 in absurd (let u : ⊥ = cc in u)
   ]
 
   -- the device of the next column is where it was
-  pub still_there : (n d : ℕ) (columns mid : List Column) (old dev : List (Option D)) → HaveDevices columns old → AreSettled g n columns mid old dev → IsLiveOn mid n d → IsSome (device_at dev d)
+  pub still_there : (n d : ℕ) (columns mid : List Column) (old dev : List (Option D)) → HaveDevices columns old → AreSettled g n columns mid old dev → HasDeviceOn mid n d → IsSome (device_at dev d)
   still_there n d columns mid old dev have was live =
-      let before : IsLiveOn columns n d = sym (was.left n (omega arith)) ∙ live in
+      let before : HasDeviceOn columns n d = ap device_set (sym (was.left n (omega arith))) ∙ live in
       subst (λ o. IsSome o) (sym (was.others d (λ c below other. omega (arith, below, have.apart c n d other before)))) (have.there n d before)

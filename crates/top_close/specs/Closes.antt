@@ -5,6 +5,7 @@ use Rattle.eng_cols.specs.declared.column.Column.{Column}
 use Rattle.eng_cols.specs.declared.column.Column.TheVariants as column
 use Rattle.eng_cols.specs.Cols.{ColumnState, Live, Dead, Filling, Spread}
 use Rattle.eng_cols.specs.Seats.{IsWhole, HasStripeLeft}
+use Rattle.eng_cols.specs.Stripes.{leading}
 
 -- A spread column that isn't whole dies, and all others are as they were.
 abbrev pub SpreadEnds : Shape → List ColumnState → ℕ → Option ColumnState → Option ColumnState → Type 0
@@ -14,9 +15,9 @@ SpreadEnds y cols c (Some Dead) after = after ≡ Some Dead
 SpreadEnds y cols c (Some (Filling device done)) after = after ≡ Some (Filling device done)
 SpreadEnds y cols c None after = after ≡ None
 
--- Then a filling column that is whole is live, and one that isn't dies.
+-- Then a filling column that is whole is live. In one that isn't those stripes are done that are so with all of its stripes before them.
 abbrev pub FillingEnds : Shape → List ColumnState → ℕ → Option ColumnState → Option Column → Type 0
-FillingEnds y cols c (Some (Filling device done)) kept = (IsWhole y cols c × (kept ≡ Some (column.Live device))) ⊎ (HasStripeLeft y cols c × (kept ≡ Some column.Dead))
+FillingEnds y cols c (Some (Filling device done)) kept = (IsWhole y cols c × (kept ≡ Some (column.Live device))) ⊎ (HasStripeLeft y cols c × (kept ≡ Some (column.Filling device (leading y cols c))))
 FillingEnds y cols c (Some (Live device)) kept = kept ≡ Some (column.Live device)
 FillingEnds y cols c (Some Dead) kept = kept ≡ Some column.Dead
 FillingEnds y cols c (Some (Spread done)) kept = kept ≡ Some column.Spread

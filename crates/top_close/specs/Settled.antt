@@ -1,35 +1,32 @@
 -- The settling of the devices in use, column by column.
-use Rattle.std.specs.Prelude.{◌≡◌, ◌≢◌, ◌<◌, ◌≤◌, ℕ, List, Bool, true, false, Option, Some, None, IsSome, slice_get, slice_set, if◌then◌else◌}
+use Rattle.std.specs.Prelude.{◌≡◌, ◌≢◌, ◌<◌, ◌≤◌, ℕ, List, Bool, false, Option, Some, IsSome, is_some, slice_get, slice_set, if◌then◌else◌}
 use Rattle.blk_disk.specs.declared.disk.Disk.{Ghosts}
 use Rattle.blk_disk.specs.Disk.{Tells, call_of}
 use Rattle.blk_disk.specs.Devices.{device_at, calls_of, RisesOn, Changes}
 use Rattle.eng_cols.specs.declared.column.Column.{Column}
 use Rattle.eng_cols.specs.declared.column.Column.TheVariants as column
+use Rattle.eng_cols.specs.Cols.{device_set}
 use Rattle.eng_cols.specs.Deaths.{Dies}
 use Rattle.top_close.specs.Calls.{SettlesOn}
 
--- column c is live on device d
-abbrev pub IsLiveOn : List Column → ℕ → ℕ → Type 0
-IsLiveOn columns c d = slice_get columns c ≡ Some (column.Live d)
+-- column c has device d: it is live on it, or filling it
+abbrev pub HasDeviceOn : List Column → ℕ → ℕ → Type 0
+HasDeviceOn columns c d = device_set (slice_get columns c) ≡ Some d
 
--- there is a column there, and it is live
-abbrev pub is_live : Option Column → Bool
-is_live (Some (column.Live device)) = true
-is_live (Some column.Dead) = false
-is_live (Some (column.Filling device)) = false
-is_live (Some column.Spread) = false
-is_live None = false
+-- there is a column there, and it has a device
+abbrev pub has_device : Option Column → Bool
+has_device o = is_some (device_set o)
 
--- The device of each live column is there, and is no other's.
+-- The device of each column that has one is there, and is no other's.
 pub record HaveDevices {D : Type 0} (columns : List Column) (devices : List (Option D)) : Type 0 where
-  pub there : (c d : ℕ) → IsLiveOn columns c d → IsSome (device_at devices d)
-  pub apart : (c k d : ℕ) → IsLiveOn columns c d → IsLiveOn columns k d → c ≡ k
+  pub there : (c d : ℕ) → HasDeviceOn columns c d → IsSome (device_at devices d)
+  pub apart : (c k d : ℕ) → HasDeviceOn columns c d → HasDeviceOn columns k d → c ≡ k
 
 module _ {D : Type 0} (g : Ghosts D) where
-  -- the column was live on a device whose count of faults rose
+  -- the column had a device whose count of faults rose
   pub record LosesDevice (columns : List Column) (old new : List (Option D)) (c : ℕ) : Type 0 where
     pub device : ℕ
-    pub had : IsLiveOn columns c device
+    pub had : HasDeviceOn columns c device
     pub rose : RisesOn g old new device
 
   -- Device d was settled, well or not, and no other was called.
@@ -39,19 +36,19 @@ module _ {D : Type 0} (g : Ghosts D) where
     pub told : Tells (calls_of g old d) (calls_of g new d) (call_of 2 0 0 good)
     pub others : (k : ℕ) → k ≢ d → device_at new k ≡ device_at old k
 
-  -- Column c, which is live, was settled, and is dead where that failed.
+  -- Column c, which has a device, was settled, and is dead where that failed.
   pub record SettlesColumn (c : ℕ) (columns after : List Column) (old new : List (Option D)) : Type 0 where
     pub device : ℕ
     pub good : Bool
-    pub live : IsLiveOn columns c device
+    pub live : HasDeviceOn columns c device
     pub settling : IsSettling device old new good
     pub after_is : after ≡ (if good then columns else slice_set columns c column.Dead)
 
-  -- The first n columns were settled. No sector has changed; a column has died where its device failed, and no other died; the device of each live one of the first n had one call more, to settle, and the column is live still exactly where that went well; no other device was called.
+  -- The first n columns were settled. No sector has changed; a column has died where its device failed, and no other died; the device of each of the first n that has one had one call more, to settle, and the column has it still exactly where that went well; no other device was called.
   pub record AreSettled (n : ℕ) (columns after : List Column) (old new : List (Option D)) : Type 0 where
     pub frame : Changes g (λ _ _. ⊥) old new
     pub dies : Dies (LosesDevice columns old new) columns after
-    pub once : (c d : ℕ) → c < n → IsLiveOn columns c d → Tells (calls_of g old d) (calls_of g new d) (call_of 2 0 0 (is_live (slice_get after c)))
-    pub others : (d : ℕ) → ((c : ℕ) → c < n → IsLiveOn columns c d → ⊥) → device_at new d ≡ device_at old d
+    pub once : (c d : ℕ) → c < n → HasDeviceOn columns c d → Tells (calls_of g old d) (calls_of g new d) (call_of 2 0 0 (has_device (slice_get after c)))
+    pub others : (d : ℕ) → ((c : ℕ) → c < n → HasDeviceOn columns c d → ⊥) → device_at new d ≡ device_at old d
     pub left : (c : ℕ) → n ≤ c → slice_get after c ≡ slice_get columns c
     pub told : (d : ℕ) → SettlesOn (calls_of g old d) (calls_of g new d)

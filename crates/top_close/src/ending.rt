@@ -4,8 +4,9 @@ ghost use Rattle.blk_disk.specs.Devices.{Changes, calls_of};
 ghost use Rattle.eng_cols.specs.Cols.{IsFor, IsKept, is_set_filling, is_set_spread};
 ghost use Rattle.eng_cols.specs.Deaths.{Dies};
 ghost use Rattle.top_close.specs.Calls.{EndsSettled, SettlesOn};
-ghost use Rattle.top_close.specs.Settled.{IsLiveOn, HaveDevices, LosesDevice, AreSettled};
-ghost use Rattle.top_close.specs.Ended.{states_of, IsLossBy};
+ghost use Rattle.top_close.specs.Settled.{HasDeviceOn, HaveDevices, LosesDevice, AreSettled};
+ghost use Rattle.eng_cols.specs.Stripes.{states_of};
+ghost use Rattle.top_close.specs.Ended.{IsLossBy};
 
 use crate::settle::settle_all;
 use blk_disk::Disk;
@@ -15,7 +16,7 @@ use lay_core::Layout;
 /// How a run ends: its columns, and by what the array was lost, if it was.
 #[derive(Drop)]
 pub struct Ending {
-    /// The columns, none of them filling.
+    /// The columns, at most one of them filling.
     pub columns: Vec<Column>,
     /// By what the array is lost; None where it isn't.
     pub lost: Option<Loss>,
@@ -29,7 +30,7 @@ fn loss_of<L: Layout>(
     judge: &mut Cols,
 ) -> Option<Loss>
     requires columns { length columns.now ≡ (L.shape layout.now).columns }
-    requires filling { count_by is_set_filling columns.now ≡ 0 }
+    requires filling { count_by is_set_filling columns.now ≤ 1 }
     requires spread { count_by is_set_spread columns.now ≤ 1 }
     requires judge { IsFor (L.shape layout.now) judge.old }
     ensures lost { IsLossBy (L.shape layout.now) before
@@ -57,12 +58,12 @@ pub fn end_unlabelled<L: Layout, D: Disk>(
 )
     requires devices { HaveDevices ending.old.columns.items devices.old }
     requires columns { length ending.old.columns.items ≡ (L.shape layout.now).columns }
-    requires filling { count_by is_set_filling ending.old.columns.items ≡ 0 }
+    requires filling { count_by is_set_filling ending.old.columns.items ≤ 1 }
     requires spread { count_by is_set_spread ending.old.columns.items ≤ 1 }
     requires judge { IsFor (L.shape layout.now) judge.old }
     ensures settled { AreSettled D.Disk (length ending.old.columns.items)
         ending.old.columns.items ending.new.columns.items devices.old devices.new }
-    ensures last { (c d : ℕ) → IsLiveOn ending.new.columns.items c d →
+    ensures last { (c d : ℕ) → HasDeviceOn ending.new.columns.items c d →
         EndsSettled (calls_of D.Disk devices.new d) }
     ensures lost { IsLossBy (L.shape layout.now) ending.old.lost
         (states_of (L.shape layout.now) ending.new.columns.items) ending.new.lost }

@@ -4,7 +4,7 @@ ghost use Rattle.blk_disk.specs.Disk.{Rose, Tells, call_of};
 ghost use Rattle.blk_disk.specs.Devices.{Stays, device_at, calls_of};
 ghost use Rattle.eng_cols.specs.Cols.{is_set_filling, is_set_spread};
 ghost use Rattle.top_close.specs.Calls.{EndsSettled};
-ghost use Rattle.top_close.specs.Settled.{IsLiveOn, is_live, HaveDevices, IsSettling, SettlesColumn, AreSettled};
+ghost use Rattle.top_close.specs.Settled.{HasDeviceOn, has_device, HaveDevices, IsSettling, SettlesColumn, AreSettled};
 
 use blk_disk::{Disk, Failed};
 use eng_cols::Column;
@@ -32,14 +32,14 @@ fn settle_device<D: Disk>(devices: &mut [Option<D>], device: u32) -> bool
     }
 }
 
-// Settles the device of a column that is live on it; where that fails the column is dead.
+// Settles the device of a column; where that fails the column is dead.
 fn settle_column<D: Disk>(
     devices: &mut [Option<D>],
     columns: &mut [Column],
     column: usize,
     device: u32,
 )
-    requires live { IsLiveOn columns.old column device }
+    requires live { HasDeviceOn columns.old column device }
     requires within { device < length devices.old }
     requires there { IsSome (device_at devices.old device) }
     ensures { SettlesColumn D.Disk column columns.old columns.new devices.old devices.new }
@@ -49,19 +49,19 @@ fn settle_column<D: Disk>(
     }
 }
 
-/// Settles the device of each live column, one after the other. A column whose device fails is
-/// dead.
+/// Settles the device of each column that has one, one after the other. A column whose device fails
+/// is dead.
 pub(crate) fn settle_all<D: Disk>(devices: &mut [Option<D>], columns: &mut [Column])
     requires { HaveDevices columns.old devices.old }
     ensures settled { AreSettled D.Disk (length columns.old)
         columns.old columns.new devices.old devices.new }
-    ensures last { (c d : ℕ) → IsLiveOn columns.new c d →
+    ensures last { (c d : ℕ) → HasDeviceOn columns.new c d →
         EndsSettled (calls_of D.Disk devices.new d) }
     ensures filling { count_by is_set_filling columns.new ≤ count_by is_set_filling columns.old }
     ensures spread { count_by is_set_spread columns.new ≤ count_by is_set_spread columns.old }
 {
     for column in 0..columns.len() {
-        if let Column::Live { device } = columns[column] {
+        if let Some(device) = columns[column].device() {
             settle_column(devices, columns, column, device);
         }
     }

@@ -1,5 +1,5 @@
 mod MapsMore
-mod Counts
+mod Setting
 mod Losing
 mod Counting
 mod Firsts
@@ -8,11 +8,15 @@ pub mod Tables
 pub mod Wanting
 pub mod Sized
 mod Deadened
+pub mod Killing
 pub mod Opens
+mod Stages
 mod Places
 mod Named
+mod Shaped
 mod Placing
 pub mod Labels
+mod Few
 mod Starting
 pub mod Fitting
 pub mod Fits

@@ -18,12 +18,13 @@ use Rattle.top_open.specs.Opening.{Opened, columns_in, counter_refusal, labelled
 use Rattle.top_open.proofs.Below.{length-columns_below}
 use Rattle.top_open.proofs.LargeEnough.{columns_of, get_there, large, no_refusal, none_below, rows_of}
 use Rattle.top_open.proofs.OwnDevices.{columns_below-get, not_refused}
+use Rattle.top_duty.proofs.Shaped.{shape_columns}
 
 unfoldable seats_of : Result Opened OpenFault → List Column
 seats_of (Ok x) = x.seats
 seats_of (Err f) = []
 
-unfoldable newest_of : Result Opened OpenFault → Option Label
+unfoldable pub newest_of : Result Opened OpenFault → Option Label
 newest_of (Ok x) = x.newest
 newest_of (Err f) = None
 
@@ -47,7 +48,7 @@ kept_live newest fronts c d (column.Live e) h = go (is_sound newest c (label_at 
     go true h = h
     go false h = cc
 kept_live newest fronts c d column.Dead h = cc
-kept_live newest fronts c d (column.Filling e) h = cc
+kept_live newest fronts c d (column.Filling e m) h = cc
 kept_live newest fronts c d column.Spread h = cc
 
 module _ (q : Needs) (p : Plan) (present : List Bool) (sizes : List ℕ) (fronts : List Front) (l : Label) (o : Opened) (h : labelled_in q p present sizes fronts l ≡ Ok o) where
@@ -69,6 +70,11 @@ module _ (q : Needs) (p : Plan) (present : List Bool) (sizes : List ℕ) (fronts
   pub made_newest : o.newest ≡ Some l
   unfolding newest_of
   made_newest = sym (ap newest_of made)
+
+  -- its label is one of an array of so many columns
+  pub made_columns : l.columns ≡ n
+  unfolding labelled_in
+  made_columns = shape_columns p n l (no_refusal (shape_refusal p n l) _ o h)
 
   seats_are : seats ≡ o.seats
   unfolding seats_of

@@ -97,6 +97,8 @@ module _ {D : Type 0} (g : Ghosts D) (b : Told D) (command : Command) where
   refused_asking (status.Small f s t) same rose h = refused_early _ same h
   refused_asking (status.NotInSync n) same rose h = refused_early _ same h
   refused_asking status.NoSpare same rose h = refused_early _ same h
+  refused_asking status.NoRebuild same rose h = refused_early _ same h
+  refused_asking (status.Rebuilding column) same rose h = refused_early _ same h
   refused_asking (status.LongText n) same rose h = refused_early _ same h
 
   -- what was asked isn't done

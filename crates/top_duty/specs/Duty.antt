@@ -1,37 +1,42 @@
 -- What is to be done, or which refusal comes first: by texts, names, sizes, and sector 0 of the
 -- devices.
-use Rattle.std.specs.Prelude.{◌≡◌, ◌&&◌, ◌+◌, ◌++◌, ℕ, Bool, false, List, [], ◌∷◌, length, map, Option, Some, None, is_none, Result, Ok, Err, if◌then◌else◌, nat_lt, slice_set}
+use Rattle.std.specs.Prelude.{◌≡◌, ◌&&◌, ◌+◌, ◌-◌, ◌++◌, ℕ, Bool, false, List, [], ◌∷◌, length, map, Option, Some, None, is_none, Result, Ok, Err, if◌then◌else◌, nat_le, nat_lt, slice_set, unwrap_or}
 use Rattle.std.specs.Option.{option_map_or}
 use Rattle.lay_core.specs.Layout.{Shape, blocks_in}
 use Rattle.graph_mean.specs.Graph.{View}
 use Rattle.graph_text.specs.Format.{At}
 use Rattle.eng_array.specs.declared.start.Start.{Start}
-use Rattle.eng_array.specs.Starts.{column_of}
+use Rattle.eng_array.specs.declared.start.Start.TheVariants as start
+use Rattle.eng_array.specs.Starts.{most_of}
 use Rattle.eng_cols.specs.declared.column.Column.{Column}
 use Rattle.eng_cols.specs.declared.column.Column.TheVariants as column
 use Rattle.eng_cols.specs.declared.spot.Loss.{Loss}
-use Rattle.eng_cols.specs.Cols.{ColumnState, state_set}
+use Rattle.eng_cols.specs.Changes.{killed}
+use Rattle.eng_cols.specs.Cols.{ColumnState}
+use Rattle.eng_cols.specs.Stripes.{done_at, states_of}
 use Rattle.raid_conf.specs.Layouts.{shape_of}
-use Rattle.raid_recon.specs.Counts.{count_below, is_stripe_of}
 use Rattle.raid_script.specs.Asked.{Asked as Item}
 use Rattle.raid_script.specs.Drawn.{drawn}
 use Rattle.top_fetch.specs.Told.{Told}
 use Rattle.top_bay.specs.Asked.{Asked, asked_in, names_for, names_of}
 use Rattle.top_bound.specs.Bound.{rebuilds_sum, trace_sum}
 use Rattle.top_join.specs.Joining.{AreJoined}
-use Rattle.top_close.specs.Ended.{IsLossBy, states_of}
+use Rattle.top_close.specs.Ended.{IsLossBy}
 use Rattle.top_open.specs.declared.fronts.Front.{Front}
 use Rattle.top_open.specs.Opening.{Opened}
 use Rattle.top_status.specs.declared.status.Status.{Status}
 use Rattle.top_status.specs.declared.status.Status.TheVariants as status
 use Rattle.top_status.specs.Dead.{dead_columns}
+use Rattle.top_rounds.specs.Labels.{given_up}
 use Rattle.top_status.specs.Refusals.{Refused, ◌then◌, only}
 use Rattle.top_words.specs.Asked.{Action, Command, beside_of, profile_of}
 use Rattle.top_words.specs.declared.profile.Drawing.{Drawing}
 use Rattle.top_words.specs.declared.profile.Kind.{Kind}
 use Rattle.top_words.specs.declared.profile.Kind.TheVariants as kind
-use Rattle.top_duty.specs.Opening.{kind_of, needs_of, opened_by, sizes_in}
-use Rattle.top_duty.specs.Start.{rebuilds, start_in}
+use Rattle.top_words.specs.declared.profile.Rebuilding.{Rebuilding}
+use Rattle.top_words.specs.declared.profile.Rebuilding.TheVariants as rebuilding
+use Rattle.top_duty.specs.Opening.{kind_of, needs_of, opened_by, sizes_in, stripes_on}
+use Rattle.top_duty.specs.Start.{other_filling, rebuilds, start_in}
 
 -- ## What is admitted
 
@@ -72,12 +77,17 @@ abbrev pub with_dead : Option ℕ → List Column → List Column
 with_dead None columns = columns
 with_dead (Some c) columns = slice_set columns c column.Dead
 
--- the columns as the action makes them, by which it is judged whether the array is lost
+-- the columns as the action makes them; and with what is done on them, by which it is judged whether the array is lost
 abbrev pub judged_columns : Admitted → List Column
 judged_columns a = with_dead (needs_of a.asked).excused (columns_of a)
 
+-- a column dies, if one is to; what is done on the others stays so
+abbrev pub with_killed : Option ℕ → List ColumnState → List ColumnState
+with_killed None states = states
+with_killed (Some c) states = killed states c
+
 abbrev pub judged_states : Admitted → List ColumnState
-judged_states a = states_of (layout_of a) (judged_columns a)
+judged_states a = with_killed (needs_of a.asked).excused (states_in a)
 
 -- the items of the script, or those that are drawn for so many blocks
 abbrev pub drawn_or : Option Drawing → List (List Item) → ℕ → List (List Item)
@@ -121,22 +131,37 @@ duty_in size b command fronts =
 abbrev pub beside_dead : Admitted → Status → Refused
 beside_dead a s = record { status = s; dead = dead_columns (columns_of a) }
 
--- that of a lost array prints those that are dead as the action makes them
+-- that of a lost array prints those that are dead as the action makes them, and one that was filling
 abbrev pub lost_by : Admitted → Loss → Refused
-lost_by a loss = record { status = status.Lost loss.first loss.second loss.stripe; dead = dead_columns (judged_columns a) }
+lost_by a loss = record { status = status.Lost loss.first loss.second loss.stripe; dead = dead_columns (given_up (judged_columns a)) }
 
 -- the array may not be lost
 abbrev pub if_lost : Admitted → Option Loss → Option Refused
 if_lost a None = None
 if_lost a (Some loss) = Some (lost_by a loss)
 
--- a column is to be rebuilt, and there is nowhere to
+-- a column is to be rebuilt, and there is nowhere to, or nothing to go on with
 abbrev pub is_short : Admitted → Bool
 is_short a = rebuilds a.asked.command.action && is_none a.start
 
+-- why: there is nowhere to rebuild to, or nothing to go on with
+abbrev pub short_status : Option Rebuilding → Status
+short_status None = status.NoSpare
+short_status (Some rebuilding.Elsewhere) = status.NoSpare
+short_status (Some rebuilding.InPlace) = status.NoSpare
+short_status (Some rebuilding.Further) = status.NoRebuild
+
 -- that is refused, and no column is printed dead
 abbrev pub if_short : Admitted → Option Refused
-if_short a = if is_short a then Some (only status.NoSpare) else None
+if_short a = if is_short a then Some (only (short_status (profile_of a.asked.command.action).rebuild)) else None
+
+-- so is the rebuild of a column beside another that is filling
+abbrev pub refused_beside : Option ℕ → Option Refused
+refused_beside None = None
+refused_beside (Some c) = Some (only (status.Rebuilding c))
+
+abbrev pub if_other : Admitted → Option Refused
+if_other a = refused_beside (other_filling a.asked (columns_of a))
 
 -- so are graphs that can't be joined
 abbrev pub if_apart : Admitted → Result (List View) At → Option Refused
@@ -152,10 +177,16 @@ with_joined a (Err at) = a
 abbrev pub traces : Action → Bool
 traces action = option_map_or (λ beside. beside.trace) (beside_of action) false
 
--- how many rebuilds there are: one for each of the column's stripes
+-- how many stripes of the column are left to do: all, or those that aren't done where it is filling
+abbrev pub left_by : Shape → List Column → Start → ℕ
+left_by y columns (start.Fill c device most) = stripes_on y columns c
+left_by y columns (start.Resume c most) = stripes_on y columns c - unwrap_or (done_at columns c) 0
+left_by y columns (start.Spread c) = stripes_on y columns c
+
+-- how many rebuilds there are: one for each stripe of the column that is left to do, or as many as are asked
 unfoldable pub rebuilds_by : Shape → List Column → Option Start → ℕ
 rebuilds_by y columns None = 0
-rebuilds_by y columns (Some start) = count_below (is_stripe_of y (states_of y columns) (column_of start)) y.stripes
+rebuilds_by y columns (Some how) = if nat_le (left_by y columns how) (most_of how) then left_by y columns how else most_of how
 
 abbrev pub rebuilds_of : Admitted → ℕ
 rebuilds_of a = rebuilds_by (layout_of a) (judged_columns a) a.start
@@ -172,9 +203,9 @@ is_past_bound a = is_past (layout_of a) a.asked (graphs_of a) a.clients (rebuild
 abbrev pub if_past : Admitted → Option Refused
 if_past a = if is_past_bound a then Some (beside_dead a (status.Script 0 8)) else None
 
--- an array that something is done with isn't lost, has somewhere to rebuild to, its graphs are joined, and its trace has room
+-- an array that something is done with isn't lost, no other column is filling, it has somewhere to rebuild to or something to go on with, its graphs are joined, and its trace has room
 abbrev pub judgements : Admitted → Option Loss → Result (List View) At → List (Option Refused)
-judgements a loss joined = if_lost a loss ∷ if_short a ∷ if_apart a joined ∷ if_past (with_joined a joined) ∷ []
+judgements a loss joined = if_lost a loss ∷ if_other a ∷ if_short a ∷ if_apart a joined ∷ if_past (with_joined a joined) ∷ []
 
 -- the first refusal, if there is one
 abbrev pub first_of : List (Option Refused) → Option Refused
@@ -198,7 +229,7 @@ pub record IsWanted (duty wanted : Result Duty Refused) : Type 0 where
   pub loss : Option Loss
   pub joined : Result (List View) At
   pub is_loss : (a : Admitted) → duty ≡ Ok (OnArray a) → IsLossBy (layout_of a) None (judged_states a) loss
-  pub is_joined : (a : Admitted) → duty ≡ Ok (OnArray a) → loss ≡ None → is_short a ≡ false → ComesOfJoins a joined
+  pub is_joined : (a : Admitted) → duty ≡ Ok (OnArray a) → loss ≡ None → other_filling a.asked (columns_of a) ≡ None → is_short a ≡ false → ComesOfJoins a joined
   pub is : wanted ≡ (duty then λ d. judged d loss joined)
 
 -- Memory was wanted behind the opening: those columns are printed dead that are so as the array is opened.

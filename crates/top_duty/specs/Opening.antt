@@ -1,14 +1,18 @@
 -- How an array is opened: by what is asked, by the sizes of its devices, and by their labels.
-use Rattle.std.specs.Prelude.{ℕ, Bool, true, false, List, [], ◌∷◌, map, replicate, Option, Some, None, Result, Ok, Err, if◌then◌else◌, nat_le, slice_index, slice_index_or, slice_set}
+use Rattle.std.specs.Prelude.{ℕ, Bool, true, false, List, [], ◌∷◌, length, map, replicate, Option, Some, None, Result, Ok, Err, if◌then◌else◌, nat_le, slice_get, slice_index, slice_index_or, slice_set}
 use Rattle.std.specs.Option.{option_map_or}
 use Rattle.blk_disk.specs.Devices.{at_home}
 use Rattle.eng_cols.specs.declared.column.Column.{Column}
 use Rattle.eng_cols.specs.declared.column.Column.TheVariants as column
+use Rattle.eng_cols.specs.Cols.{is_set_filling, passes}
+use Rattle.eng_cols.specs.Stripes.{count_below, is_stripe_of, states_of}
+use Rattle.lay_core.specs.Layout.{Shape}
 use Rattle.raid_conf.specs.declared.conf.Conf.{Conf}
-use Rattle.raid_conf.specs.Layouts.{table_rows, table_stripes}
+use Rattle.raid_conf.specs.Layouts.{shape_of, table_rows, table_stripes}
 use Rattle.raid_conf.specs.Parameters.{parameters_of}
 use Rattle.raid_text.specs.Text.{Text}
 use Rattle.top_bay.specs.Asked.{Asked}
+use Rattle.top_duty.specs.First.{first_of}
 use Rattle.top_open.specs.declared.fault.OpenFault.{OpenFault}
 use Rattle.top_open.specs.declared.fault.OpenFault.TheVariants as fault
 use Rattle.top_open.specs.declared.fronts.Front.{Front}
@@ -16,12 +20,14 @@ use Rattle.top_open.specs.declared.fronts.Front.TheVariants as front
 use Rattle.top_open.specs.declared.plan.Plan.{Plan}
 use Rattle.top_open.specs.declared.plan.Needs.{Needs}
 use Rattle.top_open.specs.Plan.{AreWholeTables, sectors_for}
-use Rattle.top_open.specs.Opening.{Opened, opened_in}
+use Rattle.top_open.specs.Opening.{Opened, kept_if_left, opened_in}
 use Rattle.top_status.specs.declared.status.Status.{Status}
 use Rattle.top_status.specs.declared.status.Status.TheVariants as status
 use Rattle.top_status.specs.Refusals.{Refused, ◌then◌, only}
 use Rattle.top_words.specs.Asked.{Action, Component, Nameless, Column as OfColumn, Device, profile_of}
 use Rattle.top_words.specs.declared.profile.Kind.{Kind}
+use Rattle.top_words.specs.declared.profile.Rebuilding.{Rebuilding}
+use Rattle.top_words.specs.declared.profile.Rebuilding.TheVariants as rebuilding
 
 -- ## What is asked
 
@@ -40,9 +46,11 @@ excused_by (OfColumn name) comp = comp
 excused_by (Device name) comp = None
 
 -- the disk onto which a column is rebuilt in place is judged for its size
-abbrev pub own_by : Option Bool → Bool
+abbrev pub own_by : Option Rebuilding → Bool
 own_by None = false
-own_by (Some in_place) = in_place
+own_by (Some rebuilding.Elsewhere) = false
+own_by (Some rebuilding.InPlace) = true
+own_by (Some rebuilding.Further) = false
 
 -- What an action asks of the opening: whether the array is opened as one without labels, has to
 -- have some, and gets some; the column that it fails or rebuilds; and whether that is rebuilt in
@@ -113,7 +121,7 @@ or_fault (Err fault) = Err (only (status_of fault))
 abbrev pub kept_if_large : List ℕ → ℕ → Column → Column
 kept_if_large sizes needs (column.Live device) = if nat_le needs (slice_index sizes device) then column.Live device else column.Dead
 kept_if_large sizes needs column.Dead = column.Dead
-kept_if_large sizes needs (column.Filling device) = column.Filling device
+kept_if_large sizes needs (column.Filling device done) = if nat_le needs (slice_index sizes device) then column.Filling device done else column.Dead
 kept_if_large sizes needs column.Spread = column.Spread
 
 -- the column that the action fails, whose device is refused for nothing, is dead where that has too few sectors
@@ -124,9 +132,32 @@ without_small (Some c) sizes needs columns = slice_set columns c (kept_if_large 
 abbrev pub as_opened : Asked → List ℕ → Opened → Opened
 as_opened k sizes o = record o { columns = without_small (needs_of k).excused sizes (sectors_for (plan_of k.conf) o.rows) o.columns }
 
--- rows, columns and the newest label by sizes and fronts of the devices, or why the array is refused
+-- ### The column that is filling
+
+-- how many stripes a column has
+abbrev pub stripes_on : Shape → List Column → ℕ → ℕ
+stripes_on y columns c = count_below (is_stripe_of y (states_of y columns) c) y.stripes
+
+-- column c, if there is one, is judged by how many stripes it has
+abbrev pub left_at : Shape → List Column → Option ℕ → List Column
+left_at y columns None = columns
+left_at y columns (Some c) = slice_set columns c (kept_if_left (stripes_on y columns c) (slice_index_or columns c column.Dead))
+
+-- the first column that is filling
+unfoldable pub filling_at : List Column → Option ℕ
+filling_at columns = first_of (λ c. passes is_set_filling (slice_get columns c)) (length columns)
+
+-- a column that is filling is dead where the labels say that as many of its stripes are done as it has
+abbrev pub as_left : Asked → Opened → Opened
+as_left k o = record o { columns = left_at (shape_of k.conf o.rows) o.columns (filling_at o.columns) }
+
+-- rows, columns and the newest label by sizes and fronts of the devices, or why the array is refused; of a column that is filling it isn't judged how many stripes it has
+unfoldable pub fronted_by : Asked → List ℕ → List Front → Result Opened Refused
+fronted_by k sizes fronts = or_fault (opened_in (needs_of k) (plan_of k.conf) (present_of k.conf) sizes fronts) then λ o. Ok (as_opened k sizes o)
+
+-- and with that
 unfoldable pub opened_by : Asked → List ℕ → List Front → Result Opened Refused
-opened_by k sizes fronts = or_fault (opened_in (needs_of k) (plan_of k.conf) (present_of k.conf) sizes fronts) then λ o. Ok (as_opened k sizes o)
+opened_by k sizes fronts = fronted_by k sizes fronts then λ o. Ok (as_left k o)
 
 -- so many rows are those of whole tables of the configuration
 abbrev pub AreTableRows : Conf → ℕ → Type 0

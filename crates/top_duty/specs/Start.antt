@@ -1,5 +1,5 @@
--- How a column is rebuilt: onto its own disk, onto a spare, or into the spare places of the other columns.
-use Rattle.std.specs.Prelude.{ℕ, zero, suc, ◌+◌, ◌*◌, ◌==◌, ◌&&◌, Bool, true, false, not, List, Option, Some, None, if◌then◌else◌, is_some, nat_le, option_map, slice_get, slice_index}
+-- How a column is rebuilt: onto its own disk, onto a spare, or into the spare places of the other columns; or the one that is filling goes on.
+use Rattle.std.specs.Prelude.{◌≡◌, ℕ, ◌+◌, ◌*◌, ◌==◌, ◌&&◌, Bool, true, false, not, List, Option, Some, None, if◌then◌else◌, is_none, is_some, nat_le, option_map, slice_get, slice_index}
 use Rattle.std.specs.List.{list_any}
 use Rattle.eng_array.specs.declared.start.Start.{Start}
 use Rattle.eng_array.specs.declared.start.Start.TheVariants as start
@@ -9,9 +9,13 @@ use Rattle.eng_cols.specs.Cols.{is_set_spread}
 use Rattle.raid_conf.specs.declared.conf.Conf.{Conf}
 use Rattle.top_bay.specs.Asked.{Asked}
 use Rattle.top_open.specs.declared.fronts.Front.{Front}
+use Rattle.top_duty.specs.First.{first_of}
+use Rattle.top_duty.specs.Opening.{filling_at}
 use Rattle.top_open.specs.Opening.{Opened}
 use Rattle.top_open.specs.Seats.{is_unread}
 use Rattle.top_words.specs.Asked.{Action, profile_of}
+use Rattle.top_words.specs.declared.profile.Rebuilding.{Rebuilding}
+use Rattle.top_words.specs.declared.profile.Rebuilding.TheVariants as rebuilding
 
 -- ## A free spare
 
@@ -19,22 +23,12 @@ use Rattle.top_words.specs.Asked.{Action, profile_of}
 abbrev pub is_on : ℕ → Column → Bool
 is_on d (column.Live e) = e == d
 is_on d column.Dead = false
-is_on d (column.Filling e) = e == d
+is_on d (column.Filling e done) = e == d
 is_on d column.Spread = false
 
 -- A device may be filled: it is in no seat, it has so many sectors, and its sector 0 could be read.
 abbrev pub is_free : ℕ → List ℕ → List Front → List Column → ℕ → Bool
 is_free needs sizes fronts seats d = (not (list_any (is_on d) seats) && nat_le needs (slice_index sizes d)) && not (is_unread (slice_get fronts d))
-
--- the first number, or the other one
-abbrev pub or_other : Option ℕ → Option ℕ → Option ℕ
-or_other None other = other
-or_other (Some n) other = Some n
-
--- the first of so many numbers that passes
-unfoldable pub first_of : (ℕ → Bool) → ℕ → Option ℕ
-first_of p zero = None
-first_of p (suc n) = or_other (first_of p n) (if p n then Some n else None)
 
 -- the first spare that is free, as a device; the devices of the columns' disks come before the spares
 unfoldable pub free_spare : Conf → Opened → List ℕ → List Front → Option ℕ
@@ -46,30 +40,42 @@ free_spare conf o sizes fronts = option_map (λ j. conf.columns + j) (first_of (
 abbrev pub has_places : Conf → List Column → Bool
 has_places conf columns = (conf.level == 68) && not (list_any is_set_spread columns)
 
+-- how many stripes are rebuilt at most
+abbrev pub most_by : Option ℕ → ℕ
+most_by None = 4294967295
+most_by (Some limit) = limit
+
 -- onto this spare, if there is one; else into the spare places, if they may be used
-abbrev pub onto_spare : ℕ → Option ℕ → Bool → Option Start
-onto_spare c (Some device) places = Some (start.Fill c device)
-onto_spare c None true = Some (start.Spread c)
-onto_spare c None false = None
+abbrev pub onto_spare : ℕ → ℕ → Option ℕ → Bool → Option Start
+onto_spare most c (Some device) places = Some (start.Fill c device most)
+onto_spare most c None true = Some (start.Spread c)
+onto_spare most c None false = None
 
--- the rebuild of a column, in place or elsewhere
-abbrev pub rebuild_of : Bool → Conf → Opened → List ℕ → List Front → ℕ → Option Start
-rebuild_of true conf o sizes fronts c = Some (start.Fill c c)
-rebuild_of false conf o sizes fronts c = onto_spare c (free_spare conf o sizes fronts) (has_places conf o.columns)
+-- the rebuild of a column elsewhere: into spare places only without a limit
+abbrev pub rebuild_elsewhere : Option ℕ → Conf → Opened → List ℕ → List Front → Option ℕ → Option Start
+rebuild_elsewhere limit conf o sizes fronts None = None
+rebuild_elsewhere limit conf o sizes fronts (Some c) = onto_spare (most_by limit) c (free_spare conf o sizes fronts) (is_none limit && has_places conf o.columns)
 
--- where the component is known
-abbrev pub rebuild_if : Bool → Conf → Opened → List ℕ → List Front → Option ℕ → Option Start
-rebuild_if in_place conf o sizes fronts None = None
-rebuild_if in_place conf o sizes fronts (Some c) = rebuild_of in_place conf o sizes fronts c
+-- onto its own disk
+abbrev pub rebuild_in_place : Option ℕ → Option ℕ → Option Start
+rebuild_in_place limit None = None
+rebuild_in_place limit (Some c) = Some (start.Fill c c (most_by limit))
 
--- how the action begins a rebuild, by the array as it is opened; None where it begins none, or where there is nowhere to rebuild to
-abbrev pub start_with : Option Bool → Option ℕ → Conf → Opened → List ℕ → List Front → Option Start
-start_with None comp conf o sizes fronts = None
-start_with (Some in_place) comp conf o sizes fronts = rebuild_if in_place conf o sizes fronts comp
+-- and further, of the column that is filling
+abbrev pub rebuild_further : Option ℕ → Option ℕ → Option Start
+rebuild_further limit None = None
+rebuild_further limit (Some c) = Some (start.Resume c (most_by limit))
+
+-- how the action begins a rebuild, or goes on with one, by the array as it is opened; None where it does neither, or where there is nowhere to rebuild to, or nothing to go on with
+abbrev pub start_with : Option Rebuilding → Option ℕ → Option ℕ → Conf → Opened → List ℕ → List Front → Option Start
+start_with None limit comp conf o sizes fronts = None
+start_with (Some rebuilding.Elsewhere) limit comp conf o sizes fronts = rebuild_elsewhere limit conf o sizes fronts comp
+start_with (Some rebuilding.InPlace) limit comp conf o sizes fronts = rebuild_in_place limit comp
+start_with (Some rebuilding.Further) limit comp conf o sizes fronts = rebuild_further limit (filling_at o.columns)
 
 abbrev pub start_by : Action → Option ℕ → Conf → Opened → List ℕ → List Front → Option Start
 start_by action comp conf o sizes fronts =
-    start_with (profile_of action).rebuild comp conf o sizes fronts
+    start_with (profile_of action).rebuild (profile_of action).limit comp conf o sizes fronts
 
 abbrev pub start_in : Asked → Opened → List ℕ → List Front → Option Start
 start_in k o sizes fronts = start_by k.command.action k.comp k.conf o sizes fronts
@@ -78,8 +84,31 @@ start_in k o sizes fronts = start_by k.command.action k.comp k.conf o sizes fron
 abbrev pub rebuilds : Action → Bool
 rebuilds action = is_some (profile_of action).rebuild
 
--- the device that is to be filled couldn't be read
+-- a column other than the one that is named
+abbrev pub unless_named : Option ℕ → Option ℕ → Option ℕ
+unless_named comp None = None
+unless_named None (Some c) = Some c
+unless_named (Some d) (Some c) = if d == c then None else Some c
+
+-- the column that is filling, where the action begins the rebuild of another
+abbrev pub other_with : Option Rebuilding → Option ℕ → Option ℕ → Option ℕ
+other_with None comp filling = None
+other_with (Some rebuilding.Elsewhere) comp filling = unless_named comp filling
+other_with (Some rebuilding.InPlace) comp filling = unless_named comp filling
+other_with (Some rebuilding.Further) comp filling = None
+
+abbrev pub other_filling : Asked → List Column → Option ℕ
+other_filling k columns = other_with (profile_of k.command.action).rebuild k.comp (filling_at columns)
+
+-- the column that an action names is the one that is rebuilt anew; where one goes on none is named
+abbrev pub IsNamedBy : Option ℕ → Start → Type 0
+IsNamedBy excused (start.Fill c device most) = excused ≡ Some c
+IsNamedBy excused (start.Resume c most) = excused ≡ None
+IsNamedBy excused (start.Spread c) = excused ≡ Some c
+
+-- the device that is to be filled couldn't be read; of one that goes on it was
 abbrev pub has_failed : Option Start → List Front → Bool
 has_failed None fronts = false
-has_failed (Some (start.Fill column device)) fronts = is_unread (slice_get fronts device)
+has_failed (Some (start.Fill column device most)) fronts = is_unread (slice_get fronts device)
+has_failed (Some (start.Resume column most)) fronts = false
 has_failed (Some (start.Spread column)) fronts = false

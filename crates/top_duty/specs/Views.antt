@@ -6,7 +6,6 @@ use Rattle.lay_core.specs.Layout.{Shape, blocks_in}
 use Rattle.graph_mean.specs.Graph.{Held, View}
 use Rattle.graph_text.specs.Format.{At}
 use Rattle.eng_array.specs.declared.start.Start.{Start}
-use Rattle.eng_cols.specs.Changes.{killed}
 use Rattle.eng_cols.specs.Cols.{Columns, ColumnState, IsFor}
 use Rattle.eng_cols.specs.declared.column.Column.{Column}
 use Rattle.eng_cols.specs.Lost.{IsLost, NotLost}
@@ -24,17 +23,17 @@ use Rattle.top_open.specs.declared.opened.Opened as declared_opened
 use Rattle.top_status.specs.declared.status.Status.{Status}
 use Rattle.top_status.specs.declared.status.Status.TheVariants as status
 use Rattle.top_status.specs.Dead.{dead_columns}
+use Rattle.top_rounds.specs.Labels.{given_up}
 use Rattle.top_status.specs.Refusals.{Refused, only}
 use Rattle.top_words.specs.Asked.{Action, profile_of}
 use Rattle.top_words.specs.declared.profile.Kind.TheVariants as kind
 use Rattle.top_duty.specs.declared.duty.Duty as declared_duty
 use Rattle.top_duty.specs.declared.duty.Duty.TheVariants as duty
 use Rattle.top_duty.specs.declared.duty.Ready as declared_ready
-use Rattle.top_duty.specs.Duty.{Admitted, Duty, OnArray, Shows, OneLabel, PrintConf, IsWanted, WantsMemory, ComesOfJoins, admitted_with, drawn_or, is_past, is_past_bound, is_short, judged_states, layout_of, with_dead}
-use Rattle.top_close.specs.Ended.{states_of}
+use Rattle.top_duty.specs.Duty.{Admitted, Duty, OnArray, Shows, OneLabel, PrintConf, IsWanted, WantsMemory, ComesOfJoins, admitted_with, columns_of, drawn_or, is_past, is_past_bound, is_short, judged_states, layout_of, short_status, with_dead}
 use Rattle.top_duty.specs.Fit.{IsFit, IsStartIf}
 use Rattle.top_duty.specs.Opening.{AreTableRows, kind_of, opened_by, status_of}
-use Rattle.top_duty.specs.Start.{has_failed, rebuilds, start_in}
+use Rattle.top_duty.specs.Start.{has_failed, other_filling, rebuilds, start_in}
 
 -- what items of clients ask for
 abbrev pub items_seen : List (Vec AnyItem Global) → List (List Item)
@@ -57,9 +56,17 @@ OpensSo (Err f) answer = (f ≡ fault.Memory) ⊎ (answer ≡ Err (only (status_
 
 -- ## What is ready
 
--- It isn't lost as the action makes its columns, there is somewhere to rebuild a column to that is to be, its graphs are joined, and a trace that is kept has room.
+-- the column that is filling beside the one that is to be rebuilt; and why a rebuild can't begin, or can't go on
+abbrev pub other_of : Admitted → Option ℕ
+other_of a = other_filling a.asked (columns_of a)
+
+abbrev pub short_of : Admitted → Status
+short_of a = short_status (profile_of a.asked.command.action).rebuild
+
+-- It isn't lost as the action makes its columns, no other column is filling, there is somewhere to rebuild a column to that is to be, or something to go on with, its graphs are joined, and a trace that is kept has room.
 pub record MayBeDone (a : Admitted) : Type 0 where
   pub kept : NotLost (layout_of a) (judged_states a)
+  pub alone : other_of a ≡ None
   pub found : is_short a ≡ false
   pub joins : ComesOfJoins a (Ok a.joined)
   pub bound : is_past_bound a ≡ false
@@ -118,11 +125,13 @@ IsFitFor g k devices duty.PrintConf = Unit {0}
 abbrev pub RefusedScript : (ℕ → ℕ → Type 0) → (List View → Type 0) → (line code : ℕ) → Type 0
 RefusedScript apart past line code = apart line code ⊎ ((views : List View) × past views × (line ≡ 0) × (code ≡ 8))
 
--- Why nothing is done with an array that was opened: it is lost; or it isn't, and there is nowhere to rebuild a column to; or there is, and graphs can't be joined; or they are, and its trace would pass its bound; or memory was wanted.
+-- Why nothing is done with an array that was opened: it is lost; or it isn't, and another column is filling; or none is, and there is nowhere to rebuild a column to, or nothing to go on with; or there is, and graphs can't be joined; or they are, and its trace would pass its bound; or memory was wanted.
 abbrev pub RefusedAfter : Admitted → Status → Type 0
 RefusedAfter a (status.Lost first second stripe) = IsLost (layout_of a) (judged_states a) (record { first = first; second = second; stripe = stripe })
-RefusedAfter a status.NoSpare = NotLost (layout_of a) (judged_states a) × (is_short a ≡ true)
-RefusedAfter a (status.Script line code) = NotLost (layout_of a) (judged_states a) × (is_short a ≡ false)
+RefusedAfter a status.NoSpare = NotLost (layout_of a) (judged_states a) × (other_of a ≡ None) × (is_short a ≡ true) × (short_of a ≡ status.NoSpare)
+RefusedAfter a status.NoRebuild = NotLost (layout_of a) (judged_states a) × (other_of a ≡ None) × (is_short a ≡ true) × (short_of a ≡ status.NoRebuild)
+RefusedAfter a (status.Rebuilding c) = NotLost (layout_of a) (judged_states a) × (other_of a ≡ Some c)
+RefusedAfter a (status.Script line code) = NotLost (layout_of a) (judged_states a) × (other_of a ≡ None) × (is_short a ≡ false)
     × RefusedScript (λ l c. ComesOfJoins a (Err (record { line = l; code = c })))
     (λ views. ComesOfJoins a (Ok views) × (is_past_bound (record a { joined = views }) ≡ true)) line code
 RefusedAfter a status.Memory = Unit {0}
@@ -142,39 +151,39 @@ RefusedJoins y k _ = ⊥
 abbrev pub graphs_with : Asked → List View → List View
 graphs_with k views = map (λ n. n.graph) k.book ++ views
 
--- the same of an array that isn't lost, whose clients are those of the script, beside so many rebuilds: nothing is done with it
-abbrev pub RefusedUnlost : Shape → Asked → ℕ → Option Start → Status → Type 0
-RefusedUnlost y k count start status.NoSpare = (rebuilds k.command.action && is_none start) ≡ true
-RefusedUnlost y k count start (status.Script line code) = ((rebuilds k.command.action && is_none start) ≡ false)
+-- the same of an array that isn't lost, whose clients are those of the script, beside so many rebuilds, and where this other column is filling: nothing is done with it
+abbrev pub RefusedUnlost : Shape → Asked → Option ℕ → ℕ → Option Start → Status → Type 0
+RefusedUnlost y k other count start (status.Rebuilding c) = other ≡ Some c
+RefusedUnlost y k other count start status.NoSpare = (other ≡ None) × ((rebuilds k.command.action && is_none start) ≡ true) × (short_status (profile_of k.command.action).rebuild ≡ status.NoSpare)
+RefusedUnlost y k other count start status.NoRebuild = (other ≡ None) × ((rebuilds k.command.action && is_none start) ≡ true) × (short_status (profile_of k.command.action).rebuild ≡ status.NoRebuild)
+RefusedUnlost y k other count start (status.Script line code) = (other ≡ None) × ((rebuilds k.command.action && is_none start) ≡ false)
     × RefusedScript (λ l c. ComesOver y k (Err (record { line = l; code = c })))
     (λ views. ComesOver y k (Ok views) × (is_past y k (graphs_with k views) k.clients count ≡ true)) line code
-RefusedUnlost y k count start status.Memory = Unit {0}
-RefusedUnlost y k count start _ = ⊥
+RefusedUnlost y k other count start status.Memory = Unit {0}
+RefusedUnlost y k other count start _ = ⊥
 
 -- or it is, by these graphs
-pub record GoesUnlost (y : Shape) (k : Asked) (count : ℕ) (start : Option Start) (views : List View) : Type 0 where
+pub record GoesUnlost (y : Shape) (k : Asked) (other : Option ℕ) (count : ℕ) (start : Option Start) (views : List View) : Type 0 where
+  pub alone : other ≡ None
   pub found : (rebuilds k.command.action && is_none start) ≡ false
   pub joins : ComesOver y k (Ok views)
   pub bound : is_past y k (graphs_with k views) k.clients count ≡ false
 
 -- and of one of these columns
-abbrev pub RefusedIf : Shape → Asked → List Column → ℕ → Option Start → Status → Type 0
-RefusedIf y k columns count start (status.Lost first second stripe) = IsLost y (states_of y columns) (record { first = first; second = second; stripe = stripe })
-RefusedIf y k columns count start status.Memory = Unit {0}
-RefusedIf y k columns count start s = NotLost y (states_of y columns) × RefusedUnlost y k count start s
+abbrev pub RefusedIf : Shape → Asked → List ColumnState → Option ℕ → ℕ → Option Start → Status → Type 0
+RefusedIf y k cols other count start (status.Lost first second stripe) = IsLost y cols (record { first = first; second = second; stripe = stripe })
+RefusedIf y k cols other count start status.Memory = Unit {0}
+RefusedIf y k cols other count start s = NotLost y cols × RefusedUnlost y k other count start s
 
-abbrev pub GoesIf : Shape → Asked → List Column → ℕ → Option Start → List View → Type 0
-GoesIf y k columns count start views = NotLost y (states_of y columns) × GoesUnlost y k count start views
+abbrev pub GoesIf : Shape → Asked → List ColumnState → Option ℕ → ℕ → Option Start → List View → Type 0
+GoesIf y k cols other count start views = NotLost y cols × GoesUnlost y k other count start views
 
--- a column is made dead, if there is one to be
-abbrev pub with_killed : Option ℕ → List ColumnState → List ColumnState
-with_killed None states = states
-with_killed (Some c) states = killed states c
-
--- the columns that are printed dead beside a status: those of a lost array as the action makes them, and none where there is nowhere to rebuild to
+-- the columns that are printed dead beside a status: those of a lost array as the action makes them, where one that was filling is dead; and none where there is nowhere to rebuild to, nothing to go on with, or another column that is filling
 abbrev pub dead_beside : Option ℕ → List Column → Status → List ℕ
-dead_beside excused columns (status.Lost first second stripe) = dead_columns (with_dead excused columns)
+dead_beside excused columns (status.Lost first second stripe) = dead_columns (given_up (with_dead excused columns))
 dead_beside excused columns status.NoSpare = []
+dead_beside excused columns status.NoRebuild = []
+dead_beside excused columns (status.Rebuilding c) = []
 dead_beside excused columns _ = dead_columns columns
 
 -- what was asked is refused, or memory was wanted

@@ -81,10 +81,10 @@ fn judge<D: Disk>(
 /// to be done.
 ///
 /// Refused are, in this order, what [`top_bay::ask`] refuses; labels and sizes that [`top_open::open_array`] refuses;
-/// an array that is lost by its columns, as the action makes them; a column that there is nowhere to rebuild to; the first
-/// join line whose graphs can't be joined; and a trace that would pass its bound. What is only shown or printed isn't
-/// judged for the last four. Where it is refused, the bay has all devices again, of which nothing but sector 0 was read,
-/// once.
+/// an array that is lost by its columns, as the action makes them; a rebuild beside another column that is filling; a column
+/// that there is nowhere to rebuild to, or none to go on with; the first join line whose graphs can't be joined; and a trace
+/// that would pass its bound. What is only shown or printed isn't judged for the last five. Where it is refused, the bay has
+/// all devices again, of which nothing but sector 0 was read, once.
 pub fn admit<'a, B: Bay>(
     alloc: Global,
     command: Command<'a>,

@@ -3,9 +3,9 @@ ghost use Rattle.std.specs.Prelude.{◌≡◌, ◌≤◌, ◌<◌, ℕ, length, 
 ghost use Rattle.std.specs.Option.{ForSome};
 ghost use Rattle.eng_cols.specs.Cols.{IsFor, is_set_filling, is_set_spread};
 ghost use Rattle.top_words.specs.Views.{action_seen};
-ghost use Rattle.top_close.specs.Ended.{IsLossBy, states_of};
-ghost use Rattle.top_duty.specs.Duty.{traces, with_dead};
-ghost use Rattle.top_duty.specs.Views.{with_killed};
+ghost use Rattle.eng_cols.specs.Stripes.{states_of};
+ghost use Rattle.top_close.specs.Ended.{IsLossBy};
+ghost use Rattle.top_duty.specs.Duty.{traces, with_killed};
 
 use eng_cols::{Cols, Column, Loss};
 use lay_core::Layout;
@@ -34,7 +34,7 @@ fn kill_if(judge: &mut Cols, column: Option<u32>)
     }
 }
 
-/// By what the array is lost that has these columns, of which this one is made dead.
+/// By what the array is lost that has these columns, of which this one dies.
 pub(crate) fn loss_of<L: Layout>(
     judge: &mut Cols,
     layout: &L,
@@ -46,7 +46,8 @@ pub(crate) fn loss_of<L: Layout>(
     requires filling { count_by is_set_filling columns.now ≤ 1 }
     requires spread { count_by is_set_spread columns.now ≤ 1 }
     requires dead { ForSome dead (λ c. c < length columns.now) }
-    ensures loss { IsLossBy (L.shape layout.now) None (states_of (L.shape layout.now) (with_dead dead columns.now)) result }
+    ensures loss { IsLossBy (L.shape layout.now) None
+        (with_killed dead (states_of (L.shape layout.now) columns.now)) result }
     ensures judge { IsFor (L.shape layout.now) judge.new }
 {
     judge.set(layout, columns);

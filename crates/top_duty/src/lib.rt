@@ -3,9 +3,9 @@
 //!
 //! [`admit`] asks for what a command says, looks at the devices, and judges the array. Behind the
 //! refusals of `top_bay` come, in
-//! this order, what the labels and sizes of the devices call for, an array that is lost by its columns, a column that there is
-//! nowhere to rebuild to, a join line whose graphs can't be joined, and a trace that would pass its bound. What is refused is
-//! put back.
+//! this order, what the labels and sizes of the devices call for, an array that is lost by its columns, a rebuild beside
+//! another column that is filling, a column that there is nowhere to rebuild to or none to go on with, a join line whose graphs
+//! can't be joined, and a trace that would pass its bound. What is refused is put back.
 #![tactic(auto)]
 
 mod admitting;
@@ -13,6 +13,7 @@ mod clients;
 mod duty;
 mod judge;
 mod kind;
+mod layouts;
 mod looking;
 mod needs;
 mod opening;

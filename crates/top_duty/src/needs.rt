@@ -7,7 +7,7 @@ ghost use Rattle.top_duty.specs.Opening.{excused_by, needs_for, needs_of, own_by
 
 use top_bay::Asked;
 use top_open::Needs;
-use top_words::{Action, Component};
+use top_words::{Action, Component, Rebuilding};
 
 // The column that an action names, whose own device is refused for nothing.
 fn excused_by(component: Component<'_>, comp: Option<u32>) -> Option<u32>
@@ -20,12 +20,12 @@ fn excused_by(component: Component<'_>, comp: Option<u32>) -> Option<u32>
 }
 
 // Whether the disk onto which a column is rebuilt is its own.
-fn own_by(rebuild: Option<bool>) -> bool
+fn own_by(rebuild: Option<Rebuilding>) -> bool
     ensures { result ≡ own_by rebuild }
 {
     match rebuild {
-        Some(in_place) => in_place,
-        None => false,
+        Some(Rebuilding::InPlace) => true,
+        Some(Rebuilding::Elsewhere | Rebuilding::Further) | None => false,
     }
 }
 

@@ -3,20 +3,22 @@ ghost use Rattle.std.specs.Prelude.{◌≡◌, ◌⊎◌, ◌≤◌, ◌<◌, �
 ghost use Rattle.std.specs.Option.{ForSome};
 ghost use Rattle.eng_array.specs.Starts.{column_of};
 ghost use Rattle.eng_cols.specs.Cols.{IsFor, is_set_filling, is_set_spread};
-ghost use Rattle.raid_conf.specs.Form.{IsConf};
 ghost use Rattle.raid_conf.specs.Layouts.{shape_of};
 ghost use Rattle.top_open.specs.Opening.{opened_seen};
+ghost use Rattle.top_rounds.specs.Labels.{given_up};
 ghost use Rattle.top_bay.specs.Asked.{names_for};
 ghost use Rattle.top_bay.specs.Views.{IsWithinLimits, asked_seen};
 ghost use Rattle.top_words.specs.declared.profile.Kind.TheVariants as kind;
 ghost use Rattle.top_duty.specs.Duty.{admitted_with, duty_by, duty_for, with_dead};
 ghost use Rattle.top_duty.specs.Opening.{AreTableRows, kind_of, needs_of, opened_by};
+ghost use Rattle.top_duty.specs.Start.{IsNamedBy};
 ghost use Rattle.top_duty.specs.Views.{IsDutyOver, IsMade, IsPrepared, IsRefusal, MayBeDone, RefusedAfter, RefusedHere, dead_beside, views_of};
 
 use crate::clients::draw;
 use crate::duty::{Duty, Ready};
 use crate::judge::judge_for;
 use crate::kind::kind_of;
+use crate::layouts::layout_of;
 use crate::needs::needs_of;
 use crate::opening::{open, status_of};
 use crate::refusing::join_unless_refused;
@@ -26,12 +28,12 @@ use eng_cols::{Cols, Column};
 use eng_world::Item;
 use graph_mean::Graph;
 use lay_core::{Layout, blocks};
-use lay_design::designs_have_no_fault;
-use raid_conf::{AnyFault, AnyLayout, Conf};
+use raid_conf::AnyLayout;
 use raid_recon::Room;
 use std::alloc::Global;
 use top_bay::Asked;
 use top_open::{Front, Opened};
+use top_rounds::give_up;
 use top_status::{Refusal, Status};
 use top_words::Kind;
 
@@ -42,31 +44,6 @@ struct Parts {
     joined: Vec<Graph>,
     judge: Cols,
     room: Room,
-}
-
-// The status of a fault, which is want of memory.
-fn memory_of(fault: AnyFault) -> Status
-    requires { fault ≡ AnyFault.Memory }
-    ensures { result ≡ Status.Memory }
-{
-    match fault {
-        AnyFault::Memory => Status::Memory,
-        AnyFault::Make(_) | AnyFault::Design(_) | AnyFault::Table(_) => unreachable!(),
-    }
-}
-
-// The layout over so many rows, which are those of whole tables: so there may be want of memory alone.
-fn layout_of(alloc: Global, conf: &Conf, rows: u32) -> Result<AnyLayout, Status>
-    requires conf { IsConf conf.now }
-    requires rows { AreTableRows conf.now rows }
-    ensures shape { IfOk result (λ layout. ⟦<AnyLayout as Layout>⟧.shape layout ≡ shape_of conf.now rows) }
-    ensures memory { IfErr result (λ status. status ≡ Status.Memory) }
-{
-    designs_have_no_fault();
-    match AnyLayout::make(alloc, conf, rows) {
-        Ok(layout) => Ok(layout),
-        Err(fault) => Err(memory_of(fault)),
-    }
 }
 
 // Room for two units of so many sectors.
@@ -94,7 +71,8 @@ fn make(
     requires filling { count_by is_set_filling opened.now.columns.items ≤ 1 }
     requires spread { count_by is_set_spread opened.now.columns.items ≤ 1 }
     requires dead { ForSome (needs_of (asked_seen asked.now)).excused (λ c. c < asked.now.conf.columns) }
-    requires start { ForSome start (λ s. (needs_of (asked_seen asked.now)).excused ≡ Some (column_of s)) }
+    requires start { ForSome start (λ s. column_of s < asked.now.conf.columns) }
+    requires named { ForSome start (IsNamedBy (needs_of (asked_seen asked.now)).excused) }
     ensures made { IfOk result (λ parts. IsMade (asked_seen asked.now) (opened_seen opened.now)
         parts.layout parts.drawn.items parts.judge parts.room) }
     ensures may { IfOk result (λ parts. MayBeDone (admitted_with (asked_seen asked.now) (opened_seen opened.now) start (views_of parts.joined.items))) }
@@ -143,15 +121,23 @@ fn with_dead(mut columns: Vec<Column>, dead: Option<u32>) -> Vec<Column>
     columns
 }
 
-// A refusal beside the columns that are dead as the array was opened; of a lost array as the action makes them; and beside
-// none where there is nowhere to rebuild to.
+// The columns of a lost array: one that was filling is dead.
+fn lost(mut columns: Vec<Column>) -> Vec<Column>
+    ensures { result.items ≡ given_up columns.items }
+{
+    give_up(columns.as_mut_slice());
+    columns
+}
+
+// A refusal beside the columns that are dead as the array was opened; of a lost array as the action makes them, where one
+// that was filling is dead; and beside none where a rebuild can't begin or go on.
 fn refuse(alloc: Global, columns: Vec<Column>, dead: Option<u32>, status: Status) -> Refusal
     requires { ForSome dead (λ c. c < length columns.items) }
     ensures { result ≡ record { status = status; dead = dead_beside dead columns.items status } }
 {
     match &status {
-        Status::Lost { .. } => Refusal::beside(with_dead(columns, dead), status),
-        Status::NoSpare => Refusal::only(alloc, status),
+        Status::Lost { .. } => Refusal::beside(lost(with_dead(columns, dead)), status),
+        Status::NoSpare | Status::NoRebuild | Status::Rebuilding(_) => Refusal::only(alloc, status),
         _ => Refusal::beside(columns, status),
     }
 }
@@ -217,9 +203,10 @@ fn make_shown(
 /// What is to be done, by sizes and fronts of the devices.
 ///
 /// An array is opened and made ready; one that is shown is opened. Refused are, in this order, what its labels and sizes call
-/// for; an array that is lost by its columns, as the action makes them; a column that there is nowhere to rebuild to; the
-/// first join line whose graphs can't be joined; and a trace that would pass its bound. Memory may be wanted at any point. Behind the opening the columns that are dead are
-/// printed, but for a column without a spare.
+/// for; an array that is lost by its columns, as the action makes them; a rebuild beside another column that is filling; a
+/// column that there is nowhere to rebuild to, or none to go on with; the first join line whose graphs can't be joined; and a
+/// trace that would pass its bound. Memory may be wanted at any point. Behind the opening the columns that are dead are
+/// printed, but where a rebuild can't begin or go on.
 pub(crate) fn prepare(
     alloc: Global,
     asked: &Asked<'_>,

@@ -23,3 +23,5 @@ refused_then (status.Small a b c) w f h = ap (λ x. x then f) h
 refused_then (status.NotInSync n) w f h = ap (λ x. x then f) h
 refused_then status.NoSpare w f h = ap (λ x. x then f) h
 refused_then (status.LongText n) w f h = ap (λ x. x then f) h
+refused_then status.NoRebuild w f h = ap (λ x. x then f) h
+refused_then (status.Rebuilding c) w f h = ap (λ x. x then f) h

@@ -32,6 +32,7 @@ Components:
   -F COMP         fails a component, and rebuilds its column onto a spare or
                   into spare places
   -R COMP         rebuilds the column of a component on its own disk
+  --resume        goes on with a rebuild that --limit ended
 
 Parity:
   -i              writes the parity of all stripes
@@ -39,7 +40,7 @@ Parity:
   -P              checks parity, and rewrites it where it is wrong
 
 Clients:
-  --io SCRIPT     runs a script; with -F or -R, beside the rebuild
+  --io SCRIPT     runs a script; with -F, -R or --resume, beside the rebuild
   --sweep SEED    runs clients that are drawn from SEED; this overwrites blocks
   --sim QUEUE     prints in which order, and when, one disk serves requests;
                   QUEUE is fifo, sstf or scan
@@ -48,14 +49,16 @@ Options:
   --graphs FILE   access graphs that the script names, with --io
   --trace         prints each event too, with --io
   -w N            serves with N workers, 0 to 16, else with 4;
-                  with --io, --sweep, -F and -R
+                  with --io, --sweep, -F, -R and --resume
+  --limit M       rebuilds at most M stripes, and onto a device alone;
+                  with -F, -R and --resume
   --clients C     draws C clients, 1 to 16, with --sweep
   --ops N         draws N operations for each client, 0 to 2048, with --sweep
   -h, --help      prints this text
   -V, --version   prints which program this is
 
 COMP is the name of one of the configuration's disks, and for -g also that of a
-spare. SERIAL and SEED are 0 to 4294967295.
+spare. SERIAL and SEED are 0 to 4294967295, M is 1 to 4294967295.
 
 Examples:
   raidctl conf --io script --graphs graphs -w 2

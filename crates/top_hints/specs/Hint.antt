@@ -36,6 +36,14 @@ missing_hint name = name_hint name (codes "no such file; names are relative to t
 unfoldable pub no_spare_hint : List ℕ
 no_spare_hint = hint_line (codes "no free spare (each is used, failed or small: see -s); -f fails the column alone, -R rebuilds it on its own disk" ∷ [])
 
+-- no column is being rebuilt that could be gone on with
+unfoldable pub no_rebuild_hint : List ℕ
+no_rebuild_hint = hint_line (codes "no column is being rebuilt (see -s): there is nothing to resume; -F or -R begins a rebuild" ∷ [])
+
+-- another column is being rebuilt
+unfoldable pub rebuilding_hint : (column : ℕ) → List ℕ
+rebuilding_hint column = hint_line (codes "column " ∷ decimal column ∷ codes " is being rebuilt: --resume goes on with it, before another can be begun" ∷ [])
+
 -- what is known of a trouble, or else these words
 unfoldable pub trouble_hint : Option Trouble → List ℕ → List ℕ
 trouble_hint (Some trouble) words = name_hint trouble.name (shown trouble.cause)
@@ -101,6 +109,8 @@ hint_of words (status.Label column code found wanted) trouble = label_hint colum
 hint_of words (status.Small column has needs) trouble = small_hint column has needs
 hint_of words (status.NotInSync count) trouble = out_of_sync_hint count
 hint_of words status.NoSpare trouble = no_spare_hint
+hint_of words status.NoRebuild trouble = no_rebuild_hint
+hint_of words (status.Rebuilding column) trouble = rebuilding_hint column
 hint_of words (status.LongText name) trouble = name_hint name (codes "longer than 16777216 bytes")
 hint_of words status.Memory trouble = hint_line (codes "not enough memory; nothing was written" ∷ [])
 

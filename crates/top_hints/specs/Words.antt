@@ -61,8 +61,8 @@ component_hint option word among = hint_line (option ∷ codes " " ∷ shown wor
 unfoldable pub misuse_hint : Misuse → List ℕ
 misuse_hint (Unknown word) = unknown_hint word
 misuse_hint NoForm = unformed
-misuse_hint NoAction = hint_line (codes "no action: one of --io, --sweep, --scan, --sim and the letters is wanted; see raidctl --help" ∷ [])
-misuse_hint ManyActions = hint_line (codes "more than one action: only --io goes beside another, -F or -R" ∷ [])
+misuse_hint NoAction = hint_line (codes "no action: one of --io, --sweep, --resume, --scan, --sim and the letters is wanted; see raidctl --help" ∷ [])
+misuse_hint ManyActions = hint_line (codes "more than one action: only --io goes beside another: -F, -R or --resume" ∷ [])
 misuse_hint (Apart option with) = hint_line (option ∷ codes " needs " ∷ with ∷ [])
 misuse_hint (Number option word low high) = number_hint option word low high
 misuse_hint (Queue word) = queue_hint word

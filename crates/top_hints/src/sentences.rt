@@ -1,6 +1,6 @@
 //! Sentences on texts, columns and stripes.
 ghost use Rattle.std.specs.Prelude.{◌≡◌, [], ◌∷◌, IfOk, option_map};
-ghost use Rattle.top_hints.specs.Hint.{is_lost, line_hint, lost_hint, missing_hint, name_hint, no_spare_hint, out_of_sync_hint, script_hint, small_hint, trouble_hint, unit_hint, units_hint};
+ghost use Rattle.top_hints.specs.Hint.{line_hint, lost_hint, missing_hint, name_hint, no_rebuild_hint, no_spare_hint, rebuilding_hint, script_hint, small_hint, trouble_hint, unit_hint, units_hint, is_lost, out_of_sync_hint};
 ghost use Rattle.top_hints.specs.Line.{hint_line};
 ghost use Rattle.top_hints.specs.Views.{trouble_seen};
 ghost use Rattle.top_words.specs.Views.{misuse_seen};
@@ -228,5 +228,33 @@ pub(crate) fn no_spare(alloc: Global) -> Result<Vec<u8>, AllocError>
     plain(
         alloc,
         "no free spare (each is used, failed or small: see -s); -f fails the column alone, -R rebuilds it on its own disk",
+    )
+}
+
+/// No column is being rebuilt that could be gone on with.
+#[tactic(auto, unfolding(crate::specs::Hint::no_rebuild_hint))]
+pub(crate) fn no_rebuild(alloc: Global) -> Result<Vec<u8>, AllocError>
+    ensures { IfOk result (λ line. line.items ≡ no_rebuild_hint) }
+{
+    plain(
+        alloc,
+        "no column is being rebuilt (see -s): there is nothing to resume; -F or -R begins a rebuild",
+    )
+}
+
+/// Another column is being rebuilt.
+#[tactic(auto, unfolding(crate::specs::Line::hint_line, crate::specs::Hint::rebuilding_hint))]
+pub(crate) fn rebuilding(alloc: Global, column: u32) -> Result<Vec<u8>, AllocError>
+    ensures { IfOk result (λ line. line.items ≡ rebuilding_hint column) }
+{
+    line(
+        alloc,
+        &[
+            Piece::Words("column "),
+            Piece::Number(u64::from(column)),
+            Piece::Words(
+                " is being rebuilt: --resume goes on with it, before another can be begun",
+            ),
+        ],
     )
 }

@@ -6,7 +6,8 @@ ghost use Rattle.top_hints.specs.Views.{trouble_seen};
 use crate::labels::label;
 use crate::piece::{Piece, line};
 use crate::sentences::{
-    at_line, in_script, lost, missing, named, no_spare, out_of_sync, plain, small, troubled,
+    at_line, in_script, lost, missing, named, no_rebuild, no_spare, out_of_sync, plain, rebuilding,
+    small, troubled,
 };
 use crate::tables::{conf_words, graph_words};
 use crate::trouble::Trouble;
@@ -68,6 +69,8 @@ pub fn hint(
         Status::Small { column, has, needs } => small(alloc, *column, *has, *needs),
         Status::NotInSync(count) => out_of_sync(alloc, *count),
         Status::NoSpare => no_spare(alloc),
+        Status::NoRebuild => no_rebuild(alloc),
+        Status::Rebuilding(column) => rebuilding(alloc, *column),
         Status::LongText(name) => named(alloc, name.text(), "longer than 16777216 bytes"),
         Status::Memory => plain(alloc, "not enough memory; nothing was written"),
     }

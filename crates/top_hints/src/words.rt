@@ -172,11 +172,11 @@ fn misused(alloc: Global, misuse: Misuse<'_>) -> Result<Vec<u8>, AllocError>
         Misuse::NoForm => unformed(alloc),
         Misuse::NoAction => plain(
             alloc,
-            "no action: one of --io, --sweep, --scan, --sim and the letters is wanted; see raidctl --help",
+            "no action: one of --io, --sweep, --resume, --scan, --sim and the letters is wanted; see raidctl --help",
         ),
         Misuse::ManyActions => plain(
             alloc,
-            "more than one action: only --io goes beside another, -F or -R",
+            "more than one action: only --io goes beside another: -F, -R or --resume",
         ),
         Misuse::Apart { option, with } => apart(alloc, option, with),
         Misuse::Number {

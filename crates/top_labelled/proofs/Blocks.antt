@@ -15,7 +15,8 @@ use Rattle.eng_cols.specs.Contents.{Contents, AnyStripe, InSync, byte_if, byte_o
 use Rattle.eng_cols.proofs.Decoding.{agrees-decode, agrees-only}
 use Rattle.eng_cols.proofs.Sums.{below_one, others_more, others_same, xor_twice}
 use Rattle.raid_recon.specs.declared.kind.Sweep.TheVariants as sweep
-use Rattle.raid_recon.specs.Array.{states_of, IsArray, IsComplete}
+use Rattle.eng_cols.specs.Stripes.{states_of}
+use Rattle.raid_recon.specs.Array.{IsArray, IsComplete}
 use Rattle.raid_recon.specs.Ends.{MayRewrite, ChecksHold}
 use Rattle.raid_recon.specs.Sums.{HoldsSum}
 use Rattle.raid_recon.proofs.Frames.{byte-same, check-alone, last-unit}

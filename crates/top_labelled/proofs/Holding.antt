@@ -1,40 +1,46 @@
 -- What an array that was begun holds.
-use Rattle.std.proofs.Common.{◌≡◌, inl, inr, ℕ, ◌<◌, List, Bool, true, false, Option, None, refl, sym, ◌∙◌, ap, subst}
-use Rattle.std.specs.Prelude.{◌==◌}
+use Rattle.std.proofs.Common.{◌≡◌, inl, inr, ℕ, ◌<◌, ◌≤◌, List, Bool, true, false, length, Option, None, refl, sym, ◌∙◌, ap, subst, arith}
+use Rattle.std.specs.Prelude.{◌==◌, count_by}
 use Rattle.std.proofs.lemmas.Map.Views.{exact_unsigned_eq}
 use Rattle.blk_disk.specs.declared.disk.Disk.{Ghosts}
 use Rattle.blk_disk.specs.Devices.{contents_of}
 use Rattle.lay_core.specs.Layout.{Shape, IsLayout, Blocks, blocks_in, stripe_of, unit_of}
 use Rattle.eng_cols.specs.declared.column.Column.{Column}
-use Rattle.eng_cols.specs.Cols.{ColumnState}
+use Rattle.eng_cols.specs.Cols.{ColumnState, AtMostOne, is_set_filling}
 use Rattle.eng_cols.specs.Contents.{AnyStripe, Contents, InSync, decode}
 use Rattle.eng_cols.specs.Deaths.{Dies}
+use Rattle.eng_cols.specs.Fewer.{DieApart}
+use Rattle.eng_cols.specs.Settable.{IsSettable}
+use Rattle.eng_cols.proofs.Lists.{count_at_most}
 use Rattle.eng_cols.specs.Lost.{NotLost}
 use Rattle.eng_cols.proofs.Decoding.{agrees-decode, agrees-only}
 use Rattle.eng_array.specs.declared.start.Start.{Start}
 use Rattle.eng_world.specs.World.{World}
-use Rattle.eng_events.specs.Opened.{states_of}
+use Rattle.eng_cols.specs.Stripes.{states_of}
 use Rattle.raid_label.specs.declared.label.Label.{Label}
 use Rattle.raid_recon.specs.Array.{IsArray}
 use Rattle.raid_recon.proofs.Backs.{sum-back}
 use Rattle.top_acts.specs.Begun.{HasBegun, sweep_if}
 use Rattle.top_acts.proofs.Backs.{died}
+use Rattle.top_acts.proofs.Named.{apart_in, only_lose}
+use Rattle.top_close.proofs.Counts.{deaths_pass_less}
 use Rattle.top_close.specs.Dying.{OnlyDie}
 use Rattle.top_close.proofs.DyingLaws.{columns_die, still_agrees}
+use Rattle.top_rounds.specs.Rounds.{DiesIn}
 use Rattle.top_close.specs.Settled.{LosesDevice}
 use Rattle.top_run.specs.Work.{Work}
 use Rattle.top_run.specs.Ran.{Opens, states_in}
 use Rattle.top_run.proofs.InTurnSame.{decode-same}
-use Rattle.top_labelled.specs.Begun.{BeginsLabelled, HoldsBlocks, IsBlockOf, WasSound, opened_as, without}
+use Rattle.top_labelled.specs.Begun.{BeginsLabelled, HoldsBlocks, IsAlone, IsAnew, IsBlockOf, IsColumnWithin, WasSound, opened_as, without}
 use Rattle.top_labelled.proofs.Blocks.{same-blocks, swept-block}
 use Rattle.top_labelled.proofs.Unmade.{unmade}
-use Rattle.top_labelled.proofs.Without.{IsOf, without-dies}
+use Rattle.top_labelled.proofs.Without.{alone-later, without-apart, without-dies}
 
 zero-is : (n : ℕ) → n ≡ 0 → (n == 0) ≡ true
 zero-is n h = subst (λ m. (m == 0) ≡ true) (sym h) refl
 
 module _ {D : Type 0} (g : Ghosts D) (a : Work) (layout : IsLayout a.layout) (newest : Label) (taken opened : List (Option D)) (begun : List Column) (first : Label) (began : Option Start)
-    (begins : BeginsLabelled g a newest taken opened begun first None) (array : IsArray g a.layout a.columns taken) (kept : NotLost a.layout (states_of a.layout (without a.start begun)))
+    (begins : BeginsLabelled g a newest taken opened begun first None) (array : IsArray g a.layout a.columns taken) (settable : IsSettable a.layout a.columns) (within : IsColumnWithin a.start (length a.columns)) (alone : IsAlone a.start a.columns) (kept : NotLost a.layout (states_of a.layout (without a.start begun)))
     (start : World) (opens : Opens g (opened_as a (without a.start begun) began) opened start) where
   abbrev y : Shape
   y = a.layout
@@ -52,24 +58,43 @@ module _ {D : Type 0} (g : Ghosts D) (a : Work) (layout : IsLayout a.layout) (ne
   alive : NotLost y mid
   alive = begins.lost_is
 
-  die : OnlyDie (states_in a) mid
-  die = columns_die (LosesDevice g a.columns taken opened) y a.columns begun begins.has.named.dies
+  -- ## Deaths
 
-  named : Dies (IsOf a.start) begun (without a.start begun)
+  loses : Dies (LosesDevice g a.columns taken opened) a.columns begun
+  loses = only_lose g a.columns begun taken opened begins.has.named.dies
+
+  apart : DieApart a.columns begun
+  apart = apart_in g None a.columns begun taken opened begins.has.named.dies
+
+  one : AtMostOne is_set_filling a.columns
+  one = count_at_most is_set_filling a.columns settable.filling
+
+  die : OnlyDie (states_in a) mid
+  die = columns_die (LosesDevice g a.columns taken opened) y a.columns begun loses apart one
+
+  few : count_by is_set_filling begun ≤ 1
+  few = let less = deaths_pass_less (LosesDevice g a.columns taken opened) is_set_filling a.columns begun refl loses in let most = settable.filling in omega (arith, less, most)
+
+  named : Dies (IsAnew a.start) begun (without a.start begun)
   named = without-dies a.start begun
+
+  named-apart : DieApart begun (without a.start begun)
+  named-apart = without-apart a.start begun (subst (λ n. IsColumnWithin a.start n) (sym loses.count) within) (alone-later a.start (LosesDevice g a.columns taken opened) a.columns begun loses alone)
+
+  -- ## What is held
 
   -- its death changes no block
   same-behind : InSync y holds mid → (b k : ℕ) → b < blocks_in y → k < 512 → decode y holds late b k ≡ decode y holds mid b k
   same-behind sync b k bl kl =
       let blocks : Blocks = decode y holds mid in
       let agrees = agrees-decode y holds mid layout alive sync in
-      let dead = still_agrees y mid late (columns_die (IsOf a.start) y begun (without a.start begun) named) holds blocks AnyStripe agrees in
+      let dead = still_agrees y mid late (columns_die (IsAnew a.start) y begun (without a.start begun) named named-apart (count_at_most is_set_filling begun few)) holds blocks AnyStripe agrees in
       sym (agrees-only y holds late layout kept blocks dead b k bl kl)
 
   -- nor is the array less in sync by it
   sync-behind : InSync y holds mid → InSync y holds late
   sync-behind h s o k sw ou ku one all =
-      let back = died (IsOf a.start) y begun (without a.start begun) named in
+      let back = died (IsAnew a.start) y begun (without a.start begun) named named-apart few in
       sum-back y holds late mid s y.width o k back all ∙ h s o k sw ou ku one (λ i iw. back.available s i (all i iw))
 
   -- the blocks of the opening are what the devices hold then
@@ -100,7 +125,7 @@ module _ {D : Type 0} (g : Ghosts D) (a : Work) (layout : IsLayout a.layout) (ne
       elim (swept-block g y layout a.columns begun taken opened array die alive tells has.frame (λ one. (has.swept refl).checks one tells) b bl) [
         | inl same ↦ inl (λ k kl. start-is tells sync b k bl kl ∙ same k kl)
         | inr made ↦
-            let lost = unmade y a.columns begun (LosesDevice g a.columns taken opened) has.named.dies (stripe_of y b) (unit_of y b) made.0 made.1 in
+            let lost = unmade y a.columns begun (LosesDevice g a.columns taken opened) loses apart one (stripe_of y b) (unit_of y b) made.0 made.1 in
             inr (
               exact_unsigned_eq newest.clean 0 is,
               record { col = lost.0; of_column = lost.1.0; was = made.0; dead = lost.1.1; loses = lost.1.2 },

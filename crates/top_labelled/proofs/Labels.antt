@@ -8,31 +8,31 @@ use Rattle.blk_disk.specs.declared.disk.Disk.{Ghosts}
 use Rattle.blk_disk.specs.Devices.{size_of, sector_of, RisesOn, Changes}
 use Rattle.blk_disk.proofs.DeviceLaws.{changes-refl, changes_sector, changes_size, rises-wider}
 use Rattle.eng_cols.specs.declared.column.Column.{Column}
-use Rattle.eng_cols.specs.declared.column.Column.TheVariants as column
-use Rattle.eng_cols.specs.Deaths.{Dies}
+use Rattle.eng_cols.specs.Cols.{device_set}
 use Rattle.eng_cols.proofs.DeathLaws.{dies-more}
 use Rattle.raid_label.specs.Bytes.{bytes_of}
 use Rattle.raid_label.specs.declared.label.Label.{Label}
 use Rattle.raid_recon.specs.declared.kind.Sweep.{Sweep}
 use Rattle.top_acts.specs.Begun.{MayBegin, MaySweep}
 use Rattle.top_acts.specs.Closed.{ClosesLabelled}
-use Rattle.top_close.specs.Settled.{IsLiveOn, LosesDevice}
-use Rattle.top_rounds.specs.Labels.{for_column, with_round}
+use Rattle.top_close.specs.Settled.{HasDeviceOn, LosesDevice}
+use Rattle.top_rounds.specs.Labels.{for_column, seating_in, with_round}
 use Rattle.top_rounds.specs.Passes.{IsFirstInUse}
-use Rattle.top_rounds.specs.Rounds.{HaveFailed, IsInUse, clean_in_end}
+use Rattle.top_rounds.specs.Rounds.{DiesIn, HaveFailed, IsGivenUp, IsInUse, IsTriedOn, clean_in_end}
 use Rattle.top_run.specs.Work.{Service, Work}
 use Rattle.top_labelled.specs.Begun.{BeginsLabelled, sweep_in}
 use Rattle.top_labelled.specs.Between.{closing_label}
 use Rattle.top_labelled.specs.Ran.{IsRelabelled}
 use Rattle.top_labelled.proofs.Lists.{pairs-append, in-use-or-not}
+use Rattle.top_labelled.proofs.Without.{some-same}
 
-same-device : (o : Option Column) (d e : ℕ) → o ≡ Some (column.Live d) → o ≡ Some (column.Live e) → d ≡ e
-same-device o d e one two = let z : Some (column.Live d) ≡ Some (column.Live e) = sym one ∙ two in cc
+same-device : (o : Option Column) (d e : ℕ) → device_set o ≡ Some d → device_set o ≡ Some e → d ≡ e
+same-device o d e one two = some-same d e (sym one ∙ two)
 
 module _ {D : Type 0} (g : Ghosts D) (a : Work) (newest : Label) (taken opened served back : List (Option D)) (columns kept : List Column) (first last : Label) (s : Service) (may : ℕ → ℕ → Type 0)
     (begins : BeginsLabelled g a newest taken opened columns first None)
     (run : Changes g may opened served) (away : (d : ℕ) → 1 ≤ size_of g opened d → may d 0 → ⊥)
-    (stays : (c d : ℕ) → IsLiveOn kept c d → IsInUse a.columns d → (k : ℕ) × IsLiveOn columns k d)
+    (stays : (c d : ℕ) → HasDeviceOn kept c d → IsInUse a.columns d → (k : ℕ) × HasDeviceOn columns k d)
     (closes : ClosesLabelled g false (closing_label first) last kept s.ending.columns served back s.ending.lost) where
   abbrev Begun : ℕ → ℕ → Type 0
   Begun = MayBegin g (sweep_in newest) a.layout a.columns taken
@@ -58,11 +58,11 @@ module _ {D : Type 0} (g : Ghosts D) (a : Work) (newest : Label) (taken opened s
   -- a device that failed as the array was begun is none of the run's
   across : (i j : ℕ) (z : ℕ) → i < length early → j < length late → get_or early i z ≢ get_or late j z
   across i j z il jl same =
-      let gone = All-get_or (λ (d : ℕ). (c : ℕ) → IsLiveOn columns c d → ⊥) early i z il begins.has.named.gone in
+      let gone = All-get_or (λ (d : ℕ). (c : ℕ) → HasDeviceOn columns c d → ⊥) early i z il begins.has.named.gone in
       let was = All-get_or (IsInUse a.columns) early i z il begins.has.named.had in
       let had = All-get_or (IsInUse kept) late j z jl closes.counted.had in
       let live = stays had.col (get_or late j z) had.live (subst (λ (d : ℕ). IsInUse a.columns d) same was) in
-      gone live.0 (subst (λ (d : ℕ). IsLiveOn columns live.0 d) (sym same) live.1)
+      gone live.0 (subst (λ (d : ℕ). HasDeviceOn columns live.0 d) (sym same) live.1)
 
   failed : HaveFailed g taken back (early ++ late)
   failed = record {
@@ -75,8 +75,8 @@ module _ {D : Type 0} (g : Ghosts D) (a : Work) (newest : Label) (taken opened s
 
   -- ## The last label
 
-  label-is : last ≡ with_round newest last.counter (clean_in_end s.ending.lost 1) last.seats
-  label-is = closes.label_is ∙ ap (λ (l : Label). with_round (closing_label l) last.counter (clean_in_end s.ending.lost 1) last.seats) begins.has.label_is
+  label-is : last ≡ with_round newest last.counter (clean_in_end s.ending.lost 1) (seating_in last)
+  label-is = closes.label_is ∙ ap (λ (l : Label). with_round (closing_label l) last.counter (clean_in_end s.ending.lost 1) (seating_in last)) begins.has.label_is
 
   two-rounds : newest.counter + 2 ≤ last.counter
   two-rounds =
@@ -95,21 +95,16 @@ module _ {D : Type 0} (g : Ghosts D) (a : Work) (newest : Label) (taken opened s
 
   -- ## Other devices
 
-  -- a column that was live on a device whose count didn't rise is live
-  live-begun : (d : ℕ) → (RisesOn g taken back d → ⊥) → (c : ℕ) → IsLiveOn a.columns c d → IsLiveOn columns c d
+  -- a column that had a device whose count didn't rise has it
+  live-begun : (d : ℕ) → (RisesOn g taken back d → ⊥) → (c : ℕ) → HasDeviceOn a.columns c d → HasDeviceOn columns c d
   live-begun d quiet c live = elim (begins.has.named.dies.each c) [
-    | inl same ↦ same ∙ live
-    | inr dead ↦
-        let e : d ≡ dead.1.device = same-device (slice_get a.columns c) d dead.1.device live dead.1.had in
-        absurd (quiet (rises-begun d (subst (λ (n : ℕ). RisesOn g taken opened n) (sym e) dead.1.rose)))
-  ]
-
-  live-closed : (d : ℕ) → (RisesOn g taken back d → ⊥) → (c : ℕ) → IsLiveOn kept c d → IsLiveOn s.ending.columns c d
-  live-closed d quiet c live = elim (closes.counted.dies.each c) [
-    | inl same ↦ same ∙ live
-    | inr dead ↦
-        let e : d ≡ dead.1.device = same-device (slice_get kept c) d dead.1.device live dead.1.had in
-        absurd (quiet (rises-closed d (subst (λ (n : ℕ). RisesOn g served back n) (sym e) dead.1.rose)))
+    | inl same ↦ ap device_set same ∙ live
+    | inr dead ↦ elim dead.1 [
+      | inr given ↦ absurd given
+      | inl loses ↦
+          let e : d ≡ loses.device = same-device (slice_get a.columns c) d loses.device live loses.had in
+          absurd (quiet (rises-begun d (subst (λ (n : ℕ). RisesOn g taken opened n) (sym e) loses.rose)))
+    ]
   ]
 
   -- a sweep writes no first sector
@@ -117,33 +112,58 @@ module _ {D : Type 0} (g : Ghosts D) (a : Work) (newest : Label) (taken opened s
   swept-away None d never = never
   swept-away (Some kind) d h = let e = h.1.sector.sector in omega (arith, e)
 
-  untouched : g.tells → (d : ℕ) → ((c : ℕ) → IsLiveOn a.columns c d → ⊥) → sector_of g opened d 0 ≡ sector_of g taken d 0
+  untouched : g.tells → (d : ℕ) → ((c : ℕ) → HasDeviceOn a.columns c d → ⊥) → sector_of g opened d 0 ≡ sector_of g taken d 0
   untouched tells d none = changes_sector g Begun taken opened d 0 begins.has.frame tells (λ h. elim h [
     | inl on ↦ none on.col on.live
     | inr swept ↦ swept-away (sweep_in newest) d swept
   ])
 
-  -- one that isn't in use as the array is closed has what it had as it was begun
-  not-called : g.tells → (d : ℕ) → 1 ≤ size_of g taken d → ((c : ℕ) → IsLiveOn kept c d → ⊥) → sector_of g back d 0 ≡ sector_of g opened d 0
-  not-called tells d sized none =
+  -- the run writes no first sector
+  as-served : g.tells → (d : ℕ) → 1 ≤ size_of g taken d → sector_of g served d 0 ≡ sector_of g opened d 0
+  as-served tells d sized =
       let size = changes_size g Begun taken opened d begins.has.frame in
-      ap (λ (x : Option D). option_map_or (λ (z : D). g.sector z 0) x []) (closes.counted.others d none)
-      ∙ changes_sector g may opened served d 0 run tells (away d (omega (arith, size, sized)))
+      changes_sector g may opened served d 0 run tells (away d (omega (arith, size, sized)))
 
-  rest : g.tells → (d : ℕ) → 1 ≤ size_of g taken d → ((c : ℕ) → IsLiveOn s.ending.columns c d → ⊥) → (RisesOn g taken back d → ⊥)
-      → (sector_of g back d 0 ≡ sector_of g taken d 0) ⊎ ((c : ℕ) × IsLiveOn columns c d × (sector_of g back d 0 ≡ bytes_of (for_column first c)))
-  rest tells d sized free quiet = elim (in-use-or-not kept d) [
-    | inl live ↦ absurd (free live.0 (live-closed d quiet live.0 live.1))
-    | inr none ↦
-        let same = not-called tells d sized none in
-        elim (in-use-or-not a.columns d) [
-          | inl was ↦ let here = live-begun d quiet was.0 was.1 in inr (was.0, here, same ∙ begins.has.held was.0 d here tells)
-          | inr never ↦ inl (same ∙ untouched tells d never)
-        ]
+  -- one that isn't in use as the array is closed has what it had as it was begun
+  not-called : g.tells → (d : ℕ) → 1 ≤ size_of g taken d → ((c : ℕ) → HasDeviceOn kept c d → ⊥) → sector_of g back d 0 ≡ sector_of g opened d 0
+  not-called tells d sized none =
+      ap (λ (x : Option D). option_map_or (λ (z : D). g.sector z 0) x []) (closes.counted.others d none) ∙ as-served tells d sized
+
+  abbrev Holds : ℕ → Type 0
+  Holds d = (sector_of g back d 0 ≡ sector_of g taken d 0)
+      ⊎ (((c : ℕ) × HasDeviceOn columns c d × (sector_of g back d 0 ≡ bytes_of (for_column first c))) ⊎ ((c : ℕ) × IsGivenUp s.ending.lost kept c × HasDeviceOn kept c d × IsTriedOn g (record first { clean = 1 }) last.counter back c d))
+
+  -- and that is what it had before, or the label of the opening round
+  as-opened : g.tells → (d : ℕ) → (RisesOn g taken back d → ⊥) → sector_of g back d 0 ≡ sector_of g opened d 0 → Holds d
+  as-opened tells d quiet same = elim (in-use-or-not a.columns d) [
+    | inl was ↦ let here = live-begun d quiet was.0 was.1 in inr (inl (was.0, here, same ∙ begins.has.held was.0 d here tells))
+    | inr never ↦ inl (same ∙ untouched tells d never)
   ]
 
-  closing : (from to : List Column) → Dies (LosesDevice g kept served back) from to → Dies (LosesDevice g kept taken back) from to
-  closing from to dies = dies-more (LosesDevice g kept served back) (LosesDevice g kept taken back) from to (λ c f. record { device = f.device; had = f.had; rose = rises-closed f.device f.rose }) dies
+  rest : g.tells → (d : ℕ) → 1 ≤ size_of g taken d → ((c : ℕ) → HasDeviceOn s.ending.columns c d → ⊥) → (RisesOn g taken back d → ⊥) → Holds d
+  rest tells d sized free quiet = elim (in-use-or-not kept d) [
+    | inl live ↦ elim (closes.counted.dies.each live.0) [
+      | inl same ↦ absurd (free live.0 (ap device_set same ∙ live.1))
+      | inr dead ↦ elim dead.1 [
+        | inl loses ↦
+            let e : d ≡ loses.device = same-device (slice_get kept live.0) d loses.device live.1 loses.had in
+            absurd (quiet (rises-closed d (subst (λ (n : ℕ). RisesOn g served back n) (sym e) loses.rose)))
+        | inr given ↦ elim (closes.given live.0 d given live.1 (λ h. quiet (rises-closed d h)) tells) [
+          | inl same ↦ as-opened tells d quiet (same ∙ as-served tells d sized)
+          | inr tried ↦ inr (inr (live.0, given, live.1, tried))
+        ]
+      ]
+    ]
+    | inr none ↦ as-opened tells d quiet (not-called tells d sized none)
+  ]
+
+  -- what the close says of counts is so in all
+  later-loses : (c : ℕ) → LosesDevice g kept served back c → LosesDevice g kept taken back c
+  later-loses c f = record { device = f.device; had = f.had; rose = rises-closed f.device f.rose }
+
+  later-dies : (c : ℕ) → DiesIn g s.ending.lost kept served back c → DiesIn g s.ending.lost kept taken back c
+  later-dies c (inl loses) = inl (later-loses c loses)
+  later-dies c (inr given) = inr given
 
   pub relabelled : IsRelabelled g a newest taken s back columns kept first last
   relabelled = record {
@@ -153,8 +173,14 @@ module _ {D : Type 0} (g : Ghosts D) (a : Work) (newest : Label) (taken opened s
     most = at-most;
     later = closes.counted.least;
     label_is = label-is;
-    seats = closes.seats;
-    seated = record { round = closes.seated.round; seats = closes.seated.seats; came = closing kept closes.seated.round closes.seated.came; went = closing closes.seated.round s.ending.columns closes.seated.went };
+    seating = closes.seating;
+    seated = record {
+      round = closes.seated.round;
+      seating = closes.seated.seating;
+      came = dies-more (DiesIn g s.ending.lost kept served back) (DiesIn g s.ending.lost kept taken back) kept closes.seated.round later-dies closes.seated.came;
+      went = dies-more (LosesDevice g kept served back) (LosesDevice g kept taken back) closes.seated.round s.ending.columns later-loses closes.seated.went;
+    };
+    given_up = closes.given_up;
     held = closes.held;
     rest = rest;
   }

@@ -2,13 +2,15 @@ pub mod Blocks
 pub mod Unmade
 pub mod Lists
 pub mod Without
+pub mod Alone
 pub mod Opened
 pub mod Restart
-pub mod Rebuilt
+pub mod Kept
 pub mod Arrays
 pub mod Holding
 pub mod Labels
 pub mod Leaving
+pub mod Ending
 pub mod All
 pub mod Steps
 pub mod Outlived

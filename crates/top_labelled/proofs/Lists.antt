@@ -1,11 +1,13 @@
--- Lists of devices that failed, and columns that are live on a device.
-use Rattle.std.proofs.Common.{◌≡◌, ◌⊎◌, inl, inr, ℕ, zero, suc, ◌<◌, ◌-◌, List, [], ◌∷◌, ◌++◌, length, get_or, Some, None, refl, sym, ap, subst, arith}
-use Rattle.std.specs.Prelude.{AllPairs}
-use Rattle.std.proofs.lemmas.Bool.{cases_eq, cases_lt}
+-- Lists of devices that failed, columns that have a device, and counts.
+use Rattle.std.proofs.Common.{◌≡◌, ◌⊎◌, inl, inr, ℕ, zero, suc, ◌<◌, ◌≤◌, ◌+◌, ◌-◌, List, [], ◌∷◌, ◌++◌, Bool, true, false, cond, length, get_or, Option, Some, None, slice_get, refl, sym, ap, ap₂, subst, arith}
+use Rattle.std.specs.Prelude.{AllPairs, count_by, slice_set}
+use Rattle.std.proofs.lemmas.Bool.{cases_eq, cases_lt, cond-false}
 use Rattle.std.proofs.lemmas.List.{get_or_append_left, get_or-append_right, length-append}
+use Rattle.std.proofs.lemmas.List.Sums.{sum_by-cons}
+use Rattle.eng_cols.specs.Cols.{device_set, passes}
 use Rattle.eng_cols.specs.declared.column.Column.{Column}
 use Rattle.eng_cols.specs.declared.column.Column.TheVariants as column
-use Rattle.top_close.specs.Settled.{IsLiveOn}
+use Rattle.top_close.specs.Settled.{HasDeviceOn}
 
 -- pairs of two lists are those of each, and those across
 pub pairs-append : {X : Type 0} (R : X → X → Type 0) (xs ys : List X) → AllPairs R xs → AllPairs R ys
@@ -26,23 +28,31 @@ pairs-append R xs ys one two across i j z before within =
       ]
     ]
 
--- A device is a live column's, or none has it.
-IsOn : ℕ → Column → Type 0
-IsOn d x = Some x ≡ Some (column.Live d)
+-- ## Devices
 
-on-or-not : (d : ℕ) (x : Column) → IsOn d x ⊎ (IsOn d x → ⊥)
-unfolding IsOn
-on-or-not d (column.Live e) = elim (cases_eq e d) [
-  | inl same ↦ inl (ap (λ n. Some (column.Live n)) same)
-  | inr other ↦ inr (λ h. let z : Some (column.Live e) ≡ Some (column.Live d) = h in let u : e ≡ d = cc in other u)
+-- A device is a column's, or none has it.
+IsOn : ℕ → Option Column → Type 0
+IsOn d x = device_set x ≡ Some d
+
+same-or-not : (e d : ℕ) → (Some e ≡ Some d) ⊎ (Some e ≡ Some d → ⊥)
+same-or-not e d = elim (cases_eq e d) [
+  | inl same ↦ inl (ap (λ (n : ℕ). Some n) same)
+  | inr other ↦ inr (λ h. let z : Some e ≡ Some d = h in let u : e ≡ d = cc in other u)
 ]
-on-or-not d column.Dead = inr (λ h. let z : Some column.Dead ≡ Some (column.Live d) = h in let u : ⊥ = cc in u)
-on-or-not d (column.Filling e) = inr (λ h. let z : Some (column.Filling e) ≡ Some (column.Live d) = h in let u : ⊥ = cc in u)
-on-or-not d column.Spread = inr (λ h. let z : Some column.Spread ≡ Some (column.Live d) = h in let u : ⊥ = cc in u)
 
-pub in-use-or-not : (columns : List Column) (d : ℕ) → ((c : ℕ) × IsLiveOn columns c d) ⊎ ((c : ℕ) → IsLiveOn columns c d → ⊥)
+none-is : (d : ℕ) → None ≡ Some d → ⊥
+none-is d h = let u : ⊥ = cc in u
+
+on-or-not : (d : ℕ) (x : Column) → IsOn d (Some x) ⊎ (IsOn d (Some x) → ⊥)
 unfolding IsOn
-in-use-or-not [] d = inr (λ c h. let z : None ≡ Some (column.Live d) = h in let u : ⊥ = cc in u)
+on-or-not d (column.Live e) = same-or-not e d
+on-or-not d column.Dead = inr (none-is d)
+on-or-not d (column.Filling e m) = same-or-not e d
+on-or-not d column.Spread = inr (none-is d)
+
+pub in-use-or-not : (columns : List Column) (d : ℕ) → ((c : ℕ) × HasDeviceOn columns c d) ⊎ ((c : ℕ) → HasDeviceOn columns c d → ⊥)
+unfolding IsOn
+in-use-or-not [] d = inr (λ c h. none-is d h)
 in-use-or-not (x ∷ columns) d = elim (on-or-not d x) [
   | inl here ↦ inl (0, here)
   | inr not ↦ elim (in-use-or-not columns d) [
@@ -51,6 +61,60 @@ in-use-or-not (x ∷ columns) d = elim (on-or-not d x) [
   ]
 ]
   where
-    none-at : (IsOn d x → ⊥) → ((c : ℕ) → IsLiveOn columns c d → ⊥) → (c : ℕ) → IsLiveOn (x ∷ columns) c d → ⊥
+    none-at : (IsOn d (Some x) → ⊥) → ((c : ℕ) → HasDeviceOn columns c d → ⊥) → (c : ℕ) → HasDeviceOn (x ∷ columns) c d → ⊥
     none-at not none zero h = not h
     none-at not none (suc c) h = none c h
+
+-- ## Counts
+
+one_if : Bool → ℕ
+one_if b = cond b 1 0
+
+counted : {X : Type 0} (p : X → Bool) (x : X) (xs : List X) → count_by p (x ∷ xs) ≡ one_if (p x) + count_by p xs
+unfolding one_if
+counted p x xs = sum_by-cons (λ z. cond (p z) 1 0) x xs
+
+no-one : (b : Bool) → b ≡ false → one_if b ≡ 0
+unfolding one_if
+no-one b h = cond-false {A = ℕ} b 1 0 h
+
+-- where each place passes not, none is counted
+pub none-passing : {X : Type 0} (p : X → Bool) (xs : List X) → ((k : ℕ) → passes p (slice_get xs k) ≡ false) → count_by p xs ≡ 0
+none-passing p [] none = refl
+none-passing p (x ∷ xs) none = let a = counted p x xs in let b = no-one (p x) (none 0) in let rest = none-passing p xs (λ k. none (suc k)) in omega (arith, a, b, rest)
+
+one-less : (a b : Bool) → (b ≡ true → a ≡ true) → one_if b ≤ one_if a
+unfolding one_if
+one-less a false h = omega arith
+one-less true true h = omega arith
+one-less false true h = let z : false ≡ true = h refl in absurd (let u : ⊥ = cc in u)
+
+-- where what passes passed, no more are counted
+pub count-less : {X : Type 0} (p : X → Bool) (xs zs : List X) → length zs ≡ length xs → ((k : ℕ) → passes p (slice_get zs k) ≡ true → passes p (slice_get xs k) ≡ true) → count_by p zs ≤ count_by p xs
+count-less p [] [] long each = omega arith
+count-less p [] (z ∷ zs) long each = absurd (omega (arith, long))
+count-less p (x ∷ xs) [] long each = absurd (omega (arith, long))
+count-less p (x ∷ xs) (z ∷ zs) long each =
+    let a = counted p x xs in
+    let b = counted p z zs in
+    let first = one-less (p x) (p z) (each 0) in
+    let rest = count-less p xs zs (omega (arith, long)) (λ k. each (suc k)) in
+    omega (arith, a, b, first, rest)
+
+at-most-one : (b : Bool) → one_if b ≤ 1
+unfolding one_if
+at-most-one true = omega arith
+at-most-one false = omega arith
+
+-- one that is written counts at most once more
+pub count-set : {X : Type 0} (p : X → Bool) (xs : List X) (i : ℕ) (x : X) → count_by p (slice_set xs i x) ≤ count_by p xs + 1
+count-set p [] i x = omega arith
+count-set p (z ∷ xs) zero x = let a = counted p x xs in let b = counted p z xs in let most = at-most-one (p x) in omega (arith, a, b, most)
+count-set p (z ∷ xs) (suc i) x = let a = counted p z (slice_set xs i x) in let b = counted p z xs in let more = count-set p xs i x in omega (arith, a, b, more)
+
+-- lists with the same at each place are the same
+pub same-list : {X : Type 0} (xs zs : List X) → length xs ≡ length zs → ((i : ℕ) → slice_get xs i ≡ slice_get zs i) → xs ≡ zs
+same-list [] [] long each = refl
+same-list [] (z ∷ zs) long each = absurd (omega (arith, long))
+same-list (x ∷ xs) [] long each = absurd (omega (arith, long))
+same-list {X} (x ∷ xs) (z ∷ zs) long each = let first : Some x ≡ Some z = each 0 in let e : x ≡ z = cc in ap₂ (λ (a : X) (rest : List X). a ∷ rest) e (same-list xs zs (omega (arith, long)) (λ i. each (suc i)))

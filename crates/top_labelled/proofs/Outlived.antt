@@ -1,47 +1,59 @@
 -- Laws of runs over an array with labels.
-use Rattle.std.proofs.Common.{◌≡◌, ◌⊎◌, inl, inr, ℕ, ◌<◌, ◌≤◌, List, Bool, min, Option, None, sym, ◌∙◌, ap, subst, arith}
+use Rattle.std.proofs.Common.{◌≡◌, ◌⊎◌, inl, inr, ℕ, ◌<◌, ◌≤◌, List, Bool, min, Option, Some, None, refl, sym, ◌∙◌, ap, subst, arith}
 use Rattle.blk_disk.specs.declared.disk.Disk.{Ghosts}
 use Rattle.blk_disk.specs.Devices.{RisesOn}
 use Rattle.blk_disk.proofs.DeviceLaws.{changes-refl, rises-wider}
 use Rattle.lay_core.specs.Layout.{blocks_in}
 use Rattle.eng_cols.specs.declared.column.Column.{Column}
 use Rattle.eng_array.specs.declared.start.Start.{Start}
+use Rattle.eng_cols.specs.declared.spot.Loss.{Loss}
+use Rattle.eng_cols.specs.Cols.{is_set_filling, passes}
 use Rattle.eng_cols.specs.Deaths.{Dies}
 use Rattle.eng_cols.proofs.DeathLaws.{dies-more, dies-then}
 use Rattle.eng_cols.proofs.Losing.{lost-excludes}
-use Rattle.eng_events.specs.Opened.{states_of}
+use Rattle.eng_cols.specs.Stripes.{states_of}
 use Rattle.raid_label.specs.declared.label.Label.{Label}
 use Rattle.raid_script.specs.Drawn.{AreApart, drawn, share}
 use Rattle.raid_script.specs.Asked.{Asked}
 use Rattle.raid_script.proofs.DrawnShares.{drawn_apart}
 use Rattle.top_acts.specs.Begun.{MayBegin}
-use Rattle.top_close.proofs.DyingLaws.{columns_die}
-use Rattle.top_close.specs.Settled.{LosesDevice}
+use Rattle.top_acts.proofs.Having.{has_live}
+use Rattle.top_acts.proofs.Named.{live_of, only_lose}
+use Rattle.top_close.specs.Settled.{HasDeviceOn, LosesDevice}
+use Rattle.top_rounds.specs.Rounds.{DiesIn}
+use Rattle.top_rounds.proofs.PassLaws.{live_before}
 use Rattle.top_run.specs.Work.{Ending, Service, Work}
 use Rattle.top_run.specs.Outliving.{IsRebuiltIn, MayDie, OutlivesCall}
 use Rattle.top_run.specs.InTurn.{SweptInTurn}
-use Rattle.top_run.proofs.Columns.{live-set}
 use Rattle.top_run.proofs.InTurn.{runs-in-turn}
 use Rattle.top_run.proofs.Outlived.{runs-outlived}
-use Rattle.top_labelled.specs.Begun.{began_of, opened_as, sweep_in, without}
+use Rattle.top_labelled.specs.Begun.{IsAnew, began_of, opened_as, sweep_in, without}
 use Rattle.top_labelled.specs.Ran.{IsLostBefore, MayChangeLabelled, RanLabelled}
-use Rattle.top_labelled.proofs.Leaving.{had-before}
-use Rattle.top_labelled.proofs.Without.{IsOf, began-asked, began-none, without-dies}
+use Rattle.top_labelled.proofs.Without.{anew-column, began-asked, began-none, without-dies}
 
 module _ {D : Type 0} (g : Ghosts D) (a : Work) (newest : Label) (taken : List (Option D)) where
   -- what loses a device as the array is begun may die
   begun-may : (opened back : List (Option D)) → ((d : ℕ) → RisesOn g taken opened d → RisesOn g taken back d) → (c : ℕ) → LosesDevice g a.columns taken opened c → MayDie g a taken back c
-  begun-may opened back wider c why = inr (inr (why.device, inl (live-set a.layout.stripes a.columns c why.device why.had), wider why.device why.rose))
+  begun-may opened back wider c why = inr (inr (inr (why.device, has_live a.layout a.columns c why.device why.had, wider why.device why.rose)))
 
-  -- so may the column that is to be rebuilt
-  lost-may : (back : List (Option D)) (c : ℕ) → IsRebuiltIn a c ⊎ LosesDevice g a.columns taken back c → MayDie g a taken back c
-  lost-may back c (inl of) = inr (inl of)
-  lost-may back c (inr why) = begun-may back back (λ d rose. rose) c why
+  -- the column that is rebuilt anew is rebuilt
+  anew-rebuilt : (s : Option Start) (c : ℕ) → a.start ≡ s → IsAnew s c → IsRebuiltIn a c
+  anew-rebuilt None c is of = absurd of
+  anew-rebuilt (Some t) c is of = (t, is, anew-column t c of)
+
+  anew-may : (back : List (Option D)) (c : ℕ) → IsAnew a.start c → MayDie g a taken back c
+  anew-may back c of = inr (inl (anew-rebuilt a.start c refl of))
+
+  -- so may one that is filling
+  lost-may : (loss : Loss) (back : List (Option D)) (c : ℕ) → IsAnew a.start c ⊎ DiesIn g (Some loss) a.columns taken back c → MayDie g a taken back c
+  lost-may loss back c (inl of) = anew-may back c of
+  lost-may loss back c (inr (inl why)) = begun-may back back (λ d rose. rose) c why
+  lost-may loss back c (inr (inr filling)) = inr (inr (inl filling))
 
   pub not-begun-lost : (e : Ending) (back : List (Option D)) → IsLostBefore g a newest taken e back → OutlivesCall g a taken back → ⊥
   not-begun-lost e back h outlives =
       lost-excludes a.layout (states_of a.layout e.columns) h.loss h.lost_is
-      (outlives e.columns (dies-more (λ c. IsRebuiltIn a c ⊎ LosesDevice g a.columns taken back c) (MayDie g a taken back) a.columns e.columns (lost-may back) h.dies))
+      (outlives e.columns (dies-more (λ c. IsAnew a.start c ⊎ DiesIn g (Some h.loss) a.columns taken back c) (MayDie g a taken back) a.columns e.columns (lost-may h.loss back) h.dies))
 
   module _ (s : Service) (back : List (Option D)) (faulty : Bool) (r : RanLabelled g a newest taken s back faulty) where
     abbrev Begun : ℕ → ℕ → Type 0
@@ -67,13 +79,16 @@ module _ {D : Type 0} (g : Ghosts D) (a : Work) (newest : Label) (taken : List (
     wider : (d : ℕ) → RisesOn g taken r.opened d → RisesOn g taken back d
     wider d rose = rises-wider g (λ _ _. ⊥) (MayChangeLabelled g a newest taken s back r.began) taken taken r.opened back d (changes-refl g (λ _ _. ⊥) taken) rose r.since
 
-    named : Dies (IsOf a.start) r.begun mid
+    loses : Dies (LosesDevice g a.columns taken r.opened) a.columns r.begun
+    loses = only_lose g a.columns r.begun taken r.opened r.begins.has.named.dies
+
+    named : Dies (IsAnew a.start) r.begun mid
     named = without-dies a.start r.begun
 
     first : Dies (MayDie g a taken back) a.columns mid
     first =
-        dies-then (MayDie g a taken back) a.columns r.begun mid (dies-more (LosesDevice g a.columns taken r.opened) (MayDie g a taken back) a.columns r.begun (begun-may r.opened back wider) r.begins.has.named.dies)
-        (dies-more (IsOf a.start) (MayDie g a taken back) r.begun mid (λ c of. inr (inl of)) named)
+        dies-then (MayDie g a taken back) a.columns r.begun mid (dies-more (LosesDevice g a.columns taken r.opened) (MayDie g a taken back) a.columns r.begun (begun-may r.opened back wider) loses)
+        (dies-more (IsAnew a.start) (MayDie g a taken back) r.begun mid (anew-may back) named)
 
     pub outlived : OutlivesCall g a taken back → s.ending.lost ≡ None
     outlived outlives = runs-outlived g (opened_as a mid r.began) r.opened back s r.run
@@ -82,8 +97,14 @@ module _ {D : Type 0} (g : Ghosts D) (a : Work) (newest : Label) (taken : List (
         by : (c : ℕ) → MayDie g (opened_as a mid r.began) r.opened back c → MayDie g a taken back c
         by c (inl fails) = inl (record { row = fails.row; client = fails.client; fails = fails.fails })
         by c (inr (inl of)) = inr (inl (of.0, began-asked faulty a.start a.columns r.begun of.0 (sym r.began_is ∙ of.1), of.2))
-        by c (inr (inr rose)) = inr (inr (
-          rose.0,
-          had-before (states_of a.layout a.columns) (states_of a.layout mid) (columns_die (MayDie g a taken back) a.layout a.columns mid first) c rose.0 rose.1,
-          rises-wider g Begun (λ _ _. ⊥) taken r.opened back back rose.0 r.begins.has.frame rose.2 (changes-refl g (λ _ _. ⊥) back),
-        ))
+        by c (inr (inr (inl filling))) = elim (first.each c) [
+          | inl same ↦ inr (inr (inl (ap (passes is_set_filling) (sym same) ∙ filling)))
+          | inr dead ↦ dead.1
+        ]
+        by c (inr (inr (inr rose))) =
+            let had : HasDeviceOn a.columns c rose.0 = live_before (MayDie g a taken back) a.columns mid c rose.0 first (live_of a.layout mid c rose.0 rose.1) in
+            inr (inr (inr (
+              rose.0,
+              has_live a.layout a.columns c rose.0 had,
+              rises-wider g Begun (λ _ _. ⊥) taken r.opened back back rose.0 r.begins.has.frame rose.2 (changes-refl g (λ _ _. ⊥) back),
+            )))

@@ -5,13 +5,12 @@ use Rattle.lay_core.specs.declared.place.Place.{Place}
 use Rattle.lay_core.specs.Layout.{Shape}
 use Rattle.eng_cols.specs.declared.column.Column.{Column}
 use Rattle.eng_cols.specs.declared.column.Column.TheVariants as column
-use Rattle.eng_cols.specs.Cols.{ColumnState, Live, Dead, Filling, Spread, is_done, is_spread, passes}
+use Rattle.eng_cols.specs.Cols.{ColumnState, Live, Dead, Filling, Spread, AtMostOne, is_done, is_set_filling, is_spread, passes}
 use Rattle.eng_cols.specs.Deaths.{Dies}
 use Rattle.eng_cols.specs.Seats.{available_on, is_available, is_place_on, is_unit_of, spare_stands, stands_for}
-use Rattle.raid_recon.specs.Array.{states_of}
-use Rattle.std.proofs.lemmas.Option.{slice_get-map}
-use Rattle.std.specs.Prelude.{option_map}
-use Rattle.eng_cols.specs.Cols.{state_set}
+use Rattle.eng_cols.specs.Stripes.{states_of}
+use Rattle.eng_cols.specs.Fewer.{DieApart}
+use Rattle.eng_cols.proofs.Fewer.{states-same}
 
 differ : true ≡ false → ⊥
 differ h = let u : ⊥ = cc in u
@@ -39,7 +38,7 @@ and-two : (a b : Bool) → (a && b) ≡ true → b ≡ true
 and-two true b h = h
 and-two false b h = let z : false ≡ true = h in absurd (let u : ⊥ = cc in u)
 
-module _ (y : Shape) (columns after : List Column) (cause : ℕ → Type 0) (dies : Dies cause columns after) where
+module _ (y : Shape) (columns after : List Column) (cause : ℕ → Type 0) (dies : Dies cause columns after) (apart : DieApart columns after) (one : AtMostOne is_set_filling columns) where
   abbrev cols : List ColumnState
   cols = states_of y columns
 
@@ -47,7 +46,7 @@ module _ (y : Shape) (columns after : List Column) (cause : ℕ → Type 0) (die
   late = states_of y after
 
   same-state : (c : ℕ) → slice_get after c ≡ slice_get columns c → slice_get late c ≡ slice_get cols c
-  same-state c same = slice_get-map (state_set y.stripes) after c ∙ (ap (option_map (state_set y.stripes)) same ∙ sym (slice_get-map (state_set y.stripes) columns c))
+  same-state c same = states-same y columns after apart one c same
 
   -- a column of the unit's, that is dead for a cause
   abbrev pub IsLostBy : ℕ → ℕ → ℕ → Type 0

@@ -6,7 +6,7 @@ use Rattle.lay_core.specs.Layout.{Shape, Blocks, blocks_in, stripe_of, unit_of, 
 use Rattle.eng_cols.specs.declared.column.Column.{Column}
 use Rattle.eng_cols.specs.declared.column.Column.TheVariants as column
 use Rattle.eng_cols.specs.declared.spot.Loss.{Loss}
-use Rattle.eng_cols.specs.Cols.{ColumnState}
+use Rattle.eng_cols.specs.Cols.{ColumnState, is_set_filling, passes}
 use Rattle.eng_cols.specs.Contents.{Contents, InSync, byte_of, decode, xor_others}
 use Rattle.eng_cols.specs.Seats.{is_available, is_unit_of}
 use Rattle.eng_array.specs.Starts.{column_of}
@@ -15,7 +15,8 @@ use Rattle.eng_array.specs.declared.start.Start.TheVariants as start
 use Rattle.raid_label.specs.declared.label.Label.{Label}
 use Rattle.raid_recon.specs.declared.kind.Sweep.{Sweep}
 use Rattle.top_acts.specs.Begun.{HasBegun, sweep_if}
-use Rattle.top_close.specs.Ended.{IsLossBy, states_of}
+use Rattle.eng_cols.specs.Stripes.{states_of}
+use Rattle.top_close.specs.Ended.{IsLossBy}
 use Rattle.top_close.specs.Settled.{LosesDevice}
 use Rattle.top_run.specs.Work.{Work}
 use Rattle.top_run.specs.Ran.{WasInSync, states_in}
@@ -35,32 +36,55 @@ abbrev pub IsColumnWithin : Option Start → ℕ → Type 0
 IsColumnWithin None n = Unit {0}
 IsColumnWithin (Some s) n = column_of s < n
 
+-- no other column is filling
+abbrev pub IsAlone : Option Start → List Column → Type 0
+IsAlone None columns = Unit {0}
+IsAlone (Some s) columns = (c d m : ℕ) → slice_get columns c ≡ Some (column.Filling d m) → c ≡ column_of s
+
 -- of n columns, the device has a seat onto which the rebuild goes
 abbrev pub IsSeated : ℕ → Start → Type 0
-IsSeated n (start.Fill c d) = d < n + 8
+IsSeated n (start.Fill c d most) = d < n + 8
+IsSeated n (start.Resume c most) = Unit {0}
 IsSeated n (start.Spread c) = Unit {0}
 
 abbrev pub IsSeatedIf : ℕ → Option Start → Type 0
 IsSeatedIf n None = Unit {0}
 IsSeatedIf n (Some s) = IsSeated n s
 
--- the columns once that is dead which is to be rebuilt
+-- the column is to be rebuilt anew
+abbrev pub IsAnew : Option Start → ℕ → Type 0
+IsAnew None c = ⊥
+IsAnew (Some (start.Fill column device most)) c = column ≡ c
+IsAnew (Some (start.Resume column most)) c = ⊥
+IsAnew (Some (start.Spread column)) c = column ≡ c
+
+-- which column that is, if one is
+abbrev pub anew_of : Option Start → Option ℕ
+anew_of None = None
+anew_of (Some (start.Fill c d most)) = Some c
+anew_of (Some (start.Resume c most)) = None
+anew_of (Some (start.Spread c)) = Some c
+
+-- the columns once that is dead which is to be rebuilt anew; one that is filling and goes on stays so
 abbrev pub without : Option Start → List Column → List Column
 without None columns = columns
-without (Some s) columns = slice_set columns (column_of s) column.Dead
+without (Some (start.Fill c d most)) columns = slice_set columns c column.Dead
+without (Some (start.Resume c most)) columns = columns
+without (Some (start.Spread c)) columns = slice_set columns c column.Dead
 
--- the column is live on this device
+-- the column is live on this device, or filling it
 abbrev pub lives_on : Option Column → ℕ → Bool
 lives_on (Some (column.Live device)) d = device == d
 lives_on (Some column.Dead) d = false
-lives_on (Some (column.Filling device)) d = false
+lives_on (Some (column.Filling device done)) d = device == d
 lives_on (Some column.Spread) d = false
 lives_on None d = false
 
--- the column that is to be rebuilt is live on the device onto which it is rebuilt
+-- the column that is to be rebuilt is live on the device onto which it is rebuilt, or filling it; one that goes on is filling
 abbrev pub is_in_place : Option Start → List Column → Bool
 is_in_place None columns = false
-is_in_place (Some (start.Fill c d)) columns = lives_on (slice_get columns c) d
+is_in_place (Some (start.Fill c d most)) columns = lives_on (slice_get columns c) d
+is_in_place (Some (start.Resume c most)) columns = passes is_set_filling (slice_get columns c)
 is_in_place (Some (start.Spread c)) columns = false
 
 -- Of what is to be rebuilt, what is begun: none of it where the device onto which it goes has failed, before, or since it was the column's own and the column has died.

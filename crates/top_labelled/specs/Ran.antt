@@ -5,56 +5,79 @@ use Rattle.blk_disk.specs.declared.disk.Disk.{Ghosts}
 use Rattle.blk_disk.specs.Disk.{call_of}
 use Rattle.blk_disk.specs.Devices.{size_of, sector_of, contents_of, calls_of, RisesOn, Changes}
 use Rattle.lay_core.specs.Layout.{Shape}
+use Rattle.eng_array.specs.Starts.{column_of}
 use Rattle.eng_array.specs.declared.start.Start.{Start}
 use Rattle.eng_array.specs.declared.start.Start.TheVariants as start
 use Rattle.eng_cols.specs.declared.column.Column.{Column}
 use Rattle.eng_cols.specs.declared.column.Column.TheVariants as column
 use Rattle.eng_cols.specs.declared.spot.Loss.{Loss}
-use Rattle.eng_cols.specs.Cols.{HasDevice}
+use Rattle.eng_cols.specs.Cols.{HasDevice, device_set}
 use Rattle.eng_cols.specs.Deaths.{Dies}
 use Rattle.eng_cols.specs.Lost.{IsLost, NotLost}
-use Rattle.top_close.specs.Ended.{states_of}
+use Rattle.eng_cols.specs.Stripes.{states_of, count_below, is_stripe_of}
 use Rattle.eng_world.specs.World.{World}
 use Rattle.eng_world.specs.Rows.{IsInRows}
 use Rattle.raid_label.specs.declared.label.Label.{Label}
 use Rattle.raid_label.specs.Bytes.{bytes_of}
-use Rattle.raid_recon.specs.Counts.{count_below, is_stripe_of}
 use Rattle.top_acts.specs.Begun.{HasSeats, MayBegin}
 use Rattle.top_acts.specs.Closed.{settled_in_end}
 use Rattle.top_acts.specs.Failed.{EndsFailed}
-use Rattle.top_acts.specs.Stages.{EndInTurn}
+use Rattle.top_acts.specs.Stages.{AreInTurn, EndInTurn}
 use Rattle.top_close.specs.Calls.{EndsSettled}
-use Rattle.top_close.specs.Settled.{IsLiveOn, is_live, LosesDevice}
-use Rattle.top_rounds.specs.Labels.{for_column, seats_of, with_round}
+use Rattle.top_close.specs.Settled.{HasDeviceOn, has_device, LosesDevice}
+use Rattle.top_rounds.specs.Labels.{for_column, seating_in, seating_of, with_round}
 use Rattle.top_rounds.specs.Passes.{HoldsLabel}
-use Rattle.top_rounds.specs.Rounds.{HaveFailed, clean_in_end}
-use Rattle.top_run.specs.Outliving.{IsRebuiltIn}
+use Rattle.top_rounds.specs.Rounds.{DiesIn, HaveFailed, IsGivenUp, IsGivenUpIn, IsTriedOn, clean_in_end}
 use Rattle.top_run.specs.Work.{Work, Ending, Service}
 use Rattle.top_run.specs.declared.service.Line.{Line}
+use Rattle.top_run.specs.declared.service.Told.{Told}
+use Rattle.top_run.specs.declared.service.Told.TheVariants as told
 use Rattle.top_run.specs.Told.{IsToldUnbuilt}
 use Rattle.top_run.specs.Ran.{RisesAt, Ran, WasFailed, states_in}
-use Rattle.top_serve.specs.Setups.{with_rebuilt}
-use Rattle.top_labelled.specs.Begun.{BeginsLabelled, HoldsBlocks, began_of, opened_as, sweep_in, without}
+use Rattle.top_serve.specs.Setups.{with_start}
+use Rattle.top_serve.specs.Served.{IsKeptAs}
+use Rattle.top_labelled.specs.Begun.{BeginsLabelled, HoldsBlocks, IsAnew, began_of, opened_as, sweep_in, without}
 
 -- ## The line of a rebuild
 
--- where the column isn't dead, how many stripes it has
-abbrev pub done_on : Shape → List Column → ℕ → Option Column → Option ℕ
-done_on y kept c None = None
-done_on y kept c (Some column.Dead) = None
-done_on y kept c (Some (column.Live device)) = Some (count_below (is_stripe_of y (states_of y kept) c) y.stripes)
-done_on y kept c (Some (column.Filling device)) = Some (count_below (is_stripe_of y (states_of y kept) c) y.stripes)
-done_on y kept c (Some column.Spread) = Some (count_below (is_stripe_of y (states_of y kept) c) y.stripes)
+-- the device onto which a rebuild goes, where one is asked that does, of an array with these columns
+abbrev pub onto : Option Start → List Column → Option ℕ
+onto None columns = None
+onto (Some (start.Fill c d most)) columns = Some d
+onto (Some (start.Resume c most)) columns = device_set (slice_get columns c)
+onto (Some (start.Spread c)) columns = None
 
--- what is told of a rebuild that was asked, where a core was closed with these columns: done where its column isn't dead, with the number of the column's stripes
-abbrev pub line_of : Shape → Option Start → List Column → Option Line
-line_of y None kept = None
-line_of y (Some (start.Fill c d)) kept = Some (record { column = c; device = Some d; done = done_on y kept c (slice_get kept c) })
-line_of y (Some (start.Spread c)) kept = Some (record { column = c; device = None; done = done_on y kept c (slice_get kept c) })
+-- how far the rebuild of a column came, by what that is as it is kept: done with the number of its stripes
+abbrev pub told_on : Shape → List Column → ℕ → Option Column → Told
+told_on y kept c None = told.Stopped
+told_on y kept c (Some column.Dead) = told.Stopped
+told_on y kept c (Some (column.Live d)) = told.Done (count_below (is_stripe_of y (states_of y kept) c) y.stripes)
+told_on y kept c (Some (column.Filling d m)) = told.Paused m
+told_on y kept c (Some column.Spread) = told.Done (count_below (is_stripe_of y (states_of y kept) c) y.stripes)
+
+-- and once the array has ended: where it is lost, no rebuild is paused
+abbrev pub told_at_end : Option Loss → Told → Told
+told_at_end None told = told
+told_at_end (Some loss) (told.Done n) = told.Done n
+told_at_end (Some loss) (told.Paused m) = told.Stopped
+told_at_end (Some loss) told.Stopped = told.Stopped
+
+-- what is told of a rebuild that was asked, and goes onto this device or into the spare places, where a core was closed with these columns
+abbrev pub line_kept : Shape → Option Start → Option ℕ → List Column → Option Line
+line_kept y None device kept = None
+line_kept y (Some s) device kept = Some (record { column = column_of s; device = device; told = told_on y kept (column_of s) (slice_get kept (column_of s)) })
+
+abbrev pub line_at_end : Option Loss → Option Line → Option Line
+line_at_end lost None = None
+line_at_end lost (Some line) = Some (record line { told = told_at_end lost line.told })
+
+-- and where the array ended so
+abbrev pub line_of : Shape → Option Start → Option ℕ → List Column → Option Loss → Option Line
+line_of y start device kept lost = line_at_end lost (line_kept y start device kept)
 
 -- a rebuild goes onto the device
 abbrev pub GoesOnto : Option Start → ℕ → Type 0
-GoesOnto began d = (c : ℕ) × (began ≡ Some (start.Fill c d))
+GoesOnto began d = (c : ℕ) × (most : ℕ) × (began ≡ Some (start.Fill c d most))
 
 -- `a` says what is asked, over the array as it was opened: the column that is to be rebuilt is what it was then.
 module _ {D : Type 0} (g : Ghosts D) (a : Work) (newest : Label) (taken : List (Option D)) where
@@ -65,38 +88,42 @@ module _ {D : Type 0} (g : Ghosts D) (a : Work) (newest : Label) (taken : List (
     abbrev pub MayChangeLabelled : Option Start → ℕ → ℕ → Type 0
     MayChangeLabelled began d n = ((((c : ℕ) × HasDevice (states_in a) c d) ⊎ GoesOnto began d) × ((n ≡ 0) ⊎ IsInRows a.layout n)) ⊎ (size_of g taken d ≤ n)
 
-    -- Devices hold what they do at the run's end, but for labels, and have changed nowhere else since they were taken. `kept` are the columns as the core was closed. Behind the run the device of each that was live was called in turn: label writes, and settles none of which comes right behind another, all of which went well, but that the last failed where the column isn't live in the end. Where the array wasn't lost in the run the first is a settle; where it isn't lost in the end the last of a device in use is one. No other device was called.
+    -- Devices hold what they do at the run's end, but for labels, and have changed nowhere else since they were taken. `kept` are the columns as the core was closed. Behind the run the device of each that had one was called in turn: label writes, and settles none of which comes right behind another, all of which went well, but that the last failed where the column hasn't it in the end; of a column that was filling on a lost array all may have gone well. Where the array wasn't lost in the run the first is a settle; where it isn't lost in the end the last of a device in use is one. No other device was called.
     pub record LeavesLabelled (began : Option Start) (kept : List Column) (now : World) : Type 0 where
       pub contents : g.tells → (d n k : ℕ) → n ≢ 0 → k < 512 → contents_of g back d n k ≡ now.contents d n k
-      pub calls : (c d : ℕ) (told : List Call) → IsLiveOn kept c d → calls_of g back d ≡ Some told → (closing : List Call) × (told ≡ now.calls d ++ closing) × EndInTurn (is_live (slice_get s.ending.columns c)) false closing (settled_in_end s.ending.lost)
-      pub first : now.lost ≡ None → (c d : ℕ) (told : List Call) → IsLiveOn kept c d → calls_of g back d ≡ Some told → (good : Bool) × (more : List Call) × (told ≡ now.calls d ++ call_of 2 0 0 good ∷ more)
-      pub others : (d : ℕ) (told : List Call) → ((c : ℕ) → IsLiveOn kept c d → ⊥) → calls_of g back d ≡ Some told → told ≡ now.calls d
+      pub calls : (c d : ℕ) (told : List Call) → HasDeviceOn kept c d → calls_of g back d ≡ Some told → (closing : List Call) × (told ≡ now.calls d ++ closing)
+          × (EndInTurn (has_device (slice_get s.ending.columns c)) false closing (settled_in_end s.ending.lost) ⊎ (IsGivenUp s.ending.lost kept c × ((settled : Bool) × AreInTurn false closing settled)))
+      pub first : now.lost ≡ None → (c d : ℕ) (told : List Call) → HasDeviceOn kept c d → calls_of g back d ≡ Some told → (good : Bool) × (more : List Call) × (told ≡ now.calls d ++ call_of 2 0 0 good ∷ more)
+      pub others : (d : ℕ) (told : List Call) → ((c : ℕ) → HasDeviceOn kept c d → ⊥) → calls_of g back d ≡ Some told → told ≡ now.calls d
       pub settled : s.ending.lost ≡ None → (c d : ℕ) → HasDevice (states_of a.layout s.ending.columns) c d → EndsSettled (calls_of g back d)
       pub frame : Changes g (MayChangeLabelled began) taken back
 
-    -- Two rounds are named: the label of the last has a counter that is greater by two, and by at most one more for each device whose count of faults rose. It is clean unless the array is lost. Its seats are those of the columns of its round, which are those in the end unless the array is lost. Each device in use in the end has it. Another device whose count of faults didn't rise has what it had, or, of its own column, the label of the opening round, which is older.
+    -- Two rounds are named: the label of the last has a counter that is greater by two, and by at most one more for each device whose count of faults rose. It is clean unless the array is lost. It says what the columns of its round were, which are those in the end unless the array is lost; of a lost one no column is filling any more. Each device in use in the end has it. Another device whose count of faults didn't rise has what it had, or, of its own column, the label of the opening round, which is older; that of a column that was filling as the core was closed, on a lost array, may have the label of a round between the two.
     pub record IsRelabelled (begun kept : List Column) (first last : Label) : Type 0 where
       pub rises : List ℕ
       pub failed : HaveFailed g taken back rises
       pub least : newest.counter + 2 ≤ last.counter
       pub most : last.counter ≤ newest.counter + 2 + length rises
       pub later : first.counter + 1 ≤ last.counter
-      pub label_is : last ≡ with_round newest last.counter (clean_in_end s.ending.lost 1) last.seats
-      pub seats : s.ending.lost ≡ None → last.seats ≡ seats_of s.ending.columns
-      pub seated : HasSeats g last kept s.ending.columns taken back
-      pub held : (c d : ℕ) → IsLiveOn s.ending.columns c d → HoldsLabel g back last c d
-      pub rest : g.tells → (d : ℕ) → 1 ≤ size_of g taken d → ((c : ℕ) → IsLiveOn s.ending.columns c d → ⊥) → (RisesOn g taken back d → ⊥)
-          → (sector_of g back d 0 ≡ sector_of g taken d 0) ⊎ ((c : ℕ) × IsLiveOn begun c d × (sector_of g back d 0 ≡ bytes_of (for_column first c)))
+      pub label_is : last ≡ with_round newest last.counter (clean_in_end s.ending.lost 1) (seating_in last)
+      pub seating : s.ending.lost ≡ None → seating_in last ≡ seating_of s.ending.columns
+      pub seated : HasSeats g s.ending.lost last kept s.ending.columns taken back
+      pub given_up : IsGivenUpIn s.ending.lost s.ending.columns
+      pub held : (c d : ℕ) → HasDeviceOn s.ending.columns c d → HoldsLabel g back last c d
+      pub rest : g.tells → (d : ℕ) → 1 ≤ size_of g taken d → ((c : ℕ) → HasDeviceOn s.ending.columns c d → ⊥) → (RisesOn g taken back d → ⊥)
+          → (sector_of g back d 0 ≡ sector_of g taken d 0)
+          ⊎ (((c : ℕ) × HasDeviceOn begun c d × (sector_of g back d 0 ≡ bytes_of (for_column first c))) ⊎ ((c : ℕ) × IsGivenUp s.ending.lost kept c × HasDeviceOn kept c d × IsTriedOn g (record first { clean = 1 }) last.counter back c d))
 
     -- the device onto which the rebuild goes was the column's own, and has failed as the array was begun
     pub record HasFailedSince (opened : List (Option D)) : Type 0 where
       pub col : ℕ
       pub device : ℕ
-      pub asked : a.start ≡ Some (start.Fill col device)
-      pub had : IsLiveOn a.columns col device
+      pub asked : onto a.start a.columns ≡ Some device
+      pub column : (rebuild : Start) → a.start ≡ Some rebuild → column_of rebuild ≡ col
+      pub had : HasDeviceOn a.columns col device
       pub rose : RisesOn g taken opened device
 
-    -- The array was begun, and the column was made dead that is to be rebuilt; it isn't lost. Its rebuild began, unless the device onto which it goes had failed, be it before, where that is `faulty`. A run of what is asked, over the devices and columns as they were then, tells this and leaves the columns so; then the array was closed. No more has changed since the core was opened. In all a column is what it was, or rebuilt as it is asked, or has died since an item was replied ok by which it failed, its device's count of faults rose, or its rebuild wasn't done.
+    -- The array was begun, and the column was made dead that is to be rebuilt anew; it isn't lost. Its rebuild began, unless the device onto which it goes had failed, be it before, where that is `faulty`. A run of what is asked, over the devices and columns as they were then, tells this and leaves the columns so; then the array was closed. No more has changed since the core was opened. In all a column is kept as what it was, or as its rebuild began, or has died since an item was replied ok by which it failed, its device's count of faults rose, it was to be rebuilt anew and that was stopped, or it was filling as the array was opened and that is lost.
     pub record RanLabelled (faulty : Bool) : Type 0 where
       pub opened : List (Option D)
       pub begun : List Column
@@ -108,16 +135,17 @@ module _ {D : Type 0} (g : Ghosts D) (a : Work) (newest : Label) (taken : List (
       pub began_is : began ≡ began_of faulty a.start a.columns begun
       pub unbegun : began ≡ None → (a.start ≡ None) ⊎ ((faulty ≡ true) ⊎ HasFailedSince opened)
       pub run : Ran g (opened_as a (without a.start begun) began) opened s back
-      pub line : s.line ≡ line_of a.layout a.start run.ends.kept
+      pub line : s.line ≡ line_of a.layout a.start (onto a.start a.columns) run.ends.kept s.ending.lost
       pub holds : HoldsBlocks g a newest taken opened begun run.start.blocks
       pub leaves : LeavesLabelled began run.ends.kept run.now
       pub since : Changes g (MayChangeLabelled began) opened back
       pub labels : IsRelabelled begun run.ends.kept first last
-      pub dies : Dies (λ c. WasFailed run.now c ⊎ (RisesAt g a taken s back c ⊎ IsToldUnbuilt s c)) (with_rebuilt a.start a.columns) s.ending.columns
+      pub count : length s.ending.columns ≡ length a.columns
+      pub ends : (c : ℕ) → IsKeptAs (slice_get (with_start a.start a.columns) c) (slice_get s.ending.columns c) ⊎ ((slice_get s.ending.columns c ≡ Some column.Dead) × (WasFailed run.now c ⊎ (RisesAt g a taken s back c ⊎ ((IsAnew a.start c × IsToldUnbuilt s c) ⊎ IsGivenUp s.ending.lost a.columns c))))
 
   -- ## No run
 
-  -- The array was lost as it was begun, or by the death of the column that is to be rebuilt: no core was opened. That column is dead, and by the columns in the end the array is lost. Sectors have changed as in the beginning alone; and in all a column is what it was, or it is the one that is to be rebuilt, or its device's count of faults rose.
+  -- The array was lost as it was begun, or by the death of the column that is to be rebuilt anew: no core was opened. That column is dead, no column is filling any more, and by the columns in the end the array is lost. Sectors have changed as in the beginning alone; and in all a column is what it was, or it is the one that is to be rebuilt anew, or it was filling, or its device's count of faults rose.
   pub record IsLostBefore (e : Ending) (back : List (Option D)) : Type 0 where
     pub opened : List (Option D)
     pub begun : List Column
@@ -129,6 +157,7 @@ module _ {D : Type 0} (g : Ghosts D) (a : Work) (newest : Label) (taken : List (
     pub loss : Loss
     pub lost : e.lost ≡ Some loss
     pub lost_is : IsLost a.layout (states_of a.layout e.columns) loss
-    pub named : (c : ℕ) → IsRebuiltIn a c → slice_get e.columns c ≡ Some column.Dead
+    pub named : (c : ℕ) → IsAnew a.start c → slice_get e.columns c ≡ Some column.Dead
     pub frame : Changes g (MayBegin g (sweep_in newest) a.layout a.columns taken) taken back
-    pub dies : Dies (λ c. IsRebuiltIn a c ⊎ LosesDevice g a.columns taken back c) a.columns e.columns
+    pub dies : Dies (λ c. IsAnew a.start c ⊎ DiesIn g (Some loss) a.columns taken back c) a.columns e.columns
+    pub given_up : IsGivenUpIn e.lost e.columns

@@ -3,6 +3,7 @@ ghost use Rattle.top_labelled.specs.Given.{CanRunLabelled};
 ghost use Rattle.top_labelled.specs.Between.{IsBegun};
 
 use crate::labelled::Labelled;
+use crate::line::onto;
 use crate::opening::{AskedRebuild, opened};
 use blk_disk::Disk;
 use eng_array::{Loss, Setup, Start};
@@ -14,7 +15,8 @@ use raid_recon::SweepRoom;
 use top_close::Ending;
 
 /// An array that was begun: what is to be served over it, the label that was written last, what its
-/// end wants, by what it is lost, if it is, what was to be rebuilt, and what of that begins.
+/// end wants, by what it is lost, if it is, what was to be rebuilt, onto which device, and what of that
+/// begins.
 #[derive(Drop)]
 pub(crate) struct Started<L, D> {
     pub setup: Setup<L, D>,
@@ -22,11 +24,12 @@ pub(crate) struct Started<L, D> {
     pub judge: Cols,
     pub lost: Option<Loss>,
     pub asked: Option<Start>,
+    pub device: Option<u32>,
     pub began: Option<Start>,
 }
 
 /// Writes the opening round, sweeps the check units where the newest label isn't clean, and lets the
-/// column die that is to be rebuilt.
+/// column die that is to be rebuilt anew.
 pub(crate) fn begun<L: Layout + Drop, D: Disk + Drop, P: Progress>(
     labelled: Labelled<L, D>,
     progress: &P,
@@ -50,6 +53,7 @@ pub(crate) fn begun<L: Layout + Drop, D: Disk + Drop, P: Progress>(
         graphs,
         trace,
     } = setup;
+    let device = onto(start, &columns);
     let mut ending = Ending {
         columns,
         lost: None,
@@ -79,6 +83,7 @@ pub(crate) fn begun<L: Layout + Drop, D: Disk + Drop, P: Progress>(
         judge,
         lost,
         asked: start,
+        device,
         began,
     }
 }

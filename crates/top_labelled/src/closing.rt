@@ -5,7 +5,7 @@ ghost use Rattle.top_run.specs.Works.{service_seen};
 ghost use Rattle.top_labelled.specs.Begun.{IsColumnWithin};
 ghost use Rattle.top_labelled.specs.Between.{HasEnded, MayClose};
 
-use crate::line::line_for;
+use crate::line::{line_at_end, line_kept};
 use blk_disk::Disk;
 use eng_array::{Closed, Start};
 use eng_cols::Cols;
@@ -21,11 +21,12 @@ pub(crate) fn ended<L: Layout + Drop, D: Disk + Drop>(
     mut label: Label,
     mut judge: Cols,
     asked: Option<Start>,
+    device: Option<u32>,
 ) -> (Service, Vec<Option<D>>)
     requires closed { MayClose L.Layout D.Disk closed label }
     requires judge { IsFor (L.shape closed.layout) judge }
     requires within { IsColumnWithin asked (length closed.columns.items) }
-    ensures { HasEnded L.Layout D.Disk closed label asked (service_seen result.0) result.1.items }
+    ensures { HasEnded L.Layout D.Disk closed label asked device (service_seen result.0) result.1.items }
 {
     let Closed {
         layout,
@@ -39,7 +40,7 @@ pub(crate) fn ended<L: Layout + Drop, D: Disk + Drop>(
         sectors,
         ..
     } = closed;
-    let line = line_for(&layout, &columns, asked);
+    let line = line_kept(&layout, asked, device, &columns);
     let mut ending = Ending { columns, lost };
     label.clean = 1;
     end_labelled(
@@ -49,6 +50,7 @@ pub(crate) fn ended<L: Layout + Drop, D: Disk + Drop>(
         &mut label,
         &mut judge,
     );
+    let line = line_at_end(ending.lost, line);
     let service = Service {
         clients,
         replies,

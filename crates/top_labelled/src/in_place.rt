@@ -1,5 +1,6 @@
 //! Whether a rebuild may begin.
 ghost use Rattle.std.specs.Prelude.{◌≡◌, ◌&&◌, ◌||◌, not, if◌then◌else◌, None};
+ghost use Rattle.eng_cols.specs.Cols.{is_set_filling, passes};
 ghost use Rattle.top_labelled.specs.Begun.{is_in_place, lives_on};
 
 use eng_array::{Column, Start};
@@ -8,19 +9,30 @@ fn lives_on(column: Option<Column>, device: u32) -> bool
     ensures { result ≡ lives_on column device }
 {
     match column {
-        Some(Column::Live { device: own }) => own == device,
-        Some(Column::Dead | Column::Filling { .. } | Column::Spread) | None => false,
+        Some(Column::Live { device: own } | Column::Filling { device: own, .. }) => own == device,
+        Some(Column::Dead | Column::Spread) | None => false,
     }
 }
 
-/// Whether the column that is to be rebuilt is live on the device onto which it is rebuilt.
+fn is_filling(column: Option<Column>) -> bool
+    ensures { result ≡ passes is_set_filling column }
+{
+    match column {
+        Some(Column::Filling { .. }) => true,
+        Some(Column::Live { .. } | Column::Dead | Column::Spread) | None => false,
+    }
+}
+
+/// Whether the column that is to be rebuilt is live on the device onto which it is rebuilt, or filling
+/// it; and of a rebuild that goes on whether its column is filling.
 pub(crate) fn is_in_place(start: Option<Start>, columns: &[Column]) -> bool
     ensures { result ≡ is_in_place start columns.now }
 {
     match start {
-        Some(Start::Fill { column, device }) => {
+        Some(Start::Fill { column, device, .. }) => {
             lives_on(columns.get(column as usize).copied(), device)
         }
+        Some(Start::Resume { column, .. }) => is_filling(columns.get(column as usize).copied()),
         Some(Start::Spread { .. }) | None => false,
     }
 }

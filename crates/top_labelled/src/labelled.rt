@@ -17,7 +17,8 @@ pub struct Labelled<L, D> {
     pub judge: Cols,
     /// 1,024 bytes for each sector of a unit.
     pub room: Room,
-    /// The rebuild that is to begin behind the beginning, where one is. Its column isn't dead yet.
+    /// The rebuild that is to begin or to go on behind the beginning, where one is. Its column isn't
+    /// dead yet.
     pub start: Option<Start>,
     /// Whether the device onto which that goes has failed in this call already. Then it doesn't
     /// begin, though its column dies.
@@ -29,6 +30,6 @@ pub struct Labelled<L, D> {
 pub enum Outcome {
     /// What was asked was served.
     Ran(Service),
-    /// The array was lost before that. The column is dead that was to be rebuilt.
+    /// The array was lost before that. The column is dead that was to be rebuilt anew.
     Lost(Ending),
 }

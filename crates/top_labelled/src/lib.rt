@@ -1,8 +1,8 @@
 //! A run of clients over an array with labels, from its opening round to its closing one.
 //!
 //! [`run_labelled`] takes all memory first. Then it writes the first round of labels, sweeps the check
-//! units where the newest label said that the array was in use. A column that is to be rebuilt dies
-//! then. What is asked is served, beside the rebuild, and the array is closed: its devices are settled,
+//! units where the newest label said that the array was in use. A column that is to be rebuilt anew
+//! dies then. What is asked is served, beside the rebuild, and the array is closed: its devices are settled,
 //! get their last labels, and are settled again. An array that is lost before it is served is left
 //! with labels that aren't clean, and nothing is served.
 #![tactic(auto)]

@@ -1,11 +1,12 @@
 //! The beginning of an array, up to the opening of a core.
 ghost use Rattle.std.specs.Prelude.{◌≡◌, ◌≤◌, ◌<◌, ◌+◌, ◌*◌, ◌^◌, None, length};
 ghost use Rattle.eng_cols.specs.Cols.{IsFor};
-ghost use Rattle.raid_label.specs.Bytes.{IsHeld};
 ghost use Rattle.top_acts.specs.Begun.{CanAct};
 ghost use Rattle.top_acts.specs.Failed.{EndsFailed};
-ghost use Rattle.top_close.specs.Ended.{IsLossBy, states_of};
-ghost use Rattle.top_labelled.specs.Begun.{IsColumnWithin, without};
+ghost use Rattle.eng_cols.specs.Stripes.{states_of};
+ghost use Rattle.top_close.specs.Ended.{IsLossBy};
+ghost use Rattle.top_rounds.specs.Labels.{IsLabelFor};
+ghost use Rattle.top_labelled.specs.Begun.{IsAlone, IsColumnWithin, anew_of, without};
 ghost use Rattle.top_labelled.specs.Between.{HasOpened};
 
 use crate::in_place::{is_in_place, unless_failed};
@@ -22,13 +23,23 @@ use top_close::Ending;
 /// What is asked of a rebuild.
 #[derive(Clone, Copy)]
 pub(crate) struct AskedRebuild {
-    /// The rebuild that is to begin, where one is. Its column isn't dead yet.
+    /// The rebuild that is to begin, or to go on, where one is. Its column isn't dead yet.
     pub start: Option<Start>,
     /// Whether the device onto which that goes has failed in this call already.
     pub failed: bool,
 }
 
-// The column is dead that is to be rebuilt, where one is.
+// The column that is to be rebuilt anew, where one is.
+fn anew(start: Option<Start>) -> Option<u32>
+    ensures { result ≡ anew_of start }
+{
+    match start {
+        Some(Start::Fill { column, .. } | Start::Spread { column }) => Some(column),
+        Some(Start::Resume { .. }) | None => None,
+    }
+}
+
+// The column is dead that is to be rebuilt anew, where one is. No other is filling.
 fn fail_asked<L: Layout, D: Disk>(
     start: Option<Start>,
     layout: &L,
@@ -38,8 +49,9 @@ fn fail_asked<L: Layout, D: Disk>(
     judge: &mut Cols,
 )
     requires within { IsColumnWithin start (length ending.old.columns.items) }
+    requires alone { IsAlone start ending.old.columns.items }
     requires can { CanAct D.Disk (L.shape layout.now) ending.old.columns.items devices.old }
-    requires held { IsHeld label.old }
+    requires held { IsLabelFor ending.old.columns.items label.old }
     requires counter { label.old.counter + 33 < 2 ^ 32 }
     requires by { IsLossBy (L.shape layout.now) None
         (states_of (L.shape layout.now) ending.old.columns.items) ending.old.lost }
@@ -49,16 +61,17 @@ fn fail_asked<L: Layout, D: Disk>(
     ensures lost { IsLossBy (L.shape layout.now) None
         (states_of (L.shape layout.now) ending.new.columns.items) ending.new.lost }
     ensures can { CanAct D.Disk (L.shape layout.now) ending.new.columns.items devices.new }
-    ensures held { IsHeld label.new }
+    ensures held { IsLabelFor ending.new.columns.items label.new }
     ensures judge { IsFor (L.shape layout.now) judge.new }
 {
-    if let Some(start) = start {
-        fail_column(layout, devices, ending, start.column(), label, judge);
+    match anew(start) {
+        Some(column) => fail_column(layout, devices, ending, column, label, judge),
+        None => {}
     }
 }
 
 /// Writes the opening round, and sweeps the check units where the newest label isn't clean. Then the
-/// column is dead that is to be rebuilt, and where the array is lost by that, its one round is
+/// column is dead that is to be rebuilt anew, and where the array is lost by that, its one round is
 /// written. Says what begins of the rebuild.
 pub(crate) fn opened<L: Layout, D: Disk, P: Progress>(
     asked: AskedRebuild,
@@ -70,15 +83,16 @@ pub(crate) fn opened<L: Layout, D: Disk, P: Progress>(
     judge: &mut Cols,
 ) -> Option<Start>
     requires within { IsColumnWithin asked.start (length ending.old.columns.items) }
+    requires alone { IsAlone asked.start ending.old.columns.items }
     requires can { CanAct D.Disk (L.shape layout.now) ending.old.columns.items devices.old }
-    requires held { IsHeld label.old }
+    requires held { IsLabelFor ending.old.columns.items label.old }
     requires counter { label.old.counter + 67 < 2 ^ 32 }
     requires room { 1024 * (L.shape layout.now).unit_sectors ≤ room.old }
     requires judge { IsFor (L.shape layout.now) judge.old }
     ensures opened { HasOpened D.Disk (L.shape layout.now) asked.start asked.failed label.old label.new
         ending.old.columns.items ending.new.columns.items devices.old devices.new ending.new.lost result }
     ensures can { CanAct D.Disk (L.shape layout.now) ending.new.columns.items devices.new }
-    ensures held { IsHeld label.new }
+    ensures held { IsLabelFor ending.new.columns.items label.new }
     ensures judge { IsFor (L.shape layout.now) judge.new }
 {
     let AskedRebuild { start, failed } = asked;

@@ -14,7 +14,7 @@ use raid_progress::Progress;
 use std::alloc::Global;
 use std::sync::Wait;
 use std::thread::Threads;
-use top_close::{Ending, deaths_bring_no_unit_back};
+use top_close::Ending;
 use top_run::Service;
 use top_serve::{room_for, serve_in};
 
@@ -93,15 +93,15 @@ fn served<
     requires can { CanServe L.Layout D.Disk started room }
     ensures { HasServed L.Layout D.Disk started (service_seen result.0) result.1.items }
 {
-    deaths_bring_no_unit_back();
     let Started {
         setup,
         label,
         judge,
         asked,
+        device,
         began,
         ..
     } = started;
     let closed = serve_in(rt, alloc, setup, room, began, workers, progress);
-    ended(closed, label, judge, asked)
+    ended(closed, label, judge, asked, device)
 }

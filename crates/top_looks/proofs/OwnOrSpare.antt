@@ -5,6 +5,7 @@ use Rattle.std.proofs.lemmas.Bool.{eqb-false, leb-true}
 use Rattle.std.proofs.lemmas.Option.{slice_get_within}
 use Rattle.eng_cols.specs.declared.column.Column.{Column}
 use Rattle.eng_cols.specs.declared.column.Column.TheVariants as column
+use Rattle.eng_cols.specs.Cols.{device_set}
 use Rattle.raid_label.specs.declared.label.Label.{Label}
 use Rattle.top_open.specs.declared.fronts.Front.{Front}
 use Rattle.top_open.specs.declared.plan.Plan.{Plan}
@@ -13,8 +14,9 @@ use Rattle.top_open.specs.First.{first_below}
 use Rattle.top_open.specs.Plan.{is_present, sectors_for}
 use Rattle.top_open.specs.Labels.{label_at, newest_below, shape_refusal}
 use Rattle.top_open.specs.Seats.{columns_below, is_sound, is_spread_below, judged_at, kept_if_sound, read_disk, seat_at, seat_of}
-use Rattle.top_open.specs.Opening.{Opened, columns_in, counter_refusal, is_unlabelled, labelled_if, labelled_in, opened_in, seats_in, small_in, unlabelled_in, unlabelled_refusal}
+use Rattle.top_open.specs.Opening.{Opened, columns_in, counter_refusal, is_unlabelled, judged_in, labelled_if, labelled_in, opened_in, seats_in, small_in, unlabelled_in, unlabelled_refusal}
 use Rattle.top_open.proofs.Below.{length-columns_below}
+use Rattle.top_open.proofs.Filled.{live, was}
 use Rattle.top_open.proofs.LargeEnough.{columns_of, get_there}
 use Rattle.top_open.proofs.OwnDevices.{columns_below-get, not_refused, read_disk_is}
 use Rattle.top_looks.specs.Laws.{IsOwnOrSpare}
@@ -44,7 +46,7 @@ kept_live newest fronts c d (column.Live e) h = go (is_sound newest c (label_at 
     go true h = h
     go false h = cc
 kept_live newest fronts c d column.Dead h = cc
-kept_live newest fronts c d (column.Filling e) h = cc
+kept_live newest fronts c d (column.Filling e m) h = cc
 kept_live newest fronts c d column.Spread h = cc
 
 of_labelled : (q : Needs) (p : Plan) (present : List Bool) (sizes : List ℕ) (fronts : List Front) (l : Label) (o : Opened) → labelled_in q p present sizes fronts l ≡ Ok o
@@ -69,12 +71,18 @@ of_unlabelled q p present sizes fronts o h c d here =
     let cols : columns_below (read_disk present fronts) (length present) ≡ o.columns = ap columns_of made in
     sym (read_disk_is present fronts c d (columns_below-get (read_disk present fronts) (length present) c (column.Live d) (ap (λ (s : List Column). slice_get s c) cols ∙ here)))
 
-pub own_or_spare : (q : Needs) (p : Plan) (present : List Bool) (sizes : List ℕ) (fronts : List Front) (o : Opened) → opened_in q p present sizes fronts ≡ Ok o
+own_judged : (q : Needs) (p : Plan) (present : List Bool) (sizes : List ℕ) (fronts : List Front) (o : Opened) → judged_in q p present sizes fronts ≡ Ok o
     → (c d : ℕ) → slice_get o.columns c ≡ Some (column.Live d) → IsOwnOrSpare (length present) p.spares c d
-unfolding opened_in
-own_or_spare q p present sizes fronts o h c d here = go (is_unlabelled q (length present) fronts) (newest_below fronts (length fronts)) h
+unfolding judged_in
+own_judged q p present sizes fronts o h c d here = go (is_unlabelled q (length present) fronts) (newest_below fronts (length fronts)) h
   where
     go : (b : Bool) (l : Option Label) → (if b then unlabelled_in q p present sizes fronts else labelled_if q p present sizes fronts l) ≡ Ok o → IsOwnOrSpare (length present) p.spares c d
     go true l h = inl (of_unlabelled q p present sizes fronts o h c d here)
     go false None h = cc
     go false (Some l) h = of_labelled q p present sizes fronts l o h c d here
+
+pub own_or_spare : (q : Needs) (p : Plan) (present : List Bool) (sizes : List ℕ) (fronts : List Front) (o : Opened) → opened_in q p present sizes fronts ≡ Ok o
+    → (c d : ℕ) → device_set (slice_get o.columns c) ≡ Some d → IsOwnOrSpare (length present) p.spares c d
+own_or_spare q p present sizes fronts o h c d has =
+    let w = was q p present sizes fronts o h in
+    own_judged q p present sizes fronts w.judged w.is c d (live q p present sizes fronts o h c d has)

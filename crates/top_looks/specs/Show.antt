@@ -26,13 +26,17 @@ name_at names i = unwrap_or (slice_get names i) []
 unfoldable pub live_state : ℕ → ℕ → List ℕ
 live_state n device = if nat_lt device n then codes "optimal" else codes "spared " ++ decimal (device - n)
 
+-- how many stripes of a column are done that is rebuilt
+unfoldable pub filling_state : ℕ → List ℕ
+filling_state done = codes "rebuilding " ++ decimal done
+
 -- how a column of n is served
 abbrev pub column_state : ℕ → Option Column → List ℕ
 column_state n None = codes "failed"
 column_state n (Some (column.Live device)) = live_state n device
 column_state n (Some column.Spread) = codes "spread"
 column_state n (Some column.Dead) = codes "failed"
-column_state n (Some (column.Filling device)) = codes "failed"
+column_state n (Some (column.Filling device done)) = filling_state done
 
 -- `column C NAME STATE`
 unfoldable pub column_line : ℕ → ℕ → Text → Option Column → List ℕ
@@ -53,7 +57,7 @@ abbrev pub is_seat_of : ℕ → Column → Bool
 is_seat_of device (column.Live of) = of == device
 is_seat_of device column.Spread = false
 is_seat_of device column.Dead = false
-is_seat_of device (column.Filling of) = false
+is_seat_of device (column.Filling of done) = of == device
 
 -- there are labels, and that of this device couldn't be read
 abbrev pub is_unread_in : Opened → List Front → ℕ → Bool

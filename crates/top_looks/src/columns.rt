@@ -3,7 +3,7 @@ ghost use Rattle.std.specs.Prelude.{◌≡◌, ◌≤◌, ◌<◌, ◌+◌, ◌+
 ghost use Rattle.blk_disk.specs.Disk.{Rose};
 ghost use Rattle.raid_bay.specs.Sink.{Puts};
 ghost use Rattle.raid_conf.specs.Form.{IsDiskName, disk_word};
-ghost use Rattle.top_looks.specs.Show.{column_line, column_state, column_text, columns_text, live_state};
+ghost use Rattle.top_looks.specs.Show.{column_line, column_state, column_text, columns_text, filling_state, live_state};
 
 use blk_disk::Failed;
 use eng_cols::Column;
@@ -36,16 +36,27 @@ fn push_live(line: &mut Line, columns: u32, device: u32)
     }
 }
 
+// Adds how much of a column is rebuilt.
+fn push_filling(line: &mut Line, done: u32)
+    requires { length line.old ≤ 400 }
+    ensures text { line.new ≡ line.old ++ filling_state done }
+    ensures short { length line.new ≤ length line.old + 60 }
+{
+    line.push(b"rebuilding ");
+    line.push_number(done);
+}
+
 // Adds how a column of so many is served.
 fn push_state(line: &mut Line, columns: u32, column: Option<Column>)
     requires { length line.old ≤ 400 }
     ensures text { line.new ≡ line.old ++ column_state columns column }
-    ensures short { length line.new ≤ length line.old + 50 }
+    ensures short { length line.new ≤ length line.old + 60 }
 {
     match column {
         Some(Column::Live { device }) => push_live(line, columns, device),
         Some(Column::Spread) => line.push(b"spread"),
-        Some(Column::Dead | Column::Filling { .. }) | None => line.push(b"failed"),
+        Some(Column::Filling { done, .. }) => push_filling(line, done),
+        Some(Column::Dead) | None => line.push(b"failed"),
     }
 }
 

@@ -29,7 +29,8 @@ fn parity_line(newest: &Option<Label>) -> &'static [u8]
 ///
 /// `column C NAME STATE` has the name that the configuration gives the column's disk, `absent`
 /// where there is none. STATE is `optimal` where that disk serves the column, `spared J` where
-/// spare J does, `spread` where the spare places of the other columns do, else `failed`.
+/// spare J does, `rebuilding M` where it is filling and M of its stripes are done, `spread` where the
+/// spare places of the other columns serve it, else `failed`.
 /// `spare J NAME STATE` has the first that holds of `used`, the labels name it for a column;
 /// `failed`, its label couldn't be read; `small`, it has fewer sectors than the rows need; and
 /// else `free`. Without labels no spare is used, nor failed. The parity is `clean` or `dirty` by

@@ -18,8 +18,8 @@ fn is_seat_of(device: u32, seat: Column) -> bool
     ensures { result ≡ is_seat_of device seat }
 {
     match seat {
-        Column::Live { device: of } => of == device,
-        Column::Dead | Column::Filling { .. } | Column::Spread => false,
+        Column::Live { device: of } | Column::Filling { device: of, .. } => of == device,
+        Column::Dead | Column::Spread => false,
     }
 }
 

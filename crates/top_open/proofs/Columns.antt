@@ -16,7 +16,7 @@ use Rattle.top_open.specs.First.{first_below}
 use Rattle.top_open.specs.Plan.{is_present, sectors_for}
 use Rattle.top_open.specs.Labels.{label_at, label_of_option, newest_below, shape_refusal}
 use Rattle.top_open.specs.Seats.{columns_below, own_disk, read_disk, is_unread, is_sound, kept_if_sound, judged_at, seat_of, seat_at, is_spread_below}
-use Rattle.top_open.specs.Opening.{Opened, opened_in, unlabelled_in, labelled_in, labelled_if, is_unlabelled, unlabelled_refusal, counter_refusal, small_in, seats_in, columns_in}
+use Rattle.top_open.specs.Opening.{Opened, judged_in, unlabelled_in, labelled_in, labelled_if, is_unlabelled, unlabelled_refusal, counter_refusal, small_in, seats_in, columns_in}
 use Rattle.top_open.proofs.Below.{length-columns_below}
 use Rattle.top_open.proofs.Counting.{count_none, count_one}
 use Rattle.top_open.proofs.OneSpread.{one_spread}
@@ -31,7 +31,7 @@ WasHeld fronts d = (bytes : List ℕ) × (slice_get fronts d ≡ Some (Held byte
 abbrev IsColumn : ℕ → List Front → Bool → Column → Type 0
 IsColumn most fronts labelled (column.Live d) = (d < most) × (labelled ≡ true → WasHeld fronts d)
 IsColumn most fronts labelled column.Dead = Unit {0}
-IsColumn most fronts labelled (column.Filling d) = ⊥
+IsColumn most fronts labelled (column.Filling d m) = ⊥
 IsColumn most fronts labelled column.Spread = Unit {0}
 
 abbrev is_labelled : Option Label → Bool
@@ -105,7 +105,7 @@ kept_is newest fronts c most (column.Live d) below = go (is_sound newest c (labe
     go true e = (below d refl, λ _. sound_held newest c fronts d e)
     go false e = tt
 kept_is newest fronts c most column.Dead below = tt
-kept_is newest fronts c most (column.Filling d) below = tt
+kept_is newest fronts c most (column.Filling d m) below = tt
 kept_is newest fronts c most column.Spread below = tt
 
 -- a seat is there, or stands for a dead column
@@ -148,8 +148,8 @@ module _ (q : Needs) (p : Plan) (present : List Bool) (sizes : List ℕ) (fronts
             (λ d e. seat_is p present n c (is_spread_below l c) (slice_index l.seats c) lt d (sym (seat_there (seat_at p present n l) n c lt) ∙ e)));
       }
 
-  made : opened_in q p present sizes fronts ≡ Ok o → AreMade (length present) (length present + p.spares) fronts (is_labelled o.newest) o.columns
-  unfolding opened_in
+  made : judged_in q p present sizes fronts ≡ Ok o → AreMade (length present) (length present + p.spares) fronts (is_labelled o.newest) o.columns
+  unfolding judged_in
   made h = go (is_unlabelled q (length present) fronts) (newest_below fronts (length fronts)) h
     where
       go : (b : Bool) (l : Option Label) → (if b then unlabelled_in q p present sizes fronts else labelled_if q p present sizes fronts l) ≡ Ok o → AreMade (length present) (length present + p.spares) fronts (is_labelled o.newest) o.columns
@@ -159,40 +159,40 @@ module _ (q : Needs) (p : Plan) (present : List Bool) (sizes : List ℕ) (fronts
 
   -- ## What follows of it
 
-  column_is : opened_in q p present sizes fronts ≡ Ok o → (c : ℕ) (x : Column) → slice_get o.columns c ≡ Some x → IsColumn (length present + p.spares) fronts (is_labelled o.newest) x
+  column_is : judged_in q p present sizes fronts ≡ Ok o → (c : ℕ) (x : Column) → slice_get o.columns c ≡ Some x → IsColumn (length present + p.spares) fronts (is_labelled o.newest) x
   column_is h c x at =
       let m = made h in
       let there : slice_get (columns_below m.make (length present)) c ≡ Some x = ap (λ (s : List Column). slice_get s c) m.are ∙ at in
       let inside : c < length present = omega (arith, slice_get_within (columns_below m.make (length present)) c x there, length-columns_below m.make (length present)) in
       subst (λ (y : Column). IsColumn (length present + p.spares) fronts (is_labelled o.newest) y) (columns_below-get m.make (length present) c x there) (m.each c inside)
 
-  pub columns_count : opened_in q p present sizes fronts ≡ Ok o → length o.columns ≡ length present
+  pub columns_count : judged_in q p present sizes fronts ≡ Ok o → length o.columns ≡ length present
   columns_count h = let m = made h in ap (λ (l : List Column). length l) (sym m.are) ∙ length-columns_below m.make (length present)
 
-  pub no_filling : opened_in q p present sizes fronts ≡ Ok o → (c d : ℕ) → slice_get o.columns c ≡ Some (column.Filling d) → ⊥
-  no_filling h c d at = column_is h c (column.Filling d) at
+  pub no_filling : judged_in q p present sizes fronts ≡ Ok o → (c d m : ℕ) → slice_get o.columns c ≡ Some (column.Filling d m) → ⊥
+  no_filling h c d m at = column_is h c (column.Filling d m) at
 
-  pub none_filling : opened_in q p present sizes fronts ≡ Ok o → count_by is_set_filling o.columns ≡ 0
+  pub none_filling : judged_in q p present sizes fronts ≡ Ok o → count_by is_set_filling o.columns ≡ 0
   none_filling h = count_none is_set_filling o.columns column.Dead (λ c x at. go x (column_is h c x at))
     where
       go : (x : Column) → IsColumn (length present + p.spares) fronts (is_labelled o.newest) x → is_set_filling x ≡ false
       go (column.Live d) is = refl
       go column.Dead is = refl
-      go (column.Filling d) is = absurd is
+      go (column.Filling d m) is = absurd is
       go column.Spread is = refl
 
-  pub few_spread : opened_in q p present sizes fronts ≡ Ok o → count_by is_set_spread o.columns ≤ 1
+  pub few_spread : judged_in q p present sizes fronts ≡ Ok o → count_by is_set_spread o.columns ≤ 1
   few_spread h = count_one is_set_spread o.columns column.Dead
       (λ c k x y at here spread other. (one_spread q p present sizes fronts o h c k (at ∙ ap (λ (z : Column). Some z) (is_spread x spread)) (here ∙ ap (λ (z : Column). Some z) (is_spread y other))).0)
     where
       is_spread : (x : Column) → is_set_spread x ≡ true → x ≡ column.Spread
       is_spread (column.Live d) e = cc e
       is_spread column.Dead e = cc e
-      is_spread (column.Filling d) e = cc e
+      is_spread (column.Filling d m) e = cc e
       is_spread column.Spread e = refl
 
-  pub numbered_devices : opened_in q p present sizes fronts ≡ Ok o → (c d : ℕ) → slice_get o.columns c ≡ Some (column.Live d) → d < length present + p.spares
+  pub numbered_devices : judged_in q p present sizes fronts ≡ Ok o → (c d : ℕ) → slice_get o.columns c ≡ Some (column.Live d) → d < length present + p.spares
   numbered_devices h c d at = (column_is h c (column.Live d) at).0
 
-  pub held_devices : opened_in q p present sizes fronts ≡ Ok o → (l : Label) → o.newest ≡ Some l → (c d : ℕ) → slice_get o.columns c ≡ Some (column.Live d) → WasHeld fronts d
+  pub held_devices : judged_in q p present sizes fronts ≡ Ok o → (l : Label) → o.newest ≡ Some l → (c d : ℕ) → slice_get o.columns c ≡ Some (column.Live d) → WasHeld fronts d
   held_devices h l e c d at = (column_is h c (column.Live d) at).1 (ap is_labelled e)

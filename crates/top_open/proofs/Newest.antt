@@ -1,9 +1,9 @@
 -- The newest label of an opening.
-use Rattle.std.proofs.Common.{◌≡◌, ◌∙◌, ap, sym, subst, ℕ, zero, suc, ◌≤◌, ◌==◌, ◌&&◌, Bool, true, false, List, length, refl, Option, Some, None}
-use Rattle.std.specs.Prelude.{drop, if◌then◌else◌, Result, Ok, Err, nat_le, nat_lt, slice_get}
-use Rattle.std.specs.List.{list_all}
-use Rattle.std.proofs.lemmas.Bool.{eqb-true, leb-true, ltb-false}
-use Rattle.raid_label.specs.Bytes.{IsHeld, fields_of, has_magic, is_well_formed, label_in, word_at}
+use Rattle.std.proofs.Common.{◌≡◌, ◌∙◌, ap, sym, ℕ, zero, suc, ◌≤◌, ◌&&◌, Bool, true, false, List, length, refl, Option, Some, None}
+use Rattle.std.specs.Prelude.{if◌then◌else◌, Result, Ok, Err, nat_lt, slice_get}
+use Rattle.std.proofs.lemmas.Bool.{ltb-false}
+use Rattle.raid_label.specs.Bytes.{IsHeld}
+use Rattle.raid_label.proofs.Held.{label_is_held}
 use Rattle.raid_label.specs.declared.label.Label.{Label}
 use Rattle.top_open.specs.declared.fronts.Front.{Front}
 use Rattle.top_open.specs.declared.fronts.Front.TheVariants.{Away, Unread, Held}
@@ -15,30 +15,15 @@ use Rattle.top_open.specs.First.{first_below}
 use Rattle.top_open.specs.Plan.{sectors_for}
 use Rattle.top_open.specs.Labels.{label_at, label_of_option, newer, newest_below, shape_refusal}
 use Rattle.top_open.specs.Seats.{judged_at}
-use Rattle.top_open.specs.Opening.{Opened, opened_in, unlabelled_in, labelled_in, labelled_if, is_unlabelled, unlabelled_refusal, counter_refusal, small_in, seats_in}
+use Rattle.top_open.specs.Opening.{Opened, judged_in, unlabelled_in, labelled_in, labelled_if, is_unlabelled, unlabelled_refusal, counter_refusal, small_in, seats_in}
 use Rattle.top_open.proofs.OwnDevices.{not_refused}
 use Rattle.top_open.proofs.LargeEnough.{no_refusal}
-
--- what a well-formed sector holds
-label_held : (sector : List ℕ) (l : Label) → label_in sector ≡ Some l → IsHeld l
-unfolding label_in is_well_formed fields_of
-label_held sector l h = go (has_magic sector) (word_at sector 8 == 1) (nat_le (word_at sector 40) 1) (list_all (λ b. b == 0) (drop 92 sector)) refl refl h
-  where
-    of : fields_of sector ≡ l → (word_at sector 8 == 1) ≡ true → nat_le (word_at sector 40) 1 ≡ true → IsHeld l
-    of same version clean = subst (λ (x : Label). IsHeld x) same (record { version = eqb-true (word_at sector 8) 1 version; clean = leb-true (word_at sector 40) 1 clean })
-
-    go : (a b c d : Bool) → (word_at sector 8 == 1) ≡ b → nat_le (word_at sector 40) 1 ≡ c → (if ((a && b) && c) && d then Some (fields_of sector) else None) ≡ Some l → IsHeld l
-    go false b c d x y h = cc h
-    go true false c d x y h = cc h
-    go true true false d x y h = cc h
-    go true true true false x y h = cc h
-    go true true true true x y h = of (cc h) x y
 
 front_held : (o : Option Front) (l : Label) → label_of_option o ≡ Some l → IsHeld l
 front_held None l h = cc h
 front_held (Some Away) l h = cc h
 front_held (Some Unread) l h = cc h
-front_held (Some (Held bytes)) l h = label_held bytes l h
+front_held (Some (Held bytes)) l h = label_is_held bytes l h
 
 -- the newest of labels is one of them
 newest_held : (fronts : List Front) (d : ℕ) (l : Label) → newest_below fronts d ≡ Some l → IsHeld l
@@ -86,8 +71,8 @@ module _ (q : Needs) (p : Plan) (present : List Bool) (sizes : List ℕ) (fronts
       let judged = not_refused (first_below (judged_at q.excused l fronts (seats_in p present l)) (length present)) _ o (not_refused (small_in q.excused q.own sizes (sectors_for p l.rows) (seats_in p present l) (length present)) _ o (not_refused (shape_refusal p (length present) l) _ o h)) in
       (sym (ap newest_of (not_refused (counter_refusal q l) _ o judged)), no_refusal (counter_refusal q l) _ o judged)
 
-  pub newest_may_follow : opened_in q p present sizes fronts ≡ Ok o → (l : Label) → o.newest ≡ Some l → IsHeld l × (q.writes ≡ true → l.counter ≤ 4294901760)
-  unfolding opened_in
+  pub newest_may_follow : judged_in q p present sizes fronts ≡ Ok o → (l : Label) → o.newest ≡ Some l → IsHeld l × (q.writes ≡ true → l.counter ≤ 4294901760)
+  unfolding judged_in
   newest_may_follow h l e = go (is_unlabelled q (length present) fronts) (newest_below fronts (length fronts)) refl h
     where
       go : (b : Bool) (k : Option Label) → newest_below fronts (length fronts) ≡ k → (if b then unlabelled_in q p present sizes fronts else labelled_if q p present sizes fronts k) ≡ Ok o → IsHeld l × (q.writes ≡ true → l.counter ≤ 4294901760)

@@ -15,7 +15,7 @@ use Rattle.raid_label.specs.Judged.{fault_in}
 use Rattle.top_open.specs.Labels.{configured, newest_below, refusal_of_option, shape_refusal}
 use Rattle.top_open.specs.Seats.{columns_below, judged_at, own_disk}
 use Rattle.top_open.specs.First.{first_below, or_refusal}
-use Rattle.top_open.specs.Opening.{Opened, opened_in, unlabelled_in, labelled_in, labelled_if, is_unlabelled, unlabelled_refusal, counter_refusal, small_in, seats_in, own_seats}
+use Rattle.top_open.specs.Opening.{Opened, judged_in, unlabelled_in, labelled_in, labelled_if, is_unlabelled, unlabelled_refusal, counter_refusal, small_in, seats_in, own_seats}
 use Rattle.top_open.proofs.OwnDevices.{not_refused}
 use Rattle.top_open.proofs.LargeEnough.{columns_below-at, no_refusal, rows_of, small_seat}
 
@@ -103,8 +103,8 @@ of_labelled q p present sizes fronts l o plan h =
     go None false e none = cc none
     go None true e none = rows_are p l.rows plan e
 
-pub whole_tables : (q : Needs) (p : Plan) (present : List Bool) (sizes : List ℕ) (fronts : List Front) (o : Opened) → IsPlan p → p.stripes ≤ 1048576 → opened_in q p present sizes fronts ≡ Ok o → AreWholeTables p o.rows
-unfolding opened_in
+pub whole_tables : (q : Needs) (p : Plan) (present : List Bool) (sizes : List ℕ) (fronts : List Front) (o : Opened) → IsPlan p → p.stripes ≤ 1048576 → judged_in q p present sizes fronts ≡ Ok o → AreWholeTables p o.rows
+unfolding judged_in
 whole_tables q p present sizes fronts o plan most h = go (is_unlabelled q (length present) fronts) (newest_below fronts (length fronts)) h
   where
     go : (b : Bool) (l : Option Label) → (if b then unlabelled_in q p present sizes fronts else labelled_if q p present sizes fronts l) ≡ Ok o → AreWholeTables p o.rows

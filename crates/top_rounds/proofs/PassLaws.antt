@@ -1,31 +1,25 @@
 -- Columns that get their labels one after the other.
 use Rattle.std.proofs.Common.{◌≡◌, ◌≢◌, ◌∙◌, ℕ, zero, suc, ◌+◌, ◌<◌, ◌≤◌, Bool, true, false, List, [], ◌∷◌, length, Option, Some, None, refl, sym, ap, subst, inl, inr, arith}
-use Rattle.std.specs.Prelude.{set, slice_get, IsSome, option_and_then, if◌then◌else◌}
+use Rattle.std.specs.Prelude.{set, slice_get, IsSome, is_some, option_and_then, if◌then◌else◌}
 use Rattle.std.specs.Option.{option_map_or}
 use Rattle.std.proofs.lemmas.Bool.{cases_order, cases_lt}
-use Rattle.std.proofs.lemmas.Option.{slice_get_within}
 use Rattle.blk_disk.specs.declared.disk.Disk.{Ghosts}
 use Rattle.blk_disk.specs.Disk.{Tells, call_of}
 use Rattle.blk_disk.specs.Devices.{device_at, size_of, sector_of, calls_of, Changes}
 use Rattle.blk_disk.proofs.DeviceLaws.{changes-more, changes-refl, changes-then, rises-wider}
 use Rattle.eng_cols.specs.declared.column.Column.{Column}
 use Rattle.eng_cols.specs.declared.column.Column.TheVariants as column
+use Rattle.eng_cols.specs.Cols.{device_set}
 use Rattle.eng_cols.specs.Deaths.{Dies}
 use Rattle.eng_cols.proofs.DeathLaws.{dies-refl, dies-more, dies-then, dies-set}
 use Rattle.raid_label.specs.declared.label.Label.{Label}
-use Rattle.top_close.specs.Settled.{IsLiveOn, is_live, HaveDevices, LosesDevice}
+use Rattle.top_close.specs.Settled.{HasDeviceOn, has_device, HaveDevices, LosesDevice}
+use Rattle.top_close.proofs.SettledLaws.{device_within}
 use Rattle.top_rounds.specs.Calls.{WritesOn}
 use Rattle.top_rounds.specs.Passes.{AreLabelled, CanBeLabelled, HoldsLabel, IsFirstInUse, IsTry, LabelsColumn}
 use Rattle.top_rounds.proofs.CallLaws.{writes_on-one, writes_on-refl, writes_on-then}
 
 -- ## Lists of columns
-
-device_in : Option Column → ℕ
-device_in (Some (column.Live d)) = d
-device_in (Some column.Dead) = 0
-device_in (Some (column.Filling d)) = d
-device_in (Some column.Spread) = 0
-device_in None = 0
 
 pub set_here : (xs : List Column) (i : ℕ) (x : Column) → i < length xs → slice_get (set xs i x) i ≡ Some x
 set_here [] i x h = absurd (omega arith)
@@ -39,30 +33,29 @@ set_other (y ∷ xs) zero (suc k) x apart = refl
 set_other (y ∷ xs) (suc i) zero x apart = refl
 set_other (y ∷ xs) (suc i) (suc k) x apart = set_other xs i k x (λ e. apart (omega (arith, e)))
 
-if_live : (columns : List Column) (c d : ℕ) (good : Bool) → IsLiveOn columns c d → is_live (slice_get (if good then columns else set columns c column.Dead) c) ≡ good
-if_live columns c d true h = ap is_live h
-if_live columns c d false h = ap is_live (set_here columns c column.Dead (slice_get_within columns c _ h))
+if_live : (columns : List Column) (c d : ℕ) (good : Bool) → HasDeviceOn columns c d → has_device (slice_get (if good then columns else set columns c column.Dead) c) ≡ good
+if_live columns c d true h = ap is_some h
+if_live columns c d false h = ap has_device (set_here columns c column.Dead (device_within columns c d h))
 
 if_other : (columns : List Column) (c k : ℕ) (good : Bool) → k ≢ c → slice_get (if good then columns else set columns c column.Dead) k ≡ slice_get columns k
 if_other columns c k true apart = refl
 if_other columns c k false apart = set_other columns c k column.Dead apart
 
-if_dies : (cause : ℕ → Type 0) (columns : List Column) (c d : ℕ) (good : Bool) → IsLiveOn columns c d → (good ≡ false → cause c) → Dies cause columns (if good then columns else set columns c column.Dead)
+if_dies : (cause : ℕ → Type 0) (columns : List Column) (c d : ℕ) (good : Bool) → HasDeviceOn columns c d → (good ≡ false → cause c) → Dies cause columns (if good then columns else set columns c column.Dead)
 if_dies cause columns c d true h why = dies-refl cause columns
-if_dies cause columns c d false h why = dies-set cause columns c (slice_get_within columns c _ h) (why refl)
+if_dies cause columns c d false h why = dies-set cause columns c (device_within columns c d h) (why refl)
 
--- a column that is still live is so only where that went well
-if_good : (columns : List Column) (c d k : ℕ) (good : Bool) → IsLiveOn columns c d → IsLiveOn (if good then columns else set columns c column.Dead) c k → (good ≡ true) × (d ≡ k)
-unfolding device_in
-if_good columns c d k true was h = (refl, ap device_in (sym was ∙ h))
+-- a column that still has a device has it only where that went well
+if_good : (columns : List Column) (c d k : ℕ) (good : Bool) → HasDeviceOn columns c d → HasDeviceOn (if good then columns else set columns c column.Dead) c k → (good ≡ true) × (d ≡ k)
+if_good columns c d k true was h = let z : Some d ≡ Some k = sym was ∙ h in let e : d ≡ k = cc in (refl, e)
 if_good columns c d k false was h =
-    let z : true ≡ false = ap is_live (sym h ∙ set_here columns c column.Dead (slice_get_within columns c _ was)) in absurd (let u : ⊥ = cc in u)
+    let z : Some k ≡ None = sym h ∙ ap device_set (set_here columns c column.Dead (device_within columns c d was)) in absurd (let u : ⊥ = cc in u)
 
--- a column that is live was so before deaths
-pub live_before : (cause : ℕ → Type 0) (columns after : List Column) (c d : ℕ) → Dies cause columns after → IsLiveOn after c d → IsLiveOn columns c d
+-- a column that has a device had it before deaths
+pub live_before : (cause : ℕ → Type 0) (columns after : List Column) (c d : ℕ) → Dies cause columns after → HasDeviceOn after c d → HasDeviceOn columns c d
 live_before cause columns after c d dies h = elim (dies.each c) [
-  | inl same ↦ sym same ∙ h
-  | inr dead ↦ let z : true ≡ false = ap is_live (sym h ∙ dead.0) in absurd (let u : ⊥ = cc in u)
+  | inl same ↦ ap device_set (sym same) ∙ h
+  | inr dead ↦ let z : Some d ≡ None = sym h ∙ ap device_set dead.0 in absurd (let u : ⊥ = cc in u)
 ]
 
 -- ## The first columns
@@ -79,18 +72,18 @@ module _ {D : Type 0} (g : Ghosts D) where
     told = λ d. writes_on-refl (calls_of g ds d);
   }
 
-  -- the next column isn't live
-  pub labelled-skip : (n : ℕ) (label : Label) (columns after : List Column) (old new : List (Option D)) → ((d : ℕ) → IsLiveOn after n d → ⊥) → AreLabelled g n label columns after old new → AreLabelled g (n + 1) label columns after old new
+  -- the next column has no device
+  pub labelled-skip : (n : ℕ) (label : Label) (columns after : List Column) (old new : List (Option D)) → ((d : ℕ) → HasDeviceOn after n d → ⊥) → AreLabelled g n label columns after old new → AreLabelled g (n + 1) label columns after old new
   labelled-skip n label columns after old new not was = record {
     frame = was.frame;
     dies = was.dies;
     held = λ c d below live. elim (cases_lt c n) [
       | inl lt ↦ was.held c d lt live
-      | inr le ↦ let e : c ≡ n = omega (arith, below, le) in absurd (not d (ap (slice_get after) (sym e) ∙ live))
+      | inr le ↦ let e : c ≡ n = omega (arith, below, le) in absurd (not d (ap (λ j. device_set (slice_get after j)) (sym e) ∙ live))
     ];
     once = λ c d below live. elim (cases_lt c n) [
       | inl lt ↦ was.once c d lt live
-      | inr le ↦ let e : c ≡ n = omega (arith, below, le) in absurd (not d (was.left n (omega arith) ∙ (ap (slice_get columns) (sym e) ∙ live)))
+      | inr le ↦ let e : c ≡ n = omega (arith, below, le) in absurd (not d (ap device_set (was.left n (omega arith) ∙ ap (slice_get columns) (sym e)) ∙ live))
     ];
     others = λ d none. was.others d (λ c below. none c (omega (arith, below)));
     left = λ c h. was.left c (omega (arith, h));
@@ -101,13 +94,13 @@ module _ {D : Type 0} (g : Ghosts D) where
     d : ℕ
     d = step.device
 
-    live : IsLiveOn columns n d
+    live : HasDeviceOn columns n d
     unfolding d
-    live = sym (was.left n (omega arith)) ∙ step.live
+    live = ap device_set (sym (was.left n (omega arith))) ∙ step.live
 
     step_frame : Changes g (IsFirstInUse columns) dev new
     unfolding d
-    step_frame = changes-more g (λ k m. (k ≡ d) × (m ≡ 0)) (IsFirstInUse columns) dev new (λ k m h. record { col = n; live = live ∙ ap (λ j. Some (column.Live j)) (sym h.0); first = h.1 }) step.labelling.frame
+    step_frame = changes-more g (λ k m. (k ≡ d) × (m ≡ 0)) (IsFirstInUse columns) dev new (λ k m h. record { col = n; live = live ∙ ap (λ j. Some j) (sym h.0); first = h.1 }) step.labelling.frame
 
     frame : Changes g (IsFirstInUse columns) old new
     frame = changes-then g (IsFirstInUse columns) old dev new was.frame step_frame
@@ -128,37 +121,38 @@ module _ {D : Type 0} (g : Ghosts D) where
         (subst (Dies (LosesDevice g columns old new) mid) (sym step.after_is) (if_dies (LosesDevice g columns old new) mid n step.device good step.live loses))
 
     -- a column before has its device as it was
-    apart_from : (c k : ℕ) → c < n → IsLiveOn columns c k → k ≢ d
+    apart_from : (c k : ℕ) → c < n → HasDeviceOn columns c k → k ≢ d
     unfolding d
-    apart_from c k below h = λ e. omega (arith, below, have.apart c n d (h ∙ ap (λ j. Some (column.Live j)) e) live)
+    apart_from c k below h = λ e. omega (arith, below, have.apart c n d (h ∙ ap (λ j. Some j) e) live)
 
-    here : (k : ℕ) → IsLiveOn columns n k → Tells (calls_of g old k) (calls_of g new k) (call_of 1 0 512 (is_live (slice_get after n)))
-    unfolding d device_in
+    here : (k : ℕ) → HasDeviceOn columns n k → Tells (calls_of g old k) (calls_of g new k) (call_of 1 0 512 (has_device (slice_get after n)))
+    unfolding d
     here k h =
-        let e : d ≡ k = ap device_in (sym live ∙ h) in
-        let so : good ≡ is_live (slice_get after n) = sym (if_live mid n d good step.live) ∙ ap (λ (l : List Column). is_live (slice_get l n)) (sym step.after_is) in
-        subst (λ j. Tells (calls_of g old j) (calls_of g new j) (call_of 1 0 512 (is_live (slice_get after n)))) e
+        let z : Some d ≡ Some k = sym live ∙ h in
+        let e : d ≡ k = cc in
+        let so : good ≡ has_device (slice_get after n) = sym (if_live mid n d good step.live) ∙ ap (λ (l : List Column). has_device (slice_get l n)) (sym step.after_is) in
+        subst (λ j. Tells (calls_of g old j) (calls_of g new j) (call_of 1 0 512 (has_device (slice_get after n)))) e
         (subst (λ b. Tells (calls_of g old d) (calls_of g new d) (call_of 1 0 512 b)) so
         (subst (λ o. Tells o (calls_of g new d) (call_of 1 0 512 good)) (ap (λ o. option_and_then g.calls o) fresh) step.labelling.told))
 
-    before : (c k : ℕ) → c < n → IsLiveOn columns c k → Tells (calls_of g old k) (calls_of g new k) (call_of 1 0 512 (is_live (slice_get after c)))
+    before : (c k : ℕ) → c < n → HasDeviceOn columns c k → Tells (calls_of g old k) (calls_of g new k) (call_of 1 0 512 (has_device (slice_get after c)))
     unfolding d
     before c k below h =
         let same : calls_of g dev k ≡ calls_of g new k = ap (λ o. option_and_then g.calls o) (sym (step.labelling.others k (apart_from c k below h))) in
-        let state : is_live (slice_get mid c) ≡ is_live (slice_get after c) = ap is_live (sym (ap (λ (l : List Column). slice_get l c) step.after_is ∙ if_other mid n c good (λ e. omega (arith, below, e)))) in
+        let state : has_device (slice_get mid c) ≡ has_device (slice_get after c) = ap has_device (sym (ap (λ (l : List Column). slice_get l c) step.after_is ∙ if_other mid n c good (λ e. omega (arith, below, e)))) in
         subst (λ b. Tells (calls_of g old k) (calls_of g new k) (call_of 1 0 512 b)) state
-        (subst (λ o. Tells (calls_of g old k) o (call_of 1 0 512 (is_live (slice_get mid c)))) same (was.once c k below h))
+        (subst (λ o. Tells (calls_of g old k) o (call_of 1 0 512 (has_device (slice_get mid c)))) same (was.once c k below h))
 
-    held_here : (k : ℕ) → IsLiveOn after n k → HoldsLabel g new label n k
+    held_here : (k : ℕ) → HasDeviceOn after n k → HoldsLabel g new label n k
     unfolding d
     held_here k h told =
-        let so = if_good mid n step.device k good step.live (subst (λ (l : List Column). IsLiveOn l n k) step.after_is h) in
+        let so = if_good mid n step.device k good step.live (subst (λ (l : List Column). HasDeviceOn l n k) step.after_is h) in
         ap (λ j. sector_of g new j 0) (sym so.1) ∙ step.labelling.held so.0 told
 
-    held_before : (c k : ℕ) → c < n → IsLiveOn after c k → HoldsLabel g new label c k
+    held_before : (c k : ℕ) → c < n → HasDeviceOn after c k → HoldsLabel g new label c k
     unfolding d
     held_before c k below h told =
-        let in_mid : IsLiveOn mid c k = sym (ap (λ (l : List Column). slice_get l c) step.after_is ∙ if_other mid n c good (λ e. omega (arith, below, e))) ∙ h in
+        let in_mid : HasDeviceOn mid c k = ap device_set (sym (ap (λ (l : List Column). slice_get l c) step.after_is ∙ if_other mid n c good (λ e. omega (arith, below, e)))) ∙ h in
         let in_old = live_before (LosesDevice g columns old dev) columns mid c k was.dies in_mid in
         ap (λ o. option_map_or (λ y. g.sector y 0) o []) (step.labelling.others k (apart_from c k below in_old)) ∙ was.held c k below in_mid told
 
@@ -178,13 +172,13 @@ module _ {D : Type 0} (g : Ghosts D) where
       dies = dies;
       held = λ c k below h. elim (cases_lt c n) [
         | inl lt ↦ held_before c k lt h
-        | inr le ↦ let e : n ≡ c = omega (arith, below, le) in subst (λ j. HoldsLabel g new label j k) e (held_here k (ap (slice_get after) e ∙ h))
+        | inr le ↦ let e : n ≡ c = omega (arith, below, le) in subst (λ j. HoldsLabel g new label j k) e (held_here k (ap (λ j. device_set (slice_get after j)) e ∙ h))
       ];
       once = λ c k below h. elim (cases_lt c n) [
         | inl lt ↦ before c k lt h
-        | inr le ↦ let e : n ≡ c = omega (arith, below, le) in subst (λ j. Tells (calls_of g old k) (calls_of g new k) (call_of 1 0 512 (is_live (slice_get after j)))) e (here k (ap (slice_get columns) e ∙ h))
+        | inr le ↦ let e : n ≡ c = omega (arith, below, le) in subst (λ j. Tells (calls_of g old k) (calls_of g new k) (call_of 1 0 512 (has_device (slice_get after j)))) e (here k (ap (λ j. device_set (slice_get columns j)) e ∙ h))
       ];
-      others = λ k none. step.labelling.others k (λ e. none n (omega arith) (live ∙ ap (λ j. Some (column.Live j)) (sym e))) ∙ was.others k (λ c below. none c (omega (arith, below)));
+      others = λ k none. step.labelling.others k (λ e. none n (omega arith) (live ∙ ap (λ j. Some j) (sym e))) ∙ was.others k (λ c below. none c (omega (arith, below)));
       left = λ c h. ap (λ (l : List Column). slice_get l c) step.after_is ∙ (if_other mid n c good (λ e. omega (arith, h, e)) ∙ was.left c (omega (arith, h)));
       told = λ k. writes_on-then (calls_of g old k) (calls_of g dev k) (calls_of g new k) (was.told k) (told k);
     }
@@ -211,8 +205,8 @@ module _ {D : Type 0} (g : Ghosts D) where
   try-whole n label columns after old new all same labelled = record { taken = n; labelled = labelled; ends = (all, same) }
 
   -- the device of the next column is where it was, and has a sector
-  pub still_there : (n d : ℕ) (label : Label) (columns mid : List Column) (old dev : List (Option D)) → CanBeLabelled g columns old → AreLabelled g n label columns mid old dev → IsLiveOn mid n d → IsSome (device_at dev d) × (1 ≤ size_of g dev d)
+  pub still_there : (n d : ℕ) (label : Label) (columns mid : List Column) (old dev : List (Option D)) → CanBeLabelled g columns old → AreLabelled g n label columns mid old dev → HasDeviceOn mid n d → IsSome (device_at dev d) × (1 ≤ size_of g dev d)
   still_there n d label columns mid old dev can was live =
-      let before : IsLiveOn columns n d = sym (was.left n (omega arith)) ∙ live in
+      let before : HasDeviceOn columns n d = ap device_set (sym (was.left n (omega arith))) ∙ live in
       let same = was.others d (λ c below other. omega (arith, below, can.have.apart c n d other before)) in
       (subst (λ o. IsSome o) (sym same) (can.have.there n d before), omega (arith, can.sized n d before, ap (λ o. option_map_or g.size o 0) same))

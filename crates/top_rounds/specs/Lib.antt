@@ -2,4 +2,3 @@ pub mod Calls
 pub mod Labels
 pub mod Passes
 pub mod Rounds
-pub mod Settable

@@ -1,4 +1,4 @@
--- One pass over the columns: the device of each live one gets its label, in ascending order.
+-- One pass over the columns: the device of each that has one gets its label, in ascending order.
 use Rattle.std.specs.Prelude.{◌≡◌, ◌≢◌, ◌<◌, ◌≤◌, ◌+◌, ℕ, List, length, Bool, true, false, Option, All, slice_get, slice_set, if◌then◌else◌}
 use Rattle.blk_disk.specs.declared.disk.Disk.{Ghosts}
 use Rattle.blk_disk.specs.Disk.{Tells, call_of}
@@ -8,21 +8,21 @@ use Rattle.eng_cols.specs.declared.column.Column.TheVariants as column
 use Rattle.eng_cols.specs.Deaths.{Dies}
 use Rattle.raid_label.specs.declared.label.Label.{Label}
 use Rattle.raid_label.specs.Bytes.{bytes_of}
-use Rattle.top_close.specs.Settled.{IsLiveOn, HaveDevices, is_live, LosesDevice}
+use Rattle.top_close.specs.Settled.{HasDeviceOn, HaveDevices, has_device, LosesDevice}
 use Rattle.top_rounds.specs.Calls.{WritesOn}
 use Rattle.top_rounds.specs.Labels.{IsNumbered, for_column}
 
--- sector 0 of the device of a live column
+-- sector 0 of the device of a column
 pub record IsFirstInUse (columns : List Column) (d n : ℕ) : Type 0 where
   pub col : ℕ
-  pub live : IsLiveOn columns col d
+  pub live : HasDeviceOn columns col d
   pub first : n ≡ 0
 
 module _ {D : Type 0} (g : Ghosts D) where
-  -- There are at most 32 columns, whose devices are theirs or at most 8 spares. The device of each live column is there, is no other's, and has a sector.
+  -- There are at most 32 columns, whose devices are theirs or at most 8 spares. The device of each column that has one is there, is no other's, and has a sector.
   pub record CanBeLabelled (columns : List Column) (devices : List (Option D)) : Type 0 where
     pub have : HaveDevices columns devices
-    pub sized : (c d : ℕ) → IsLiveOn columns c d → 1 ≤ size_of g devices d
+    pub sized : (c d : ℕ) → HasDeviceOn columns c d → 1 ≤ size_of g devices d
     pub columns_most : length columns ≤ 32
     pub numbered : All (IsNumbered (length columns)) columns
 
@@ -38,20 +38,20 @@ module _ {D : Type 0} (g : Ghosts D) where
     pub told : Tells (calls_of g old d) (calls_of g new d) (call_of 1 0 512 good)
     pub others : (k : ℕ) → k ≢ d → device_at new k ≡ device_at old k
 
-  -- Column c, which is live, got its label, and is dead where that failed.
+  -- Column c, which has a device, got its label, and is dead where that failed.
   pub record LabelsColumn (c : ℕ) (label : Label) (columns after : List Column) (old new : List (Option D)) (good : Bool) : Type 0 where
     pub device : ℕ
-    pub live : IsLiveOn columns c device
+    pub live : HasDeviceOn columns c device
     pub labelling : IsLabelling device (for_column label c) old new good
     pub after_is : after ≡ (if good then columns else slice_set columns c column.Dead)
 
-  -- The first n columns got their labels. No sector has changed but sector 0 of devices in use; a column has died where its device failed, and no other died; the device of each live one of the first n had one call more, to write sector 0, and the column is live still, and the label there, exactly where that went well; no other device was called.
+  -- The first n columns got their labels. No sector has changed but sector 0 of devices in use; a column has died where its device failed, and no other died; the device of each of the first n that has one had one call more, to write sector 0, and the column has it still, and the label is there, exactly where that went well; no other device was called.
   pub record AreLabelled (n : ℕ) (label : Label) (columns after : List Column) (old new : List (Option D)) : Type 0 where
     pub frame : Changes g (IsFirstInUse columns) old new
     pub dies : Dies (LosesDevice g columns old new) columns after
-    pub held : (c d : ℕ) → c < n → IsLiveOn after c d → HoldsLabel new label c d
-    pub once : (c d : ℕ) → c < n → IsLiveOn columns c d → Tells (calls_of g old d) (calls_of g new d) (call_of 1 0 512 (is_live (slice_get after c)))
-    pub others : (d : ℕ) → ((c : ℕ) → c < n → IsLiveOn columns c d → ⊥) → device_at new d ≡ device_at old d
+    pub held : (c d : ℕ) → c < n → HasDeviceOn after c d → HoldsLabel new label c d
+    pub once : (c d : ℕ) → c < n → HasDeviceOn columns c d → Tells (calls_of g old d) (calls_of g new d) (call_of 1 0 512 (has_device (slice_get after c)))
+    pub others : (d : ℕ) → ((c : ℕ) → c < n → HasDeviceOn columns c d → ⊥) → device_at new d ≡ device_at old d
     pub left : (c : ℕ) → n ≤ c → slice_get after c ≡ slice_get columns c
     pub told : (d : ℕ) → WritesOn (calls_of g old d) (calls_of g new d)
 

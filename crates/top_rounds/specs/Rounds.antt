@@ -1,73 +1,114 @@
 -- Rounds of labels, one behind the other, until one is whole or the array is lost.
-use Rattle.std.specs.Prelude.{◌≡◌, ◌≢◌, ◌≤◌, ◌+◌, ℕ, List, length, Option, Some, None, All, AllPairs, count_by, slice_get}
+use Rattle.std.specs.Prelude.{◌≡◌, ◌≢◌, ◌⊎◌, ◌≤◌, ◌+◌, ℕ, List, length, true, Option, Some, None, All, AllPairs, count_by, slice_get}
+use Rattle.blk_disk.specs.declared.disk.Call.{Call}
 use Rattle.blk_disk.specs.declared.disk.Disk.{Ghosts}
-use Rattle.blk_disk.specs.Devices.{device_at, calls_of, RisesOn, Changes}
+use Rattle.blk_disk.specs.Devices.{device_at, sector_of, calls_of, RisesOn, Changes}
 use Rattle.eng_cols.specs.declared.column.Column.{Column}
 use Rattle.eng_cols.specs.declared.spot.Loss.{Loss}
+use Rattle.eng_cols.specs.Cols.{is_set_filling, passes}
 use Rattle.eng_cols.specs.Deaths.{Dies}
 use Rattle.raid_label.specs.declared.label.Label.{Label}
-use Rattle.top_close.specs.Settled.{IsLiveOn, is_live, LosesDevice}
-use Rattle.top_rounds.specs.Calls.{WritesOn, WritesTo, WritesUntil}
-use Rattle.top_rounds.specs.Labels.{seats_of}
+use Rattle.raid_label.specs.Bytes.{bytes_of}
+use Rattle.top_close.specs.Settled.{HasDeviceOn, has_device, LosesDevice}
+use Rattle.top_rounds.specs.Calls.{WritesOn, WritesTo, WritesUntil, WritesWell}
+use Rattle.top_rounds.specs.Labels.{for_column, given_up, seating_in, seating_of, with_round}
 use Rattle.top_rounds.specs.Passes.{HoldsLabel, IsFirstInUse}
 
--- how many columns are live
-abbrev pub live_count : List Column → ℕ
-live_count columns = count_by (λ column. is_live (Some column)) columns
+-- how many columns have a device
+abbrev pub device_count : List Column → ℕ
+device_count columns = count_by (λ column. has_device (Some column)) columns
 
 -- the clean field of the last round: as it was to be, but 0 where the array is lost
 abbrev pub clean_in_end : Option Loss → ℕ → ℕ
 clean_in_end None clean = clean
 clean_in_end (Some loss) clean = 0
 
--- a device that no live column has wasn't called
+-- a device that no column has wasn't called
 abbrev pub IsUncalled : {D : Type 0} → List Column → List (Option D) → List (Option D) → Type 0
-IsUncalled columns old new = (d : ℕ) → ((c : ℕ) → IsLiveOn columns c d → ⊥) → device_at new d ≡ device_at old d
+IsUncalled columns old new = (d : ℕ) → ((c : ℕ) → HasDeviceOn columns c d → ⊥) → device_at new d ≡ device_at old d
 
--- a live column has this device
+-- a column has this device
 pub record IsInUse (columns : List Column) (d : ℕ) : Type 0 where
   pub col : ℕ
-  pub live : IsLiveOn columns col d
+  pub live : HasDeviceOn columns col d
+
+-- the array is lost, and the column was filling
+abbrev pub IsGivenUp : Option Loss → List Column → ℕ → Type 0
+IsGivenUp None columns c = ⊥
+IsGivenUp (Some loss) columns c = passes is_set_filling (slice_get columns c) ≡ true
+
+-- the columns in the end: of a lost array none is filling any more
+abbrev pub in_end : Option Loss → List Column → List Column
+in_end None columns = columns
+in_end (Some loss) columns = given_up columns
+
+-- where the array is lost no column is filling any more
+abbrev pub IsGivenUpIn : Option Loss → List Column → Type 0
+IsGivenUpIn None columns = Unit {0}
+IsGivenUpIn (Some loss) columns = count_by is_set_filling columns ≡ 0
+
+-- The device of column c had some call; of these all went well but the last, which did exactly where the column has it in the end. That of a column that was filling in a lost array isn't called in the last round: there all may have gone well, or there were none.
+abbrev pub AreWritten : Option Loss → List Column → List Column → ℕ → Option (List Call) → Option (List Call) → Type 0
+AreWritten lost columns after c before now = WritesTo (has_device (slice_get after c)) before now ⊎ (IsGivenUp lost columns c × WritesWell before now)
 
 module _ {D : Type 0} (g : Ghosts D) where
+  -- why a column died: its device failed, or it was filling and the array is lost
+  abbrev pub DiesIn : Option Loss → List Column → List (Option D) → List (Option D) → ℕ → Type 0
+  DiesIn lost columns old new c = LosesDevice g columns old new c ⊎ IsGivenUp lost columns c
+
   -- different devices, of each of which the count of faults rose
   pub record HaveFailed (old new : List (Option D)) (rises : List ℕ) : Type 0 where
     pub apart : AllPairs (λ d e. d ≢ e) rises
     pub rose : All (RisesOn g old new) rises
 
-  -- Rounds were tried, and each ended by a failed write: the counter is greater by one for each, and the devices that failed were in use and are no column's now. A device that was in use had no call behind one that failed.
+  -- sector 0 of device d holds the label of column c of a round that was tried: its counter is greater than that of the label before, and less than this one
+  pub record IsTriedOn (label : Label) (below : ℕ) (devices : List (Option D)) (c d : ℕ) : Type 0 where
+    pub tried : Label
+    pub newer : label.counter + 1 ≤ tried.counter
+    pub older : tried.counter + 1 ≤ below
+    pub label_is : tried ≡ with_round label tried.counter label.clean (seating_in tried)
+    pub holds : sector_of g devices d 0 ≡ bytes_of (for_column tried c)
+
+  -- where it is told, it holds that, or what it held
+  abbrev pub HoldsTried : Label → ℕ → List (Option D) → List (Option D) → ℕ → ℕ → Type 0
+  HoldsTried label below old new c d = g.tells → (sector_of g new d 0 ≡ sector_of g old d 0) ⊎ IsTriedOn label below new c d
+
+  -- Rounds were tried, and each ended by a failed write: the counter is greater by one for each, and the devices that failed were in use and are no column's now. A device that was in use had no call behind one that failed; one that is still has what it had, or the label of one of the rounds.
   pub record HaveTried (label next : Label) (columns mid : List Column) (old new : List (Option D)) : Type 0 where
     pub rises : List ℕ
     pub counter : next.counter ≡ label.counter + length rises
     pub failed : HaveFailed old new rises
     pub had : All (IsInUse columns) rises
-    pub gone : All (λ d. (c : ℕ) → IsLiveOn mid c d → ⊥) rises
-    pub fewer : live_count mid + length rises ≤ live_count columns
+    pub gone : All (λ d. (c : ℕ) → HasDeviceOn mid c d → ⊥) rises
+    pub fewer : device_count mid + length rises ≤ device_count columns
     pub frame : Changes g (IsFirstInUse columns) old new
     pub others : IsUncalled columns old new
     pub dies : Dies (LosesDevice g columns old new) columns mid
     pub told : (d : ℕ) → WritesOn (calls_of g old d) (calls_of g new d)
-    pub each : (c d : ℕ) → IsLiveOn columns c d → WritesUntil (is_live (slice_get mid c)) (calls_of g old d) (calls_of g new d)
+    pub each : (c d : ℕ) → HasDeviceOn columns c d → WritesUntil (has_device (slice_get mid c)) (calls_of g old d) (calls_of g new d)
+    pub holds : (c d : ℕ) → HasDeviceOn mid c d → HoldsTried label (next.counter + 1) old new c d
 
-  -- Rounds were written. The counter is greater by at least 1, and by at most 1 more for each device that was in use, whose count of faults rose, and that is no column's in the end. The last round began with the columns `mid`, and each column that is live in the end has its label. Each device that was in use had some call; of these all went well but the last, which did exactly where the column is live in the end.
-  pub record AreRounds (label next : Label) (columns mid after : List Column) (old new : List (Option D)) : Type 0 where
+  -- Rounds were written. The counter is greater by at least 1, and by at most 1 more for each device that was in use, whose count of faults rose, and that is no column's in the end. The last round began with the columns `mid`, and the device of each column in the end has its label. How the label writes of each device that was in use went is `AreWritten`. The device of a column that was filling in a lost array, if its count of faults didn't rise, has what it had, or the label of a round before the last.
+  pub record AreRounds (lost : Option Loss) (label next : Label) (columns mid after : List Column) (old new : List (Option D)) : Type 0 where
     pub rises : List ℕ
     pub failed : HaveFailed old new rises
     pub had : All (IsInUse columns) rises
-    pub gone : All (λ d. (c : ℕ) → IsLiveOn after c d → ⊥) rises
-    pub fewer : live_count after + length rises ≤ live_count columns
+    pub gone : All (λ d. (c : ℕ) → HasDeviceOn after c d → ⊥) rises
+    pub fewer : device_count after + length rises ≤ device_count columns
     pub least : label.counter + 1 ≤ next.counter
     pub most : next.counter ≤ label.counter + 1 + length rises
-    pub seats : next.seats ≡ seats_of mid
-    pub held : (c d : ℕ) → IsLiveOn after c d → HoldsLabel g new next c d
+    pub seating : seating_in next ≡ seating_of mid
+    pub held : (c d : ℕ) → HasDeviceOn after c d → HoldsLabel g new next c d
     pub frame : Changes g (IsFirstInUse columns) old new
     pub others : IsUncalled columns old new
-    pub began : Dies (LosesDevice g columns old new) columns mid
+    pub began : Dies (DiesIn lost columns old new) columns mid
     pub ended : Dies (LosesDevice g columns old new) mid after
+    pub given_up : IsGivenUpIn lost after
     pub told : (d : ℕ) → WritesOn (calls_of g old d) (calls_of g new d)
-    pub each : (c d : ℕ) → IsLiveOn columns c d → WritesTo (is_live (slice_get after c)) (calls_of g old d) (calls_of g new d)
+    pub each : (c d : ℕ) → HasDeviceOn columns c d → AreWritten lost columns after c (calls_of g old d) (calls_of g new d)
+    pub given : (c d : ℕ) → IsGivenUp lost columns c → HasDeviceOn columns c d → (RisesOn g old new d → ⊥) → HoldsTried label next.counter old new c d
 
   -- the last round of an array that isn't lost began with the columns of the end; that of a lost one with some that it may have left dead
   abbrev pub HaveRounds : Option Loss → Label → Label → List Column → List Column → List (Option D) → List (Option D) → Type 0
-  HaveRounds None label next columns after old new = AreRounds label next columns after after old new
-  HaveRounds (Some loss) label next columns after old new = (mid : List Column) × AreRounds label next columns mid after old new
+  HaveRounds None label next columns after old new = AreRounds None label next columns after after old new
+  HaveRounds (Some loss) label next columns after old new = (mid : List Column) × AreRounds (Some loss) label next columns mid after old new

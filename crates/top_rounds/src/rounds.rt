@@ -2,12 +2,12 @@
 ghost use Rattle.std.specs.Prelude.{◌≡◌, ◌<◌, ◌+◌, ◌^◌, ℕ, true, false, None};
 ghost use Rattle.eng_cols.specs.Cols.{IsFor};
 ghost use Rattle.eng_cols.specs.Lost.{NotLost};
-ghost use Rattle.raid_label.specs.Bytes.{IsHeld};
-ghost use Rattle.top_close.specs.Ended.{IsLossBy, states_of};
-ghost use Rattle.top_rounds.specs.Labels.{with_round};
+ghost use Rattle.eng_cols.specs.Stripes.{states_of};
+ghost use Rattle.top_close.specs.Ended.{IsLossBy};
+ghost use Rattle.top_rounds.specs.Labels.{IsLabelFor, seating_in, with_round};
 ghost use Rattle.top_rounds.specs.Passes.{CanBeLabelled};
 ghost use Rattle.top_rounds.specs.Rounds.{AreRounds, HaveRounds, HaveTried, clean_in_end};
-ghost use Rattle.top_rounds.specs.Settable.{IsSettable};
+ghost use Rattle.eng_cols.specs.Settable.{IsSettable};
 
 use crate::pass::{last_round, try_round};
 use blk_disk::Disk;
@@ -53,13 +53,14 @@ fn try_rounds<L: Layout, D: Disk>(
     judge: &mut Cols,
 ) -> bool
     requires array { CanBeLabelled D.Disk columns.old devices.old }
-    requires held { IsHeld label.old }
+    requires held { IsLabelFor columns.old label.old }
     requires counter { label.old.counter + 33 < 2 ^ 32 }
     requires columns { IsSettable (L.shape layout.now) columns.old }
     requires judge { IsFor (L.shape layout.now) judge.old }
     ensures label { label.new
-        ≡ with_round label.old label.new.counter label.old.clean label.new.seats }
-    ensures whole { result ≡ true → AreRounds D.Disk label.old label.new
+        ≡ with_round label.old label.new.counter label.old.clean (seating_in label.new) }
+    ensures held { IsLabelFor columns.new label.new }
+    ensures whole { result ≡ true → AreRounds D.Disk None label.old label.new
         columns.old columns.new columns.new devices.old devices.new }
     ensures kept { result ≡ true → NotLost (L.shape layout.now)
         (states_of (L.shape layout.now) columns.new) }
@@ -87,12 +88,13 @@ fn rounds_of_kept<L: Layout, D: Disk>(
     judge: &mut Cols,
 ) -> Option<Loss>
     requires array { CanBeLabelled D.Disk columns.old devices.old }
-    requires held { IsHeld label.old }
+    requires held { IsLabelFor columns.old label.old }
     requires counter { label.old.counter + 33 < 2 ^ 32 }
     requires columns { IsSettable (L.shape layout.now) columns.old }
     requires judge { IsFor (L.shape layout.now) judge.old }
     ensures label { label.new
-        ≡ with_round label.old label.new.counter (clean_in_end result label.old.clean) label.new.seats }
+        ≡ with_round label.old label.new.counter (clean_in_end result label.old.clean) (seating_in label.new) }
+    ensures held { IsLabelFor columns.new label.new }
     ensures rounds { HaveRounds D.Disk result label.old label.new
         columns.old columns.new devices.old devices.new }
     ensures lost { IsLossBy (L.shape layout.now) None
@@ -108,8 +110,9 @@ fn rounds_of_kept<L: Layout, D: Disk>(
 }
 
 /// Writes the labels of an array in rounds: a round is tried until none of its writes fails. Where
-/// the array is lost, by what it was lost before or by its columns, one last round is written in
-/// place of a further one, which isn't clean and whose failed writes are passed over.
+/// the array is lost, by what it was lost before or by its columns, a column that was filling is dead,
+/// and one last round is written in place of a further one, which isn't clean and whose failed writes
+/// are passed over.
 ///
 /// `label` is the label that was written last, or that the newest device had, with the clean field
 /// that the rounds are to have; then it is the label of the last round, whose column has no part.
@@ -128,12 +131,13 @@ pub fn round<L: Layout, D: Disk>(
     judge: &mut Cols,
 )
     requires array { CanBeLabelled D.Disk ending.old.columns.items devices.old }
-    requires held { IsHeld label.old }
+    requires held { IsLabelFor ending.old.columns.items label.old }
     requires counter { label.old.counter + 33 < 2 ^ 32 }
     requires columns { IsSettable (L.shape layout.now) ending.old.columns.items }
     requires judge { IsFor (L.shape layout.now) judge.old }
     ensures label { label.new ≡ with_round label.old label.new.counter
-        (clean_in_end ending.new.lost label.old.clean) label.new.seats }
+        (clean_in_end ending.new.lost label.old.clean) (seating_in label.new) }
+    ensures held { IsLabelFor ending.new.columns.items label.new }
     ensures rounds { HaveRounds D.Disk ending.new.lost label.old label.new
         ending.old.columns.items ending.new.columns.items devices.old devices.new }
     ensures lost { IsLossBy (L.shape layout.now) ending.old.lost

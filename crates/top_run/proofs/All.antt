@@ -18,6 +18,7 @@ use Rattle.top_run.proofs.Finishing.{ends-so, leaves}
 use Rattle.top_run.proofs.AtEnd.{columns-end, ends-kept}
 use Rattle.top_run.proofs.Meaning.{means}
 use Rattle.top_run.proofs.Causing.{causes}
+use Rattle.top_run.proofs.Columns.{NoneFilling}
 
 -- The run of what ended so, whatever its end has called and written into first sectors.
 module _ {L D : Type 0} (lay : LayoutGhosts L) (disk : DiskGhosts D) (setup : Setup L D) (how : Option Start) (closed : Closed L D) (given : IsSetup lay disk setup) (few : IsFew setup) (s : served.IsServed lay disk setup how closed) (v : Service) (back : List (Option D)) (e : EndsSo lay closed disk v back) where
@@ -50,9 +51,9 @@ module _ {L D : Type 0} (lay : LayoutGhosts L) (disk : DiskGhosts D) (setup : Se
 
 -- ## Of an array without labels
 
-module _ {L D : Type 0} (lay : LayoutGhosts L) (disk : DiskGhosts D) (setup : Setup L D) (closed : Closed L D) (given : IsSetup lay disk setup) (few : IsFew setup) (s : served.IsServed lay disk setup None closed) (v : Service) (back : List (Option D)) (e : RunIsEnded lay closed disk v back) where
+module _ {L D : Type 0} (lay : LayoutGhosts L) (disk : DiskGhosts D) (setup : Setup L D) (closed : Closed L D) (given : IsSetup lay disk setup) (few : IsFew setup) (s : served.IsServed lay disk setup None closed) (none : NoneFilling closed.columns.items) (v : Service) (back : List (Option D)) (e : RunIsEnded lay closed disk v back) where
   abbrev so : EndsSo lay closed disk v back
-  so = ends-so lay closed disk v back e
+  so = ends-so lay closed disk v back none e
 
   abbrev run : Ran disk (work_of lay setup None) setup.devices.items v back
   run = runs lay disk setup None closed given few s v back so
@@ -62,7 +63,7 @@ module _ {L D : Type 0} (lay : LayoutGhosts L) (disk : DiskGhosts D) (setup : Se
     run = run;
     leaves =
         subst (λ w. LeavesSettled disk (work_of lay setup None) setup.devices.items v back run.ends.kept w) (sym (runs-now lay disk setup None closed given few s v back so))
-        (subst (λ kept. LeavesSettled disk (work_of lay setup None) setup.devices.items v back kept s.now) (sym (runs-kept lay disk setup None closed given few s v back so)) (leaves lay disk setup closed given s v back e));
+        (subst (λ kept. LeavesSettled disk (work_of lay setup None) setup.devices.items v back kept s.now) (sym (runs-kept lay disk setup None closed given few s v back so)) (leaves lay disk setup closed given s none v back e));
     none = (refl, ap (λ (u : Service). u.line) e.told);
   }
 

@@ -1,30 +1,40 @@
 -- How the columns end, and the loss.
-use Rattle.std.proofs.Common.{◌≡◌, ◌≢◌, ◌⊎◌, inl, inr, ℕ, List, Option, Some, None, refl, sym, ◌∙◌, ap, subst}
-use Rattle.std.specs.Prelude.{slice_index}
+use Rattle.std.proofs.Common.{◌≡◌, ◌≢◌, ◌⊎◌, inl, inr, ℕ, List, map, Option, Some, None, option_map, slice_get, refl, sym, ◌∙◌, ap, subst}
+use Rattle.std.specs.Prelude.{Contains, Vec, slice_index}
+use Rattle.std.specs.declared.alloc.Global.{Global}
+use Rattle.std.proofs.lemmas.Bool.{cases_eq}
+use Rattle.std.proofs.lemmas.Option.{slice_get-map, slice_get_within, get_or_from_slice_get}
+use Rattle.blk_plain.specs.declared.op.Op.TheVariants as op
 use Rattle.blk_disk.specs.declared.disk.Disk.{Ghosts as DiskGhosts}
 use Rattle.blk_disk.specs.Devices.{contents_of}
 use Rattle.blk_disk.proofs.DeviceLaws.{changes_sector}
 use Rattle.lay_core.specs.Layout.{Shape}
 use Rattle.lay_core.specs.declared.layout.Layout.{Ghosts as LayoutGhosts}
 use Rattle.eng_cols.specs.declared.spot.Loss.{Loss}
-use Rattle.eng_cols.specs.Cols.{ColumnState, Dead, Filling, HasDevice}
+use Rattle.eng_cols.specs.Cols.{ColumnState}
+use Rattle.eng_world.specs.declared.item.Item.{Item}
+use Rattle.eng_world.specs.declared.item.Item.TheVariants as item
 use Rattle.eng_world.specs.World.{World}
-use Rattle.eng_events.specs.Opened.{IsSetup, states_of}
+use Rattle.eng_world.specs.Rebuilding.{OneRebuilds}
+use Rattle.eng_cols.specs.Stripes.{states_of}
+use Rattle.eng_events.specs.Opened.{IsSetup}
 use Rattle.eng_parts.specs.declared.setup.Setup.{Setup}
 use Rattle.eng_parts.specs.declared.setup.Closed.{Closed}
+use Rattle.eng_log.specs.Given.{items_in, items_at}
 use Rattle.eng_array.specs.declared.start.Start.{Start}
+use Rattle.raid_script.specs.Asked.{Other, seen}
 use Rattle.top_close.specs.Ended as ended
-use Rattle.top_close.specs.Settled.{IsLiveOn}
-use Rattle.top_close.proofs.DyingLaws.{columns_die}
-use Rattle.top_serve.specs.Setups.{with_rebuilt}
 use Rattle.top_serve.specs.Caused.{WasLostBy}
 use Rattle.top_serve.specs.Served as served
 use Rattle.top_run.specs.Work.{Service}
 use Rattle.top_run.specs.Works.{work_of}
 use Rattle.top_run.specs.Ends.{EndsSo}
-use Rattle.top_run.specs.Ran.{IsLossAtEnd, IsStoppedBy, ColumnsEnd}
-use Rattle.top_run.proofs.Columns.{was-live, none-filling-rebuilt, ending-dies}
+use Rattle.top_run.specs.Ran.{AsksAsScripts, IsLossAtEnd, IsStoppedBy, ColumnsEnd}
+use Rattle.top_run.proofs.Columns.{ending-dies}
 use Rattle.top_run.proofs.Causing.{came, dead-by}
+
+at-place : {A : Type 0} (l : List A) (k : ℕ) (x : A) → slice_get l k ≡ Some x → Contains l x
+at-place l k x is = (k, slice_get_within l k x is, get_or_from_slice_get l k x x is)
 
 -- the loss of before, or that of the columns in the end
 pub loss-at-end : (y : Shape) (now : World) (before lost : Option Loss) (columns : List ColumnState) → now.lost ≡ before → served.IsLossIn y now before → ended.IsLossBy y before columns lost → IsLossAtEnd y now columns lost
@@ -36,6 +46,11 @@ loss-at-end y now (Some loss) (Some other) columns is why h =
 loss-at-end y now None None columns is why h = (is, h)
 loss-at-end y now None (Some loss) columns is why h = inr (is, h)
 
+-- an array that isn't lost in the end wasn't lost before it
+pub not-before : (y : Shape) (before lost : Option Loss) (columns : List ColumnState) → ended.IsLossBy y before columns lost → lost ≡ None → before ≡ None
+not-before y None lost columns h none = refl
+not-before y (Some loss) lost columns h none = let z : Some loss ≡ None = sym h ∙ none in absurd (let u : ⊥ = cc in u)
+
 module _ {L D : Type 0} (lay : LayoutGhosts L) (disk : DiskGhosts D) (setup : Setup L D) (how : Option Start) (closed : Closed L D) (given : IsSetup lay disk setup) (s : served.IsServed lay disk setup how closed) (v : Service) (back : List (Option D)) (e : EndsSo lay closed disk v back) where
   abbrev y : Shape
   y = lay.shape setup.layout
@@ -43,34 +58,45 @@ module _ {L D : Type 0} (lay : LayoutGhosts L) (disk : DiskGhosts D) (setup : Se
   pub lost-as : ended.IsLossBy y closed.lost (states_of y v.ending.columns) v.ending.lost
   lost-as = subst (λ l. ended.IsLossBy (lay.shape l) closed.lost (states_of (lay.shape l) v.ending.columns) v.ending.lost) s.tells.layout e.lost
 
+  pub unlost : v.ending.lost ≡ None → closed.lost ≡ None
+  unlost none = not-before y closed.lost v.ending.lost (states_of y v.ending.columns) lost-as none
+
   -- no sector changes at the end but the first
   pub same-contents : disk.tells → (d n k : ℕ) → n ≢ 0 → contents_of disk back d n k ≡ contents_of disk closed.devices.items d n k
   same-contents tells d n k other = ap (λ (l : List ℕ). slice_index l k) (changes_sector disk (λ d n. n ≡ 0) closed.devices.items back d n e.frame tells other)
-
-  -- a column in the end that has a device is live on it, since none is filling
-  pub live-in-end : (c d : ℕ) → HasDevice (states_of y v.ending.columns) c d → IsLiveOn v.ending.columns c d
-  live-in-end c d (inl live) = was-live y.stripes v.ending.columns c d live
-  live-in-end c d (inr filling) = absurd (
-      let one = columns_die _ y closed.columns.items v.ending.columns e.dies in
-      let two = columns_die _ y (with_rebuilt how setup.columns.items) closed.columns.items s.causes.dies in
-      not-dead (one.each c) (λ same. not-dead (two.each c) (λ too. none-filling-rebuilt y.stripes how setup.columns.items given.filling c d filling.0 (sym too ∙ (sym same ∙ filling.1))) (sym same ∙ filling.1)) filling.1)
-    where
-      not-dead : {o p : Option ColumnState} → (o ≡ p) ⊎ (o ≡ Some Dead) → (o ≡ p → ⊥) → o ≡ Some (Filling d filling.0) → ⊥
-      not-dead (inl same) other is = other same
-      not-dead (inr dead) other is = let z : Some Dead ≡ Some (Filling d filling.0) = sym dead ∙ is in let u : ⊥ = cc in u
 
   stopped-by : (rebuild : Start) → served.IsStoppedBy lay disk setup how closed s.now rebuild → IsStoppedBy disk (work_of lay setup how) setup.devices.items v back s.now rebuild
   stopped-by rebuild (inl lost) = inl lost
   stopped-by rebuild (inr (k, rests, inl dead)) = inr (k, rests, inl dead)
   stopped-by rebuild (inr (k, rests, inr died)) = inr (k, rests, inr (dead-by lay disk setup how closed given s v back e k died))
 
+  -- where each item is one that a script may have, client 16 alone has rebuilds
+  one-rebuilds : AsksAsScripts (work_of lay setup how) → OneRebuilds s.now
+  one-rebuilds asks id graph st at = elim (cases_eq id.client 16) [
+    | inl e ↦ e
+    | inr ne ↦ absurd (by (slice_get setup.clients.items id.client) refl (ap (λ (l : List Item). slice_get l id.index) (sym (s.rests.items id.client ne)) ∙ at))
+  ]
+    where
+      by : (o : Option (Vec Item Global)) → slice_get setup.clients.items id.client ≡ o → slice_get (items_at setup.clients.items id.client) id.index ≡ Some (item.Run (op.Rebuild st) graph) → ⊥
+      by None is there = let z : None ≡ Some (item.Run (op.Rebuild st) graph) = ap (λ (o : Option (Vec Item Global)). slice_get (items_in o) id.index) (sym is) ∙ there in let u : ⊥ = cc in u
+      by (Some row) is there =
+          let here : slice_get row.items id.index ≡ Some (item.Run (op.Rebuild st) graph) = ap (λ (o : Option (Vec Item Global)). slice_get (items_in o) id.index) (sym is) ∙ there in
+          asks (map seen row.items)
+          (at-place (map (λ (items : Vec Item Global). map seen items.items) setup.clients.items) id.client (map seen row.items)
+          (slice_get-map (λ (items : Vec Item Global). map seen items.items) setup.clients.items id.client ∙ ap (option_map (λ (items : Vec Item Global). map seen items.items)) is))
+          (at-place (map seen row.items) id.index Other (slice_get-map seen row.items id.index ∙ ap (option_map seen) here))
+
   pub columns-end : ColumnsEnd disk (work_of lay setup how) setup.devices.items v back s.now
   columns-end = record {
     kept = closed.columns.items;
     closes = s.tells.closes;
+    count = s.causes.count;
     came = came lay disk setup how closed given s v back e;
+    paused = λ none c d n most fills is. s.causes.paused (unlost none) c d n most fills is;
+    far = λ none asks c d n most fills is alike. s.causes.far (unlost none) (one-rebuilds asks) c d n most fills is alike;
     stopped = λ rebuild is dead. stopped-by rebuild (s.causes.stopped rebuild is dead);
     dies = ending-dies lay disk setup how closed given s v back e;
+    given_up = e.given_up;
     lost = loss-at-end y s.now closed.lost v.ending.lost (states_of y v.ending.columns) (sym s.tells.lost) s.causes.loss lost-as;
   }
 

@@ -1,21 +1,26 @@
 -- What everything in a run comes from.
-use Rattle.std.proofs.Common.{◌⊎◌, inl, inr, ℕ, List, Option}
+use Rattle.std.proofs.Common.{◌≡◌, ◌⊎◌, inl, inr, ℕ, List, Option, Some, None, refl, sym, ◌∙◌, ap, subst}
+use Rattle.std.specs.Prelude.{slice_get}
 use Rattle.blk_disk.specs.declared.disk.Disk.{Ghosts as DiskGhosts}
 use Rattle.lay_core.specs.declared.layout.Layout.{Ghosts as LayoutGhosts}
-use Rattle.eng_cols.specs.Deaths.{Dies}
-use Rattle.eng_cols.proofs.DeathLaws.{dies-more, dies-then}
+use Rattle.eng_cols.specs.declared.column.Column.{Column}
+use Rattle.eng_cols.specs.declared.column.Column.TheVariants as set
+use Rattle.eng_cols.specs.declared.spot.Loss.{Loss}
+use Rattle.eng_cols.specs.Cols.{is_set_filling, passes}
 use Rattle.eng_world.specs.World.{World}
 use Rattle.eng_events.specs.Opened.{IsSetup}
 use Rattle.eng_parts.specs.declared.setup.Setup.{Setup}
 use Rattle.eng_parts.specs.declared.setup.Closed.{Closed}
 use Rattle.eng_array.specs.declared.start.Start.{Start}
-use Rattle.top_serve.specs.Setups.{graphs_in, with_rebuilt}
+use Rattle.top_rounds.specs.Rounds.{IsGivenUp}
+use Rattle.top_serve.specs.Setups.{graphs_in, with_start}
 use Rattle.top_serve.specs.Served as served
+use Rattle.top_serve.specs.Served.{IsKeptAs}
 use Rattle.top_run.specs.Work.{Service}
 use Rattle.top_run.specs.Works.{work_of}
 use Rattle.top_run.specs.Ends.{EndsSo}
-use Rattle.top_run.specs.Ran.{WasFailed, RisesAt, IsDeadBy, IsFailedBy, Causes}
-use Rattle.top_run.proofs.Columns.{rise-before, ending-dies}
+use Rattle.top_run.specs.Ran.{WasFailed, RisesAt, IsDeadBy, IsFailedBy, EndsAs, Causes}
+use Rattle.top_run.proofs.Columns.{rise-before, ending-dies, kept-filling, not-so}
 
 failed-so : (now : World) (c : ℕ) → served.WasFailed now c → WasFailed now c
 failed-so now c f = record { id = f.id; asked = f.asked; replied = f.replied }
@@ -34,12 +39,32 @@ module _ {L D : Type 0} (lay : LayoutGhosts L) (disk : DiskGhosts D) (setup : Se
   abbrev Why : ℕ → Type 0
   Why = IsDeadBy disk (work_of lay setup how) setup.devices.items v back s.now
 
+  abbrev As : Option Column → ℕ → Type 0
+  As kept c = EndsAs disk (work_of lay setup how) setup.devices.items v back s.now (slice_get (with_start how setup.columns.items) c) kept c
+
   why : (c : ℕ) → served.IsDeadBy lay disk setup how closed s.now c ⊎ Unbuilt c → Why c
   why c (inl dead) = elim (dead-by c dead) [ inl failed ↦ inl failed | inr rose ↦ inr (inl rose) ]
   why c (inr unbuilt) = inr (inr unbuilt)
 
-  pub came : Dies Why (with_rebuilt how setup.columns.items) closed.columns.items
-  came = dies-more _ Why (with_rebuilt how setup.columns.items) closed.columns.items why s.causes.dies
+  pub came : (c : ℕ) → As (slice_get closed.columns.items c) c
+  came c = elim (s.causes.ends c) [ inl kept ↦ inl kept | inr dead ↦ inr (dead.0, why c dead.1) ]
+
+  -- a column that is given up was filling as the array was opened, or as its rebuild began
+  given-before : (lost : Option Loss) (c : ℕ) → IsGivenUp lost closed.columns.items c → IsGivenUp lost (with_start how setup.columns.items) c
+  given-before None c up = up
+  given-before (Some loss) c up = elim (s.causes.ends c) [
+    | inl kept ↦ kept-filling (slice_get (with_start how setup.columns.items) c) (slice_get closed.columns.items c) kept up
+    | inr dead ↦ not-so (passes is_set_filling (slice_get closed.columns.items c)) (ap (passes is_set_filling) dead.0) up
+  ]
+
+  ends : (c : ℕ) → As (slice_get v.ending.columns c) c ⊎ ((slice_get v.ending.columns c ≡ Some set.Dead) × IsGivenUp v.ending.lost (with_start how setup.columns.items) c)
+  ends c = elim ((ending-dies lay disk setup how closed given s v back e).each c) [
+    | inl same ↦ inl (subst (λ (o : Option Column). As o c) (sym same) (came c))
+    | inr dead ↦ elim dead.1 [
+      | inl rose ↦ inl (inr (dead.0, inr (inl rose)))
+      | inr up ↦ inr (dead.0, given-before v.ending.lost c up)
+    ]
+  ]
 
   failed-by : (d : ℕ) → served.IsFailedBy lay disk setup how closed s.now d → IsFailedBy disk (work_of lay setup how) setup.devices.items v back s.now d
   failed-by d (inl rose) = inl (rise-before lay disk setup how closed given s v back e d rose)
@@ -48,10 +73,8 @@ module _ {L D : Type 0} (lay : LayoutGhosts L) (disk : DiskGhosts D) (setup : Se
   pub causes : Causes disk (work_of lay setup how) setup.devices.items v back (graphs_in setup) s.start s.events s.now
   causes = record {
     replies = s.causes.replies;
-    dies =
-        dies-then Why (with_rebuilt how setup.columns.items) closed.columns.items v.ending.columns
-        came
-        (dies-more Rises Why closed.columns.items v.ending.columns (λ c rose. inr (inl rose)) (ending-dies lay disk setup how closed given s v back e));
+    count = (ending-dies lay disk setup how closed given s v back e).count ∙ s.causes.count;
+    ends = ends;
     failed = λ d is. failed-by d (s.causes.failed d is);
     bad = λ later before id node split. let went = s.causes.bad later before id node split in (went.0, went.1, failed-by went.0 went.2);
   }

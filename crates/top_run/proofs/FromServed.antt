@@ -136,6 +136,7 @@ module _ {L D : Type 0} (lay : LayoutGhosts L) (disk : DiskGhosts D) (setup : Se
     begins = s.rests.begins;
     run = s.rests.run;
     rebuilds = s.rests.rebuilds;
+    alone = s.rests.alone;
     replied = s.rests.replied;
     out = s.rests.out;
   }

@@ -15,7 +15,7 @@ use Rattle.eng_world.specs.World.{op_of}
 use Rattle.eng_world.specs.Planning.{touches}
 use Rattle.eng_world.specs.Legal.{ReplyOf}
 use Rattle.eng_world.specs.Causes.{ItemAt}
-use Rattle.eng_events.specs.Opened.{states_of}
+use Rattle.eng_cols.specs.Stripes.{states_of}
 use Rattle.raid_script.specs.Asked.{seen}
 use Rattle.raid_script.specs.Drawn.{AreApart, IsOwn}
 use Rattle.raid_script.specs.Replies.{items_in, items_at}

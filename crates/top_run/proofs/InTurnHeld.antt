@@ -10,7 +10,7 @@ use Rattle.lay_core.specs.Layout.{Blocks, blocks_in}
 use Rattle.eng_cols.specs.Cols.{ColumnState}
 use Rattle.eng_cols.specs.Contents.{decode}
 use Rattle.eng_world.specs.declared.item.Item.TheVariants as item
-use Rattle.eng_events.specs.Opened.{states_of}
+use Rattle.eng_cols.specs.Stripes.{states_of}
 use Rattle.raid_script.specs.Drawn.{AreApart, IsOwn, drawn, share}
 use Rattle.raid_script.proofs.DrawnShares.{drawn_apart}
 use Rattle.raid_script.specs.Asked.{Asked}

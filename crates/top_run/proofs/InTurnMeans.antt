@@ -17,7 +17,7 @@ use Rattle.eng_world.specs.declared.item.Reply.TheVariants as reply
 use Rattle.eng_world.specs.Plain.{replay}
 use Rattle.eng_world.specs.World.{World}
 use Rattle.eng_world.specs.Legal.{AreOps, ReplyOf}
-use Rattle.eng_events.specs.Opened.{states_of}
+use Rattle.eng_cols.specs.Stripes.{states_of}
 use Rattle.raid_script.specs.Asked.{seen}
 use Rattle.raid_script.specs.Drawn.{AreApart}
 use Rattle.raid_script.specs.Replies.{items_in, items_at, item_sectors, no_item, replies_at}

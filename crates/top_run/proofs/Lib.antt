@@ -6,8 +6,8 @@ pub mod AtEnd
 mod Finishing
 mod Meaning
 mod Causing
+pub mod Kept
 pub mod Outlived
-mod Ordered
 pub mod Rebuilt
 pub mod All
 mod InTurnOps

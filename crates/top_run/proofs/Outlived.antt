@@ -1,8 +1,8 @@
 -- A run that the array outlives isn't lost, and in one that isn't lost each item has the reply that it ought to.
-use Rattle.std.proofs.Common.{◌≡◌, ◌≢◌, ◌⊎◌, inl, inr, ℕ, List, length, map, Bool, Option, Some, None, option_map, slice_get, slice_set, refl, sym, ◌∙◌, ap, subst, arith}
-use Rattle.std.specs.Prelude.{Contains, Vec}
+use Rattle.std.proofs.Common.{◌≡◌, ◌≢◌, ◌⊎◌, inl, inr, ℕ, zero, suc, ◌<◌, ◌≤◌, List, [], ◌∷◌, length, map, Bool, true, false, Option, Some, None, option_map, slice_get, slice_set, refl, sym, ◌∙◌, ap, subst, arith}
+use Rattle.std.specs.Prelude.{Contains, Vec, count_by, if◌then◌else◌}
 use Rattle.std.specs.declared.alloc.Global.{Global}
-use Rattle.std.proofs.lemmas.Bool.{cases_eq}
+use Rattle.std.proofs.lemmas.Bool.{cases_lt}
 use Rattle.std.proofs.lemmas.List.{length-set}
 use Rattle.std.proofs.lemmas.Option.{slice_get-map, slice_get_past, slice_get_within, get_or_from_slice_get}
 use Rattle.blk_plain.specs.declared.op.Op.{Op}
@@ -13,11 +13,12 @@ use Rattle.lay_core.specs.Layout.{Shape}
 use Rattle.eng_cols.specs.declared.column.Column.{Column}
 use Rattle.eng_cols.specs.declared.column.Column.TheVariants as set
 use Rattle.eng_cols.specs.declared.spot.Loss.{Loss}
-use Rattle.eng_cols.specs.Cols.{ColumnState, Live, Dead, Filling, Spread, HasDevice, all_done, none_done, state_set}
+use Rattle.eng_cols.specs.Cols.{AtMostOne, ColumnState, Live, Dead, Filling, Spread, HasDevice, all_done, device_set, is_set_filling, is_set_spread, passes, state_set}
 use Rattle.eng_cols.specs.Deaths.{Dies}
+use Rattle.eng_cols.specs.Fewer.{DieApart}
 use Rattle.eng_cols.specs.Lost.{NotLost}
-use Rattle.eng_cols.proofs.DeathLaws.{dies-more, dies-refl}
-use Rattle.eng_cols.proofs.Lists.{get_set_either, get_set_other, get_set_same}
+use Rattle.eng_cols.specs.Stripes.{filled_in, spreads, states_of}
+use Rattle.eng_cols.proofs.Lists.{get_set_other, get_set_same}
 use Rattle.eng_cols.proofs.Losing.{lost-excludes}
 use Rattle.eng_world.specs.declared.item.Item.{Item as AnyItem}
 use Rattle.eng_world.specs.declared.item.Item.TheVariants as item
@@ -27,44 +28,53 @@ use Rattle.eng_world.specs.World.{IsRead, World}
 use Rattle.eng_world.specs.Legal.{StandsAt}
 use Rattle.eng_world.specs.Causes.{ItemAt, WasSpread, IsGone, IsCause}
 use Rattle.eng_world.proofs.Caused.{some-get}
-use Rattle.eng_events.specs.Opened.{states_of}
 use Rattle.eng_array.specs.Starts.{column_of}
 use Rattle.eng_array.specs.declared.start.Start.{Start}
 use Rattle.eng_array.specs.declared.start.Start.TheVariants as start
 use Rattle.raid_script.specs.Asked.{seen, Fails}
 use Rattle.raid_script.specs.Replies.{items_in, items_at}
 use Rattle.top_close.specs.Dying.{AnyCause}
-use Rattle.top_close.proofs.DyingLaws.{lost_no_less, columns_die}
+use Rattle.top_close.proofs.DyingLaws.{columns_die, dies_apart, dies_unfilled, lost_no_less}
 use Rattle.top_close.proofs.ClosingLaws.{closing_dead, closing_lost}
+use Rattle.top_rounds.specs.Rounds.{IsGivenUp}
 use Rattle.top_serve.specs.Caused.{WasLostBy}
-use Rattle.top_serve.specs.Served.{IsUnbuilt}
-use Rattle.top_serve.specs.Setups.{with_rebuilt, with_start}
+use Rattle.top_serve.specs.Served.{IsKeptAs, IsUnbuilt}
+use Rattle.top_serve.specs.Setups.{with_start}
+use Rattle.top_serve.proofs.Alike.{IsOther, other-or-not, start-other}
+use Rattle.top_serve.proofs.Behind.{IsFresh}
+use Rattle.top_serve.proofs.Closings.{none-count}
 use Rattle.top_run.specs.Work.{Work, Service}
-use Rattle.top_run.specs.Ran.{WasFailed, IsLossAtEnd, RisesAt, IsFailedBy, begun_in, RanPlain, Ran}
+use Rattle.top_run.specs.Ran.{WasFailed, IsDeadBy, IsLossAtEnd, EndsAs, RisesAt, IsFailedBy, begun_in, begun_for, Ran, RanPlain}
 use Rattle.top_run.specs.Outliving.{HasFail, done_reply, MayDie, OutlivesCall, HasFaulted, IsAnswered, IsReplyTo, AllAnswered}
-use Rattle.top_run.proofs.Starting.{IsDeadBefore, dead-then, device-same, rebuilds-none, rebuilt-other, spread-by, spread-rebuilt, spread-started, started-other}
+use Rattle.top_run.proofs.Columns.{device-on, device-same, given-unspread, kept-same, kept-unspread, no-device, not-so}
+use Rattle.top_run.proofs.Kept.{one-kept}
+use Rattle.top_run.proofs.Starting.{IsDeadBefore, dead-then, rebuilds-none, spread-by, spread-started}
 
 -- ## Lists and columns
 
 at-place : {A : Type 0} (l : List A) (k : ℕ) (x : A) → slice_get l k ≡ Some x → Contains l x
 at-place l k x is = (k, slice_get_within l k x is, get_or_from_slice_get l k x x is)
 
-spread-back : (n : ℕ) (o : Option Column) (done : List Bool) → option_map (state_set n) o ≡ Some (Spread done) → o ≡ Some set.Spread
-spread-back n None done h = let z : None ≡ Some (Spread done) = h in absurd (let u : ⊥ = cc in u)
-spread-back n (Some (set.Live d)) done h = let z : Some (Live d) ≡ Some (Spread done) = h in absurd (let u : ⊥ = cc in u)
-spread-back n (Some set.Dead) done h = let z : Some Dead ≡ Some (Spread done) = h in absurd (let u : ⊥ = cc in u)
-spread-back n (Some (set.Filling d)) done h = let z : Some (Filling d (none_done n)) ≡ Some (Spread done) = h in absurd (let u : ⊥ = cc in u)
-spread-back n (Some set.Spread) done h = refl
+spread-back : (n : ℕ) (l : List Bool) (o : Option Column) (done : List Bool) → option_map (state_set n l) o ≡ Some (Spread done) → o ≡ Some set.Spread
+spread-back n l None done h = let z : None ≡ Some (Spread done) = h in absurd (let u : ⊥ = cc in u)
+spread-back n l (Some (set.Live d)) done h = let z : Some (Live d) ≡ Some (Spread done) = h in absurd (let u : ⊥ = cc in u)
+spread-back n l (Some set.Dead) done h = let z : Some Dead ≡ Some (Spread done) = h in absurd (let u : ⊥ = cc in u)
+spread-back n l (Some (set.Filling d m)) done h = let z : Some (Filling d l) ≡ Some (Spread done) = h in absurd (let u : ⊥ = cc in u)
+spread-back n l (Some set.Spread) done h = refl
 
--- a spread column has no device
-spread-none : {A : Type 0} (cols : List ColumnState) (c d : ℕ) (done : List Bool) → slice_get cols c ≡ Some (Spread done) → HasDevice cols c d → A
-spread-none cols c d done is (inl h) = let z : Some (Spread done) ≡ Some (Live d) = sym is ∙ h in absurd (let u : ⊥ = cc in u)
-spread-none cols c d done is (inr h) = let z : Some (Spread done) ≡ Some (Filling d h.0) = sym is ∙ h.1 in absurd (let u : ⊥ = cc in u)
-
--- a column that isn't whole isn't dead as the run ends
+-- a column that is to be spread isn't dead as the run ends
 unbuilt-lives : (y : Shape) (now : World) (how : Option Start) (c : ℕ) → IsUnbuilt y how now c → slice_get now.columns c ≡ Some Dead → ⊥
 unbuilt-lives y now None c unbuilt dead = unbuilt
-unbuilt-lives y now (Some h) c unbuilt dead = unbuilt.1 dead
+unbuilt-lives y now (Some (start.Fill k d most)) c unbuilt dead = unbuilt
+unbuilt-lives y now (Some (start.Resume k most)) c unbuilt dead = unbuilt
+unbuilt-lives y now (Some (start.Spread k)) c unbuilt dead = unbuilt.1 dead
+
+-- and it is the one that is rebuilt
+unbuilt-other : {A : Type 0} (y : Shape) (now : World) (how : Option Start) (c : ℕ) → IsUnbuilt y how now c → IsOther how c → A
+unbuilt-other y now None c unbuilt other = absurd unbuilt
+unbuilt-other y now (Some (start.Fill k d most)) c unbuilt other = absurd unbuilt
+unbuilt-other y now (Some (start.Resume k most)) c unbuilt other = absurd unbuilt
+unbuilt-other y now (Some (start.Spread k)) c unbuilt other = absurd (other (sym unbuilt.0))
 
 done-by : (o : Op) → (IsRead (Some o) → ⊥) → reply.Done ≡ done_reply o
 done-by (op.Write span pattern) h = refl
@@ -72,6 +82,63 @@ done-by (op.Writes patches) h = refl
 done-by (op.Read span) h = absurd (h tt)
 done-by (op.Rebuild stripe) h = refl
 done-by (op.Sync stripe) h = refl
+
+-- ## Columns without some
+
+-- columns of which those are dead that were filling
+unfilled : List Column → List Column → List Column
+unfilled [] ends = ends
+unfilled (x ∷ was) [] = []
+unfilled (x ∷ was) (z ∷ ends) = (if is_set_filling x then set.Dead else z) ∷ unfilled was ends
+
+unfilled-count : (was ends : List Column) → length (unfilled was ends) ≡ length ends
+unfolding unfilled
+unfilled-count [] ends = refl
+unfilled-count (x ∷ was) [] = refl
+unfilled-count (x ∷ was) (z ∷ ends) = let rest = unfilled-count was ends in omega (arith, rest)
+
+if-one : (b : Bool) (z : Column) → b ≡ true → (if b then set.Dead else z) ≡ set.Dead
+if-one true z h = refl
+if-one false z h = not-so false refl h
+
+if-other : (b : Bool) (z : Column) → b ≡ false → (if b then set.Dead else z) ≡ z
+if-other true z h = not-so true h refl
+if-other false z h = refl
+
+unfilled-one : (was ends : List Column) (c : ℕ) → c < length ends → passes is_set_filling (slice_get was c) ≡ true → slice_get (unfilled was ends) c ≡ Some set.Dead
+unfolding unfilled
+unfilled-one [] ends c lt h = not-so false refl h
+unfilled-one (x ∷ was) [] c lt h = absurd (omega (arith, lt))
+unfilled-one (x ∷ was) (z ∷ ends) zero lt h = ap (λ v. Some v) (if-one (is_set_filling x) z h)
+unfilled-one (x ∷ was) (z ∷ ends) (suc c) lt h = unfilled-one was ends c (omega (arith, lt)) h
+
+unfilled-other : (was ends : List Column) (c : ℕ) → passes is_set_filling (slice_get was c) ≡ false → slice_get (unfilled was ends) c ≡ slice_get ends c
+unfolding unfilled
+unfilled-other [] ends c h = refl
+unfilled-other (x ∷ was) [] c h = refl
+unfilled-other (x ∷ was) (z ∷ ends) zero h = ap (λ v. Some v) (if-other (is_set_filling x) z h)
+unfilled-other (x ∷ was) (z ∷ ends) (suc c) h = unfilled-other was ends c h
+
+-- and of which the one is dead that is rebuilt
+without : Option Start → List Column → List Column
+without None columns = columns
+without (Some how) columns = slice_set columns (column_of how) set.Dead
+
+without-count : (how : Option Start) (columns : List Column) → length (without how columns) ≡ length columns
+unfolding without
+without-count None columns = refl
+without-count (Some how) columns = length-set columns (column_of how) set.Dead
+
+without-other : (how : Option Start) (columns : List Column) (c : ℕ) → IsOther how c → slice_get (without how columns) c ≡ slice_get columns c
+unfolding without
+without-other None columns c other = refl
+without-other (Some how) columns c other = get_set_other columns (column_of how) c set.Dead other
+
+without-one : (how : Start) (columns : List Column) (c : ℕ) → c ≡ column_of how → c < length columns → slice_get (without (Some how) columns) c ≡ Some set.Dead
+unfolding without
+without-one how columns c is lt =
+    let x = some-get columns (column_of how) (subst (λ k. k < length columns) is lt) in
+    ap (slice_get (slice_set columns (column_of how) set.Dead)) is ∙ get_set_same columns (column_of how) x.0 set.Dead x.1
 
 module _ {D : Type 0} (g : Ghosts D) (a : Work) (taken back : List (Option D)) (s : Service) (ran : Ran g a taken s back) where
   abbrev y : Shape
@@ -87,7 +154,7 @@ module _ {D : Type 0} (g : Ghosts D) (a : Work) (taken back : List (Option D)) (
   asked-fail c w = by (slice_get s.clients w.id.client) refl
     where
       other : w.id.client ≢ 16
-      other is = rebuilds-none y (begun_in a) a.start (ran.now.clients 16).items w.id.index c ran.rests.rebuilds (ap (λ k. slice_get (ran.now.clients k).items w.id.index) (sym is) ∙ w.asked)
+      other is = rebuilds-none y (begun_for a) a.start (ran.now.clients 16).items w.id.index c ran.rests.rebuilds (ap (λ k. slice_get (ran.now.clients k).items w.id.index) (sym is) ∙ w.asked)
 
       at : slice_get (items_at s.clients w.id.client) w.id.index ≡ Some (item.Fail c)
       at = ap (λ (l : List AnyItem). slice_get l w.id.index) (ran.tells.items w.id.client other) ∙ w.asked
@@ -106,85 +173,130 @@ module _ {D : Type 0} (g : Ghosts D) (a : Work) (taken back : List (Option D)) (
             fails = at-place (map seen row.items) w.id.index (Fails c) (slice_get-map seen row.items w.id.index ∙ ap (option_map seen) here);
           }
 
-  -- a column that is rebuilt was dead
+  -- a column of which the rebuild began anew was dead
   dead-first : IsDeadBefore a.start a.columns
-  dead-first = dead-then y ran.graphs ran.start ran.now ran.events ran.opens.opening ran.rests.run a.columns ran.opens.columns a.start ran.rests.begins
+  dead-first = dead-then y ran.graphs ran.start ran.now ran.events ran.opens.opening ran.rests.run a.columns ran.opens.columns a.start (length (ran.now.clients 16).items) ran.rests.begins
 
   -- the cause of another column that died
-  may-die : (how : Option Start) → a.start ≡ how → (c : ℕ) → ((h : Start) → how ≡ Some h → c ≢ column_of h) → WasFailed ran.now c ⊎ (RisesAt g a taken s back c ⊎ IsUnbuilt y how ran.now c) → MayDie g a taken back c
-  may-die how is c other (inl w) = inl (asked-fail c w)
-  may-die None is c other (inr (inl rose)) = inr (inr (rose.0, subst (λ h. HasDevice (states_of y (with_start h a.columns)) c rose.0) is rose.1, rose.2))
-  may-die (Some h) is c other (inr (inl rose)) =
-      inr (inr (rose.0, device-same y.stripes (with_start (Some h) a.columns) a.columns c rose.0 (started-other h a.columns c (other h refl)) (subst (λ x. HasDevice (states_of y (with_start x a.columns)) c rose.0) is rose.1), rose.2))
-  may-die None is c other (inr (inr unbuilt)) = absurd unbuilt
-  may-die (Some h) is c other (inr (inr unbuilt)) = absurd (other h refl (sym unbuilt.0))
+  may-die : (c : ℕ) → IsOther a.start c → IsDeadBy g a taken s back ran.now c → MayDie g a taken back c
+  may-die c other (inl w) = inl (asked-fail c w)
+  may-die c other (inr (inl rose)) = inr (inr (inr (rose.0, device-same y (with_start a.start a.columns) a.columns c rose.0 (start-other a.start a.columns c other) rose.1, rose.2)))
+  may-die c other (inr (inr unbuilt)) = unbuilt-other y ran.now a.start c unbuilt other
 
-  -- the columns in the end, without the one that was rebuilt
-  without : Option Start → List Column
-  without None = s.ending.columns
-  without (Some h) = slice_set s.ending.columns (column_of h) set.Dead
-
-  abbrev Why : Option Start → ℕ → Type 0
-  Why how c = WasFailed ran.now c ⊎ (RisesAt g a taken s back c ⊎ IsUnbuilt y how ran.now c)
-
-  rebuilt-count : (how : Option Start) (columns : List Column) → length (with_rebuilt how columns) ≡ length columns
-  rebuilt-count None columns = refl
-  rebuilt-count (Some (start.Fill c d)) columns = length-set columns c (set.Live d)
-  rebuilt-count (Some (start.Spread c)) columns = length-set columns c set.Spread
-
-  died-without : (how : Option Start) → a.start ≡ how → Dies (Why how) (with_rebuilt how a.columns) s.ending.columns → Dies (MayDie g a taken back) a.columns (without how)
-  unfolding without
-  died-without None is dies = dies-more (Why None) (MayDie g a taken back) a.columns s.ending.columns (λ c why. may-die None is c (λ h none. let z : None ≡ Some h = none in absurd (let u : ⊥ = cc in u)) why) dies
-  died-without (Some h) is dies = record { count = length-set s.ending.columns k set.Dead ∙ (dies.count ∙ rebuilt-count (Some h) a.columns); each = λ c. by c (cases_eq c k) }
+  -- another column that wasn't filling is as it was, or died
+  ended : (c : ℕ) → IsOther a.start c → passes is_set_filling (slice_get a.columns c) ≡ false → (slice_get s.ending.columns c ≡ slice_get a.columns c) ⊎ ((slice_get s.ending.columns c ≡ Some set.Dead) × MayDie g a taken back c)
+  ended c other none = by (ran.causes.ends c)
     where
-      k : ℕ
-      k = column_of h
+      same : slice_get (with_start a.start a.columns) c ≡ slice_get a.columns c
+      same = start-other a.start a.columns c other
 
-      was-dead : slice_get a.columns k ≡ Some set.Dead
-      was-dead = dead-first h is
+      given : (lost : Option Loss) → IsGivenUp lost (with_start a.start a.columns) c → ⊥
+      given None up = up
+      given (Some loss) up = not-so (passes is_set_filling (slice_get a.columns c)) none (ap (passes is_set_filling) (sym same) ∙ up)
 
-      now-dead : slice_get (slice_set s.ending.columns k set.Dead) k ≡ Some set.Dead
-      now-dead =
-          let within = slice_get_within a.columns k set.Dead was-dead in
-          let many = dies.count ∙ rebuilt-count (Some h) a.columns in
-          let got = some-get s.ending.columns k (omega (arith, within, many)) in
-          get_set_same s.ending.columns k got.0 set.Dead got.1
+      by : EndsAs g a taken s back ran.now (slice_get (with_start a.start a.columns) c) (slice_get s.ending.columns c) c ⊎ ((slice_get s.ending.columns c ≡ Some set.Dead) × IsGivenUp s.ending.lost (with_start a.start a.columns) c)
+          → (slice_get s.ending.columns c ≡ slice_get a.columns c) ⊎ ((slice_get s.ending.columns c ≡ Some set.Dead) × MayDie g a taken back c)
+      by (inl (inl kept)) = inl (kept-same (slice_get a.columns c) (slice_get s.ending.columns c) none (subst (λ o. IsKeptAs o (slice_get s.ending.columns c)) same kept))
+      by (inl (inr dead)) = inr (dead.0, may-die c other dead.1)
+      by (inr dead) = absurd (given s.ending.lost dead.1)
 
-      by : (c : ℕ) → (c ≡ k) ⊎ (c ≡ k → ⊥) → (slice_get (slice_set s.ending.columns k set.Dead) c ≡ slice_get a.columns c) ⊎ ((slice_get (slice_set s.ending.columns k set.Dead) c ≡ Some set.Dead) × MayDie g a taken back c)
-      by c (inl here) = inl (ap (slice_get (slice_set s.ending.columns k set.Dead)) here ∙ (now-dead ∙ (sym was-dead ∙ ap (slice_get a.columns) (sym here))))
-      by c (inr other) =
-          let same = get_set_other s.ending.columns k c set.Dead other in
-          elim (dies.each c) [
-            | inl still ↦ inl (same ∙ (still ∙ rebuilt-other h a.columns c other))
-            | inr died ↦ inr (same ∙ died.0, may-die (Some h) is c (λ x eq. let z : Some h ≡ Some x = eq in let one : h ≡ x = cc in subst (λ w. c ≢ column_of w) one other) died.1)
-          ]
+  -- the columns in the end, without those that were filling and the one that was rebuilt
+  abbrev lives : List Column
+  lives = unfilled a.columns s.ending.columns
 
-  died-so : Dies (MayDie g a taken back) a.columns (without a.start)
-  died-so = died-without a.start refl ran.causes.dies
+  abbrev rest : List Column
+  rest = without a.start lives
 
-  -- it has died since the end, or is as it was
-  only-dead : (how : Option Start) → Dies AnyCause s.ending.columns (without how)
-  unfolding without
-  only-dead None = dies-refl AnyCause s.ending.columns
-  only-dead (Some h) = record {
-    count = length-set s.ending.columns (column_of h) set.Dead;
-    each = λ c. elim (get_set_either s.ending.columns (column_of h) c set.Dead) [ inl dead ↦ inr (dead, tt) | inr same ↦ inl same ];
+  rest-count : length rest ≡ length s.ending.columns
+  rest-count = without-count a.start lives ∙ unfilled-count a.columns s.ending.columns
+
+  -- a column is dead then, or it is another one that wasn't filling, as it is in the end
+  abbrev Which : ℕ → Type 0
+  Which c = ((slice_get rest c ≡ Some set.Dead) × MayDie g a taken back c) ⊎ ((slice_get rest c ≡ slice_get s.ending.columns c) × IsOther a.start c × (passes is_set_filling (slice_get a.columns c) ≡ false))
+
+  which : (c : ℕ) → c < length a.columns → Which c
+  which c lt = within (other-or-not a.start c)
+    where
+      there : c < length s.ending.columns
+      there = let many = ran.causes.count in omega (arith, lt, many)
+
+      by : IsOther a.start c → (b : Bool) → passes is_set_filling (slice_get a.columns c) ≡ b → Which c
+      by other true is = inl (without-other a.start lives c other ∙ unfilled-one a.columns s.ending.columns c there is, inr (inr (inl is)))
+      by other false is = inr (without-other a.start lives c other ∙ unfilled-other a.columns s.ending.columns c is, other, is)
+
+      within : IsOther a.start c ⊎ ((how : Start) × (a.start ≡ Some how) × (c ≡ column_of how)) → Which c
+      within (inl other) = by other (passes is_set_filling (slice_get a.columns c)) refl
+      within (inr (how, is, here)) =
+          let count = unfilled-count a.columns s.ending.columns in
+          let lies = there in
+          inl (subst (λ h. slice_get (without h lives) c ≡ Some set.Dead) (sym is) (without-one how lives c here (omega (arith, lies, count))), inr (inl (how, is, sym here)))
+
+  -- past the last there is none
+  past-rest : (c : ℕ) → length a.columns ≤ c → slice_get rest c ≡ None
+  past-rest c le = let count = rest-count in let many = ran.causes.count in slice_get_past rest c (omega (arith, le, count, many))
+
+  died : (c : ℕ) → ((slice_get rest c ≡ slice_get a.columns c) × (passes is_set_filling (slice_get rest c) ≡ false)) ⊎ ((slice_get rest c ≡ Some set.Dead) × MayDie g a taken back c)
+  died c = elim (cases_lt c (length a.columns)) [
+    | inr over ↦ inl (past-rest c over ∙ sym (slice_get_past a.columns c over), ap (passes is_set_filling) (past-rest c over))
+    | inl lt ↦ elim (which c lt) [
+      | inl dead ↦ inr dead
+      | inr left ↦ elim (ended c left.1 left.2) [
+        | inl kept ↦ inl (left.0 ∙ kept, ap (passes is_set_filling) (left.0 ∙ kept) ∙ left.2)
+        | inr dead ↦ inr (left.0 ∙ dead.0, dead.1)
+      ]
+    ]
+  ]
+
+  died-so : Dies (MayDie g a taken back) a.columns rest
+  died-so = record { count = rest-count ∙ ran.causes.count; each = λ c. elim (died c) [ inl left ↦ inl left.0 | inr dead ↦ inr dead ] }
+
+  -- none of these is filling
+  none-left : count_by is_set_filling rest ≡ 0
+  none-left = none-count is_set_filling rest (λ c. elim (died c) [ inl left ↦ left.1 | inr dead ↦ ap (passes is_set_filling) dead.0 ])
+
+  -- each is as it is in the end, or has died since
+  only-dead : Dies AnyCause s.ending.columns rest
+  only-dead = record {
+    count = rest-count;
+    each = λ c. elim (cases_lt c (length a.columns)) [
+      | inr over ↦ inl (past-rest c over ∙ sym (slice_get_past s.ending.columns c (let many = ran.causes.count in omega (arith, over, many))))
+      | inl lt ↦ elim (which c lt) [ inl dead ↦ inr (dead.0, tt) | inr left ↦ inl left.0 ]
+    ];
   }
 
   -- ## The loss
 
+  one-ending : AtMostOne is_set_filling s.ending.columns
+  one-ending c k h other = one-kept g a taken back s ran c k (before c h) (before k other)
+    where
+      before : (j : ℕ) → passes is_set_filling (slice_get s.ending.columns j) ≡ true → passes is_set_filling (slice_get ran.ends.kept j) ≡ true
+      before j h = elim (ran.ends.dies.each j) [
+        | inl same ↦ ap (passes is_set_filling) (sym same) ∙ h
+        | inr dead ↦ not-so (passes is_set_filling (slice_get s.ending.columns j)) (ap (passes is_set_filling) dead.0) h
+      ]
+
+  -- a column that dies as devices are settled, or is given up, isn't spread
+  unspread-kept : (c : ℕ) → RisesAt g a taken s back c ⊎ IsGivenUp s.ending.lost ran.ends.kept c → spreads ran.ends.kept c ≡ false
+  unspread-kept c (inr up) = given-unspread s.ending.lost ran.ends.kept c up
+  unspread-kept c (inl rose) = elim (ran.ends.came c) [
+    | inl kept ↦ kept-unspread (slice_get (with_start a.start a.columns) c) (slice_get ran.ends.kept c) rose.0 (device-on y (with_start a.start a.columns) c rose.0 rose.1) kept
+    | inr dead ↦ ap (passes is_set_spread) dead.0
+  ]
+
   -- what was lost in the run is lost in the end
   lost-still : (loss : Loss) → WasLostBy y ran.now loss → NotLost y last → ⊥
   lost-still loss was kept =
-      let ended : NotLost y (states_of y ran.ends.kept) = lost_no_less y (states_of y ran.ends.kept) last (columns_die (RisesAt g a taken s back) y ran.ends.kept s.ending.columns ran.ends.dies) kept in
-      let now : NotLost y ran.now.columns = closing_lost y ran.now.columns ran.ends.kept ran.ends.closes ended in
+      let one = one-kept g a taken back s ran in
+      let apart : DieApart ran.ends.kept s.ending.columns = dies_apart (λ c. RisesAt g a taken s back c ⊎ IsGivenUp s.ending.lost ran.ends.kept c) ran.ends.kept s.ending.columns ran.ends.dies unspread-kept in
+      let ended : NotLost y (states_of y ran.ends.kept) = lost_no_less y (states_of y ran.ends.kept) last (columns_die (λ c. RisesAt g a taken s back c ⊎ IsGivenUp s.ending.lost ran.ends.kept c) y ran.ends.kept s.ending.columns ran.ends.dies apart one) kept in
+      let now : NotLost y ran.now.columns = closing_lost y ran.now.columns ran.ends.kept ran.ends.closes one ended in
       lost-excludes y was.columns loss was.is_lost (lost_no_less y was.columns ran.now.columns (record { count = was.count; each = was.each }) now)
 
   pub runs-outlived : OutlivesCall g a taken back → s.ending.lost ≡ None
   runs-outlived outlives = by s.ending.lost refl ran.ends.lost
     where
       kept : NotLost y last
-      kept = lost_no_less y last (states_of y (without a.start)) (columns_die AnyCause y s.ending.columns (without a.start) (only-dead a.start)) (outlives (without a.start) died-so)
+      kept = lost_no_less y last (states_of y rest) (columns_die AnyCause y s.ending.columns rest only-dead (dies_unfilled AnyCause s.ending.columns rest only-dead none-left) one-ending) (outlives rest died-so)
 
       by : (o : Option Loss) → s.ending.lost ≡ o → IsLossAtEnd y ran.now last o → s.ending.lost ≡ None
       by None is h = is
@@ -207,24 +319,28 @@ module _ {D : Type 0} (g : Ghosts D) (a : Work) (taken back : List (Option D)) (
   was-spread : (c : ℕ) → WasSpread ran.start ran.events c → slice_get (with_start a.start a.columns) c ≡ Some set.Spread
   was-spread c (inl h) =
       spread-started a.start a.columns c dead-first
-      (spread-back y.stripes (slice_get a.columns c) h.0 (sym (slice_get-map (state_set y.stripes) a.columns c) ∙ (ap (λ (l : List ColumnState). slice_get l c) (sym ran.opens.columns) ∙ h.1)))
+      (spread-back y.stripes (filled_in y a.columns) (slice_get a.columns c) h.0 (sym (slice_get-map (state_set y.stripes (filled_in y a.columns)) a.columns c) ∙ (ap (λ (l : List ColumnState). slice_get l c) (sym ran.opens.columns) ∙ h.1)))
   was-spread c (inr h) =
-      let is = spread-by a.start ran.events c ran.rests.begins h in
-      let dead = dead-first (start.Spread c) is in
+      let is = spread-by a.start (length (ran.now.clients 16).items) ran.events c ran.rests.begins h in
+      let dead = dead-first c (subst (λ how. IsFresh how c) (sym is) refl) in
       subst (λ how. slice_get (with_start how a.columns) c ≡ Some set.Spread) (sym is) (get_set_same a.columns c set.Dead set.Spread dead)
 
   -- a spread column that has died did by an item
   spread-failed : (c : ℕ) → slice_get (with_start a.start a.columns) c ≡ Some set.Spread → slice_get ran.now.columns c ≡ Some Dead → HasFail a c
-  spread-failed c was dead = elim (ran.causes.dies.each c) [
-    | inl same ↦ let z : Some set.Dead ≡ Some set.Spread = sym (dead-in-end c dead) ∙ (same ∙ spread-rebuilt a.start a.columns c dead-first was) in absurd (let u : ⊥ = cc in u)
-    | inr died ↦ elim died.1 [
-      | inl failed ↦ asked-fail c failed
-      | inr other ↦ elim other [
-        | inl rose ↦ spread-none (begun_in a) c rose.0 (all_done y.stripes) (slice_get-map (state_set y.stripes) (with_start a.start a.columns) c ∙ ap (option_map (state_set y.stripes)) was) rose.1
-        | inr unbuilt ↦ absurd (unbuilt-lives y ran.now a.start c unbuilt dead)
-      ]
-    ]
-  ]
+  spread-failed c was dead = by (ran.causes.ends c)
+    where
+      unfit : {A : Type 0} (lost : Option Loss) → IsGivenUp lost (with_start a.start a.columns) c → A
+      unfit None up = absurd up
+      unfit (Some loss) up = not-so (passes is_set_filling (slice_get (with_start a.start a.columns) c)) (ap (passes is_set_filling) was) up
+
+      by : EndsAs g a taken s back ran.now (slice_get (with_start a.start a.columns) c) (slice_get s.ending.columns c) c ⊎ ((slice_get s.ending.columns c ≡ Some set.Dead) × IsGivenUp s.ending.lost (with_start a.start a.columns) c) → HasFail a c
+      by (inl (inl kept)) =
+          let z : Some set.Dead ≡ Some set.Spread = sym (dead-in-end c dead) ∙ subst (λ o. IsKeptAs o (slice_get s.ending.columns c)) was kept in
+          absurd (let u : ⊥ = cc in u)
+      by (inl (inr (gone, inl failed))) = asked-fail c failed
+      by (inl (inr (gone, inr (inl rose)))) = no-device (slice_get (with_start a.start a.columns) c) rose.0 (ap device_set was) (device-on y (with_start a.start a.columns) c rose.0 rose.1)
+      by (inl (inr (gone, inr (inr unbuilt)))) = absurd (unbuilt-lives y ran.now a.start c unbuilt dead)
+      by (inr gone) = unfit s.ending.lost gone.1
 
   faulted : (d : ℕ) → IsGone ran.start ran.events ran.now d → HasFaulted g a taken back d
   faulted d (inl failed) = by (ran.causes.failed d failed)

@@ -6,8 +6,9 @@ use Rattle.blk_disk.specs.Devices.{calls_of}
 use Rattle.lay_core.specs.declared.layout.Layout.{Ghosts as LayoutGhosts}
 use Rattle.eng_parts.specs.declared.setup.Closed.{Closed}
 use Rattle.top_close.specs.Calls.{EndsSettled}
-use Rattle.top_close.specs.Settled.{IsLiveOn, AreSettled}
-use Rattle.top_close.specs.Ended.{states_of, IsLossBy}
+use Rattle.top_close.specs.Settled.{HasDeviceOn, AreSettled}
+use Rattle.eng_cols.specs.Stripes.{states_of}
+use Rattle.top_close.specs.Ended.{IsLossBy}
 use Rattle.top_run.specs.Work.{Service}
 use Rattle.top_run.specs.Works.{service_of}
 use Rattle.top_run.specs.Ends.{RunIsEnded}
@@ -19,7 +20,7 @@ lent-back old new len e = subst (λ n. take n (new ++ drop (length new) old) ≡
 pub is-ended : {L D : Type 0} (lay : LayoutGhosts L) (closed : Closed L D) (disk : DiskGhosts D) (v : Service) (lent back : List (Option D))
     → v ≡ service_of closed None v.ending → lent ≡ closed.devices.items
     → AreSettled disk (length closed.columns.items) closed.columns.items v.ending.columns lent back
-    → ((c d : ℕ) → IsLiveOn v.ending.columns c d → EndsSettled (calls_of disk back d))
+    → ((c d : ℕ) → HasDeviceOn v.ending.columns c d → EndsSettled (calls_of disk back d))
     → IsLossBy (lay.shape closed.layout) closed.lost (states_of (lay.shape closed.layout) v.ending.columns) v.ending.lost
     → RunIsEnded lay closed disk v back
 is-ended lay closed disk v lent back told given settled last lost = record {

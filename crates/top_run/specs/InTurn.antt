@@ -11,7 +11,7 @@ use Rattle.eng_cols.specs.Contents.{Agrees, AnyStripe}
 use Rattle.eng_world.specs.declared.item.Reply.{Reply}
 use Rattle.eng_world.specs.declared.item.Reply.TheVariants.{Done, Data}
 use Rattle.eng_world.specs.Plain.{apply, replay}
-use Rattle.eng_events.specs.Opened.{states_of}
+use Rattle.eng_cols.specs.Stripes.{states_of}
 use Rattle.raid_script.specs.Asked.{Asked, seen_op}
 use Rattle.raid_script.specs.Replies.{op_sectors, replies_at}
 use Rattle.raid_script.specs.Summary.{op_writes, sweep_line, written_line, summary_text}

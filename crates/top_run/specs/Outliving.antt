@@ -1,5 +1,5 @@
 -- What a run comes to that the array outlives.
-use Rattle.std.specs.Prelude.{◌≡◌, ◌⊎◌, ℕ, List, Option, Some, None, slice_get, Contains}
+use Rattle.std.specs.Prelude.{◌≡◌, ◌⊎◌, ℕ, List, Option, Some, None, true, slice_get, Contains}
 use Rattle.blk_plain.specs.declared.op.Op.{Op}
 use Rattle.blk_plain.specs.declared.op.Op.TheVariants as op
 use Rattle.blk_plain.specs.declared.op.OpId.{OpId}
@@ -8,7 +8,7 @@ use Rattle.blk_disk.specs.Devices.{RisesOn}
 use Rattle.graph_mean.specs.declared.refusal.Refusal.{Refusal}
 use Rattle.eng_cols.specs.declared.column.Column.{Column}
 use Rattle.eng_cols.specs.declared.column.Column.TheVariants as column
-use Rattle.eng_cols.specs.Cols.{HasDevice}
+use Rattle.eng_cols.specs.Cols.{HasDevice, is_set_filling, passes}
 use Rattle.eng_cols.specs.Deaths.{Dies}
 use Rattle.eng_cols.specs.Lost.{NotLost}
 use Rattle.eng_world.specs.declared.item.Item.{Item as AnyItem}
@@ -18,7 +18,7 @@ use Rattle.eng_world.specs.declared.item.Reply.TheVariants as reply
 use Rattle.eng_world.specs.Planning.{IsOut, IsLong, InReach}
 use Rattle.eng_world.specs.Legal.{StandsAt}
 use Rattle.eng_world.specs.Causes.{WasRefused}
-use Rattle.top_close.specs.Ended.{states_of}
+use Rattle.eng_cols.specs.Stripes.{states_of}
 use Rattle.eng_array.specs.Starts.{column_of}
 use Rattle.eng_array.specs.declared.start.Start.{Start}
 use Rattle.raid_script.specs.Asked.{Asked as Item, Fails}
@@ -39,6 +39,10 @@ pub record HasFail (a : Work) (c : ℕ) : Type 0 where
 abbrev pub IsRebuiltIn : Work → ℕ → Type 0
 IsRebuiltIn a c = (start : Start) × (a.start ≡ Some start) × (column_of start ≡ c)
 
+-- it is filling as the array is opened
+abbrev pub IsFillingIn : Work → ℕ → Type 0
+IsFillingIn a c = passes is_set_filling (slice_get a.columns c) ≡ true
+
 -- the reply to an operation that is done
 abbrev pub done_reply : Op → Reply
 done_reply (op.Write span pattern) = reply.Done
@@ -48,9 +52,9 @@ done_reply (op.Rebuild stripe) = reply.Done
 done_reply (op.Sync stripe) = reply.Done
 
 module _ {D : Type 0} (g : Ghosts D) (a : Work) (taken back : List (Option D)) where
-  -- an item asks that the column fail, or it is rebuilt, or its device's count of faults rose
+  -- an item asks that the column fail, or it is rebuilt, or it is filling, or its device's count of faults rose
   abbrev pub MayDie : ℕ → Type 0
-  MayDie c = HasFail a c ⊎ (IsRebuiltIn a c ⊎ ((d : ℕ) × HasDevice (states_in a) c d × RisesOn g taken back d))
+  MayDie c = HasFail a c ⊎ (IsRebuiltIn a c ⊎ (IsFillingIn a c ⊎ ((d : ℕ) × HasDevice (states_in a) c d × RisesOn g taken back d)))
 
   -- The array outlives the call: it isn't lost, whichever of these columns be dead.
   abbrev pub OutlivesCall : Type 0

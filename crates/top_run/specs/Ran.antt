@@ -1,5 +1,5 @@
 -- What a run of clients is, and what it leaves.
-use Rattle.std.specs.Prelude.{◌≡◌, ◌≢◌, ◌⊎◌, ◌<◌, ◌≤◌, ◌+◌, ◌*◌, ℕ, List, [], ◌∷◌, ◌++◌, length, Bool, true, false, Option, Some, None, map, drop, reverse, slice_get, slice_index, slice_index_or}
+use Rattle.std.specs.Prelude.{◌≡◌, ◌≢◌, ◌⊎◌, ◌<◌, ◌≤◌, ◌+◌, ◌*◌, ℕ, List, [], ◌∷◌, ◌++◌, length, Bool, true, false, Option, Some, None, map, drop, reverse, slice_get, slice_index, slice_index_or, Contains}
 use Rattle.blk_plain.specs.declared.op.Op.{Op}
 use Rattle.blk_plain.specs.declared.op.OpId.{OpId}
 use Rattle.blk_disk.specs.declared.disk.Call.{Call}
@@ -28,19 +28,21 @@ use Rattle.eng_world.specs.Step.{IsOpening, EventsLead}
 use Rattle.eng_world.specs.Legal.{AreOps, ReplyOf, RepliesFit}
 use Rattle.eng_world.specs.Invariant.{IsTold, AllReplied}
 use Rattle.eng_world.specs.Causes.{ItemAt, HaveCauses}
+use Rattle.eng_world.specs.Rebuilding.{SpreadAlike}
 use Rattle.eng_world.specs.Rows.{IsInRows}
-use Rattle.top_close.specs.Ended.{states_of}
+use Rattle.eng_cols.specs.Stripes.{states_of}
 use Rattle.eng_state.specs.Shows.{AreTold}
 use Rattle.eng_array.specs.Starts.{column_of}
 use Rattle.eng_array.specs.declared.start.Start.{Start}
-use Rattle.raid_script.specs.Asked.{seen}
+use Rattle.raid_script.specs.Asked.{Asked, Other, seen}
 use Rattle.raid_script.specs.Replies.{StandFor, item_bytes, item_sectors, items_at, no_item, replies_at, sectors_before}
-use Rattle.top_serve.specs.Setups.{with_rebuilt, with_start}
+use Rattle.top_serve.specs.Setups.{started_from, with_start}
 use Rattle.top_serve.specs.Caused.{RestsOn, WentBadOn, WasLostBy}
-use Rattle.top_serve.specs.Served.{BeginsBy, IsRebuiltBy, IsUnbuilt}
+use Rattle.top_serve.specs.Served.{BeginsBy, FillsBy, IsKeptAs, IsRebuiltBy, IsUnbuilt, SpreadsAlone, done_before}
 use Rattle.top_close.specs.Calls.{EndsSettled}
 use Rattle.top_close.specs.Closes.{ClosesAs}
-use Rattle.top_close.specs.Settled.{IsLiveOn, is_live}
+use Rattle.top_close.specs.Settled.{HasDeviceOn, has_device}
+use Rattle.top_rounds.specs.Rounds.{IsGivenUp, IsGivenUpIn}
 use Rattle.top_run.specs.Work.{Work, Service}
 
 -- ## Words of a run
@@ -70,6 +72,10 @@ abbrev pub IsLossAtEnd : Shape → World → List ColumnState → Option Loss �
 IsLossAtEnd y now cols None = (now.lost ≡ None) × NotLost y cols
 IsLossAtEnd y now cols (Some loss) = ((now.lost ≡ Some loss) × WasLostBy y now loss) ⊎ ((now.lost ≡ None) × IsLost y cols loss)
 
+-- each item is one that a script may have: so it is no rebuild
+abbrev pub AsksAsScripts : Work → Type 0
+AsksAsScripts a = (row : List Asked) → Contains a.clients row → Contains row Other → ⊥
+
 -- the columns as the array is opened: each stripe of a spread one is done
 abbrev pub states_in : Work → List ColumnState
 states_in a = states_of a.layout a.columns
@@ -77,6 +83,10 @@ states_in a = states_of a.layout a.columns
 -- and once a rebuild has begun, if one does; only which columns there are is meant by these, and not which stripes are done
 abbrev pub begun_in : Work → List ColumnState
 begun_in a = states_of a.layout (with_start a.start a.columns)
+
+-- the columns as the rebuild's own event leaves them: of a spread one no stripe is done
+abbrev pub begun_for : Work → List ColumnState
+begun_for a = started_from (record { states = states_in a; stripes = a.layout.stripes }) a.start
 
 module _ {D : Type 0} (g : Ghosts D) (a : Work) (taken : List (Option D)) where
   -- the check units of the array fit its data, by what its devices hold as they are taken
@@ -95,12 +105,13 @@ module _ {D : Type 0} (g : Ghosts D) (a : Work) (taken : List (Option D)) where
     pub calls : (d : ℕ) → AreTold g (calls_of g taken d) (w.calls d)
 
   module _ (s : Service) where
-    -- The events, the newest first, lead to rest: each item has its reply, and no job is out. All are the clients' own, but for the start of a rebuild, if there is one, which is the first; then client 16 has a rebuild of each of the column's stripes, and nothing else.
+    -- The events, the newest first, lead to rest: each item has its reply, and no job is out. All are the clients' own, but for the start of a rebuild, if there is one, which is the first; then client 16 has a rebuild of each of the first of the column's stripes that aren't done, as many as are asked, and nothing else. Beside a rebuild into the spare places no column is filling.
     pub record Rests (graphs : Graphs) (start : World) (events : List Traced) (now : World) : Type 0 where
       pub graphs_are : AreGraphsOf a.graphs graphs
-      pub begins : BeginsBy a.start events
+      pub begins : BeginsBy a.start (length (now.clients 16).items) events
       pub run : EventsLead a.layout graphs start events now
-      pub rebuilds : IsRebuiltBy a.layout (begun_in a) a.start (now.clients 16).items
+      pub rebuilds : IsRebuiltBy a.layout (begun_for a) a.start (now.clients 16).items
+      pub alone : SpreadsAlone a.start a.columns
       pub replied : AllReplied now
       pub out : now.out ≡ 0
 
@@ -140,21 +151,29 @@ module _ {D : Type 0} (g : Ghosts D) (a : Work) (taken : List (Option D)) where
       abbrev pub IsStoppedBy : World → Start → Type 0
       IsStoppedBy now start = ((loss : Loss) × (now.lost ≡ Some loss)) ⊎ ((c : ℕ) × RestsOn a.layout start c × ((slice_get (with_start a.start a.columns) c ≡ Some column.Dead) ⊎ (WasFailed now c ⊎ RisesAt c)))
 
-      -- an item was replied ok by which the column failed, or its device's count of faults rose, or not all of its stripes were rebuilt
+      -- an item was replied ok by which the column failed, or its device's count of faults rose, or it was to be spread and not all of its stripes were rebuilt
       abbrev pub IsDeadBy : World → ℕ → Type 0
       IsDeadBy now c = WasFailed now c ⊎ (RisesAt c ⊎ IsUnbuilt a.layout a.start now c)
+
+      -- a column is kept as what it was, or it is dead for a cause
+      abbrev pub EndsAs : World → Option Column → Option Column → ℕ → Type 0
+      EndsAs now was kept c = IsKeptAs was kept ⊎ ((kept ≡ Some column.Dead) × IsDeadBy now c)
 
       -- where a rebuild began and left its column dead, it was stopped by something
       abbrev pub HasStopped : World → List Column → Type 0
       HasStopped now kept = (start : Start) → a.start ≡ Some start → slice_get kept (column_of start) ≡ Some column.Dead → IsStoppedBy now start
 
-      -- The columns as they are kept are those of the run's end, where a column that was being rebuilt is kept if it is whole and else is dead; in the end some more may have died; and the loss is the run's, or that of the columns in the end.
+      -- The columns as they are kept are those of the run's end, where a column that was being rebuilt is live if it is whole, and else filling still, or dead where it was to be spread; in the end some more may have died, as they were settled, or as the array was lost while they were filling; and the loss is the run's, or that of the columns in the end.
       pub record ColumnsEnd (now : World) : Type 0 where
         pub kept : List Column
         pub closes : ClosesAs a.layout now.columns kept
-        pub came : Dies (IsDeadBy now) (with_rebuilt a.start a.columns) kept
+        pub count : length kept ≡ length a.columns
+        pub came : (c : ℕ) → EndsAs now (slice_get (with_start a.start a.columns) c) (slice_get kept c) c
+        pub paused : s.ending.lost ≡ None → (c d n most : ℕ) → FillsBy a.start c most → slice_get kept c ≡ Some (column.Filling d n) → length (now.clients 16).items ≡ most
+        pub far : s.ending.lost ≡ None → AsksAsScripts a → (c d n most : ℕ) → FillsBy a.start c most → slice_get kept c ≡ Some (column.Filling d n) → SpreadAlike (begun_in a) now.columns → n ≡ done_before a.start a.columns c + most
         pub stopped : HasStopped now kept
-        pub dies : Dies RisesAt kept s.ending.columns
+        pub dies : Dies (λ c. RisesAt c ⊎ IsGivenUp s.ending.lost kept c) kept s.ending.columns
+        pub given_up : IsGivenUpIn s.ending.lost s.ending.columns
         pub lost : IsLossAtEnd a.layout now (states_of a.layout s.ending.columns) s.ending.lost
 
       -- ## Causes
@@ -163,10 +182,11 @@ module _ {D : Type 0} (g : Ghosts D) (a : Work) (taken : List (Option D)) where
       abbrev pub IsFailedBy : World → ℕ → Type 0
       IsFailedBy now d = RisesOn g taken back d ⊎ ((c : ℕ) × HasDevice (begun_in a) c d × WasFailed now c)
 
-      -- Each reply has its cause. Each column in the end is what it was as the array was opened, or what its rebuild makes it, or is dead since an item was replied ok by which it failed, or its device's count of faults rose, or not all of its stripes were rebuilt; and each device that failed in the run failed for one of these, as each did on which a node went bad.
+      -- Each reply has its cause. Each column in the end is kept as what it was as the array was opened, or as its rebuild began, or is dead since it was filling and the array is lost, or since an item was replied ok by which it failed, or its device's count of faults rose, or it was to be spread and not all of its stripes were rebuilt; and each device that failed in the run failed for one of these, as each did on which a node went bad.
       pub record Causes (graphs : Graphs) (start : World) (events : List Traced) (now : World) : Type 0 where
         pub replies : HaveCauses a.layout graphs start events now
-        pub dies : Dies (IsDeadBy now) (with_rebuilt a.start a.columns) s.ending.columns
+        pub count : length s.ending.columns ≡ length a.columns
+        pub ends : (c : ℕ) → EndsAs now (slice_get (with_start a.start a.columns) c) (slice_get s.ending.columns c) c ⊎ ((slice_get s.ending.columns c ≡ Some column.Dead) × IsGivenUp s.ending.lost (with_start a.start a.columns) c)
         pub failed : (d : ℕ) → now.failed d ≡ true → IsFailedBy now d
         pub bad : (later before : List Traced) (id : OpId) (node : ℕ) → events ≡ later ++ event.Bad id node ∷ before → (d : ℕ) × WentBadOn a.layout graphs (begun_in a) start before id node later now d × IsFailedBy now d
 
@@ -187,11 +207,11 @@ module _ {D : Type 0} (g : Ghosts D) (a : Work) (taken : List (Option D)) where
 
       -- ## Without labels
 
-      -- Devices hold what they do at the run's end, and have changed nowhere else. Behind the run the device of each column that was live has one call more, a settle, which went well exactly where the column is live in the end; no other device was called; so each device of a column in the end has been settled last.
+      -- Devices hold what they do at the run's end, and have changed nowhere else. Behind the run the device of each column that had one has one call more, a settle, which went well exactly where the column has it in the end; no other device was called; so each device of a column in the end has been settled last.
       pub record LeavesSettled (kept : List Column) (now : World) : Type 0 where
         pub contents : g.tells → (d n k : ℕ) → k < 512 → contents_of g back d n k ≡ now.contents d n k
-        pub once : (c d : ℕ) (told : List Call) → IsLiveOn kept c d → calls_of g back d ≡ Some told → told ≡ now.calls d ++ call_of 2 0 0 (is_live (slice_get s.ending.columns c)) ∷ []
-        pub others : (d : ℕ) (told : List Call) → ((c : ℕ) → IsLiveOn kept c d → ⊥) → calls_of g back d ≡ Some told → told ≡ now.calls d
+        pub once : (c d : ℕ) (told : List Call) → HasDeviceOn kept c d → calls_of g back d ≡ Some told → told ≡ now.calls d ++ call_of 2 0 0 (has_device (slice_get s.ending.columns c)) ∷ []
+        pub others : (d : ℕ) (told : List Call) → ((c : ℕ) → HasDeviceOn kept c d → ⊥) → calls_of g back d ≡ Some told → told ≡ now.calls d
         pub settled : (c d : ℕ) → HasDevice (states_of a.layout s.ending.columns) c d → EndsSettled (calls_of g back d)
         pub frame : Changes g MayChange taken back
 

@@ -17,4 +17,4 @@ pub use in_turn::a_sweep_comes_client_after_client;
 pub use outliving::{what_is_not_lost_is_answered, what_is_outlived_is_not_lost};
 pub use rebuilding::what_is_rebuilt_stands;
 pub use running::run_clients;
-pub use service::{Line, Service};
+pub use service::{Line, Service, Told};

@@ -1,6 +1,6 @@
 //! Clients are served, and the run is ended.
-ghost use Rattle.std.specs.Prelude.{◌≡◌, ◌≤◌, IfOk, IfErr, IfSome, None, length};
-ghost use Rattle.eng_cols.specs.Cols.{IsFor};
+ghost use Rattle.std.specs.Prelude.{◌≡◌, ◌≤◌, IfOk, IfErr, IfSome, None, length, count_by};
+ghost use Rattle.eng_cols.specs.Cols.{IsFor, is_set_filling};
 ghost use Rattle.eng_events.specs.Opened.{IsSetup};
 ghost use Rattle.eng_array.specs.Fitting.{FitsTrace};
 ghost use Rattle.raid_script.specs.Replies.{StandFor};
@@ -18,7 +18,6 @@ use raid_progress::Progress;
 use std::alloc::Global;
 use std::sync::Wait;
 use std::thread::Threads;
-use top_close::deaths_bring_no_unit_back;
 use top_serve::{Refused, ServeFault, serve};
 
 // The room for the columns of the layout, by which their loss is judged in the end.
@@ -29,7 +28,7 @@ fn judge_for<L: Layout>(alloc: Global, layout: &L) -> Option<Cols>
 }
 
 /// Serves the setup's clients until each item has its reply and no job is out, with so many workers, and ends the run:
-/// each device in use is settled, and a column whose device fails that is dead.
+/// each device in use is settled, and a column whose device fails that is dead. No column is filling: that takes labels.
 ///
 /// `progress` is told every now and then, and in the end, how many items have a reply.
 ///
@@ -49,6 +48,7 @@ pub fn run_clients<
 ) -> Result<(Service, Vec<Option<D>>), Refused<L, D>>
     requires workers { workers ≤ 16 }
     requires setup { IsSetup L.Layout D.Disk setup }
+    requires filling { count_by is_set_filling setup.columns.items ≡ 0 }
     requires few { IsFew setup }
     requires trace { FitsTrace L.Layout setup }
     ensures kept { IfOk result (λ r. IsNotLost L.Layout setup) }
@@ -63,10 +63,7 @@ pub fn run_clients<
         return Err(Refused { fault, setup });
     };
     match serve(rt, alloc, setup, workers, progress) {
-        Ok(closed) => {
-            deaths_bring_no_unit_back();
-            Ok(ended(closed, judge))
-        }
+        Ok(closed) => Ok(ended(closed, judge)),
         Err(refused) => Err(refused),
     }
 }

@@ -9,8 +9,19 @@ pub struct Line {
     pub column: u32,
     /// The device that it was rebuilt onto; `None` is into the spare places.
     pub device: Option<u32>,
-    /// The number of the column's stripes, once all are rebuilt; `None` where the rebuild stopped.
-    pub done: Option<u32>,
+    /// How far it came.
+    pub told: Told,
+}
+
+/// How far the rebuild of a column came.
+#[derive(Clone, Copy, Debug, PartialEq, Eq)]
+pub enum Told {
+    /// Each of the column's stripes is rebuilt, so many.
+    Done(u32),
+    /// So many of them are, and the column is filling.
+    Paused(u32),
+    /// The column is dead.
+    Stopped,
 }
 
 /// What is told of a run: of each client its items and their replies, the bytes of the sectors of all items, the

@@ -19,7 +19,7 @@ is-served lay disk setup how first last closed between =
     let p = course lay disk setup how first last closed between in
     record {
       start = p.start;
-      events = p.own ++ first_of how;
+      events = p.own ++ first_of how p.count;
       now = p.now;
       opens = opens lay disk setup how first last closed p;
       rests = rests lay disk setup how first last closed p;

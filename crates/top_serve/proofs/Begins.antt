@@ -1,14 +1,13 @@
 -- The run begins with an opening of what was handed in, and comes to rest.
-use Rattle.std.proofs.Common.{◌≡◌, ℕ, zero, suc, ◌<◌, ◌==◌, List, [], ◌++◌, length, false, Option, Some, None, refl, sym, ◌∙◌, ap, subst, arith}
-use Rattle.std.specs.Prelude.{◌&&◌, ◌||◌, replicate, map, slice_index, slice_index_or, option_and_then}
+use Rattle.std.proofs.Common.{◌≡◌, ℕ, zero, suc, ◌<◌, List, [], ◌++◌, length, false, Option, Some, None, refl, sym, ◌∙◌, ap, subst, arith}
+use Rattle.std.specs.Prelude.{replicate, slice_index, slice_index_or, option_and_then}
 use Rattle.std.specs.Option.{option_map_or}
 use Rattle.blk_disk.specs.declared.disk.Disk.{Ghosts as DiskGhosts}
 use Rattle.blk_disk.specs.Devices.{device_at, contents_of, calls_of}
 use Rattle.lay_core.specs.Layout.{Shape}
 use Rattle.lay_core.specs.declared.layout.Layout.{Ghosts as LayoutGhosts}
 use Rattle.eng_cols.specs.declared.spot.Loss.{Loss}
-use Rattle.eng_cols.specs.Cols.{ColumnState, Columns, column_of}
-use Rattle.eng_cols.specs.Seats.{is_place_on, IsStripeOf}
+use Rattle.eng_cols.specs.Cols.{ColumnState, Columns}
 use Rattle.eng_world.specs.declared.item.Item.{Item}
 use Rattle.eng_world.specs.declared.item.Reply.{Reply}
 use Rattle.eng_world.specs.Invariant.{AllReplied}
@@ -25,11 +24,10 @@ use Rattle.eng_array.specs.declared.start.Start.{Start}
 use Rattle.eng_array.specs.declared.start.Start.TheVariants as start
 use Rattle.eng_array.specs.Starts as starts
 use Rattle.top_serve.specs.Judged.{HasStarted}
-use Rattle.top_serve.specs.Setups.{shape_in, states_in, graphs_in, begun_in, with_start}
-use Rattle.top_serve.specs.Served.{IsRebuiltBy, CoreOpens, CoreRests}
+use Rattle.top_serve.specs.Setups.{shape_in, graphs_in, begun_for, columns_in, MayStart}
+use Rattle.top_serve.specs.Served.{IsRebuiltBy, SpreadsAlone, CoreOpens, CoreRests}
 use Rattle.top_serve.proofs.Devices.{device_of, brought-at}
 use Rattle.top_serve.proofs.Between.{Course, no-items}
-use Rattle.top_serve.proofs.Alike.{AreBegun, kinds-set, kinds-begun, spread-alike}
 use Rattle.top_serve.proofs.Meaning.{lost-replied}
 use Rattle.top_serve.proofs.Starting.{first_of}
 
@@ -38,6 +36,12 @@ none-failed : (n d : ℕ) → slice_index_or (replicate n false) d false ≡ fal
 none-failed zero d = refl
 none-failed (suc n) zero = refl
 none-failed (suc n) (suc d) = none-failed n d
+
+alone : {L D : Type 0} (lay : LayoutGhosts L) (disk : DiskGhosts D) (setup : Setup L D) (how : Option Start) → MayStart lay disk setup how → SpreadsAlone how setup.columns.items
+alone lay disk setup None may = tt
+alone lay disk setup (Some (start.Fill c device most)) may = tt
+alone lay disk setup (Some (start.Resume c most)) may = tt
+alone lay disk setup (Some (start.Spread c)) may = may.target.0.none_filling
 
 module _ {D : Type 0} (disk : DiskGhosts D) where
   -- what is seen of a device, by the device
@@ -54,24 +58,6 @@ module _ {D : Type 0} (disk : DiskGhosts D) where
       by : (o : Option (Seen D)) (x : Option D) → x ≡ device_of o → told_by disk o ≡ option_and_then disk.calls x
       by None x e = ap (λ z. option_and_then disk.calls z) (sym e)
       by (Some s) x e = ap (λ z. option_and_then disk.calls z) (sym e)
-
--- columns that are spread alike have the same stripes
-stripes-alike : (y : Shape) (cols more : List ColumnState) → map column_of cols ≡ map column_of more → (c s : ℕ) → IsStripeOf y cols c s → IsStripeOf y more c s
-stripes-alike y cols more same c s (i, iw, of) = (i, iw, ap (λ b. (c == (y.place s i).column) || (b && is_place_on (y.spare s) c)) (sym (spread-alike cols more same (y.place s i).column)) ∙ of)
-
-rebuilds-alike : (y : Shape) (cols more : List ColumnState) → map column_of cols ≡ map column_of more → (c most : ℕ) (items : List Item) → AreRebuildsBelow y cols c most items → AreRebuildsBelow y more c most items
-rebuilds-alike y cols more same c most items r = record {
-  stripes = r.stripes;
-  is = r.is;
-  few = r.few;
-  all = λ s lt of. r.all s lt (stripes-alike y more cols (sym same) c s of);
-  only = λ s has. ((r.only s has).0, stripes-alike y cols more same c s (r.only s has).1);
-  ascending = r.ascending;
-}
-
-begun-as : (n : ℕ) (how : Start) (states : List ColumnState) → AreBegun n (Some how) states (starts.begun_by (record { states = states; stripes = n }) how)
-begun-as n (start.Fill c device) states = refl
-begun-as n (start.Spread c) states = refl
 
 module _ {L D : Type 0} (lay : LayoutGhosts L) (disk : DiskGhosts D) (setup : Setup L D) (how : Option Start) (first last : Array L D) (closed : Closed L D) (p : Course lay disk setup how first last closed) where
   given-at : (d : ℕ) → device_at setup.devices.items d ≡ device_of (seen_at first.devices d)
@@ -106,7 +92,7 @@ module _ {L D : Type 0} (lay : LayoutGhosts L) (disk : DiskGhosts D) (setup : Se
       by None is =
           ap (λ (l : List Reply). length l) (replies-shown disk last p.now p.shows_now is c)
           ∙ (p.between.rest.replied is c ∙ ap (λ (l : List Item). length l) (sym (p.shows_now.clients c).items))
-      by (Some loss) is = lost-replied (shape_in lay setup) (graphs_in setup) p.layout p.promises p.start p.opening (p.own ++ first_of how) p.now p.run loss (p.shows_now.lost ∙ is) c
+      by (Some loss) is = lost-replied (shape_in lay setup) (graphs_in setup) p.layout p.promises p.start p.opening (p.own ++ first_of how p.count) p.now p.run loss (p.shows_now.lost ∙ is) c
 
   none-out : p.now.out ≡ 0
   none-out =
@@ -119,41 +105,41 @@ module _ {L D : Type 0} (lay : LayoutGhosts L) (disk : DiskGhosts D) (setup : Se
   begun-items : (p.now.clients 16).items ≡ (desk_at p.between.begun.clients 16).items
   begun-items = (p.shows_now.clients 16).items ∙ p.last_begun 16
 
-  columns-first : first.cols ≡ record { states = states_in lay setup; stripes = (shape_in lay setup).stripes }
+  columns-first : first.cols ≡ columns_in lay setup
   columns-first = p.between.opened.cols
 
-  rebuilds : IsRebuiltBy (shape_in lay setup) (begun_in lay setup how) how (p.now.clients 16).items
+  abbrev Rebuilt : Start → List ColumnState → List Item → Type 0
+  Rebuilt rebuild cols items = AreRebuildsBelow (shape_in lay setup) cols (starts.column_of rebuild) (starts.most_of rebuild) (shape_in lay setup).stripes items
+
+  rebuilds : IsRebuiltBy (shape_in lay setup) (begun_for lay setup how) how (p.now.clients 16).items
   rebuilds = by how p.between.begins
     where
-      by : (h : Option Start) → HasStarted lay disk first h p.between.begun → IsRebuiltBy (shape_in lay setup) (begun_in lay setup h) h (p.now.clients 16).items
+      by : (h : Option Start) → HasStarted lay disk first h p.between.begun → IsRebuiltBy (shape_in lay setup) (begun_for lay setup h) h (p.now.clients 16).items
       by None same =
           begun-items
           ∙ (ap (λ (core : Array L D). (desk_at core.clients 16).items) same
           ∙ (sym (p.shows_start.clients 16).items
           ∙ (p.start_items 16 ∙ no-items setup.clients.items 16 p.few)))
-      by (Some rebuild) begins = subst (AreRebuildsBelow (shape_in lay setup) (begun_in lay setup (Some rebuild)) (starts.column_of rebuild) (shape_in lay setup).stripes) (sym (begun-items ∙ here)) mine
+      by (Some rebuild) begins = subst (Rebuilt rebuild (begun_for lay setup (Some rebuild))) (sym (begun-items ∙ here)) mine
         where
           here : (desk_at p.between.begun.clients 16).items ≡ begins.1.items
           here =
               ap (λ (core : Array L D). (desk_at core.clients 16).items) begins.1.is
               ∙ ap (λ (d : Desk). d.items) (desk-set first.clients 16 (with_items (desk_at first.clients 16) begins.1.items) (let count = p.between.opened.count in omega (arith, count)))
 
-          shaped : AreRebuildsBelow (shape_in lay setup) (starts.begun_by first.cols rebuild) (starts.column_of rebuild) (shape_in lay setup).stripes begins.1.items
-          shaped = subst (λ (y : Shape). AreRebuildsBelow y (starts.begun_by first.cols rebuild) (starts.column_of rebuild) y.stripes begins.1.items) (ap lay.shape p.between.opened.layout) begins.1.rebuilds
+          shaped : Rebuilt rebuild (starts.begun_by first.cols rebuild) begins.1.items
+          shaped = subst (λ (y : Shape). AreRebuildsBelow y (starts.begun_by first.cols rebuild) (starts.column_of rebuild) (starts.most_of rebuild) y.stripes begins.1.items) (ap lay.shape p.between.opened.layout) begins.1.rebuilds
 
-          mine : AreRebuildsBelow (shape_in lay setup) (begun_in lay setup (Some rebuild)) (starts.column_of rebuild) (shape_in lay setup).stripes begins.1.items
-          mine = rebuilds-alike (shape_in lay setup) (starts.begun_by first.cols rebuild) (begun_in lay setup (Some rebuild))
-              (ap (λ (v : Columns). map column_of (starts.begun_by v rebuild)) columns-first
-              ∙ (kinds-begun (shape_in lay setup).stripes setup.columns.items (states_in lay setup) refl (Some rebuild) (starts.begun_by (record { states = states_in lay setup; stripes = (shape_in lay setup).stripes }) rebuild) (begun-as (shape_in lay setup).stripes rebuild (states_in lay setup))
-              ∙ sym (kinds-set (shape_in lay setup).stripes (with_start (Some rebuild) setup.columns.items))))
-              (starts.column_of rebuild) (shape_in lay setup).stripes begins.1.items shaped
+          mine : Rebuilt rebuild (begun_for lay setup (Some rebuild)) begins.1.items
+          mine = subst (λ (v : Columns). Rebuilt rebuild (starts.begun_by v rebuild) begins.1.items) columns-first shaped
 
-  pub rests : CoreRests lay disk setup how p.start (p.own ++ first_of how) p.now
+  pub rests : CoreRests lay disk setup how p.start (p.own ++ first_of how p.count) p.now
   rests = record {
     begins = p.begins;
     run = p.run;
     items = p.now_items;
     rebuilds = rebuilds;
+    alone = alone lay disk setup how p.between.may;
     replied = replied;
     out = none-out;
   }

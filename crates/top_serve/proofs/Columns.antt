@@ -1,14 +1,13 @@
 -- In a run of the clients' own events each column stays what it was, or dies.
-use Rattle.std.proofs.Common.{◌≡◌, ◌⊎◌, inl, inr, ℕ, zero, suc, List, [], ◌∷◌, true, false, Option, option_map, Some, None, slice_get, slice_set, refl, sym, ◌∙◌, ap, subst, arith}
-use Rattle.std.specs.Prelude.{Contains, map, replicate, count_by, cond}
-use Rattle.std.proofs.lemmas.List.Sums.{sum_by-cons}
+use Rattle.std.proofs.Common.{◌≡◌, ◌⊎◌, inl, inr, ℕ, zero, suc, List, [], ◌∷◌, true, Option, option_map, Some, None, slice_get, slice_set, refl, sym, ◌∙◌, ap, subst}
+use Rattle.std.specs.Prelude.{Bool, Contains, map, replicate}
 use Rattle.std.proofs.lemmas.Bool.{cases_Bool, cond-true, cond-false}
 use Rattle.blk_plain.specs.declared.op.Op.{Op}
 use Rattle.blk_plain.specs.declared.op.Op.TheVariants as op
 use Rattle.lay_core.specs.Layout.{Shape}
 use Rattle.eng_cols.specs.declared.column.Column.{Column}
 use Rattle.eng_cols.specs.declared.column.Column.TheVariants as set
-use Rattle.eng_cols.specs.Cols.{ColumnState, Live, Dead, Filling, Spread, all_done, column_of, state_set, is_set_filling}
+use Rattle.eng_cols.specs.Cols.{ColumnState, Live, Dead, Filling, Spread, all_done, column_with, state_set}
 use Rattle.eng_cols.specs.Changes.{killed, done_on, IsEnded}
 use Rattle.eng_cols.specs.Seats.{is_unit_of}
 use Rattle.eng_cols.proofs.Lists.{get_set_either}
@@ -17,7 +16,7 @@ use Rattle.eng_world.specs.declared.item.Traced.TheVariants as event
 use Rattle.eng_world.specs.World.{Running, World}
 use Rattle.eng_world.specs.Planning.{Graphs}
 use Rattle.eng_world.specs.Nodes.{ColumnsAfter}
-use Rattle.eng_world.specs.Step.{Step, EventsLead}
+use Rattle.eng_world.specs.Step.{Step, EventsLead, column_begun}
 use Rattle.eng_world.proofs.Caused.{tail-has, head-has}
 use Rattle.eng_world.proofs.Moves.{Move, Moves, one, two, moves, replies, waits, takes, fires, skips, works, commits, ends, fails, anew, gives, dies, starts, home}
 use Rattle.eng_rest.specs.Left.{IsOwn}
@@ -34,11 +33,11 @@ own-first e events own = own e (head-has e events)
 
 -- ## Columns that are set
 
--- none is filling, and each stripe of a spread one is done
+-- each stripe of a spread one is done
 abbrev pub IsSet : ℕ → ColumnState → Type 0
 IsSet n (Live device) = Unit {0}
 IsSet n Dead = Unit {0}
-IsSet n (Filling device done) = ⊥
+IsSet n (Filling device done) = Unit {0}
 IsSet n (Spread done) = done ≡ all_done n
 
 abbrev pub AreSet : ℕ → List ColumnState → Type 0
@@ -52,35 +51,43 @@ set-done zero s = refl
 set-done (suc n) zero = refl
 set-done (suc n) (suc s) = ap (λ l. true ∷ l) (set-done n s)
 
--- a stripe that is done there stays so
-done-same : (n s : ℕ) (o : Option ColumnState) → SetIn n o → done_on o s ≡ o
-done-same n s (Some (Live device)) h = refl
-done-same n s (Some Dead) h = refl
-done-same n s (Some (Filling device done)) h = absurd (h (Filling device done) refl)
-done-same n s (Some (Spread done)) h = ap (λ l. Some (Spread l)) (let e = h (Spread done) refl in ap (λ l. slice_set l s true) e ∙ (set-done n s ∙ sym e))
-done-same n s None h = refl
+pub set-in : (n : ℕ) (x : ColumnState) → IsSet n x → SetIn n (Some x)
+set-in n x h z is = let e : x ≡ z = cc in subst (IsSet n) e h
 
--- a column that is set without filling
-set-one : (n : ℕ) (x : Column) → is_set_filling x ≡ false → IsSet n (state_set n x)
-set-one n (set.Live device) h = tt
-set-one n set.Dead h = tt
-set-one n (set.Filling device) h = let z : true ≡ false = h in absurd (let u : ⊥ = cc in u)
-set-one n set.Spread h = refl
+-- so it is where a stripe more is done
+done-set : (n s : ℕ) (o : Option ColumnState) → SetIn n o → SetIn n (done_on o s)
+done-set n s (Some (Live device)) h = h
+done-set n s (Some Dead) h = h
+done-set n s (Some (Filling device done)) h = set-in n (Filling device (slice_set done s true)) tt
+done-set n s (Some (Spread done)) h = set-in n (Spread (slice_set done s true)) (ap (λ l. slice_set l s true) (h (Spread done) refl) ∙ set-done n s)
+done-set n s None h = h
 
-count-first : (x : Column) (cols : List Column) → count_by is_set_filling (x ∷ cols) ≡ 0 → (is_set_filling x ≡ false) × (count_by is_set_filling cols ≡ 0)
-count-first x cols h = elim (cases_Bool (is_set_filling x)) [
-  | inl filling ↦
-      let all = sum_by-cons (λ z. cond (is_set_filling z) 1 0) x cols in
-      let one = cond-true {A = ℕ} (is_set_filling x) 1 0 filling in
-      absurd (omega (arith, all, one, h))
-  | inr not ↦ let all = sum_by-cons (λ z. cond (is_set_filling z) 1 0) x cols in (not, omega (arith, all, h))
-]
+-- a column that is set
+set-one : (n : ℕ) (l : List Bool) (x : Column) → IsSet n (state_set n l x)
+set-one n l (set.Live device) = tt
+set-one n l set.Dead = tt
+set-one n l (set.Filling device done) = tt
+set-one n l set.Spread = refl
 
--- so are those that are set, where none is to be filling
-pub set-states : (n : ℕ) (cols : List Column) → count_by is_set_filling cols ≡ 0 → AreSet n (map (state_set n) cols)
-set-states n [] h c x is = let z : None ≡ Some x = is in absurd (let u : ⊥ = cc in u)
-set-states n (k ∷ cols) h zero x is = let e : Some (state_set n k) ≡ Some x = is in let q : state_set n k ≡ x = cc in subst (IsSet n) q (set-one n k (count-first k cols h).0)
-set-states n (k ∷ cols) h (suc c) x is = set-states n cols (count-first k cols h).1 c x is
+-- so are those that are set
+pub set-states : (n : ℕ) (l : List Bool) (cols : List Column) → AreSet n (map (state_set n l) cols)
+set-states n l [] c x is = let z : None ≡ Some x = is in absurd (let u : ⊥ = cc in u)
+set-states n l (k ∷ cols) zero x is = let e : Some (state_set n l k) ≡ Some x = is in let q : state_set n l k ≡ x = cc in subst (IsSet n) q (set-one n l k)
+set-states n l (k ∷ cols) (suc c) x is = set-states n l cols c x is
+
+-- no rebuild begins by an operation's event
+pub own-quiet : (e : Traced) → IsOwn e → column_begun e ≡ None
+own-quiet (event.Fill c device count) h = absurd h
+own-quiet (event.Resume c count) h = absurd h
+own-quiet (event.Spread c) h = absurd h
+own-quiet (event.Fail c) h = absurd h
+own-quiet (event.Begin id) h = refl
+own-quiet (event.Take id) h = refl
+own-quiet (event.Fire id n) h = refl
+own-quiet (event.Good id n) h = refl
+own-quiet (event.Bad id n) h = refl
+own-quiet (event.Skip id n) h = refl
+own-quiet (event.Back id) h = refl
 
 -- ## Each event
 
@@ -113,9 +120,8 @@ module _ (y : Shape) (graphs : Graphs) (c : ℕ) (Holds : Option ColumnState →
     abbrev Any : World → Type 0
     Any w = Unit {0}
 
-    not-started : {A : Type 0} (k : ℕ) → ((device : ℕ) × (e ≡ event.Fill k device)) ⊎ (e ≡ event.Spread k) → A
-    not-started k (inl h) = absurd (subst IsOwn h.1 own)
-    not-started k (inr h) = absurd (subst IsOwn h own)
+    not-started : {A : Type 0} (k : ℕ) → column_begun e ≡ Some k → A
+    not-started k h = let z : None ≡ Some k = sym (own-quiet e own) ∙ h in absurd (let u : ⊥ = cc in u)
 
     move-holds : Move y graphs Any e old new → HoldsIn old.columns → HoldsIn new.columns
     move-holds (replies k q asked known is ne idle f) keep = holds-same old.columns new.columns f.only.columns.columns keep
@@ -147,16 +153,11 @@ module _ (y : Shape) (graphs : Graphs) (c : ℕ) (Holds : Option ColumnState →
 
 -- ## What becomes of a column
 
--- a column that is set is what it was, or dead
-pub run-keeps : (y : Shape) (graphs : Graphs) (n : ℕ) (start : World) (events : List Traced) (now : World) → AreOwn events → EventsLead y graphs start events now → (c : ℕ) → SetIn n (slice_get start.columns c) → (slice_get now.columns c ≡ slice_get start.columns c) ⊎ (slice_get now.columns c ≡ Some Dead)
-run-keeps y graphs n start events now own run c set =
-    run-holds y graphs c (λ o. (o ≡ slice_get start.columns c) ⊎ (o ≡ Some Dead)) (inr refl) done start events now own run (inl refl)
-  where
-    done : (s : ℕ) (o : Option ColumnState) → (o ≡ slice_get start.columns c) ⊎ (o ≡ Some Dead) → (done_on o s ≡ slice_get start.columns c) ⊎ (done_on o s ≡ Some Dead)
-    done s o (inl h) = inl (ap (λ z. done_on z s) h ∙ done-same n s (slice_get start.columns c) set)
-    done s o (inr h) = inr (ap (λ z. done_on z s) h)
+-- a column that is set stays so
+pub run-sets : (y : Shape) (graphs : Graphs) (n : ℕ) (start : World) (events : List Traced) (now : World) → AreOwn events → EventsLead y graphs start events now → (c : ℕ) → SetIn n (slice_get start.columns c) → SetIn n (slice_get now.columns c)
+run-sets y graphs n start events now own run c set = run-holds y graphs c (SetIn n) (set-in n Dead tt) (done-set n) start events now own run set
 
-done-kind : (s : ℕ) (o : Option ColumnState) → option_map column_of (done_on o s) ≡ option_map column_of o
+done-kind : (s : ℕ) (o : Option ColumnState) → option_map (column_with 0) (done_on o s) ≡ option_map (column_with 0) o
 done-kind s (Some (Live device)) = refl
 done-kind s (Some Dead) = refl
 done-kind s (Some (Filling device done)) = refl
@@ -164,10 +165,10 @@ done-kind s (Some (Spread done)) = refl
 done-kind s None = refl
 
 -- any column is live, filling or spread as it was, or dead
-pub run-kinds : (y : Shape) (graphs : Graphs) (start : World) (events : List Traced) (now : World) → AreOwn events → EventsLead y graphs start events now → (c : ℕ) → (option_map column_of (slice_get now.columns c) ≡ option_map column_of (slice_get start.columns c)) ⊎ (slice_get now.columns c ≡ Some Dead)
+pub run-kinds : (y : Shape) (graphs : Graphs) (start : World) (events : List Traced) (now : World) → AreOwn events → EventsLead y graphs start events now → (c : ℕ) → (option_map (column_with 0) (slice_get now.columns c) ≡ option_map (column_with 0) (slice_get start.columns c)) ⊎ (slice_get now.columns c ≡ Some Dead)
 run-kinds y graphs start events now own run c =
-    run-holds y graphs c (λ o. (option_map column_of o ≡ option_map column_of (slice_get start.columns c)) ⊎ (o ≡ Some Dead)) (inr refl) done start events now own run (inl refl)
+    run-holds y graphs c (λ o. (option_map (column_with 0) o ≡ option_map (column_with 0) (slice_get start.columns c)) ⊎ (o ≡ Some Dead)) (inr refl) done start events now own run (inl refl)
   where
-    done : (s : ℕ) (o : Option ColumnState) → (option_map column_of o ≡ option_map column_of (slice_get start.columns c)) ⊎ (o ≡ Some Dead) → (option_map column_of (done_on o s) ≡ option_map column_of (slice_get start.columns c)) ⊎ (done_on o s ≡ Some Dead)
+    done : (s : ℕ) (o : Option ColumnState) → (option_map (column_with 0) o ≡ option_map (column_with 0) (slice_get start.columns c)) ⊎ (o ≡ Some Dead) → (option_map (column_with 0) (done_on o s) ≡ option_map (column_with 0) (slice_get start.columns c)) ⊎ (done_on o s ≡ Some Dead)
     done s o (inl h) = inl (done-kind s o ∙ h)
     done s o (inr h) = inr (ap (λ z. done_on z s) h)

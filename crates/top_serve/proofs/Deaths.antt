@@ -1,11 +1,11 @@
 -- Between the taking of room and the run columns may die, and devices may change: what is asked of a setup is so still.
 use Rattle.std.proofs.Common.{◌≡◌, ◌⊎◌, inl, inr, ℕ, zero, suc, ◌+◌, ◌*◌, ◌≤◌, Bool, false, cond, List, [], ◌∷◌, length, Option, Some, None, refl, sym, ◌∙◌, ap, subst, arith}
-use Rattle.std.specs.Prelude.{Vec, count_by, slice_get, option_map}
+use Rattle.std.specs.Prelude.{Vec, count_by, slice_get}
 use Rattle.std.specs.declared.alloc.Global.{Global}
 use Rattle.std.proofs.Math.Nat.{mul-le-mul}
 use Rattle.std.proofs.lemmas.List.{length-map}
 use Rattle.std.proofs.lemmas.List.Sums.{sum_by-cons}
-use Rattle.std.proofs.lemmas.Option.{slice_get-map, slice_get_within, get_or_from_slice_get}
+use Rattle.std.proofs.lemmas.Option.{slice_get_within, get_or_from_slice_get}
 use Rattle.blk_disk.specs.declared.disk.Disk.{Ghosts as DiskGhosts}
 use Rattle.blk_disk.specs.Devices.{device_at, StaysIf, Changes}
 use Rattle.blk_disk.proofs.DeviceLaws.{device_at-get}
@@ -14,7 +14,9 @@ use Rattle.lay_core.specs.declared.layout.Layout.{Ghosts as LayoutGhosts}
 use Rattle.graph_mean.specs.Graph.{Held}
 use Rattle.eng_cols.specs.declared.column.Column.{Column}
 use Rattle.eng_cols.specs.declared.column.Column.TheVariants as column
-use Rattle.eng_cols.specs.Cols.{ColumnState, Live, Dead, Filling, Spread, HasDevice, state_set, is_set_filling, is_set_spread}
+use Rattle.eng_cols.specs.Fewer.{DieApart}
+use Rattle.eng_cols.proofs.Fewer.{states-die as apart-die}
+use Rattle.eng_cols.specs.Cols.{ColumnState, Live, Dead, Filling, Spread, AtMostOne, HasDevice, state_set, is_set_filling, is_set_spread}
 use Rattle.eng_cols.specs.Deaths.{Dies}
 use Rattle.eng_world.specs.declared.item.Item.{Item}
 use Rattle.eng_rest.specs.Left.{alive, is_alive}
@@ -22,7 +24,8 @@ use Rattle.eng_rest.proofs.Summing.{below-le}
 use Rattle.eng_parts.specs.declared.core_room.CoreRoom.{CoreRoom}
 use Rattle.eng_parts.specs.declared.setup.Setup.{Setup}
 use Rattle.eng_log.specs.Given.{items_at}
-use Rattle.eng_events.specs.Opened.{IsSetup, states_of}
+use Rattle.eng_cols.specs.Stripes.{filled_in, states_of}
+use Rattle.eng_events.specs.Opened.{IsSetup}
 use Rattle.eng_array.specs.Fitting.{FitsTrace, item_events, row_events, opening_events, most_in}
 use Rattle.top_serve.specs.Setups.{IsFew, IsRoomOf}
 
@@ -108,7 +111,7 @@ get-device [] d x h = let z : None ≡ Some x = h in absurd (let u : ⊥ = cc in
 get-device (y ∷ ds) zero x h = ap (λ o. Some o) h
 get-device (y ∷ ds) (suc d) x h = get-device ds d x h
 
-module _ {L D : Type 0} (lay : LayoutGhosts L) (disk : DiskGhosts D) (setup : Setup L D) (devices : Vec (Option D) Global) (columns : Vec Column Global) (cause : ℕ → Type 0) (may : ℕ → ℕ → Type 0) (dies : Dies cause setup.columns.items columns.items) (changes : Changes disk may setup.devices.items devices.items) where
+module _ {L D : Type 0} (lay : LayoutGhosts L) (disk : DiskGhosts D) (setup : Setup L D) (devices : Vec (Option D) Global) (columns : Vec Column Global) (cause : ℕ → Type 0) (may : ℕ → ℕ → Type 0) (dies : Dies cause setup.columns.items columns.items) (apart : DieApart setup.columns.items columns.items) (one : AtMostOne is_set_filling setup.columns.items) (changes : Changes disk may setup.devices.items devices.items) where
   abbrev y : Shape
   y = lay.shape setup.layout
 
@@ -119,10 +122,7 @@ module _ {L D : Type 0} (lay : LayoutGhosts L) (disk : DiskGhosts D) (setup : Se
   only c = elim (dies.each c) [ inl same ↦ inl same | inr dead ↦ inr dead.0 ]
 
   pub states-die : (c : ℕ) → (slice_get (states_of y columns.items) c ≡ slice_get (states_of y setup.columns.items) c) ⊎ (slice_get (states_of y columns.items) c ≡ Some Dead)
-  states-die c = elim (dies.each c) [
-    | inl same ↦ inl (slice_get-map (state_set y.stripes) columns.items c ∙ (ap (option_map (state_set y.stripes)) same ∙ sym (slice_get-map (state_set y.stripes) setup.columns.items c)))
-    | inr dead ↦ inr (slice_get-map (state_set y.stripes) columns.items c ∙ ap (option_map (state_set y.stripes)) dead.0)
-  ]
+  states-die c = apart-die y setup.columns.items columns.items apart one c
 
   -- a column that has a device had it
   pub had-device : (c d : ℕ) → HasDevice (states_of y columns.items) c d → HasDevice (states_of y setup.columns.items) c d
@@ -170,7 +170,7 @@ module _ {L D : Type 0} (lay : LayoutGhosts L) (disk : DiskGhosts D) (setup : Se
   trace-later fits kept =
       let a = opening-less y setup.graphs.items (states_of y setup.columns.items) (states_of y columns.items) setup.clients.items
       (alive-less (states_of y setup.columns.items) (states_of y columns.items)
-      (let p = length-map columns.items (state_set y.stripes) in let q = length-map setup.columns.items (state_set y.stripes) in let r = dies.count in omega (arith, p, q, r))
+      (let p = length-map columns.items (state_set y.stripes (filled_in y columns.items)) in let q = length-map setup.columns.items (state_set y.stripes (filled_in y setup.columns.items)) in let r = dies.count in omega (arith, p, q, r))
       states-die) in
       let b = fits kept in
       omega (arith, a, b)

@@ -17,7 +17,7 @@ use Rattle.eng_world.specs.World.{Running, World}
 use Rattle.eng_world.specs.Planning.{Graphs, Promises}
 use Rattle.eng_world.specs.Failing.{is_device_of, FailsColumn}
 use Rattle.eng_world.specs.Nodes.{ColumnsAfter}
-use Rattle.eng_world.specs.Step.{IsOpening, LostBad, StepLost, StepBy, Step, EventsLead}
+use Rattle.eng_world.specs.Step.{IsOpening, LostBad, StepLost, StepBy, Step, EventsLead, column_begun}
 use Rattle.eng_world.specs.Rows.{HasHad}
 use Rattle.eng_world.specs.Causes.{HasDied, at_opening, by_item, by_event, by_node}
 use Rattle.eng_world.proofs.Caused.{run-died}
@@ -26,7 +26,7 @@ use Rattle.eng_world.proofs.Moves.{Move, Moves, one, two, moves, replies, waits,
 use Rattle.eng_world.proofs.Placed.{only-rows}
 use Rattle.eng_rest.specs.Left.{IsOwn}
 use Rattle.top_serve.specs.Served.{WasFailed}
-use Rattle.top_serve.proofs.Columns.{AreOwn, own-rest, own-first}
+use Rattle.top_serve.proofs.Columns.{AreOwn, own-quiet, own-rest, own-first}
 use Rattle.top_serve.proofs.Begun.{begun-failed}
 
 -- ## Columns and their devices
@@ -98,9 +98,8 @@ module _ (y : Shape) where
     not-lost : {A : Type 0} (loss : Loss) → old.lost ≡ Some loss → A
     not-lost loss is = let z : None ≡ Some loss = sym none ∙ is in absurd (let u : ⊥ = cc in u)
 
-    not-started : {A : Type 0} (c : ℕ) → ((device : ℕ) × (e ≡ event.Fill c device)) ⊎ (e ≡ event.Spread c) → A
-    not-started c (inl h) = absurd (subst IsOwn h.1 own)
-    not-started c (inr h) = absurd (subst IsOwn h own)
+    not-started : {A : Type 0} (c : ℕ) → column_begun e ≡ Some c → A
+    not-started c h = let z : None ≡ Some c = sym (own-quiet e own) ∙ h in absurd (let u : ⊥ = cc in u)
 
     move-has : Move y graphs Any e old new → (c d : ℕ) → HasDevice old.columns c d → HasStill new c d
     move-has (replies k q asked known is ne idle f) c d has = stay old new f.only.columns.columns c d has
@@ -120,7 +119,7 @@ module _ (y : Shape) where
 
 pub own-had : (start : World) (events : List Traced) → AreOwn events → (c d : ℕ) → HasHad start events c d → HasDevice start.columns c d
 own-had start events own c d (inl h) = h
-own-had start events own c d (inr h) = absurd (own (event.Fill c d) h)
+own-had start events own c d (inr h) = absurd (own (event.Fill c d h.0) h.1)
 
 module _ (y : Shape) (graphs : Graphs) (layout : IsLayout y) (promises : Promises graphs) (start : World) (opening : IsOpening y start) where
   module _ (events : List Traced) (own : AreOwn events) (old : World) (run : EventsLead y graphs start events old) where
@@ -147,7 +146,8 @@ module _ (y : Shape) (graphs : Graphs) (layout : IsLayout y) (promises : Promise
     lost-has (event.Skip id m) new h c d has = absurd h
     lost-has (event.Back id) new h c d has = absurd h
     lost-has (event.Fail k) new h c d has = absurd h
-    lost-has (event.Fill k device) new h c d has = absurd h
+    lost-has (event.Fill k device count) new h c d has = absurd h
+    lost-has (event.Resume k count) new h c d has = absurd h
     lost-has (event.Spread k) new h c d has = absurd h
 
     step-has : (e : Traced) → IsOwn e → (new : World) → Step y graphs e old new → (c d : ℕ) → HasDevice old.columns c d → HasStill new c d

@@ -17,7 +17,7 @@ use Rattle.top_serve.proofs.Starting.{first_of}
 
 module _ {L D : Type 0} (lay : LayoutGhosts L) (disk : DiskGhosts D) (setup : Setup L D) (how : Option Start) (first last : Array L D) (closed : Closed L D) (p : Course lay disk setup how first last closed) where
   back : HandsBack disk setup (record closed { columns = p.between.closes.were })
-  back = handed-back lay disk setup first last (p.own ++ first_of how) (record closed { columns = p.between.closes.were }) p.between.opened p.goes p.between.closes.is_closed
+  back = handed-back lay disk setup first last (p.own ++ first_of how p.count) (record closed { columns = p.between.closes.were }) p.between.opened p.goes p.between.closes.is_closed
 
   pub layout-back : closed.layout ≡ setup.layout
   layout-back = back.layout
@@ -26,7 +26,7 @@ module _ {L D : Type 0} (lay : LayoutGhosts L) (disk : DiskGhosts D) (setup : Se
   spare-back = p.same.spare ∙ p.between.opened.spare
 
   pub untraced : keeps_trace first ≡ false → traced last ≡ traced first
-  untraced off = goes-untold lay disk first last (p.own ++ first_of how) p.goes off
+  untraced off = goes-untold lay disk first last (p.own ++ first_of how p.count) p.goes off
 
   pub regions-same : last.log.handed.regions ≡ first.log.handed.regions
   regions-same = p.same.regions
@@ -36,4 +36,4 @@ module _ {L D : Type 0} (lay : LayoutGhosts L) (disk : DiskGhosts D) (setup : Se
   devices-back = back.devices
 
   pub rises : (d : ℕ) → Rose (faults_at lay disk first d) (faults_at lay disk last d) → RisesOn disk setup.devices.items closed.devices.items d
-  rises d rose = handed-rises lay disk setup first last (p.own ++ first_of how) (record closed { columns = p.between.closes.were }) p.between.opened p.goes p.between.closes.is_closed d rose
+  rises d rose = handed-rises lay disk setup first last (p.own ++ first_of how p.count) (record closed { columns = p.between.closes.were }) p.between.opened p.goes p.between.closes.is_closed d rose

@@ -1,12 +1,13 @@
 -- What is handed back is what the run tells: items and replies, columns, history, trace, and what reads handed out.
 use Rattle.std.proofs.Common.{◌≡◌, ◌≢◌, inl, inr, ℕ, ◌<◌, List, [], ◌∷◌, ◌++◌, length, Bool, true, false, Option, refl, sym, ◌∙◌, ap, subst, arith}
-use Rattle.std.specs.Prelude.{map, reverse, slice_index_or}
+use Rattle.std.specs.Prelude.{reverse, slice_index_or}
 use Rattle.std.proofs.lemmas.Bool.{cases_lt}
 use Rattle.std.proofs.lemmas.Option.{slice_get_past}
 use Rattle.blk_disk.specs.declared.disk.Disk.{Ghosts as DiskGhosts}
 use Rattle.lay_core.specs.Layout.{Shape}
 use Rattle.lay_core.specs.declared.layout.Layout.{Ghosts as LayoutGhosts}
-use Rattle.eng_cols.specs.Cols.{ColumnState, column_of}
+use Rattle.eng_cols.specs.Cols.{AtMostOne, ColumnState, is_filling, is_set_filling, is_set_spread, is_spread}
+use Rattle.eng_events.specs.Closed.{AreColumns}
 use Rattle.eng_world.specs.declared.item.Item.{Item}
 use Rattle.eng_world.specs.declared.item.Traced.{Traced}
 use Rattle.eng_log.specs.declared.region.Region.{Region}
@@ -25,12 +26,12 @@ use Rattle.top_close.specs.Closes.{ClosesAs}
 use Rattle.top_serve.specs.Judged.{IsJudged}
 use Rattle.top_serve.specs.Setups.{shape_in}
 use Rattle.top_serve.specs.Served.{trace_of, handed_in, CoreTells, HandsOut}
-use Rattle.top_serve.proofs.Behind.{now-set, now-here}
+use Rattle.top_serve.proofs.Behind.{ready}
 use Rattle.top_serve.proofs.Between.{Course, no-items}
 use Rattle.top_serve.proofs.Begins.{replied}
 use Rattle.top_serve.proofs.Enough.{all-enough}
 use Rattle.top_serve.proofs.Framed.{layout-back, spare-back, untraced, regions-same}
-use Rattle.top_serve.proofs.Closings.{closes-judged}
+use Rattle.top_serve.proofs.Closings.{closes-judged, closes-one, closes-one-spread, one-count}
 use Rattle.top_serve.proofs.Starting.{first_of}
 
 none-left : {A : Type 0} (l : List A) → length l ≡ 0 → l ≡ []
@@ -40,15 +41,25 @@ none-left (x ∷ l) h = absurd (omega (arith, h))
 module _ {L D : Type 0} (lay : LayoutGhosts L) (disk : DiskGhosts D) (setup : Setup L D) (how : Option Start) (first last : Array L D) (closed : Closed L D) (p : Course lay disk setup how first last closed) where
   -- ## Columns
 
-  pub were-now : p.between.closes.were.items ≡ map column_of p.now.columns
-  were-now = p.between.closes.is_closed.columns ∙ ap (λ (cols : List ColumnState). map column_of cols) (sym p.shows_now.columns)
+  pub were-now : AreColumns (shape_in lay setup) p.now.columns p.between.closes.were.items
+  were-now = subst (λ (cols : List ColumnState). AreColumns (shape_in lay setup) cols p.between.closes.were.items) (sym p.shows_now.columns)
+      (subst (λ (y : Shape). AreColumns y last.cols.states p.between.closes.were.items) p.shape_last p.between.closes.is_closed.columns)
+
+  pub now-one : AtMostOne is_filling p.now.columns
+  now-one = subst (AtMostOne is_filling) (sym p.shows_now.columns) p.between.steady.sound.seated.kept.one_filling
+
+  now-one-spread : AtMostOne is_spread p.now.columns
+  now-one-spread = subst (AtMostOne is_spread) (sym p.shows_now.columns) p.between.steady.sound.seated.kept.one_spread
+
+  pub now-many : length p.now.columns ≡ (shape_in lay setup).columns
+  now-many = ap (λ (cols : List ColumnState). length cols) p.shows_now.columns ∙ (p.between.steady.sound.seated.fit.columns ∙ ap (λ (y : Shape). y.columns) p.shape_last)
 
   pub judged-now : IsJudged (shape_in lay setup) p.now.columns how p.between.closes.were.items closed.columns.items
   judged-now = subst (λ (cols : List ColumnState). IsJudged (shape_in lay setup) cols how p.between.closes.were.items closed.columns.items) (sym p.shows_now.columns)
       (subst (λ (y : Shape). IsJudged y last.cols.states how p.between.closes.were.items closed.columns.items) p.shape_last p.between.closes.judged)
 
   pub closes : ClosesAs (shape_in lay setup) p.now.columns closed.columns.items
-  closes = closes-judged (shape_in lay setup) p.now.columns p.between.closes.were.items closed.columns.items were-now how judged-now (now-set lay disk setup how first last closed p) (now-here lay disk setup how first last closed p)
+  closes = closes-judged (shape_in lay setup) p.now.columns p.between.closes.were.items closed.columns.items were-now how judged-now now-one now-many (ready lay disk setup how first last closed p)
 
   -- ## Clients
 
@@ -86,17 +97,19 @@ module _ {L D : Type 0} (lay : LayoutGhosts L) (disk : DiskGhosts D) (setup : Se
   log-keeps : keeps_trace first ≡ setup.trace
   log-keeps = ap (λ (l : Logged). l.keeps) p.between.opened.log
 
-  trace-now : traced last ≡ trace_of setup.trace (p.own ++ first_of how)
+  trace-now : traced last ≡ trace_of setup.trace (p.own ++ first_of how p.count)
   trace-now = by setup.trace log-keeps
     where
-      by : (b : Bool) → keeps_trace first ≡ b → traced last ≡ trace_of b (p.own ++ first_of how)
-      by true on = goes-told lay disk first last (p.own ++ first_of how) p.goes on ∙ ap (λ (l : List Traced). l ++ reverse (p.own ++ first_of how)) log-trace
+      by : (b : Bool) → keeps_trace first ≡ b → traced last ≡ trace_of b (p.own ++ first_of how p.count)
+      by true on = goes-told lay disk first last (p.own ++ first_of how p.count) p.goes on ∙ ap (λ (l : List Traced). l ++ reverse (p.own ++ first_of how p.count)) log-trace
       by false off = untraced lay disk setup how first last closed p off ∙ log-trace
 
-  pub tells : CoreTells lay disk setup how closed (p.own ++ first_of how) p.now
+  pub tells : CoreTells lay disk setup how closed (p.own ++ first_of how p.count) p.now
   tells = record {
     layout = layout-back lay disk setup how first last closed p;
     closes = closes;
+    filling = one-count is_set_filling closed.columns.items (closes-one (shape_in lay setup) p.now.columns closed.columns.items closes now-one);
+    spread = one-count is_set_spread closed.columns.items (closes-one-spread (shape_in lay setup) p.now.columns closed.columns.items closes now-one-spread);
     clients = items-count;
     few = let n = items-count in let few = p.few in omega (arith, n, few);
     items = items-each;

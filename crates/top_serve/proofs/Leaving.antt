@@ -16,7 +16,7 @@ use Rattle.eng_parts.specs.declared.setup.Setup.{Setup}
 use Rattle.eng_parts.specs.declared.setup.Closed.{Closed}
 use Rattle.eng_parts.specs.Shelf.{seen_at}
 use Rattle.eng_state.specs.declared.array.Array.{Array}
-use Rattle.eng_events.specs.Opened.{states_of}
+use Rattle.eng_cols.specs.Stripes.{states_of}
 use Rattle.eng_state.specs.Shows.{AreTold}
 use Rattle.eng_array.specs.declared.start.Start.{Start}
 use Rattle.top_close.proofs.ClosingLaws.{closing_agrees}
@@ -27,7 +27,8 @@ use Rattle.top_serve.proofs.Between.{Course}
 use Rattle.top_serve.proofs.Devices.{device_of, closed-at}
 use Rattle.top_serve.proofs.Behind.{had-begun}
 use Rattle.top_serve.proofs.Framed.{devices-back}
-use Rattle.top_serve.proofs.Hands.{closes}
+use Rattle.top_serve.proofs.Closings.{closes-one}
+use Rattle.top_serve.proofs.Hands.{closes, now-one}
 use Rattle.top_serve.proofs.Starting.{first_of}
 use Rattle.top_serve.proofs.Meaning.{sync-same, agrees-same, told, fits, agrees-all}
 
@@ -47,7 +48,7 @@ module _ {L D : Type 0} (lay : LayoutGhosts L) (disk : DiskGhosts D) (setup : Se
   byte-stays : disk.tells → (d n k : ℕ) → (CoreMayChange lay disk setup how closed d n → ⊥) → k < 512 → contents_of disk closed.devices.items d n k ≡ contents_of disk setup.devices.items d n k
   byte-stays tells d n k not kb =
       sym (now-contents tells d n k kb)
-      ∙ ((only-rows (shape_in lay setup) p.layout (graphs_in setup) p.promises p.start (p.own ++ first_of how) p.now p.opening p.run).contents d n k (λ c had rows. not (inl ((c, had-begun lay disk setup how first last closed p c d had), rows)))
+      ∙ ((only-rows (shape_in lay setup) p.layout (graphs_in setup) p.promises p.start (p.own ++ first_of how p.count) p.now p.opening p.run).contents d n k (λ c had rows. not (inl ((c, had-begun lay disk setup how first last closed p c d had), rows)))
       ∙ start-contents lay disk setup how first last closed p tells d n k kb)
 
   -- so sector by sector, where there is such a sector
@@ -80,16 +81,17 @@ module _ {L D : Type 0} (lay : LayoutGhosts L) (disk : DiskGhosts D) (setup : Se
 
   pub means : CoreMeans lay disk setup p.start p.now
   means = record {
-    legal = told (shape_in lay setup) (graphs_in setup) p.layout p.promises p.start p.opening (p.own ++ first_of how) p.now p.run;
-    fits = λ tells sync. fits (shape_in lay setup) (graphs_in setup) p.layout p.promises p.start p.opening (p.own ++ first_of how) p.now p.run (start-sync tells sync);
+    legal = told (shape_in lay setup) (graphs_in setup) p.layout p.promises p.start p.opening (p.own ++ first_of how p.count) p.now p.run;
+    fits = λ tells sync. fits (shape_in lay setup) (graphs_in setup) p.layout p.promises p.start p.opening (p.own ++ first_of how p.count) p.now p.run (start-sync tells sync);
   }
 
   agrees : disk.tells → WasInSync lay disk setup → closed.lost ≡ None → (ops : List Op) × AreOps p.now p.now.history ops × Agrees (shape_in lay setup) (contents_of disk closed.devices.items) (states_of (shape_in lay setup) closed.columns.items) (replay p.start.blocks ops) AnyStripe
   agrees tells sync none =
-      let a = agrees-all (shape_in lay setup) (graphs_in setup) p.layout p.promises p.start p.opening (p.own ++ first_of how) p.now p.run (p.shows_now.lost ∙ (sym p.between.closes.is_closed.lost ∙ none)) (replied lay disk setup how first last closed p) (start-sync tells sync) in (
+      let a = agrees-all (shape_in lay setup) (graphs_in setup) p.layout p.promises p.start p.opening (p.own ++ first_of how p.count) p.now p.run (p.shows_now.lost ∙ (sym p.between.closes.is_closed.lost ∙ none)) (replied lay disk setup how first last closed p) (start-sync tells sync) in (
         a.0,
         a.1,
-        closing_agrees (shape_in lay setup) p.now.columns closed.columns.items (closes lay disk setup how first last closed p) (contents_of disk closed.devices.items) (replay p.start.blocks a.0) AnyStripe
+        closing_agrees (shape_in lay setup) p.now.columns closed.columns.items (closes lay disk setup how first last closed p)
+            (closes-one (shape_in lay setup) p.now.columns closed.columns.items (closes lay disk setup how first last closed p) (now-one lay disk setup how first last closed p)) (contents_of disk closed.devices.items) (replay p.start.blocks a.0) AnyStripe
             (agrees-same (shape_in lay setup) p.now.contents (contents_of disk closed.devices.items) (now-contents tells) p.now.columns (replay p.start.blocks a.0) AnyStripe a.2),
       )
 

@@ -18,6 +18,7 @@ pub mod Blames
 pub mod Hands
 pub mod Stopping
 pub mod Leaving
+pub mod Pausing
 pub mod Causing
 pub mod All
 pub mod Deaths

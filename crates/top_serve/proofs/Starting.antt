@@ -20,10 +20,10 @@ use Rattle.eng_array.specs.declared.start.Start.TheVariants as start
 use Rattle.eng_array.specs.Starts.{event_of, begun_by}
 use Rattle.top_serve.proofs.Meaning.{invariant}
 
--- the events by which a rebuild starts, if one does
-abbrev pub first_of : Option Start → List Traced
-first_of None = []
-first_of (Some how) = event_of how ∷ []
+-- the events by which a rebuild starts, if one does, with so many rebuilds
+abbrev pub first_of : Option Start → ℕ → List Traced
+first_of None count = []
+first_of (Some how) count = event_of how count ∷ []
 
 -- ## What the contents mean
 
@@ -57,7 +57,7 @@ module _ (y : Shape) (old new : List ColumnState) (same : (s i : ℕ) → is_ava
 -- ## The start
 
 module _ (y : Shape) (graphs : Graphs) (layout : IsLayout y) (promises : Promises graphs) (opening : World) (fresh : IsOpening y opening) where
-  module _ (how : Start) (mid : World) (run : EventsLead y graphs opening (event_of how ∷ []) mid) (c : ℕ) (begun : List ColumnState) (f : StartsRebuild y c begun opening mid)
+  module _ (how : Start) (count : ℕ) (mid : World) (run : EventsLead y graphs opening (event_of how count ∷ []) mid) (c : ℕ) (begun : List ColumnState) (f : StartsRebuild y c begun opening mid)
       (same : (s i : ℕ) → is_available y begun s i ≡ is_available y opening.columns s i) (kept : (s i : ℕ) (at : Spot) → seat y opening.columns s i ≡ Some at → seat y begun s i ≡ Some at) where
     not-lost : mid.lost ≡ None
     not-lost = f.lost ∙ fresh.lost
@@ -77,7 +77,7 @@ module _ (y : Shape) (graphs : Graphs) (layout : IsLayout y) (promises : Promise
 
     opens-started : IsOpening y mid
     opens-started =
-        let inv = (invariant y graphs layout promises opening fresh (event_of how ∷ []) mid run not-lost).control in
+        let inv = (invariant y graphs layout promises opening fresh (event_of how count ∷ []) mid run not-lost).control in
         record {
           unbegun = f.unbegun_still;
           asked = inv.asked;
@@ -99,21 +99,25 @@ module _ (y : Shape) (graphs : Graphs) (layout : IsLayout y) (promises : Promise
   step-of e mid run = subst (λ o. StepBy y graphs o e opening mid) fresh.lost (subst (λ (w : World). Step y graphs e w mid) run.1 run.2)
 
   -- the columns behind the start are these
-  pub started-columns : (how : Start) (mid : World) → EventsLead y graphs opening (event_of how ∷ []) mid → mid.columns ≡ begun_by (columns_of y opening) how
-  started-columns (start.Fill c device) mid run = (step-of (event_of (start.Fill c device)) mid run).starts.columns
-  started-columns (start.Spread c) mid run = (step-of (event_of (start.Spread c)) mid run).starts.columns
+  pub started-columns : (how : Start) (count : ℕ) (mid : World) → EventsLead y graphs opening (event_of how count ∷ []) mid → mid.columns ≡ begun_by (columns_of y opening) how
+  started-columns (start.Fill c device most) count mid run = (step-of (event_of (start.Fill c device most) count) mid run).starts.columns
+  started-columns (start.Resume c most) count mid run = (step-of (event_of (start.Resume c most) count) mid run).starts.columns
+  started-columns (start.Spread c) count mid run = (step-of (event_of (start.Spread c) count) mid run).starts.columns
 
-  opens-begun : (how : Start) (mid : World) → EventsLead y graphs opening (event_of how ∷ []) mid → IsOpening y mid
-  opens-begun (start.Fill c device) mid run =
-      let f = step-of (event_of (start.Fill c device)) mid run in
-      opens-started (start.Fill c device) mid run c _ f.starts (filling-same y (columns_of y opening) c f.starts.dead device) (filling-kept y (columns_of y opening) c f.starts.dead device)
-  opens-begun (start.Spread c) mid run =
-      let f = step-of (event_of (start.Spread c)) mid run in
-      opens-started (start.Spread c) mid run c _ f.starts (spreading-same y (columns_of y opening) c f.starts.dead) (spreading-kept y (columns_of y opening) c f.starts.dead)
+  opens-begun : (how : Start) (count : ℕ) (mid : World) → EventsLead y graphs opening (event_of how count ∷ []) mid → IsOpening y mid
+  opens-begun (start.Fill c device most) count mid run =
+      let f = step-of (event_of (start.Fill c device most) count) mid run in
+      opens-started (start.Fill c device most) count mid run c _ f.starts (filling-same y (columns_of y opening) c f.dead device) (filling-kept y (columns_of y opening) c f.dead device)
+  opens-begun (start.Resume c most) count mid run =
+      let f = step-of (event_of (start.Resume c most) count) mid run in
+      opens-started (start.Resume c most) count mid run c _ f.starts (λ s i. refl) (λ s i at is. is)
+  opens-begun (start.Spread c) count mid run =
+      let f = step-of (event_of (start.Spread c) count) mid run in
+      opens-started (start.Spread c) count mid run c _ f.starts (spreading-same y (columns_of y opening) c f.dead) (spreading-kept y (columns_of y opening) c f.dead)
 
-  pub opens-behind : (how : Option Start) (mid : World) → EventsLead y graphs opening (first_of how) mid → IsOpening y mid
-  opens-behind None mid run = subst (IsOpening y) (sym run) fresh
-  opens-behind (Some how) mid run = opens-begun how mid run
+  pub opens-behind : (how : Option Start) (count : ℕ) (mid : World) → EventsLead y graphs opening (first_of how count) mid → IsOpening y mid
+  opens-behind None count mid run = subst (IsOpening y) (sym run) fresh
+  opens-behind (Some how) count mid run = opens-begun how count mid run
 
 -- ## Runs behind one another
 

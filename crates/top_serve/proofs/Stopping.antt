@@ -1,5 +1,5 @@
 -- Why a rebuild isn't done at rest.
-use Rattle.std.proofs.Common.{◌≡◌, ◌⊎◌, ◌<◌, ◌==◌, inl, inr, ℕ, zero, suc, List, [], ◌∷◌, ◌++◌, length, Bool, true, false, Option, Some, None, slice_get, slice_set, refl, sym, ◌∙◌, ap, subst, arith, IsSome, is_some}
+use Rattle.std.proofs.Common.{◌≡◌, ◌⊎◌, ◌<◌, ◌==◌, inl, inr, ℕ, zero, suc, List, [], ◌∷◌, ◌++◌, length, Bool, true, false, Option, Some, None, slice_get, slice_set, refl, sym, ◌∙◌, ap, subst, arith, IsSome, is_some, option_map}
 use Rattle.std.specs.Prelude.{◌||◌, not, Contains}
 use Rattle.std.proofs.lemmas.Bool.{cases_eq, cases_Bool, cases_lt, eqb-true, and_parts}
 use Rattle.std.proofs.lemmas.Option.{slice_get-get_or}
@@ -10,12 +10,18 @@ use Rattle.lay_core.specs.declared.layout.Layout.{Ghosts as LayoutGhosts}
 use Rattle.eng_cols.specs.declared.spot.Loss.{Loss}
 use Rattle.eng_cols.specs.declared.column.Column.{Column}
 use Rattle.eng_cols.specs.declared.column.Column.TheVariants as set
-use Rattle.eng_cols.specs.Cols.{ColumnState, Live, Dead, Filling, Spread, InOrder, passes, is_spread}
-use Rattle.eng_cols.specs.Seats.{open_on, spare_open, seat_on, seat, is_unit_of, HasStripeLeft, IsWhole}
+use Rattle.eng_cols.specs.Cols.{ColumnState, Live, Dead, Filling, Spread, InOrder, is_done, is_done_on, is_spread, none_done, passes}
+use Rattle.eng_cols.specs.Seats.{open_on, spare_open, seat_on, seat, is_unit_of, HasStripeLeft, IsStripeOf}
+use Rattle.eng_cols.proofs.Lists.{get_set_same}
+use Rattle.eng_cols.proofs.Wholes.{lies-on as lies-there}
+use Rattle.blk_plain.specs.declared.op.Op.TheVariants as op
+use Rattle.eng_world.specs.declared.item.Item.{Item}
+use Rattle.eng_world.specs.declared.item.Item.TheVariants as item
 use Rattle.eng_world.specs.declared.item.Traced.{Traced}
 use Rattle.eng_world.specs.declared.item.Traced.TheVariants as event
 use Rattle.eng_world.specs.Rebuilding.{Rebuilds, KeepSeats}
-use Rattle.eng_world.proofs.Whole.{is-whole, fill-seats}
+use Rattle.eng_world.specs.Step.{EventsLead, column_begun}
+use Rattle.eng_world.proofs.Whole.{asked-done, first-step}
 use Rattle.eng_parts.specs.declared.setup.Setup.{Setup}
 use Rattle.eng_parts.specs.declared.setup.Closed.{Closed}
 use Rattle.eng_state.specs.declared.array.Array.{Array}
@@ -23,17 +29,16 @@ use Rattle.eng_array.specs.declared.start.Start.{Start}
 use Rattle.eng_array.specs.declared.start.Start.TheVariants as start
 use Rattle.eng_array.specs.Starts as starts
 use Rattle.top_serve.specs.Caused.{HasSpareOn, RestsOn}
-use Rattle.top_serve.specs.Judged.{judged, IsJudged}
-use Rattle.top_serve.specs.Setups.{shape_in, graphs_in, HasSparePlaces, MayStart}
-use Rattle.top_serve.specs.Served.{IsStoppedBy}
+use Rattle.top_serve.specs.Setups.{shape_in, graphs_in, with_start, HasSparePlaces, MayStart}
+use Rattle.top_serve.specs.Served.{IsKeptAs, IsStoppedBy}
 use Rattle.top_serve.proofs.Begins.{replied}
-use Rattle.top_serve.proofs.Behind.{start-here, filled-has, now-here}
+use Rattle.top_serve.proofs.Behind.{kinds-now, lives-here}
 use Rattle.top_serve.proofs.Between.{Course}
-use Rattle.top_serve.proofs.Blames.{dead-by, failed, blamed}
-use Rattle.top_serve.proofs.Columns.{AreOwn}
-use Rattle.top_serve.proofs.Hands.{were-now, judged-now}
-use Rattle.top_serve.proofs.Closings.{begun_kind, done_kind, judged-done, judged-here, not-dead}
-use Rattle.top_serve.proofs.Alike.{kind, kind-spread}
+use Rattle.top_serve.proofs.Blames.{dead-by}
+use Rattle.top_serve.proofs.Columns.{AreOwn, own-quiet}
+use Rattle.top_serve.proofs.Hands.{closes}
+use Rattle.top_serve.proofs.Closings.{Ends, ends-as}
+use Rattle.top_serve.proofs.Alike.{bare, kind, kind-spread}
 use Rattle.top_serve.proofs.Meaning.{invariant}
 use Rattle.top_serve.proofs.Starting.{first_of}
 
@@ -125,85 +130,104 @@ module _ (y : Shape) (layout : IsLayout y) (cols : List ColumnState) (count : le
 -- ## Either rebuild
 
 rests-self : (y : Shape) (how : Start) → RestsOn y how (starts.column_of how)
-rests-self y (start.Fill c device) = refl
+rests-self y (start.Fill c device most) = refl
+rests-self y (start.Resume c most) = refl
 rests-self y (start.Spread c) = inl refl
 
-done-lives : (how : Start) → Some (done_kind how) ≡ Some set.Dead → ⊥
-done-lives (start.Fill c device) h = let z : Some (set.Live device) ≡ Some set.Dead = h in let u : ⊥ = cc in u
-done-lives (start.Spread c) h = let z : Some set.Spread ≡ Some set.Dead = h in let u : ⊥ = cc in u
-
 -- events behind a start are a rebuild
-rebuilds : (how : Start) (own : List Traced) → AreOwn own → Rebuilds (starts.column_of how) (own ++ starts.event_of how ∷ [])
-rebuilds how own are = record { first = starts.event_of how; later = own; split = refl; begins = begins how; no_fill = λ k device. are (event.Fill k device); no_spread = λ k. are (event.Spread k) }
+pub rebuilds : (how : Start) (count : ℕ) (own : List Traced) → AreOwn own → Rebuilds (starts.column_of how) (own ++ starts.event_of how count ∷ [])
+rebuilds how count own are = record { first = starts.event_of how count; later = own; split = refl; begins = begins how; quiet = λ e has. own-quiet e (are e has) }
   where
-    begins : (how : Start) → ((device : ℕ) × (starts.event_of how ≡ event.Fill (starts.column_of how) device)) ⊎ (starts.event_of how ≡ event.Spread (starts.column_of how))
-    begins (start.Fill c device) = inl (device, refl)
-    begins (start.Spread c) = inr refl
+    begins : (how : Start) → column_begun (starts.event_of how count) ≡ Some (starts.column_of how)
+    begins (start.Fill c device most) = refl
+    begins (start.Resume c most) = refl
+    begins (start.Spread c) = refl
 
-last-has : (own : List Traced) (e : Traced) → Contains (own ++ e ∷ []) e
-last-has [] e = (zero, omega arith, refl)
-last-has (x ∷ own) e = let h = last-has own e in (suc h.0, (let l = h.1 in omega (arith, l)), h.2)
+-- what was kept and is dead was so
+kept-dead : (was kept : Option Column) → IsKeptAs was kept → kept ≡ Some set.Dead → was ≡ Some set.Dead
+kept-dead None kept h dead = let z : None ≡ Some set.Dead = sym h ∙ dead in absurd (let u : ⊥ = cc in u)
+kept-dead (Some (set.Live d)) kept h dead = let z : Some (set.Live d) ≡ Some set.Dead = sym h ∙ dead in absurd (let u : ⊥ = cc in u)
+kept-dead (Some set.Dead) kept h dead = refl
+kept-dead (Some (set.Filling d m)) kept (inl h) dead = let z : Some (set.Live d) ≡ Some set.Dead = sym h ∙ dead in absurd (let u : ⊥ = cc in u)
+kept-dead (Some (set.Filling d m)) kept (inr (n, h)) dead = let z : Some (set.Filling d n) ≡ Some set.Dead = sym h ∙ dead in absurd (let u : ⊥ = cc in u)
+kept-dead (Some set.Spread) kept h dead = let z : Some set.Spread ≡ Some set.Dead = sym h ∙ dead in absurd (let u : ⊥ = cc in u)
+
+none-is-done : (n s : ℕ) → is_done (none_done n) s ≡ false
+none-is-done zero s = refl
+none-is-done (suc n) zero = refl
+none-is-done (suc n) (suc s) = none-is-done n s
 
 may-spread : {L D : Type 0} (lay : LayoutGhosts L) (disk : DiskGhosts D) (setup : Setup L D) (how : Option Start) → MayStart lay disk setup how → (c : ℕ) → how ≡ Some (start.Spread c) → HasSparePlaces lay setup
-may-spread lay disk setup how may c is = (subst (λ h. MayStart lay disk setup h) is may).target
+may-spread lay disk setup how may c is = (subst (λ h. MayStart lay disk setup h) is may).target.1
 
 module _ {L D : Type 0} (lay : LayoutGhosts L) (disk : DiskGhosts D) (setup : Setup L D) (how : Option Start) (first last : Array L D) (closed : Closed L D) (p : Course lay disk setup how first last closed) where
   module _ (rebuild : Start) (is : how ≡ Some rebuild) where
     abbrev c : ℕ
     c = starts.column_of rebuild
 
-    rebuilds-it : Rebuilds c (p.own ++ first_of how)
-    rebuilds-it = subst (λ h. Rebuilds c (p.own ++ first_of h)) (sym is) (rebuilds rebuild p.own p.are_own)
-
-    not-whole : IsWhole (shape_in lay setup) p.now.columns c → HasStripeLeft (shape_in lay setup) p.now.columns c → ⊥
-    not-whole whole left = not-both _ (whole left.stripe left.within left.of_column) left.left
-
-    module _ (none : p.now.lost ≡ None) where
-      seats-whole : KeepSeats (shape_in lay setup) p.now.columns c → IsWhole (shape_in lay setup) p.now.columns c
-      seats-whole seats = is-whole (shape_in lay setup) p.layout (graphs_in setup) p.promises p.start p.opening c (p.own ++ first_of how) p.now rebuilds-it p.run none (replied lay disk setup how first last closed p 16) seats
+    pub rebuilds-it : Rebuilds c (p.own ++ first_of how p.count)
+    rebuilds-it = subst (λ h. Rebuilds c (p.own ++ first_of h p.count)) (sym is) (rebuilds rebuild p.count p.own p.are_own)
 
     -- the column died
     when-dead : slice_get p.now.columns c ≡ Some Dead → IsStoppedBy lay disk setup how closed p.now rebuild
     when-dead dead = elim (dead-by lay disk setup how first last closed p c dead) [
-      | inl was ↦ absurd (not-dead rebuild (sym (start-here lay disk setup how first last closed p rebuild is) ∙ was))
+      | inl was ↦ absurd (lives-here lay disk setup how first last closed p rebuild is was)
       | inr why ↦ inr (c, rests-self (shape_in lay setup) rebuild, inr why)
     ]
 
-  -- the device that is filled has failed, if a stripe is left
-  left-filling : (k device : ℕ) (is : how ≡ Some (start.Fill k device)) → p.now.lost ≡ None → HasStripeLeft (shape_in lay setup) p.now.columns k → IsStoppedBy lay disk setup how closed p.now (start.Fill k device)
-  left-filling k device is none left = elim (cases_Bool (p.now.failed device)) [
-    | inl bad ↦ inr (k, refl, inr (blamed lay disk setup how first last closed p k device (filled-has lay disk setup how first last closed p (start.Fill k device) k device is refl) (failed lay disk setup how first last closed p device bad)))
-    | inr well ↦ absurd (not-whole (start.Fill k device) is (seats-whole (start.Fill k device) is none
-        (fill-seats (shape_in lay setup) p.layout (graphs_in setup) p.promises p.start p.opening k (p.own ++ first_of how) p.now (rebuilds-it (start.Fill k device) is) p.run none (replied lay disk setup how first last closed p 16) device
-        (subst (λ h. Contains (p.own ++ first_of h) (event.Fill k device)) (sym is) (last-has p.own (event.Fill k device))) well)) left)
-  ]
+  -- each of its stripes is asked for, and a stripe that is left is one of them
+  all-asked : (k : ℕ) → how ≡ Some (start.Spread k) → (s : ℕ) → s < (shape_in lay setup).stripes → IsStripeOf (shape_in lay setup) p.mid.columns k s → Contains (p.now.clients 16).items (item.Run (op.Rebuild s) None)
+  all-asked k is s sw of =
+      let run : EventsLead (shape_in lay setup) (graphs_in setup) p.start (event.Spread k ∷ []) p.mid = subst (λ h. EventsLead (shape_in lay setup) (graphs_in setup) p.start (first_of h p.count) p.mid) is p.run_begun in
+      let step = first-step (shape_in lay setup) (graphs_in setup) (event.Spread k) p.start p.mid p.opening run in
+      let begun : p.mid.columns ≡ slice_set p.start.columns k (Spread (none_done (shape_in lay setup).stripes)) = step.starts.columns in
+      let here : slice_get p.mid.columns k ≡ Some (Spread (none_done (shape_in lay setup).stripes)) = ap (λ (l : List ColumnState). slice_get l k) begun ∙ get_set_same p.start.columns k Dead (Spread (none_done (shape_in lay setup).stripes)) step.dead in
+      let items : (p.mid.clients 16).items ≡ (p.now.clients 16).items = (p.shows_mid.clients 16).items ∙ (sym (p.last_begun 16) ∙ sym (p.shows_now.clients 16).items) in
+      subst (λ (l : List Item). Contains l (item.Run (op.Rebuild s) None)) items
+      (step.all s (record { within = sw; of_column = of; left = ap (λ o. is_done_on o s) here ∙ none-is-done (shape_in lay setup).stripes s }))
 
   -- a column with a spare place for it is dead, if a stripe is left
   left-spread : (k : ℕ) (is : how ≡ Some (start.Spread k)) → p.now.lost ≡ None → kind (slice_get p.now.columns k) ≡ Some set.Spread → HasStripeLeft (shape_in lay setup) p.now.columns k → IsStoppedBy lay disk setup how closed p.now (start.Spread k)
   left-spread k is none kinds left =
-      let inv = (invariant (shape_in lay setup) (graphs_in setup) p.layout p.promises p.start p.opening (p.own ++ first_of how) p.now p.run none).control in
+      let inv = (invariant (shape_in lay setup) (graphs_in setup) p.layout p.promises p.start p.opening (p.own ++ first_of how p.count) p.now p.run none).control in
       let spread = kind-spread (slice_get p.now.columns k) kinds in
       let places = may-spread lay disk setup how p.between.may k is in
-      by (gone-or-kept (shape_in lay setup) p.layout p.now.columns inv.count inv.order places.spares k spread.0 spread.1)
+      by inv.count inv.order spread.0 spread.1 (gone-or-kept (shape_in lay setup) p.layout p.now.columns inv.count inv.order places.spares k spread.0 spread.1)
     where
-      by : KeepSeats (shape_in lay setup) p.now.columns k ⊎ ((j : ℕ) × HasSpareOn (shape_in lay setup) k j × (slice_get p.now.columns j ≡ Some Dead)) → IsStoppedBy lay disk setup how closed p.now (start.Spread k)
-      by (inl seats) = absurd (not-whole (start.Spread k) is (seats-whole (start.Spread k) is none seats) left)
-      by (inr (j, has, gone)) = inr (j, inr has, dead-by lay disk setup how first last closed p j gone)
-
-  left-over : (rebuild : Start) (is : how ≡ Some rebuild) → p.now.lost ≡ None → kind (slice_get p.now.columns (starts.column_of rebuild)) ≡ Some (begun_kind rebuild) → HasStripeLeft (shape_in lay setup) p.now.columns (starts.column_of rebuild) → IsStoppedBy lay disk setup how closed p.now rebuild
-  left-over (start.Fill k device) is none kinds left = left-filling k device is none left
-  left-over (start.Spread k) is none kinds left = left-spread k is none kinds left
+      by : length p.now.columns ≡ (shape_in lay setup).columns → InOrder p.now.columns → (done : List Bool) → slice_get p.now.columns k ≡ Some (Spread done)
+          → KeepSeats (shape_in lay setup) p.now.columns k ⊎ ((j : ℕ) × HasSpareOn (shape_in lay setup) k j × (slice_get p.now.columns j ≡ Some Dead)) → IsStoppedBy lay disk setup how closed p.now (start.Spread k)
+      by count order done here (inl seats) =
+          let done = asked-done (shape_in lay setup) p.layout (graphs_in setup) p.promises p.start p.opening k (p.own ++ first_of how p.count) p.now (rebuilds-it (start.Spread k) is) p.run none (replied lay disk setup how first last closed p 16) seats in
+          let of = left.of_column in
+          let lies = lies-on (shape_in lay setup) p.layout p.now.columns count order (may-spread lay disk setup how p.between.may k is).spares k _ here left.stripe of.0 of.2 in
+          let was = lies-there (shape_in lay setup) p.mid.columns k left.stripe of.0 of.1 lies in
+          not-both _ (done left.stripe left.within of (all-asked k is left.stripe left.within was)) left.left
+      by count order done here (inr (j, has, gone)) = inr (j, inr has, dead-by lay disk setup how first last closed p j gone)
 
   unlost : (rebuild : Start) (is : how ≡ Some rebuild) → p.now.lost ≡ None → slice_get closed.columns.items (starts.column_of rebuild) ≡ Some set.Dead → IsStoppedBy lay disk setup how closed p.now rebuild
-  unlost rebuild is none dead = by (subst (λ h. IsJudged (shape_in lay setup) p.now.columns h p.between.closes.were.items closed.columns.items) is (judged-now lay disk setup how first last closed p)) (now-here lay disk setup how first last closed p rebuild is)
+  unlost rebuild is none dead = elim (kinds-now lay disk setup how first last closed p (starts.column_of rebuild)) [
+    | inr gone ↦ when-dead rebuild is gone
+    | inl same ↦ by same (ends-as (shape_in lay setup) p.now.columns closed.columns.items (closes lay disk setup how first last closed p) (starts.column_of rebuild) (slice_get (with_start how setup.columns.items) (starts.column_of rebuild)) same)
+  ]
     where
-      at : (whole : Bool) → closed.columns.items ≡ slice_set p.between.closes.were.items (starts.column_of rebuild) (judged whole (slice_get p.between.closes.were.items (starts.column_of rebuild))) → (x : Column) → kind (slice_get p.now.columns (starts.column_of rebuild)) ≡ Some x → slice_get closed.columns.items (starts.column_of rebuild) ≡ Some (judged whole (kind (slice_get p.now.columns (starts.column_of rebuild))))
-      at whole h x kinds = judged-here (shape_in lay setup) p.now.columns p.between.closes.were.items closed.columns.items (were-now lay disk setup how first last closed p) rebuild whole h x kinds
+      -- only a column that is to be spread can be dead for want of a stripe
+      left-over : (rebuild : Start) (is : how ≡ Some rebuild) → slice_get (with_start how setup.columns.items) (starts.column_of rebuild) ≡ Some set.Spread → kind (slice_get p.now.columns (starts.column_of rebuild)) ≡ Some set.Spread
+          → HasStripeLeft (shape_in lay setup) p.now.columns (starts.column_of rebuild) → IsStoppedBy lay disk setup how closed p.now rebuild
+      left-over (start.Spread k) is spread kinds left = left-spread k is none kinds left
+      left-over (start.Fill k device most) is spread kinds left =
+          let may = subst (λ h. MayStart lay disk setup h) is p.between.may in
+          let z : Some (set.Filling device 0) ≡ Some set.Spread = sym (get_set_same setup.columns.items k set.Dead (set.Filling device 0) may.target.0.dead) ∙ subst (λ h. slice_get (with_start h setup.columns.items) k ≡ Some set.Spread) is spread in
+          absurd (let u : ⊥ = cc in u)
+      left-over (start.Resume k most) is spread kinds left =
+          let may = subst (λ h. MayStart lay disk setup h) is p.between.may in
+          let z : Some (set.Filling may.target.0 may.target.1) ≡ Some set.Spread = sym may.target.2 ∙ subst (λ h. slice_get (with_start h setup.columns.items) k ≡ Some set.Spread) is spread in
+          absurd (let u : ⊥ = cc in u)
 
-      by : IsJudged (shape_in lay setup) p.now.columns (Some rebuild) p.between.closes.were.items closed.columns.items → ((kind (slice_get p.now.columns (starts.column_of rebuild)) ≡ Some (begun_kind rebuild)) ⊎ (slice_get p.now.columns (starts.column_of rebuild) ≡ Some Dead)) → IsStoppedBy lay disk setup how closed p.now rebuild
-      by (whole, match, h) (inr gone) = when-dead rebuild is gone
-      by (true, whole, h) (inl kinds) = absurd (done-lives rebuild (sym (at true h (begun_kind rebuild) kinds ∙ ap (λ x. Some x) (judged-done rebuild true (kind (slice_get p.now.columns (starts.column_of rebuild))) kinds refl)) ∙ dead))
-      by (false, left, h) (inl kinds) = left-over rebuild is none kinds left
+      by : kind (slice_get p.now.columns (starts.column_of rebuild)) ≡ option_map bare (slice_get (with_start how setup.columns.items) (starts.column_of rebuild))
+          → Ends (shape_in lay setup) p.now.columns (starts.column_of rebuild) (slice_get (with_start how setup.columns.items) (starts.column_of rebuild)) (slice_get closed.columns.items (starts.column_of rebuild))
+          → IsStoppedBy lay disk setup how closed p.now rebuild
+      by same (inl kept) = absurd (lives-here lay disk setup how first last closed p rebuild is (kept-dead _ _ kept dead))
+      by same (inr (spread, gone, left)) = left-over rebuild is spread (same ∙ ap (option_map bare) spread) left
 
   pub stopped : (rebuild : Start) → how ≡ Some rebuild → slice_get closed.columns.items (starts.column_of rebuild) ≡ Some set.Dead → IsStoppedBy lay disk setup how closed p.now rebuild
   stopped rebuild is dead = by p.now.lost refl

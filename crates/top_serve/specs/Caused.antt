@@ -50,5 +50,6 @@ pub record HasSpareOn (y : Shape) (c k : ℕ) : Type 0 where
 
 -- A rebuild that starts so rests on column k: it is the one that is rebuilt, or one that has a spare place for it.
 abbrev pub RestsOn : Shape → Start → ℕ → Type 0
-RestsOn y (start.Fill c device) k = k ≡ c
+RestsOn y (start.Fill c device most) k = k ≡ c
+RestsOn y (start.Resume c most) k = k ≡ c
 RestsOn y (start.Spread c) k = (k ≡ c) ⊎ HasSpareOn y c k

@@ -1,16 +1,16 @@
 -- What becomes of what was handed in, once it is served: a run of events from an opening to rest, and what is handed back.
-use Rattle.std.specs.Prelude.{◌≡◌, ◌≢◌, ◌<◌, ◌≤◌, ◌*◌, ◌⊎◌, ◌++◌, ℕ, List, [], ◌∷◌, length, Bool, true, false, Option, Some, None, slice_get, slice_index_or, reverse}
+use Rattle.std.specs.Prelude.{◌≡◌, ◌≢◌, ◌<◌, ◌≤◌, ◌+◌, ◌*◌, ◌⊎◌, ◌++◌, ℕ, List, [], ◌∷◌, length, Bool, true, false, Option, Some, None, slice_get, slice_index_or, reverse, unwrap_or, count_by}
 use Rattle.blk_plain.specs.declared.op.Op.{Op}
 use Rattle.blk_plain.specs.declared.op.OpId.{OpId}
 use Rattle.blk_disk.specs.declared.disk.Disk.{Ghosts as DiskGhosts}
 use Rattle.blk_disk.specs.Devices.{size_of, contents_of, calls_of, RisesOn, Changes}
 use Rattle.lay_core.specs.Layout.{Shape}
 use Rattle.lay_core.specs.declared.layout.Layout.{Ghosts as LayoutGhosts}
+use Rattle.eng_cols.specs.declared.column.Column.{Column}
 use Rattle.eng_cols.specs.declared.column.Column.TheVariants as column
 use Rattle.eng_cols.specs.declared.spot.Loss.{Loss}
-use Rattle.eng_cols.specs.Cols.{ColumnState, Dead, HasDevice}
+use Rattle.eng_cols.specs.Cols.{ColumnState, Dead, HasDevice, is_set_filling, is_set_spread}
 use Rattle.eng_cols.specs.Contents.{Agrees, AnyStripe}
-use Rattle.eng_cols.specs.Deaths.{Dies}
 use Rattle.eng_cols.specs.Lost.{NotLost}
 use Rattle.eng_cols.specs.Seats.{HasStripeLeft}
 use Rattle.eng_world.specs.declared.item.Item.{Item}
@@ -32,14 +32,16 @@ use Rattle.eng_log.specs.Given.{items_at}
 use Rattle.eng_log.specs.Handed.{Handout, region_at, handed_byte}
 use Rattle.eng_log.specs.Laid.{sectors_before, IsRow}
 use Rattle.eng_clients.specs.Replied.{replies_at}
-use Rattle.eng_events.specs.Opened.{states_of}
+use Rattle.eng_cols.specs.Stripes.{done_at, states_of}
+use Rattle.eng_world.specs.Rebuilding.{OneRebuilds, SpreadAlike}
 use Rattle.eng_starts.specs.Rebuilding.{AreRebuildsBelow}
 use Rattle.eng_state.specs.Shows.{AreTold}
 use Rattle.eng_array.specs.declared.start.Start.{Start}
-use Rattle.eng_array.specs.Starts.{column_of, event_of}
+use Rattle.eng_array.specs.declared.start.Start.TheVariants as start
+use Rattle.eng_array.specs.Starts.{column_of, event_of, most_of}
 use Rattle.eng_array.specs.Tickets.{AllOf}
 use Rattle.top_close.specs.Closes.{ClosesAs}
-use Rattle.top_serve.specs.Setups.{shape_in, states_in, graphs_in, begun_in, with_start, with_rebuilt, WasInSync}
+use Rattle.top_serve.specs.Setups.{shape_in, states_in, graphs_in, begun_for, begun_in, with_start, WasInSync}
 use Rattle.top_serve.specs.Caused.{WentBadOn, WasLostBy, RestsOn}
 
 -- the events of a run, the newest first, as a trace has them, if it is kept
@@ -58,20 +60,48 @@ abbrev pub IsLossIn : Shape → World → Option Loss → Type 0
 IsLossIn y now None = NotLost y now.columns
 IsLossIn y now (Some loss) = WasLostBy y now loss
 
--- The events, the newest first, are the clients' own; where a rebuild starts, that comes before all of them.
-abbrev pub BeginsBy : Option Start → List Traced → Type 0
-BeginsBy None events = AllOf IsOwn events
-BeginsBy (Some how) events = (own : List Traced) × (events ≡ own ++ event_of how ∷ []) × AllOf IsOwn own
+-- The events, the newest first, are the clients' own; where a rebuild starts, that comes before all of them, with the number of its rebuilds.
+abbrev pub BeginsBy : Option Start → ℕ → List Traced → Type 0
+BeginsBy None rebuilds events = AllOf IsOwn events
+BeginsBy (Some how) rebuilds events = (own : List Traced) × (events ≡ own ++ event_of how rebuilds ∷ []) × AllOf IsOwn own
 
--- the items of client 16: a rebuild of each stripe of the column that is rebuilt, if one is
+-- the items of client 16: a rebuild of each of the first stripes that aren't done of the column that is rebuilt, if one is, as many as are asked
 abbrev pub IsRebuiltBy : Shape → List ColumnState → Option Start → List Item → Type 0
 IsRebuiltBy y begun None items = items ≡ []
-IsRebuiltBy y begun (Some how) items = AreRebuildsBelow y begun (column_of how) y.stripes items
+IsRebuiltBy y begun (Some how) items = AreRebuildsBelow y begun (column_of how) (most_of how) y.stripes items
 
--- it is the column that is rebuilt, it isn't dead, and one of its stripes is left to do
+-- beside a rebuild into the spare places no column is filling
+abbrev pub SpreadsAlone : Option Start → List Column → Type 0
+SpreadsAlone None columns = Unit {0}
+SpreadsAlone (Some (start.Fill column device most)) columns = Unit {0}
+SpreadsAlone (Some (start.Resume column most)) columns = Unit {0}
+SpreadsAlone (Some (start.Spread column)) columns = count_by is_set_filling columns ≡ 0
+
+-- it is the column that is to be spread, it isn't dead, and one of its stripes is left to do
 abbrev pub IsUnbuilt : Shape → Option Start → World → ℕ → Type 0
 IsUnbuilt y None now c = ⊥
-IsUnbuilt y (Some how) now c = (column_of how ≡ c) × (slice_get now.columns c ≡ Some Dead → ⊥) × HasStripeLeft y now.columns c
+IsUnbuilt y (Some (start.Fill column device most)) now c = ⊥
+IsUnbuilt y (Some (start.Resume column most)) now c = ⊥
+IsUnbuilt y (Some (start.Spread column)) now c = (column ≡ c) × (slice_get now.columns c ≡ Some Dead → ⊥) × HasStripeLeft y now.columns c
+
+-- a column as it is kept that was this one: the same, but one that was filling may be live, or have other stripes done
+abbrev pub IsKeptAs : Option Column → Option Column → Type 0
+IsKeptAs None kept = kept ≡ None
+IsKeptAs (Some (column.Live device)) kept = kept ≡ Some (column.Live device)
+IsKeptAs (Some column.Dead) kept = kept ≡ Some column.Dead
+IsKeptAs (Some (column.Filling device done)) kept = (kept ≡ Some (column.Live device)) ⊎ ((n : ℕ) × (kept ≡ Some (column.Filling device n)))
+IsKeptAs (Some column.Spread) kept = kept ≡ Some column.Spread
+
+-- how many stripes of the column are done as it is begun so
+abbrev pub done_before : Option Start → List Column → ℕ → ℕ
+done_before how columns c = unwrap_or (done_at (with_start how columns) c) 0
+
+-- of the column so many stripes are rebuilt onto its device at most; where no rebuild starts, none of any
+abbrev pub FillsBy : Option Start → ℕ → ℕ → Type 0
+FillsBy None c most = most ≡ 0
+FillsBy (Some (start.Fill column device asked)) c most = (column ≡ c) × (asked ≡ most)
+FillsBy (Some (start.Resume column asked)) c most = (column ≡ c) × (asked ≡ most)
+FillsBy (Some (start.Spread column)) c most = ⊥
 
 -- what reads handed out, with the region of each item
 abbrev pub handed_in : {L D : Type 0} → Closed L D → Handout
@@ -90,12 +120,13 @@ module _ {L D : Type 0} (lay : LayoutGhosts L) (disk : DiskGhosts D) (setup : Se
     pub contents : disk.tells → (d n k : ℕ) → k < 512 → w.contents d n k ≡ contents_of disk setup.devices.items d n k
     pub calls : (d : ℕ) → AreTold disk (calls_of disk setup.devices.items d) (w.calls d)
 
-  -- The events, the newest first, are the clients' own, behind the start of the rebuild where there is one, and lead to rest: each item has its reply, and no job is out. No items have come or gone but those of client 16, which are the rebuilds.
+  -- The events, the newest first, are the clients' own, behind the start of the rebuild where there is one, and lead to rest: each item has its reply, and no job is out. No items have come or gone but those of client 16, which are the rebuilds; beside one into the spare places no column is filling.
   pub record CoreRests (how : Option Start) (start : World) (events : List Traced) (now : World) : Type 0 where
-    pub begins : BeginsBy how events
+    pub begins : BeginsBy how (length (now.clients 16).items) events
     pub run : EventsLead (shape_in lay setup) (graphs_in setup) start events now
     pub items : (c : ℕ) → c ≢ 16 → (now.clients c).items ≡ items_at setup.clients.items c
-    pub rebuilds : IsRebuiltBy (shape_in lay setup) (begun_in lay setup how) how (now.clients 16).items
+    pub rebuilds : IsRebuiltBy (shape_in lay setup) (begun_for lay setup how) how (now.clients 16).items
+    pub alone : SpreadsAlone how setup.columns.items
     pub replied : AllReplied now
     pub out : now.out ≡ 0
 
@@ -107,10 +138,12 @@ module _ {L D : Type 0} (lay : LayoutGhosts L) (disk : DiskGhosts D) (setup : Se
   -- ## What is handed back
 
   module _ (how : Option Start) (closed : Closed L D) where
-    -- Layout and items are as they were handed in; replies, history, loss and trace are the run's; and so are the columns, of which one that is rebuilt is judged by its stripes that are left.
+    -- Layout and items are as they were handed in; replies, history, loss and trace are the run's; and so are the columns, of which one that is rebuilt is judged by its stripes that are left. At most one is filling, and at most one is spread.
     pub record CoreTells (events : List Traced) (now : World) : Type 0 where
       pub layout : closed.layout ≡ setup.layout
       pub closes : ClosesAs (shape_in lay setup) now.columns closed.columns.items
+      pub filling : count_by is_set_filling closed.columns.items ≤ 1
+      pub spread : count_by is_set_spread closed.columns.items ≤ 1
       pub clients : length closed.clients.items ≡ length setup.clients.items
       pub few : length closed.clients.items ≤ 16
       pub items : (c : ℕ) → items_at closed.clients.items c ≡ items_at setup.clients.items c
@@ -153,10 +186,13 @@ module _ {L D : Type 0} (lay : LayoutGhosts L) (disk : DiskGhosts D) (setup : Se
     IsStoppedBy now rebuild = ((loss : Loss) × (now.lost ≡ Some loss))
         ⊎ ((k : ℕ) × RestsOn (shape_in lay setup) rebuild k × ((slice_get (with_start how setup.columns.items) k ≡ Some column.Dead) ⊎ IsDeadBy now k))
 
-    -- Each reply has its cause. Each column is what it was, and the one that is rebuilt what it is once that is done; or it is dead for a cause, or as its rebuild isn't done, which has its own. Each failed device has failed by something; so has each device on which a node went bad; and the loss is that of the columns as it came.
+    -- Each reply has its cause. Each column is kept as what it was, the one that is rebuilt as what it was once that had begun; or it is dead for a cause, or as it was to be spread and isn't whole, which has its own. One that is filling in the end is so though all rebuilds that were asked of it were made; while the same columns are spread, and no client has a rebuild among its items, so many more of its stripes are done as were asked. Each failed device has failed by something; so has each device on which a node went bad; and the loss is that of the columns as it came.
     pub record CoreCauses (start : World) (events : List Traced) (now : World) : Type 0 where
       pub replies : HaveCauses (shape_in lay setup) (graphs_in setup) start events now
-      pub dies : Dies (λ c. IsDeadBy now c ⊎ IsUnbuilt (shape_in lay setup) how now c) (with_rebuilt how setup.columns.items) closed.columns.items
+      pub count : length closed.columns.items ≡ length setup.columns.items
+      pub ends : (c : ℕ) → IsKeptAs (slice_get (with_start how setup.columns.items) c) (slice_get closed.columns.items c) ⊎ ((slice_get closed.columns.items c ≡ Some column.Dead) × (IsDeadBy now c ⊎ IsUnbuilt (shape_in lay setup) how now c))
+      pub paused : closed.lost ≡ None → (c d n most : ℕ) → FillsBy how c most → slice_get closed.columns.items c ≡ Some (column.Filling d n) → length (now.clients 16).items ≡ most
+      pub far : closed.lost ≡ None → OneRebuilds now → (c d n most : ℕ) → FillsBy how c most → slice_get closed.columns.items c ≡ Some (column.Filling d n) → SpreadAlike (begun_in lay setup how) now.columns → n ≡ done_before how setup.columns.items c + most
       pub stopped : (rebuild : Start) → how ≡ Some rebuild → slice_get closed.columns.items (column_of rebuild) ≡ Some column.Dead → IsStoppedBy now rebuild
       pub failed : (d : ℕ) → now.failed d ≡ true → IsFailedBy now d
       pub bad : (later before : List Traced) (id : OpId) (node : ℕ) → events ≡ later ++ event.Bad id node ∷ before → (d : ℕ) × WentBadOn (shape_in lay setup) (graphs_in setup) (begun_in lay setup how) start before id node later now d × IsFailedBy now d

@@ -1,4 +1,4 @@
-//! What becomes of a column that was rebuilt.
+//! What becomes of a column that was being rebuilt.
 ghost use Rattle.std.specs.Prelude.{◌≡◌, ◌<◌, length, slice_get, slice_set, Some};
 ghost use Rattle.top_serve.specs.Judged.{judged};
 
@@ -8,16 +8,22 @@ use eng_array::Column;
 fn after(column: Column, whole: bool) -> Column
     ensures { result ≡ judged whole (Some column) }
 {
-    if !whole {
-        return Column::Dead;
-    }
     match column {
-        Column::Filling { device } => Column::Live { device },
-        column => column,
+        Column::Filling { device, done } => {
+            if whole {
+                Column::Live { device }
+            } else {
+                Column::Filling { device, done }
+            }
+        }
+        Column::Spread => { if whole { Column::Spread } else { Column::Dead } }
+        Column::Live { device } => Column::Live { device },
+        Column::Dead => Column::Dead,
     }
 }
 
-/// Judges a column that was rebuilt: one that isn't whole is dead, and one that was filled is live.
+/// Judges a column that was being rebuilt: one that was to be spread and isn't whole is dead, and one
+/// that was filling and is whole is live.
 pub(crate) fn judge(columns: &mut [Column], column: u32, whole: bool)
     requires { column < length columns.old }
     ensures { columns.new

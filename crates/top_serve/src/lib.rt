@@ -6,8 +6,9 @@
 //! world's.
 //!
 //! Where something is done to the array before it is served, [`room_for`] takes all memory first, and [`serve_in`] can't
-//! be refused then. Columns may have died in between. A dead column may be rebuilt beside the clients: that starts before
-//! any of their events, and at the end the column is live or spread if all of it was rebuilt, and else dead.
+//! be refused then. Columns may have died in between. A column may be rebuilt beside the clients, a dead one or one that is
+//! filling: that starts before any of their events, and at the end the column is live or spread if all of it was rebuilt.
+//! Else one that was to be spread is dead, and one that is rebuilt onto a device is filling still.
 #![tactic(auto)]
 
 mod asking;

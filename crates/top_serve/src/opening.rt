@@ -1,5 +1,6 @@
 //! Room for a core is taken over a setup, and a core is opened in it.
-ghost use Rattle.std.specs.Prelude.{◌≡◌, ℕ, IfOk, IfErr, IfSome};
+ghost use Rattle.std.specs.Prelude.{◌≡◌, ℕ, List, IfOk, IfErr, IfSome};
+ghost use Rattle.eng_cols.specs.Cols.{ColumnState};
 ghost use Rattle.eng_events.specs.Opened.{IsSetup, IsOpened, NoneOut, OpensWorlds};
 ghost use Rattle.eng_array.specs.Fitting.{FitsRebuild, FitsRebuilding, FitsTrace};
 ghost use Rattle.eng_array.specs.Steady.{IsSteady};
@@ -51,7 +52,7 @@ pub(crate) fn opened_in<L: Layout + Drop, D: Disk + Drop>(
     ensures steady { IfOk result (λ core. IsSteady L.Layout D.Disk core.array) }
     ensures home { IfOk result (λ core. NoneOut core.array.clients) }
     ensures long { IfOk result (λ core. SectorsAreLong D.Disk) }
-    ensures rebuilds { IfOk result (λ core. (column : ℕ) → FitsRebuilding L.Layout setup column → FitsRebuild L.Layout core.array column) }
+    ensures rebuilds { IfOk result (λ core. (cols : List ColumnState) (column asked : ℕ) → FitsRebuilding L.Layout setup cols column asked → FitsRebuild L.Layout core.array cols column asked) }
     ensures loss { IfErr result (λ e. IsLostBy L.Layout setup e.0) }
     ensures back { IfErr result (λ e. e.1 ≡ setup) }
 {

@@ -6,7 +6,7 @@ ghost use Rattle.eng_choice.specs.Picked.{IsResting};
 ghost use Rattle.eng_array.specs.Fitting.{FitsTrace};
 ghost use Rattle.eng_array.specs.Steady.{IsSteady};
 ghost use Rattle.eng_array.specs.Tickets.{After};
-ghost use Rattle.top_serve.specs.Judged.{CanBegin, HasStarted, HasColumn, IsClosedBy};
+ghost use Rattle.top_serve.specs.Judged.{CanBegin, HasStarted, HasColumn, IsClosedBy, JudgesAt};
 ghost use Rattle.top_serve.specs.Setups.{IsFew, IsNotLost, IsServeRefusal, IsRoomOf, MayStart, SectorsAreLong};
 ghost use Rattle.top_serve.specs.Served.{IsServed};
 
@@ -17,6 +17,7 @@ use crate::refused::{Refused, ServeFault};
 use blk_disk::Disk;
 use eng_array::{Closed, Core, CoreRoom, Setup, Start};
 use eng_crew::{drain, run_crew};
+use eng_world::a_rebuild_goes_so_far;
 use lay_core::Layout;
 use raid_progress::Progress;
 use std::alloc::Global;
@@ -68,8 +69,9 @@ pub fn serve<
 /// Serves the setup's clients as [`serve`] does, in room that was taken before. Nothing can refuse it: the array isn't
 /// lost by its columns, and the run takes no memory.
 ///
-/// A dead column is rebuilt beside the clients where a start is given. At rest it is live on the device that was filled,
-/// or spread, if each of its stripes is done there; else it is dead. Its stripes are items of which `progress` is told.
+/// A column is rebuilt beside the clients where a start is given. At rest it is live on the device that was filled, or
+/// spread, if each of its stripes is done there; else one that was to be spread is dead, and one that is filling stays so.
+/// Its stripes are items of which `progress` is told.
 pub fn serve_in<
     L: Layout + Drop + Send,
     D: Disk + Drop + Send,
@@ -122,6 +124,7 @@ fn served<
         → IsOpened L.Layout D.Disk setup core.array → OpensWorlds L.Layout D.Disk core.array
         → SectorsAreLong D.Disk → IsServed L.Layout D.Disk setup start result }
 {
+    a_rebuild_goes_so_far();
     let begun = begun(core, start);
     let left = worked(rt, alloc, begun, workers, progress, all);
     let rested = at_rest(left, progress, all);
@@ -185,7 +188,20 @@ fn at_rest<L: Layout + Drop, D: Disk + Drop, P: Progress>(
     core
 }
 
-// What the core has, handed back, once the column that was rebuilt is judged.
+// The column that is judged as the core is closed: the one that was to be spread, or else the one that
+// is filling.
+fn judged<L: Layout, D: Disk>(core: &Core<L, D>, start: Option<Start>) -> Option<u32>
+    requires steady { IsSteady L.Layout D.Disk core.now.array }
+    requires column { HasColumn L.Layout D.Disk core.now.array start }
+    ensures { JudgesAt (L.shape core.now.array.layout) core.now.array.cols.states start result }
+{
+    match start {
+        Some(Start::Spread { column }) => Some(column),
+        _ => core.filling(),
+    }
+}
+
+// What the core has, handed back, once the column that was being rebuilt is judged.
 fn closed<L: Layout + Drop, D: Disk + Drop>(core: Core<L, D>, start: Option<Start>) -> Closed<L, D>
     requires steady { IsSteady L.Layout D.Disk core.array }
     requires home { NoneOut core.array.clients }
@@ -194,9 +210,8 @@ fn closed<L: Layout + Drop, D: Disk + Drop>(core: Core<L, D>, start: Option<Star
     ensures regions { AreRegions core.array.log.handed }
 {
     core.regions_stand();
-    match start {
-        Some(start) => {
-            let column = start.column();
+    match judged(&core, start) {
+        Some(column) => {
             let whole = core.whole(column);
             let mut closed = core.close();
             judge(closed.columns.as_mut_slice(), column, whole);

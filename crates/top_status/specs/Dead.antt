@@ -9,7 +9,7 @@ use Rattle.put_line.specs.Line.{line}
 abbrev pub is_dead_column : Option Column → Bool
 is_dead_column (Some column.Dead) = true
 is_dead_column (Some (column.Live device)) = false
-is_dead_column (Some (column.Filling device)) = false
+is_dead_column (Some (column.Filling device done)) = false
 is_dead_column (Some column.Spread) = false
 is_dead_column None = false
 

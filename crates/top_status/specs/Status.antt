@@ -22,6 +22,8 @@ exit_number (status.Small column has needs) = 10
 exit_number (status.NotInSync count) = 11
 exit_number status.NoSpare = 12
 exit_number (status.LongText name) = 13
+exit_number status.NoRebuild = 14
+exit_number (status.Rebuilding column) = 15
 exit_number status.Memory = 70
 
 -- status, a word and numbers, with a space before each number
@@ -48,6 +50,8 @@ status_text (status.Small column has needs) = numbers_line (codes "small") (colu
 status_text (status.NotInSync count) = numbers_line (codes "parity") (count ∷ [])
 status_text status.NoSpare = numbers_line (codes "nospare") []
 status_text (status.LongText name) = name_line (codes "status long ") name
+status_text status.NoRebuild = numbers_line (codes "norebuild") []
+status_text (status.Rebuilding column) = numbers_line (codes "rebuilding") (column ∷ [])
 status_text status.Memory = numbers_line (codes "memory") []
 
 -- how a run ends that was lost by this, or wasn't

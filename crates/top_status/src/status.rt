@@ -51,6 +51,10 @@ pub enum Status {
     NoSpare,
     /// The text of that name is longer than a text may be.
     LongText(Name),
+    /// No column is being rebuilt that could be gone on with.
+    NoRebuild,
+    /// That column is being rebuilt, and no second one can be.
+    Rebuilding(u32),
     /// There was no memory.
     Memory,
 }
@@ -77,6 +81,8 @@ impl Status {
             Status::NotInSync(_) => 11,
             Status::NoSpare => 12,
             Status::LongText(_) => 13,
+            Status::NoRebuild => 14,
+            Status::Rebuilding(_) => 15,
             Status::Memory => 70,
         }
     }

@@ -103,6 +103,8 @@ pub fn put_status<K: Sink>(status: &Status, out: &mut K) -> Result<(), Failed>
         Status::NotInSync(count) => put_numbers(b"parity", &[*count], out),
         Status::NoSpare => put_numbers(b"nospare", &[], out),
         Status::LongText(name) => put_name(b"status long ", name.text(), out),
+        Status::NoRebuild => put_numbers(b"norebuild", &[], out),
+        Status::Rebuilding(column) => put_numbers(b"rebuilding", &[u64::from(*column)], out),
         Status::Memory => put_numbers(b"memory", &[], out),
     }
 }

@@ -4,7 +4,7 @@ use Rattle.std.specs.Option.{option_map_or, option_or}
 use Rattle.clap.specs.Words.{Kinds}
 use Rattle.raid_text.specs.Text.{Text}
 use Rattle.top_words.specs.App.{refusals, rows_in}
-use Rattle.top_words.specs.Asked.{actions_of, has_one_action, has_sweep_alone, has_workers_apart, number_within}
+use Rattle.top_words.specs.Asked.{actions_of, has_one_action, has_limit_apart, has_sweep_alone, has_workers_apart, number_within}
 use Rattle.top_words.specs.Given.{Given, given_of}
 use Rattle.top_words.specs.Judged.{queue_of}
 use Rattle.top_words.specs.Unknown.{unknown_in}
@@ -36,13 +36,14 @@ lone option with = Some (Apart option with)
 -- the first of these
 unfoldable pub apart_in : Given → Option Misuse
 apart_in g =
-    if has_workers_apart g then lone (codes "-w") (codes "--io, --sweep, -F or -R")
+    if has_workers_apart g then lone (codes "-w") (codes "--io, --sweep, -F, -R or --resume")
     else (if is_some g.graphs && not (is_some g.io) then lone (codes "--graphs") (codes "--io")
     else (if g.trace && not (is_some g.io) then lone (codes "--trace") (codes "--io")
     else (if is_some g.clients && not (is_some g.sweep) then lone (codes "--clients") (codes "--sweep")
     else (if is_some g.ops && not (is_some g.sweep) then lone (codes "--ops") (codes "--sweep")
     else (if has_sweep_alone g then lone (codes "--sweep") (codes "--clients and --ops")
-    else None)))))
+    else (if has_limit_apart g then lone (codes "--limit") (codes "-F, -R or --resume")
+    else None))))))
 
 -- the word behind an option, where it isn't a number of that range
 unfoldable pub wrong : Text → Option Text → ℕ → ℕ → Option Misuse
@@ -52,12 +53,13 @@ wrong option (Some word) low high =
 
 -- the first of all that isn't one
 unfoldable pub wrong_number : Given → Option Misuse
-wrong_number g = option_or (option_or (option_or (option_or
+wrong_number g = option_or (option_or (option_or (option_or (option_or
     (wrong (codes "-w") g.workers 0 16)
     (wrong (codes "--sweep") g.sweep 0 4294967295))
     (wrong (codes "--clients") g.clients 1 16))
     (wrong (codes "--ops") g.ops 0 2048))
-    (wrong (codes "-I") g.label 0 4294967295)
+    (wrong (codes "-I") g.label 0 4294967295))
+    (wrong (codes "--limit") g.limit 1 4294967295)
 
 -- the word behind `--sim`, where it is no queue
 unfoldable pub wrong_queue : Option Text → Option Misuse

@@ -21,6 +21,7 @@ profile_seen p = record {
   labels = p.labels;
   writes = p.writes;
   rebuild = p.rebuild;
+  limit = p.limit;
   beside = option_map beside_seen p.beside;
   drawn = p.drawn;
   workers = p.workers;

@@ -4,7 +4,7 @@ use Rattle.std.specs.List.{before_first, list_any}
 use Rattle.std.specs.Str.{bytes_eq}
 use Rattle.raid_text.specs.Text.{Text}
 
--- the options behind two dashes: of scripts, of loads that are drawn, and others; two dashes alone are none
+-- the options behind two dashes: of scripts, of loads that are drawn, of rebuilds in parts, and others; two dashes alone are none
 unfoldable pub is_of_scripts : Text → Bool
 is_of_scripts option = bytes_eq option (codes "--io") || (bytes_eq option (codes "--graphs")
     || bytes_eq option (codes "--trace"))
@@ -12,6 +12,9 @@ is_of_scripts option = bytes_eq option (codes "--io") || (bytes_eq option (codes
 unfoldable pub is_of_sweeps : Text → Bool
 is_of_sweeps option = bytes_eq option (codes "--sweep") || (bytes_eq option (codes "--clients")
     || bytes_eq option (codes "--ops"))
+
+unfoldable pub is_of_rebuilds : Text → Bool
+is_of_rebuilds option = bytes_eq option (codes "--resume") || bytes_eq option (codes "--limit")
 
 unfoldable pub is_of_others : Text → Bool
 is_of_others option = bytes_eq option (codes "--scan") || (bytes_eq option (codes "--sim")
@@ -29,7 +32,7 @@ option_of word = before_first (λ b. b == 61) word
 unfoldable pub is_unknown_behind_one : Text → Text → Bool
 is_unknown_behind_one option [] = false
 is_unknown_behind_one option (x ∷ rest) =
-    if x == 45 then not ((is_of_scripts option || is_of_sweeps option) || is_of_others option)
+    if x == 45 then not (((is_of_scripts option || is_of_sweeps option) || is_of_rebuilds option) || is_of_others option)
     else not (is_letter x)
 
 -- by its dash or dashes this is an option, and there is none such

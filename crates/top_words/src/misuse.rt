@@ -6,7 +6,8 @@ ghost use Rattle.top_words.specs.Views.{given_seen, misuse_seen, text_of};
 use crate::app;
 use crate::given::{Given, given_by};
 use crate::judge::{
-    actions, has_one_action, has_sweep_alone, has_workers_apart, number_within, queue_of, stands,
+    actions, has_limit_apart, has_one_action, has_sweep_alone, has_workers_apart, number_within,
+    queue_of, stands,
 };
 use crate::unknown::unknown_in;
 use blk_plain::limits;
@@ -117,7 +118,7 @@ fn apart<'a>(given: Given<'a>) -> Option<Misuse<'a>>
     ensures { option_map misuse_seen result ≡ apart_in (given_seen given.entry) }
 {
     if has_workers_apart(given) {
-        return lone("-w", "--io, --sweep, -F or -R");
+        return lone("-w", "--io, --sweep, -F, -R or --resume");
     }
     if stands(given.graphs) && !stands(given.io) {
         return lone("--graphs", "--io");
@@ -133,6 +134,9 @@ fn apart<'a>(given: Given<'a>) -> Option<Misuse<'a>>
     }
     if has_sweep_alone(given) {
         return lone("--sweep", "--clients and --ops");
+    }
+    if has_limit_apart(given) {
+        return lone("--limit", "-F, -R or --resume");
     }
     None
 }
@@ -166,6 +170,7 @@ fn wrong_number<'a>(given: Given<'a>) -> Option<Misuse<'a>>
         .or(wrong("--clients", given.clients, 1, limits::CLIENTS))
         .or(wrong("--ops", given.ops, 0, limits::SWEEP_ITEMS))
         .or(wrong("-I", given.label, 0, u32::MAX))
+        .or(wrong("--limit", given.limit, 1, u32::MAX))
 }
 
 // The word behind `--sim`, where it is no queue.

@@ -1,6 +1,6 @@
 //! What an action is: one table, with a row for each.
 ghost use Rattle.std.specs.Prelude.{◌≡◌, option_map};
-ghost use Rattle.top_words.specs.Asked.{beside_of, looking, profile_of};
+ghost use Rattle.top_words.specs.Asked.{beside_of, looking, profile_of, rebuilding_of};
 ghost use Rattle.top_words.specs.Profiled.{profile_seen};
 ghost use Rattle.top_words.specs.Views.{action_seen, beside_seen};
 
@@ -49,6 +49,17 @@ pub enum Component<'a> {
     Device { name: &'a str },
 }
 
+/// How a column is rebuilt.
+#[derive(Clone, Copy, Debug, PartialEq, Eq)]
+pub enum Rebuilding {
+    /// Onto a spare, or into the spare places.
+    Elsewhere,
+    /// Onto its own disk.
+    InPlace,
+    /// On from where it stands.
+    Further,
+}
+
 /// Clients that are drawn from a number.
 #[derive(Clone, Copy, Debug, PartialEq, Eq)]
 pub struct Drawing {
@@ -77,8 +88,10 @@ pub struct Profile<'a> {
     pub labels: bool,
     /// Labels are written, where the array has any.
     pub writes: bool,
-    /// Whether the column of its component is rebuilt, and then whether in place.
-    pub rebuild: Option<bool>,
+    /// How a column is rebuilt, if one is: that of its component, or the one that is being rebuilt.
+    pub rebuild: Option<Rebuilding>,
+    /// How many of the column's stripes are rebuilt at most.
+    pub limit: Option<u32>,
     /// The script that goes with it.
     pub beside: Option<Beside<'a>>,
     /// The clients that are drawn.
@@ -101,6 +114,7 @@ fn looking<'a>(kind: Kind) -> Profile<'a>
         labels: false,
         writes: false,
         rebuild: None,
+        limit: None,
         beside: None,
         drawn: None,
         workers: 0,
@@ -115,6 +129,16 @@ fn doing<'a>(deed: Deed, writes: bool) -> Profile<'a>
         deed,
         writes,
         ..looking(Kind::Array)
+    }
+}
+
+fn onto(in_place: bool) -> Rebuilding
+    ensures { result ≡ rebuilding_of in_place }
+{
+    if in_place {
+        Rebuilding::InPlace
+    } else {
+        Rebuilding::Elsewhere
     }
 }
 
@@ -164,12 +188,26 @@ impl<'a> Action<'a> {
             Action::Rebuild {
                 in_place,
                 comp,
+                limit,
                 beside,
                 workers,
             } => Profile {
                 component: Component::Column { name: comp },
                 labels: true,
-                rebuild: Some(in_place),
+                rebuild: Some(onto(in_place)),
+                limit,
+                beside,
+                workers,
+                ..doing(Deed::Serves, true)
+            },
+            Action::Resume {
+                limit,
+                beside,
+                workers,
+            } => Profile {
+                labels: true,
+                rebuild: Some(Rebuilding::Further),
+                limit,
                 beside,
                 workers,
                 ..doing(Deed::Serves, true)

@@ -1,6 +1,6 @@
 //! Options that there aren't.
 ghost use Rattle.std.specs.Prelude.{◌≡◌};
-ghost use Rattle.top_words.specs.Unknown.{is_letter, is_of_others, is_of_scripts, is_of_sweeps, is_unknown, option_of, unknown_in};
+ghost use Rattle.top_words.specs.Unknown.{is_letter, is_of_others, is_of_rebuilds, is_of_scripts, is_of_sweeps, is_unknown, option_of, unknown_in};
 ghost use Rattle.top_words.specs.Views.{text_of};
 
 use raid_bay::Name;
@@ -19,6 +19,14 @@ fn is_of_sweeps(option: &str) -> bool
     ensures { result ≡ is_of_sweeps option.now }
 {
     matches!(option, "--sweep" | "--clients" | "--ops")
+}
+
+// An option of rebuilds in parts.
+#[tactic(auto, unfolding(crate::specs::Unknown::is_of_rebuilds))]
+fn is_of_rebuilds(option: &str) -> bool
+    ensures { result ≡ is_of_rebuilds option.now }
+{
+    matches!(option, "--resume" | "--limit")
 }
 
 // Another option, or two dashes alone, which are none.
@@ -55,6 +63,7 @@ fn is_unknown(option: &str) -> bool
     match option.as_bytes() {
         [b'-', b'-', ..] => !(is_of_scripts(option)
             || is_of_sweeps(option)
+            || is_of_rebuilds(option)
             || is_of_others(option)),
         [b'-', letter, ..] => !is_letter(*letter),
         _ => false,

@@ -2,8 +2,9 @@
 ghost use Rattle.std.specs.Prelude.{◌≡◌, ◌≤◌, ◌<◌, ◌+◌, ◌*◌, None, length, IsTrue};
 ghost use Rattle.blk_disk.specs.Devices.{size_of};
 ghost use Rattle.eng_cols.specs.Cols.{IsFor};
-ghost use Rattle.top_close.specs.Ended.{states_of, IsLossBy};
-ghost use Rattle.top_rounds.specs.Settable.{IsSettable};
+ghost use Rattle.eng_cols.specs.Stripes.{states_of};
+ghost use Rattle.top_close.specs.Ended.{IsLossBy};
+ghost use Rattle.eng_cols.specs.Settable.{IsSettable};
 ghost use Rattle.top_acts.specs.Begun.{CanAct};
 ghost use Rattle.act_tests.specs.ActSamples.{FitsAt};
 
@@ -40,6 +41,8 @@ pub(crate) const LAST: Label = Label {
     r: 0,
     lambda: 0,
     seats: [0; 32],
+    filling: 0,
+    done: 0,
 };
 
 /// What is done to an array.

@@ -1,5 +1,5 @@
 //! An array with labels over two columns.
-ghost use Rattle.std.specs.Prelude.{◌≡◌, ◌⊎◌, ◌≤◌, [], ◌∷◌, IfOk, All, Some, None, length};
+ghost use Rattle.std.specs.Prelude.{◌≡◌, ◌⊎◌, ◌≤◌, ℕ, [], ◌∷◌, IfOk, All, Some, None, length};
 ghost use Rattle.eng_array.specs.declared.start.Start.TheVariants as how;
 ghost use Rattle.crew_tests.specs.Trial.{AreSmall};
 ghost use Rattle.raid_label.specs.Bytes.{IsHeld};
@@ -36,6 +36,7 @@ fn three(
 fn label(columns: u32, clean: u32) -> Label
     requires { clean ≤ 1 }
     ensures held { IsHeld result }
+    ensures columns { result.columns ≡ columns }
     ensures counter { result.counter ≡ 5 }
 {
     Label {
@@ -53,6 +54,8 @@ fn label(columns: u32, clean: u32) -> Label
         r: 0,
         lambda: 0,
         seats: [0; 32],
+        filling: 0,
+        done: 0,
     }
 }
 
@@ -73,7 +76,7 @@ fn two_columns(
     requires few { length clients.items ≤ 16 }
     requires small { All AreSmall clients.items }
     requires clean { clean ≤ 1 }
-    requires start { (start ≡ None) ⊎ (start ≡ Some (how.Fill 1 1)) }
+    requires start { (start ≡ None) ⊎ ((most : ℕ) × (start ≡ Some (how.Fill 1 1 most))) }
     ensures { IfOk result (CanRunLabelled ⟦<Raid5 as Layout>⟧ ⟦<MemDisk as Disk>⟧) }
 {
     let Ok(layout) = Raid5::new(2, 1, 64) else {
@@ -138,6 +141,7 @@ pub fn replacing(
     let start = Start::Fill {
         column: 1,
         device: 1,
+        most: u32::MAX,
     };
     two_columns(
         alloc,

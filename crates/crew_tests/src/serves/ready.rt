@@ -1,7 +1,7 @@
 //! Setups over two columns.
 ghost use Rattle.std.specs.Prelude.{◌≤◌, IfOk, All, length};
 ghost use Rattle.crew_tests.specs.Trial.{AreSmall};
-ghost use Rattle.crew_tests.specs.Ready.{IsDegraded, IsReadyToServe};
+ghost use Rattle.crew_tests.specs.Ready.{IsDegraded, IsPaused, IsReadyToServe};
 
 use crate::arrays::{judged, pair};
 use blk_disk::{Disk, MemDisk};
@@ -56,6 +56,36 @@ pub fn degraded(
         return Err(Fail::from("no layout"));
     };
     let columns = vec![in alloc; Column::Live { device: 0 }, Column::Dead]?;
+    let _judge = judged(alloc, &layout, &columns)?;
+    let devices = pair(alloc, first, second)?;
+    Ok(Setup {
+        layout,
+        devices,
+        columns,
+        clients,
+        graphs: Vec::new(alloc),
+        trace: false,
+    })
+}
+
+// The same of which the second column is filling the second device, and so many of its stripes are done.
+pub fn paused(
+    alloc: Global,
+    first: MemDisk,
+    second: MemDisk,
+    clients: Vec<Vec<Item>>,
+    done: u32,
+) -> Result<Setup<Raid5, MemDisk>, Fail>
+    requires first { 128 ≤ ⟦<MemDisk as Disk>⟧.size first }
+    requires second { 128 ≤ ⟦<MemDisk as Disk>⟧.size second }
+    requires few { length clients.items ≤ 16 }
+    requires small { All AreSmall clients.items }
+    ensures { IfOk result (IsPaused ⟦<Raid5 as Layout>⟧ ⟦<MemDisk as Disk>⟧) }
+{
+    let Ok(layout) = Raid5::new(2, 1, 64) else {
+        return Err(Fail::from("no layout"));
+    };
+    let columns = vec![in alloc; Column::Live { device: 0 }, Column::Filling { device: 1, done }]?;
     let _judge = judged(alloc, &layout, &columns)?;
     let devices = pair(alloc, first, second)?;
     Ok(Setup {

@@ -1,5 +1,5 @@
 //! Openings of small setups: what an opening asks is tested, and the test is proved.
-ghost use Rattle.std.specs.Prelude.{ℕ, ◌≡◌, ◌≤◌, ◌*◌, ◌+◌, length, IfOk, IsTrue, All};
+ghost use Rattle.std.specs.Prelude.{ℕ, ◌≡◌, ◌≤◌, ◌*◌, ◌+◌, length, IfOk, IsTrue, All, List};
 ghost use Rattle.blk_plain.specs.declared.op.Op.TheVariants as op;
 ghost use Rattle.blk_plain.specs.Plain.{spans_of, used_of};
 ghost use Rattle.eng_log.specs.Laid.{item_sectors};
@@ -171,7 +171,7 @@ pub(super) fn opened<L: Layout + Drop, D: Disk + Drop>(
     requires trace { FitsTrace L.Layout setup }
     ensures steady { IfOk result (λ core. IsSteady L.Layout D.Disk core.array) }
     ensures opened { IfOk result (λ core. IsOpened L.Layout D.Disk setup core.array) }
-    ensures room { IfOk result (λ core. (column : ℕ) → FitsRebuilding L.Layout setup column → FitsRebuild L.Layout core.array column) }
+    ensures room { IfOk result (λ core. (cols : List ColumnState) (column asked : ℕ) → FitsRebuilding L.Layout setup cols column asked → FitsRebuild L.Layout core.array cols column asked) }
     ensures own { IfOk result (λ core. AreOwn D.Disk setup.devices.items (needed (L.shape setup.layout)) setup.columns.items) }
 {
     if !is_setup(&setup) || setup.devices.len() > 64 {

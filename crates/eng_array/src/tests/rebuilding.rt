@@ -42,7 +42,7 @@ pub(super) fn filling<L: Layout + Drop, D: Disk + Drop>(
     match opened(alloc, setup) {
         Ok(core) => {
             let mut core = core;
-            core.fill(column, device);
+            core.fill(column, device, u32::MAX);
             Ok(core)
         }
         Err(fail) => Err(fail),

@@ -109,10 +109,17 @@ pub(crate) fn lacks<L: Layout>(rt: &impl Abort, cols: &Cols, layout: &L, stripe:
     );
 }
 
-pub(crate) fn column_is(rt: &impl Abort, cols: &Cols, column: u32, want: Column)
-    requires { column < length cols.now.states }
+pub(crate) fn column_is<L: Layout>(
+    rt: &impl Abort,
+    cols: &Cols,
+    layout: &L,
+    column: u32,
+    want: Column,
+)
+    requires layout { IsFor (L.shape layout.now) cols.now }
+    requires column { column < length cols.now.states }
 {
-    same(rt, (column, cols.column(column)), (column, want));
+    same(rt, (column, cols.column(layout, column)), (column, want));
 }
 
 /// Whether all stripes are done on the column is as it's wanted.

@@ -45,7 +45,7 @@ fn lose<L: Layout>(
 
 const DEAD: Column = Column::Dead;
 
-const FILLING: Column = Column::Filling { device: 3 };
+const FILLING: Column = Column::Filling { device: 3, done: 0 };
 
 const SPREAD: Column = Column::Spread;
 

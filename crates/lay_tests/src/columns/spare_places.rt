@@ -51,7 +51,7 @@ fn a_spread_columns_units_go_to_their_spare_places(rt: HostRuntime) -> Result<()
     cols.kill(0);
     lacks(&rt, &cols, &Spared, 2, 2);
     cols.spread(0);
-    column_is(&rt, &cols, 0, Column::Spread);
+    column_is(&rt, &cols, &Spared, 0, Column::Spread);
     wait(&rt, &cols, &Spared, &ON_ZERO);
     // Stripe 1 has its spare place on column 0, and no unit.
     stand(&rt, &cols, &Spared, &[(1, 0, (1, 6, 1))]);

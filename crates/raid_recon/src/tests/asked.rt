@@ -1,13 +1,14 @@
 //! Arrays of devices in memory, and what tests ask of them.
 ghost use Rattle.std.specs.Prelude.{◌≡◌, ◌≤◌, ◌<◌, ◌+◌, ◌*◌, length, IsTrue};
 ghost use Rattle.blk_disk.specs.Devices.{size_of};
+ghost use Rattle.eng_cols.specs.Settable.{IsSettable};
 ghost use Rattle.raid_recon.specs.Array.{IsArray};
 ghost use Rattle.raid_recon.specs.Samples.{FitsAt};
 
 use crate::kind::Sweep;
 use crate::{Room, SweepRoom, sweep_check, sweep_init, sweep_sync};
 use blk_disk::{Call, Disk, MemDisk, SECTOR};
-use eng_cols::Column;
+use eng_cols::{Cols, Column};
 use lay_core::Layout;
 use raid_progress::Silent;
 use std::alloc::Global;
@@ -65,7 +66,8 @@ fn fits_at<L: Layout, D: Disk>(
 
 // Whether these are an array's columns and devices, each column with the disk of its own number.
 fn is_array<L: Layout, D: Disk>(layout: &L, columns: &[Column], devices: &[Option<D>]) -> bool
-    ensures { IsTrue result → IsArray D.Disk (L.shape layout.now) columns.now devices.now }
+    ensures array { IsTrue result → IsArray D.Disk (L.shape layout.now) columns.now devices.now }
+    ensures columns { IsTrue result → IsSettable (L.shape layout.now) columns.now }
 {
     if columns.len() != layout.columns() as usize {
         return false;
@@ -88,13 +90,14 @@ pub(crate) fn swept<L: Layout, D: Disk>(
 ) -> Result<u64, Fail> {
     let room = Room::open(alloc, 1024 * layout.unit_sectors())?;
     let mut room = SweepRoom::new(room, Silent);
+    let mut judge = Cols::with_room(alloc, layout.columns(), layout.stripes())?;
     if !is_array(layout, columns, devices) {
         return Err("no array".into());
     }
     Ok(match kind {
-        Sweep::Check => sweep_check(layout, devices, columns, &mut room),
-        Sweep::Sync => sweep_sync(layout, devices, columns, &mut room),
-        Sweep::Init => sweep_init(layout, devices, columns, &mut room),
+        Sweep::Check => sweep_check(layout, devices, columns, &mut room, &mut judge),
+        Sweep::Sync => sweep_sync(layout, devices, columns, &mut room, &mut judge),
+        Sweep::Init => sweep_init(layout, devices, columns, &mut room, &mut judge),
     })
 }
 

@@ -27,7 +27,7 @@ fn an_array_is_labelled_and_run_and_rebuilt(rt: HostRuntime) -> Result<(), Fail>
             Step::Run("r5 -I 1001", 0, "labels written 5\nstatus ok\n"),
             Step::Begins(
                 "d0",
-                b"RFLABEL1\x01\0\0\0\xe9\x03\0\0\x01\0\0\0\0\0\0\0\x05\0\0\0\x20\0\0\0\x40\0\0\0\x35\0\0\0\0\0\0\0",
+                b"RFLABEL1\x02\0\0\0\xe9\x03\0\0\x01\0\0\0\0\0\0\0\x05\0\0\0\x20\0\0\0\x40\0\0\0\x35\0\0\0\0\0\0\0",
             ),
             Step::Holds("s0", ""),
             Step::Run("r5 -i", 0, "parity initialised 64\nstatus ok\n"),
@@ -42,7 +42,7 @@ fn an_array_is_labelled_and_run_and_rebuilt(rt: HostRuntime) -> Result<(), Fail>
                 "column 0 d0 optimal\ncolumn 1 d1 optimal\ncolumn 2 d2 optimal\ncolumn 3 d3 failed\ncolumn 4 d4 optimal\nspare 0 s0 free\nparity clean\nstatus ok\n",
             ),
             Step::Run("r5 -p", 0, "parity clean\ndead 3\nstatus ok\n"),
-            Step::Run("r5 -g d0", 0, "label 1 1001 5 0 5 32 64 53 1\nstatus ok\n"),
+            Step::Run("r5 -g d0", 0, "label 2 1001 5 0 5 32 64 53 1\nstatus ok\n"),
             Step::Run(
                 "r5 -F d3 -w 0",
                 0,
@@ -157,10 +157,10 @@ fn an_array_goes_by_its_labels(rt: HostRuntime) -> Result<(), Fail> {
                     0,
                     "column 0 d0 optimal\ncolumn 1 d1 failed\ncolumn 2 d2 optimal\nparity dirty\nstatus ok\n",
                 ),
-                Step::Run("r5 -g d0", 0, "label 1 7 2 0 3 1 64 53 0\nstatus ok\n"),
+                Step::Run("r5 -g d0", 0, "label 2 7 2 0 3 1 64 53 0\nstatus ok\n"),
                 Step::Run("r5 -f d2", 8, "dead 1\ndead 2\nstatus lost 1 2 0\n"),
-                Step::Run("r5 -g d2", 0, "label 1 7 2 2 3 1 64 53 0\nstatus ok\n"),
-                Step::Run("r5 -g d1", 0, "label 1 7 1 1 3 1 64 53 0\nstatus ok\n"),
+                Step::Run("r5 -g d2", 0, "label 2 7 2 2 3 1 64 53 0\nstatus ok\n"),
+                Step::Run("r5 -g d1", 0, "label 2 7 1 1 3 1 64 53 0\nstatus ok\n"),
             ],
             ..PLAIN
         },
@@ -174,7 +174,7 @@ fn an_array_goes_by_its_labels(rt: HostRuntime) -> Result<(), Fail> {
                     0,
                     "reply 0.0 done\nreply 0.1 data\nblock 0 1 a5\ncommit 0.0\ncommit 0.1\nstatus ok\n",
                 ),
-                Step::Run("r5 -g d1", 0, "label 1 7 3 1 3 1 64 53 1\nstatus ok\n"),
+                Step::Run("r5 -g d1", 0, "label 2 7 3 1 3 1 64 53 1\nstatus ok\n"),
                 Step::Run("r5 -p", 0, "parity clean\nstatus ok\n"),
             ],
             ..PLAIN
@@ -227,8 +227,8 @@ fn labels_are_refused(rt: HostRuntime) -> Result<(), Fail> {
                 Step::Run("r5 -f d0", 9, "status label 2 2 7 1001\n"),
                 Step::Run("r5 -F d0", 9, "status label 2 2 7 1001\n"),
                 Step::Run("r5 --io s1", 9, "status label 2 2 7 1001\n"),
-                Step::Run("r5 -g d0", 0, "label 1 1001 1 0 3 1 64 53 0\nstatus ok\n"),
-                Step::Run("r5 -g d2", 0, "label 1 7 1 2 3 1 64 53 0\nstatus ok\n"),
+                Step::Run("r5 -g d0", 0, "label 2 1001 1 0 3 1 64 53 0\nstatus ok\n"),
+                Step::Run("r5 -g d2", 0, "label 2 7 1 2 3 1 64 53 0\nstatus ok\n"),
                 Step::Renew("d2"),
                 Step::Run("r5 -s", 9, "status label 2 1 0 0\n"),
                 Step::Run("r5 --io s1", 9, "status label 2 1 0 0\n"),
@@ -238,4 +238,125 @@ fn labels_are_refused(rt: HostRuntime) -> Result<(), Fail> {
         },
     ];
     play(&rt, rt.alloc(), &sessions)
+}
+
+// Byte 8 of a label is its version's lowest. Labels of version 1 are read, and each round writes version 2.
+// Labels of another version are none.
+#[test]
+fn labels_of_version_1_are_read(rt: HostRuntime) -> Result<(), Fail> {
+    let sessions = [Session {
+        conf: WIDE,
+        sectors: 2112,
+        steps: &[
+            Step::Run("r5 -I 1001", 0, "labels written 5\nstatus ok\n"),
+            Step::Put("d0", 8, 1),
+            Step::Put("d1", 8, 1),
+            Step::Put("d2", 8, 1),
+            Step::Put("d3", 8, 1),
+            Step::Put("d4", 8, 1),
+            Step::Run("r5 -g d0", 0, "label 1 1001 1 0 5 32 64 53 0\nstatus ok\n"),
+            Step::Run("r5 -i", 0, "parity initialised 64\nstatus ok\n"),
+            Step::Run("r5 -g d0", 0, "label 2 1001 3 0 5 32 64 53 1\nstatus ok\n"),
+            Step::Put("d0", 8, 3),
+            Step::Put("d1", 8, 3),
+            Step::Put("d2", 8, 3),
+            Step::Put("d3", 8, 3),
+            Step::Put("d4", 8, 3),
+            Step::Run("r5 -s", 9, "status label 0 5 3 2\n"),
+            Step::Run("r5 -i", 9, "status label 0 5 3 2\n"),
+            Step::Run("r5 --resume", 9, "status label 0 5 3 2\n"),
+        ],
+        ..PLAIN
+    }];
+    play(&rt, rt.alloc(), &sessions)
+}
+
+// A letter, what it prints, and the label of d0 then. The labels of before are of version 1, with counter 3. One that is only
+// read is written by no letter that looks, tests or is refused.
+const MIGRATED: [(&str, &str, u8, &str); 10] = [
+    (
+        "r5 -s",
+        "column 0 d0 optimal\ncolumn 1 d1 optimal\ncolumn 2 d2 optimal\nspare 0 s0 free\nparity clean\nstatus ok\n",
+        0,
+        "label 1 7 3 0 3 1 64 53 1\nstatus ok\n",
+    ),
+    (
+        "r5 -p",
+        "parity clean\nstatus ok\n",
+        0,
+        "label 1 7 3 0 3 1 64 53 1\nstatus ok\n",
+    ),
+    (
+        "r5 --resume",
+        "status norebuild\n",
+        14,
+        "label 1 7 3 0 3 1 64 53 1\nstatus ok\n",
+    ),
+    (
+        "r5 -i",
+        "parity initialised 64\nstatus ok\n",
+        0,
+        "label 2 7 5 0 3 1 64 53 1\nstatus ok\n",
+    ),
+    (
+        "r5 -P",
+        "parity rewritten 0\nstatus ok\n",
+        0,
+        "label 2 7 5 0 3 1 64 53 1\nstatus ok\n",
+    ),
+    (
+        "r5 -f d1",
+        "failed column 1\ndead 1\nstatus ok\n",
+        0,
+        "label 2 7 4 0 3 1 64 53 1\nstatus ok\n",
+    ),
+    (
+        "r5 --io s1 -w 0",
+        "reply 0.0 done\nreply 0.1 data\nblock 0 1 a5\ncommit 0.0\ncommit 0.1\nstatus ok\n",
+        0,
+        "label 2 7 5 0 3 1 64 53 1\nstatus ok\n",
+    ),
+    (
+        "r5 --sweep 1 --clients 1 --ops 0 -w 0",
+        "sweep clients 1 operations 0\nwritten 0 read 0 sum 0\nstatus ok\n",
+        0,
+        "label 2 7 5 0 3 1 64 53 1\nstatus ok\n",
+    ),
+    (
+        "r5 -F d1 --limit 20 -w 0",
+        "reconstruct column 1 device 3 paused 20\nstatus ok\n",
+        0,
+        "label 2 7 5 0 3 1 64 53 1\nstatus ok\n",
+    ),
+    (
+        "r5 -R d1 -w 0",
+        "reconstruct column 1 device 1 done 64\nstatus ok\n",
+        0,
+        "label 2 7 5 0 3 1 64 53 1\nstatus ok\n",
+    ),
+];
+
+#[test]
+fn each_letter_that_writes_labels_writes_version_2(rt: HostRuntime) -> Result<(), Fail> {
+    let alloc = rt.alloc();
+    let session = Session {
+        conf: rebuilds::SPARED,
+        ..PLAIN
+    };
+    let first = [
+        Step::Run("r5 -I 7", 0, "labels written 3\nstatus ok\n"),
+        Step::Run("r5 -i", 0, "parity initialised 64\nstatus ok\n"),
+        Step::Put("d0", 8, 1),
+        Step::Put("d1", 8, 1),
+        Step::Put("d2", 8, 1),
+    ];
+    for (words, lines, exit, label) in MIGRATED {
+        let mut bay = bay_of(alloc, &session)?;
+        for step in first {
+            act_out(&rt, alloc, &mut bay, step)?;
+        }
+        act_out(&rt, alloc, &mut bay, Step::Run(words, exit, lines))?;
+        act_out(&rt, alloc, &mut bay, Step::Run("r5 -g d0", 0, label))?;
+    }
+    Ok(())
 }

@@ -1,4 +1,6 @@
 //! Calls that are refused, and output that fails.
+use super::rebuilds::PLACES;
+use super::resumed::{LABELLED, SEVEN, SPREAD, UNITS};
 use super::*;
 use crate::judging::same;
 
@@ -133,4 +135,98 @@ fn a_sink_that_fails_hides_the_output_alone(rt: HostRuntime) -> Result<(), Fail>
         act_out(&rt, alloc, &mut bay, step)?;
     }
     Ok(())
+}
+
+// Words that don't go together, and numbers out of their range; an array without labels; a rebuild in part where only spare
+// places are free, before one into them; and one that is lost, of which no column is filling either.
+#[test]
+fn a_rebuild_in_part_is_refused(rt: HostRuntime) -> Result<(), Fail> {
+    let sessions = [
+        Session {
+            conf: PLACES,
+            steps: &[
+                Step::Run("r5 -F d4 --limit", 1, "status usage 0\n"),
+                Step::Run("r5 --resume -F d4", 1, "status usage 1\n"),
+                Step::Run("r5 --limit 5", 1, "status usage 1\n"),
+                Step::Run("r5 -s --limit 5", 1, "status usage 2\n"),
+                Step::Run("r5 --io s1 --limit 0", 1, "status usage 2\n"),
+                Step::Run("r5 --resume --trace", 1, "status usage 2\n"),
+                Step::Run("r5 -F d4 --limit 0", 1, "status usage 3\n"),
+                Step::Run("r5 -R d4 --limit 4294967296", 1, "status usage 3\n"),
+                Step::Run("r5 --resume --limit x", 1, "status usage 3\n"),
+                Step::Run("r5 --resume", 9, "status label 0 1 0 0\n"),
+                Step::Run("r5 --resume --limit 5", 9, "status label 0 1 0 0\n"),
+                SEVEN,
+                UNITS,
+                Step::Run("r5 --resume --limit 4294967295", 14, "status norebuild\n"),
+                Step::Run("r5 -F d4 --limit 5", 12, "status nospare\n"),
+                SPREAD,
+            ],
+            ..PLAIN
+        },
+        Session {
+            fails: &[("d0", 2), ("d1", 2)],
+            steps: &[
+                LABELLED,
+                Step::Run("r5 --io s1 -w 0", 8, "dead 0\ndead 1\nstatus lost 0 1 0\n"),
+                Step::Run("r5 --resume", 8, "dead 0\ndead 1\nstatus lost 0 1 0\n"),
+            ],
+            ..PLAIN
+        },
+    ];
+    play(&rt, rt.alloc(), &sessions)
+}
+
+// Of two mirrored pairs with one spare column 0 is half rebuilt on it. Of several refusals the first comes: of the words, of the
+// script, of a component that isn't there, is too small or has no label, of the loss, of the other column, of the spare, and of
+// graphs that can't be joined.
+#[test]
+fn refusals_come_in_their_order(rt: HostRuntime) -> Result<(), Fail> {
+    let sessions = [Session {
+        conf: "START array\n1 4 1\nSTART disks\nd0\nd1\nd2\nd3\nSTART spare\ns0\nSTART layout\n1 1 1 1\n",
+        script: "0 join one 2 1 a5 one 0 1 b6\n",
+        other: "graph one\nbuffer 0 stripe 0 from 0 count 1 new 0\nnode 0 commit\nnode 1 write 0 0 after 0\nnode 2 terminate after 1\nend\n",
+        more: "0 write 0 0 a5\n",
+        steps: &[
+            Step::Run("r5 -I 7", 0, "labels written 4\nstatus ok\n"),
+            Step::Run("r5 -i", 0, "parity initialised 128\nstatus ok\n"),
+            Step::Run("r5 --resume --io s1 --graphs t1", 14, "status norebuild\n"),
+            Step::Run(
+                "r5 -F d0 --limit 1 -w 0",
+                0,
+                "reconstruct column 0 device 4 paused 1\nstatus ok\n",
+            ),
+            Step::Run("r5 -F d3 --limit 0 --io t2", 1, "status usage 3\n"),
+            Step::Run("r5 -F d3 --io t2", 3, "status script 1 2\n"),
+            Step::Run(
+                "r5 -F d1 --io s1 --graphs t1",
+                8,
+                "dead 0\ndead 1\nstatus lost 0 1 2\n",
+            ),
+            Step::Run(
+                "r5 -R d1 --limit 1",
+                8,
+                "dead 0\ndead 1\nstatus lost 0 1 2\n",
+            ),
+            Step::Run("r5 -F d3 --io s1 --graphs t1", 15, "status rebuilding 0\n"),
+            Step::Run("r5 -F d3 --limit 1", 15, "status rebuilding 0\n"),
+            Step::Run("r5 -R d3", 15, "status rebuilding 0\n"),
+            Step::Run("r5 -F d0 --io s1 --graphs t1", 12, "status nospare\n"),
+            Step::Run("r5 -R d0 --io s1 --graphs t1", 3, "status script 1 11\n"),
+            Step::Run("r5 --resume --io s1 --graphs t1", 3, "status script 1 11\n"),
+            Step::Run("r5 -g s0", 0, "label 2 7 5 0 4 1 64 49 1\nstatus ok\n"),
+            Step::Renew("d2"),
+            Step::Run("r5 -F d3", 9, "status label 2 1 0 0\n"),
+            Step::Run("r5 -F d1", 9, "status label 2 1 0 0\n"),
+            Step::Run("r5 --resume", 9, "status label 2 1 0 0\n"),
+            Step::Resize("d2", 100),
+            Step::Run("r5 -F d3", 10, "status small 2 100 128\n"),
+            Step::Run("r5 --resume", 10, "status small 2 100 128\n"),
+            Step::Lose("d2"),
+            Step::Run("r5 -F d3", 6, "status nofile d2\n"),
+            Step::Run("r5 --resume", 6, "status nofile d2\n"),
+        ],
+        ..PLAIN
+    }];
+    play(&rt, rt.alloc(), &sessions)
 }

@@ -131,11 +131,16 @@ fn prints_the_history_without_client_16(rt: HostRuntime) -> Result<(), Fail> {
     Ok(())
 }
 
-fn events() -> [Traced; 11] {
+fn events() -> [Traced; 12] {
     [
         Traced::Fill {
             column: 2,
             device: 5,
+            count: 64,
+        },
+        Traced::Resume {
+            column: 3,
+            count: 7,
         },
         Traced::Spread { column: 1 },
         Traced::Begin { id: id(0, 3) },
@@ -166,7 +171,8 @@ fn events() -> [Traced; 11] {
 fn prints_each_kind_of_event(rt: HostRuntime) -> Result<(), Fail> {
     let mut out = roomy_sink(rt.alloc())?;
     put_trace(&events(), &mut out)?;
-    let text = "fill 2 5\nspread 1\nbegin 0.3\ntake 0.3\nfire 0.3 12\nbegin 16.0\ngood 0.3 12\n\
+    let text =
+        "fill 2 5 64\nresume 3 7\nspread 1\nbegin 0.3\ntake 0.3\nfire 0.3 12\nbegin 16.0\ngood 0.3 12\n\
         bad 0.3 7\nskip 16.0 2047\nback 0.3\nfail 4\n";
     same(&rt, out.bytes(), text.as_bytes());
     Ok(())

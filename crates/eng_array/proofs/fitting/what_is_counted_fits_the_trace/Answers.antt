@@ -5,4 +5,4 @@ pub returns-clause-opening : goal.returns-clause-opening
 returns-clause-opening g c = λ setup devices entries few sum. counted-fits g.L.Layout setup devices entries few sum
 
 pub returns-clause-rebuild : goal.returns-clause-rebuild
-returns-clause-rebuild g c = λ setup devices column rebuilds entries few dead most sum. counted-rebuilds g.L.Layout setup devices entries few column rebuilds dead most sum
+returns-clause-rebuild g c = λ setup cols devices column asked rebuilds entries few count most sum. counted-rebuilds g.L.Layout setup devices entries few cols column asked rebuilds count most sum

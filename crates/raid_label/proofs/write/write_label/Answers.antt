@@ -22,5 +22,5 @@ pub returns : goal.returns
 returns c =
     let all : take 60 c.loop-i.sector ≡ magic ++ bytes_of_words (take 13 c.words-words.result) =
     let end : c.loop-i.i ≡ 13 = omega arith in rw end at c.loop-i.invariant in
-    written c.args.label.now c.words-words.result c.loop-i.sector c.put_seats.new.sector c.put-2.new.sector (replicate 420 0)
-    c.words-words.ensures refl (search rules) all c.put_seats.ensures c.put-2.ensures
+    written c.args.label.now c.words-words.result c.loop-i.sector c.put_seats.new.sector c.put_word-2.new.sector c.put_word-3.new.sector c.put-2.new.sector (replicate 412 0)
+    c.words-words.ensures refl (search rules) all c.put_seats.ensures c.put_word-2.ensures c.put_word-3.ensures c.put-2.ensures

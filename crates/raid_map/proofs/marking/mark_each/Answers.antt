@@ -1,20 +1,30 @@
-use Rattle.std.proofs.Common.{◌≡◌, ◌∙◌, sym, ap, subst, length, arith}
-use Rattle.raid_map.specs.Marking.{AreMarked}
+use Rattle.std.proofs.Common.{◌≡◌, ◌∙◌, sym, ap, subst, length, Some, None, arith}
+use Rattle.std.proofs.lemmas.Option.{slice_get-get_or}
+use Rattle.eng_cols.specs.Cols.{device_set}
+use Rattle.raid_map.specs.Marking.{IsOn, AreMarked}
 use Rattle.raid_map.proofs.MarkOne.{sized_within}
 use Rattle.raid_map.proofs.MarkLaws.{marked-skip, marked-more, still_sized, if_length, not_on}
 use Rattle.raid_map.proofs.marking.mark_each.Goals.{in-Some, in-None}
 use Rattle.raid_map.proofs.marking.mark_each.Goals as goal
 
+pub mark_column-requires-clause-on : goal.mark_column-requires-clause-on
+mark_column-requires-clause-on g c =
+    ap device_set (slice_get-get_or c.loop-column.columns c.loop-column.column _ (omega (arith, c.loop-column-test.true, c.loop-column.invariant.1))) ∙ (sym c.device.ensures ∙ c.in-Some.is)
+
 pub mark_column-requires-clause-within : goal.mark_column-requires-clause-within
 mark_column-requires-clause-within g c =
-    sized_within g.D.Disk c.loop-column.devices c.in-Some.device (still_sized g.D.Disk c.args.sector.now c.loop-column.column c.in-Some.device c.args.columns.now c.loop-column.columns c.args.devices.now c.loop-column.devices c.requires.can c.loop-column.invariant.0 (sym c.device_of.ensures ∙ c.in-Some.is))
+    let on : IsOn c.loop-column.columns c.loop-column.column c.in-Some.device =
+    ap device_set (slice_get-get_or c.loop-column.columns c.loop-column.column _ (omega (arith, c.loop-column-test.true, c.loop-column.invariant.1))) ∙ (sym c.device.ensures ∙ c.in-Some.is) in
+    sized_within g.D.Disk c.loop-column.devices c.in-Some.device (still_sized g.D.Disk c.args.sector.now c.loop-column.column c.in-Some.device c.args.columns.now c.loop-column.columns c.args.devices.now c.loop-column.devices c.requires.can c.loop-column.invariant.0 on)
 
 pub mark_column-requires-clause-sized : goal.mark_column-requires-clause-sized
 mark_column-requires-clause-sized g c =
-    still_sized g.D.Disk c.args.sector.now c.loop-column.column c.in-Some.device c.args.columns.now c.loop-column.columns c.args.devices.now c.loop-column.devices c.requires.can c.loop-column.invariant.0 (sym c.device_of.ensures ∙ c.in-Some.is)
+    let on : IsOn c.loop-column.columns c.loop-column.column c.in-Some.device =
+    ap device_set (slice_get-get_or c.loop-column.columns c.loop-column.column _ (omega (arith, c.loop-column-test.true, c.loop-column.invariant.1))) ∙ (sym c.device.ensures ∙ c.in-Some.is) in
+    still_sized g.D.Disk c.args.sector.now c.loop-column.column c.in-Some.device c.args.columns.now c.loop-column.columns c.args.devices.now c.loop-column.devices c.requires.can c.loop-column.invariant.0 on
 
 pub loop-column-preserved : goal.loop-column-preserved
-loop-column-preserved g c = elim c.match-device_of.branch [
+loop-column-preserved g c = elim c.match-device.branch [
   | in-Some w ↦ rw (w.devices-is, w.columns-is) (
     marked-more g.D.Disk c.args.sector.now c.loop-column.column c.args.columns.now c.loop-column.columns w.mark_column.new.columns c.args.devices.now c.loop-column.devices w.mark_column.new.devices
         c.requires.can c.loop-column.invariant.0 w.mark_column.ensures,
@@ -22,7 +32,9 @@ loop-column-preserved g c = elim c.match-device_of.branch [
   )
   | in-None w ↦ rw (w.devices-is, w.columns-is) (
     marked-skip g.D.Disk c.args.sector.now c.loop-column.column c.args.columns.now c.loop-column.columns c.args.devices.now c.loop-column.devices
-        (λ d on. not_on _ d (sym c.device_of.ensures ∙ w.in-None.is) on) c.loop-column.invariant.0,
+        (λ d on. not_on _ d (sym c.device.ensures ∙ w.in-None.is)
+        (ap device_set (sym (slice_get-get_or c.loop-column.columns c.loop-column.column _ (omega (arith, c.loop-column-test.true, c.loop-column.invariant.1)))) ∙ on))
+        c.loop-column.invariant.0,
     c.loop-column.invariant.1,
   )
 ]

@@ -20,26 +20,29 @@ loop-stripe-preserved g c =
     let few = c.loop-stripe.invariant.1 in
     let marks = marks_stripe c.args.map.now in
     elim c.if-marked.branch [
-      | then-marked+then-sync_one w ↦ rw (w.devices-is, w.columns-is, w.count-is, w.room-inside-is) (
+      | then-marked+then-sync_one w ↦ rw (w.devices-is, w.columns-is, w.count-is, w.room-inside-is, w.judge-is) (
         swept-more g.D.Disk y layout one marks c.args.columns.now c.args.devices.now c.requires.array c.loop-stripe.stripe (omega (arith, within, c.stripes-stripe-end.ensures)) c.loop-stripe.columns w.sync_one.new.columns c.loop-stripe.devices w.sync_one.new.devices
             (sym c.marked.ensures ∙ w.if-marked.true) c.loop-stripe.invariant.0 w.sync_one.result w.sync_one.ensures.turn,
         omega (arith, few),
         w.sync_one.ensures.room ∙ c.loop-stripe.invariant.2,
         counted-yes g.D.Disk y layout one marks c.args.columns.now c.args.devices.now c.requires.array c.loop-stripe.stripe (omega (arith, within, c.stripes-stripe-end.ensures)) c.loop-stripe.columns w.sync_one.new.columns c.loop-stripe.devices w.sync_one.new.devices (sym c.marked.ensures ∙ w.if-marked.true) c.loop-stripe.invariant.0 w.sync_one.result w.sync_one.ensures.turn c.loop-stripe.count w.if-sync_one.true c.loop-stripe.invariant.3,
+        w.sync_one.ensures.judge,
       )
-      | then-marked+else-sync_one w ↦ rw (w.devices-is, w.columns-is, w.count-is, w.room-inside-is) (
+      | then-marked+else-sync_one w ↦ rw (w.devices-is, w.columns-is, w.count-is, w.room-inside-is, w.judge-is) (
         swept-more g.D.Disk y layout one marks c.args.columns.now c.args.devices.now c.requires.array c.loop-stripe.stripe (omega (arith, within, c.stripes-stripe-end.ensures)) c.loop-stripe.columns w.sync_one.new.columns c.loop-stripe.devices w.sync_one.new.devices
             (sym c.marked.ensures ∙ w.if-marked.true) c.loop-stripe.invariant.0 w.sync_one.result w.sync_one.ensures.turn,
         omega (arith, few),
         w.sync_one.ensures.room ∙ c.loop-stripe.invariant.2,
         counted-no g.D.Disk y layout one marks c.args.columns.now c.args.devices.now c.requires.array c.loop-stripe.stripe (omega (arith, within, c.stripes-stripe-end.ensures)) c.loop-stripe.columns w.sync_one.new.columns c.loop-stripe.devices w.sync_one.new.devices (sym c.marked.ensures ∙ w.if-marked.true) c.loop-stripe.invariant.0 w.sync_one.result w.sync_one.ensures.turn c.loop-stripe.count w.if-sync_one.false c.loop-stripe.invariant.3,
+        w.sync_one.ensures.judge,
       )
-      | else-marked w ↦ rw (w.devices-is, w.columns-is, w.count-is, w.room-inside-is) (
+      | else-marked w ↦ rw (w.devices-is, w.columns-is, w.count-is, w.room-inside-is, w.judge-is) (
         swept-skip g.D.Disk y layout one marks c.args.columns.now c.args.devices.now c.requires.array c.loop-stripe.stripe c.loop-stripe.columns c.loop-stripe.devices
             (sym c.marked.ensures ∙ w.if-marked.false) c.loop-stripe.invariant.0,
         omega (arith, few),
         c.loop-stripe.invariant.2,
         counted-skip g.D.Disk y layout one marks c.args.columns.now c.args.devices.now c.requires.array c.loop-stripe.stripe c.loop-stripe.count c.loop-stripe.columns (sym c.marked.ensures ∙ w.if-marked.false) c.loop-stripe.invariant.3,
+        c.loop-stripe.invariant.4,
       )
     ]
 

@@ -1,30 +1,29 @@
 use Rattle.std.proofs.Common.{refl, ap}
 use Rattle.std.specs.Prelude.{is_ok}
 use Rattle.raid_recon.specs.declared.kind.Sweep.TheVariants.{Sync}
-use Rattle.raid_recon.specs.Array.{states_of}
 use Rattle.raid_recon.proofs.Answered.{visits-unread, visits-written, visits-unwritten}
-use Rattle.raid_recon.proofs.Places.{array-kept}
+use Rattle.raid_recon.proofs.Places.{seated-kept}
 use Rattle.raid_recon.proofs.UnitReads.{nothing}
 use Rattle.raid_recon.proofs.stripe.sync_stripe.Goals as goal
 
 pub returns-in-Err : goal.returns-in-Err
 returns-in-Err g c =
     let y = g.L.Layout.shape c.args.layout.now in
-    visits-unread g.D.Disk y (states_of y c.args.columns.now) c.args.stripe c.requires.complete Sync c.args.devices.now c.is_out_of_sync.new.devices y.width c.in-Err.failed refl c.in-Err.ensures.stopped
+    visits-unread g.D.Disk y c.args.cols.now.states c.args.stripe c.requires.complete Sync c.args.devices.now c.is_out_of_sync.new.devices y.width c.in-Err.failed refl c.in-Err.ensures.stopped
 
 pub write_check-requires-clause-array : goal.write_check-requires-clause-array
 write_check-requires-clause-array g c =
     let y = g.L.Layout.shape c.args.layout.now in
-    array-kept g.D.Disk nothing y c.args.columns.now c.args.devices.now c.is_out_of_sync.new.devices c.requires.array c.in-Ok-true.ensures.tested.read.same
+    seated-kept g.D.Disk nothing y c.args.cols.now.states c.args.devices.now c.is_out_of_sync.new.devices c.requires.array c.in-Ok-true.ensures.tested.read.same
 
 pub returns-in-Ok : goal.returns-in-Ok
 returns-in-Ok g c =
     let y = g.L.Layout.shape c.args.layout.now in
-    visits-written g.D.Disk y (states_of y c.args.columns.now) c.args.stripe c.requires.complete Sync c.args.devices.now c.is_out_of_sync.new.devices c.write_check.new.devices y.width refl c.in-Ok-true.ensures.tested.read c.is_out_of_sync.new.sum (c.in-Ok-true.ensures.tested.not_zero c.in-Ok-true.field-0-test) c.write_check.result c.write_check.ensures
+    visits-written g.D.Disk y c.args.cols.now.states c.args.stripe c.requires.complete Sync c.args.devices.now c.is_out_of_sync.new.devices c.write_check.new.devices y.width refl c.in-Ok-true.ensures.tested.read c.is_out_of_sync.new.sum (c.in-Ok-true.ensures.tested.not_zero c.in-Ok-true.field-0-test) c.write_check.result c.write_check.ensures
     (g.met.L.Layout.is_layout c.args.layout.now) c.requires.array.order c.requires.checks c.requires.stripe c.in-Ok-true.ensures.sum (ap is_ok c.in-Ok.is)
 
 pub returns-in-Err-write_check : goal.returns-in-Err-write_check
 returns-in-Err-write_check g c =
     let y = g.L.Layout.shape c.args.layout.now in
-    visits-unwritten g.D.Disk y (states_of y c.args.columns.now) c.args.stripe c.requires.complete Sync c.args.devices.now c.is_out_of_sync.new.devices c.write_check.new.devices y.width refl c.in-Ok-true.ensures.tested.read c.is_out_of_sync.new.sum (c.in-Ok-true.ensures.tested.not_zero c.in-Ok-true.field-0-test) c.write_check.result c.write_check.ensures
+    visits-unwritten g.D.Disk y c.args.cols.now.states c.args.stripe c.requires.complete Sync c.args.devices.now c.is_out_of_sync.new.devices c.write_check.new.devices y.width refl c.in-Ok-true.ensures.tested.read c.is_out_of_sync.new.sum (c.in-Ok-true.ensures.tested.not_zero c.in-Ok-true.field-0-test) c.write_check.result c.write_check.ensures
     c.in-Err-write_check.failed c.in-Err-write_check.is

@@ -1,22 +1,21 @@
 use Rattle.std.proofs.Common.{◌≡◌, ◌-◌, ◌*◌, ◌<◌, length, ap, subst, rules, arith}
 use Rattle.std.specs.Prelude.{is_ok}
 use Rattle.lay_core.specs.Layout.{data_units}
-use Rattle.raid_recon.specs.Array.{states_of}
 use Rattle.raid_recon.specs.Units.{ReadsUnit}
 use Rattle.raid_recon.proofs.Frames.{last-unit}
-use Rattle.raid_recon.proofs.Places.{array-kept}
+use Rattle.raid_recon.proofs.Places.{seated-kept}
 use Rattle.raid_recon.proofs.UnitReads.{nothing, tested-by, stopped-at}
 use Rattle.raid_recon.proofs.sums.is_out_of_sync.Goals as goal
 
 pub read_unit-requires-clause-array : goal.read_unit-requires-clause-array
 read_unit-requires-clause-array g c =
     let y = g.L.Layout.shape c.args.layout.now in
-    array-kept g.D.Disk nothing y c.args.columns.now c.args.devices.now c.sum_data.new.devices c.requires.array c.in-Ok.ensures.read.same
+    seated-kept g.D.Disk nothing y c.args.cols.now.states c.args.devices.now c.sum_data.new.devices c.requires.array c.in-Ok.ensures.read.same
 
 pub returns-in-Ok-read_unit-clause-tested : goal.returns-in-Ok-read_unit-clause-tested
 returns-in-Ok-read_unit-clause-tested g c =
     let y = g.L.Layout.shape c.args.layout.now in
-    let cols = states_of y c.args.columns.now in
+    let cols = c.args.cols.now.states in
     let s = c.args.stripe in
     let last = last-unit y (g.met.L.Layout.is_layout c.args.layout.now) c.requires.checks in
     let width : data_units y < y.width = omega (arith, last) in
@@ -28,7 +27,7 @@ returns-in-Ok-read_unit-clause-tested g c =
 pub returns-in-Err-read_unit-clause-stopped : goal.returns-in-Err-read_unit-clause-stopped
 returns-in-Err-read_unit-clause-stopped g c =
     let y = g.L.Layout.shape c.args.layout.now in
-    let cols = states_of y c.args.columns.now in
+    let cols = c.args.cols.now.states in
     let s = c.args.stripe in
     let last = last-unit y (g.met.L.Layout.is_layout c.args.layout.now) c.requires.checks in
     let unit : c.width.result - 1 ≡ data_units y = omega (arith, last, c.width.ensures) in

@@ -1,7 +1,7 @@
 use Rattle.std.proofs.Common.{◌≡◌, length, ap, ◌∙◌, arith}
 use Rattle.blk_disk.proofs.Written.{through_is}
 use Rattle.raid_recon.proofs.Ends.{swept-frame, swept-in_sync, swept-checks, swept-counted}
-use Rattle.raid_recon.specs.Array.{states_of}
+use Rattle.eng_cols.specs.Stripes.{states_of}
 use Rattle.raid_recon.proofs.UnitCalls.{swept-calls, calls-same}
 use Rattle.raid_recon.proofs.sweep.sweep.Goals as goal
 
@@ -20,27 +20,27 @@ returns-clause-frame g c =
     let y = g.L.Layout.shape c.args.layout.now in
     let layout = g.met.L.Layout.is_layout c.args.layout.now in
     let one : y.checks ≡ 1 = omega (arith, c.if-checks-eq0.false, c.checks.ensures, layout.checks_most) in
-    swept-frame g.D.Disk c.args.kind y layout one c.args.columns.now c.sweep_in.new.columns c.args.devices.now c.sweep_in.new.devices c.sweep_in.result c.requires.array c.sweep_in.ensures
+    swept-frame g.D.Disk c.args.kind y layout one c.args.columns.now c.sweep_in.new.columns c.args.devices.now c.sweep_in.new.devices c.sweep_in.result c.requires.array c.sweep_in.ensures.swept
 
 pub returns-clause-in_sync : goal.returns-clause-in_sync
 returns-clause-in_sync g c =
     let y = g.L.Layout.shape c.args.layout.now in
     let layout = g.met.L.Layout.is_layout c.args.layout.now in
     let one : y.checks ≡ 1 = omega (arith, c.if-checks-eq0.false, c.checks.ensures, layout.checks_most) in
-    swept-in_sync g.D.Disk c.args.kind y layout one c.args.columns.now c.sweep_in.new.columns c.args.devices.now c.sweep_in.new.devices c.sweep_in.result c.requires.array c.sweep_in.ensures
+    swept-in_sync g.D.Disk c.args.kind y layout one c.args.columns.now c.sweep_in.new.columns c.args.devices.now c.sweep_in.new.devices c.sweep_in.result c.requires.array c.sweep_in.ensures.swept
 
 pub returns-clause-counted : goal.returns-clause-counted
 returns-clause-counted g c one =
     let y = g.L.Layout.shape c.args.layout.now in
     let layout = g.met.L.Layout.is_layout c.args.layout.now in
-    swept-counted g.D.Disk c.args.kind y layout one c.args.columns.now c.sweep_in.new.columns c.args.devices.now c.sweep_in.new.devices c.sweep_in.result c.sweep_in.ensures
+    swept-counted g.D.Disk c.args.kind y layout one c.args.columns.now c.sweep_in.new.columns c.args.devices.now c.sweep_in.new.devices c.sweep_in.result c.requires.array.order c.sweep_in.ensures.swept
 
 pub returns-clause-calls : goal.returns-clause-calls
 returns-clause-calls g c =
     let y = g.L.Layout.shape c.args.layout.now in
     let layout = g.met.L.Layout.is_layout c.args.layout.now in
     let one : y.checks ≡ 1 = omega (arith, c.if-checks-eq0.false, c.checks.ensures, layout.checks_most) in
-    swept-calls g.D.Disk c.args.kind y layout one c.args.columns.now c.sweep_in.new.columns c.args.devices.now c.sweep_in.new.devices c.sweep_in.result c.requires.array c.sweep_in.ensures
+    swept-calls g.D.Disk c.args.kind y layout one c.args.columns.now c.sweep_in.new.columns c.args.devices.now c.sweep_in.new.devices c.sweep_in.result c.requires.array c.sweep_in.ensures.swept
 
 pub returns-then-checks-eq0-clause-calls : goal.returns-then-checks-eq0-clause-calls
 returns-then-checks-eq0-clause-calls g c d = let y = g.L.Layout.shape c.args.layout.now in calls-same g.D.Disk y (states_of y c.args.columns.now) c.args.devices.now d
@@ -48,4 +48,4 @@ returns-then-checks-eq0-clause-calls g c d = let y = g.L.Layout.shape c.args.lay
 pub returns-clause-checks : goal.returns-clause-checks
 returns-clause-checks g c one =
     let y = g.L.Layout.shape c.args.layout.now in
-    swept-checks g.D.Disk c.args.kind y (g.met.L.Layout.is_layout c.args.layout.now) one c.args.columns.now c.sweep_in.new.columns c.args.devices.now c.sweep_in.new.devices c.sweep_in.result c.requires.array c.sweep_in.ensures
+    swept-checks g.D.Disk c.args.kind y (g.met.L.Layout.is_layout c.args.layout.now) one c.args.columns.now c.sweep_in.new.columns c.args.devices.now c.sweep_in.new.devices c.sweep_in.result c.requires.array c.sweep_in.ensures.swept

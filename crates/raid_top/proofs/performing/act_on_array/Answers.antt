@@ -5,12 +5,12 @@ use Rattle.top_bay.specs.Views.{asked_seen}
 use Rattle.top_duty.specs.Views.{admitted_by}
 use Rattle.top_duty.specs.Opening.{sizes_of}
 use Rattle.top_duty.proofs.Fits.{fit_labelled}
+use Rattle.top_duty.proofs.Labels.{has_labels}
 use Rattle.top_open.specs.Opening.{opened_seen}
 use Rattle.top_words.specs.Views.{action_seen}
 use Rattle.raid_top.specs.Arrays.{MayDo}
 use Rattle.raid_top.specs.Served.{ComesOfOrder, IsRun}
 use Rattle.raid_top.specs.Views.{outcome_seen}
-use Rattle.raid_top.proofs.Labels.{has_labels}
 use Rattle.raid_top.proofs.Orders.{may_do, order_does, run_does, serves}
 use Rattle.raid_top.proofs.Setups.{settable}
 use Rattle.raid_top.proofs.performing.act_on_array.Goals as goal

@@ -1,5 +1,5 @@
 use Rattle.std.proofs.Common.{ap, sym, refl, subst, ◌∙◌, length}
-use Rattle.std.specs.Prelude.{All}
+use Rattle.std.specs.Prelude.{◌+◌, All}
 use Rattle.std.proofs.lemmas.Result.{IfOk-weaker}
 use Rattle.lay_core.specs.Layout.{IsLayout, SparesLieByUnits, blocks_in}
 use Rattle.raid_conf.specs.Layouts.{shape_lawful, shape_of}
@@ -7,16 +7,18 @@ use Rattle.raid_conf.proofs.ByUnits.{spares_by_units}
 use Rattle.raid_conf.specs.contracts.layouts.AnyLayoutLayout.TheImpl as any
 use Rattle.raid_script.specs.Asked.{AreFew, IsAsked}
 use Rattle.top_bay.specs.Views.{asked_seen}
+use Rattle.top_duty.proofs.Drawing.{either_asked}
+use Rattle.top_duty.specs.Duty.{clients_by}
 use Rattle.top_duty.specs.Views.{admitted_by, graphs_with, views_of}
 use Rattle.top_duty.specs.Fit.{IsFit, IsStartIf}
 use Rattle.top_duty.specs.Opening.{sizes_of}
 use Rattle.top_open.specs.Opening.{opened_seen}
 use Rattle.top_run.specs.Works as run_works
 use Rattle.top_words.specs.Views.{action_seen}
-use Rattle.raid_top.specs.Served.{CameOf, MayLabelIf}
+use Rattle.raid_top.specs.Served.{AreUnfilledIf, CameOf, MayLabelIf}
 use Rattle.raid_top.proofs.Orders.{run_writes}
-use Rattle.raid_top.proofs.Runs.{came_does}
-use Rattle.raid_top.proofs.Labels.{none_unlabelled}
+use Rattle.raid_top.proofs.Runs.{came_does, scripted}
+use Rattle.raid_top.proofs.Labels.{none_unlabelled, unfilled_unlabelled}
 use Rattle.raid_top.proofs.Setups.{may_label, may_rebuild_if, may_serve}
 use Rattle.raid_top.proofs.Works.{work_same}
 use Rattle.raid_top.proofs.performing.run_array.Goals as goal
@@ -61,6 +63,15 @@ serve-requires-clause-label g c κs w =
     made.trace)
     (none_unlabelled k sizes c.requires.ready.0 o c.args.ready.start p.ready.opened p.ready.starts))
 
+pub serve-requires-clause-filling : goal.serve-requires-clause-filling
+serve-requires-clause-filling g c κs w =
+    let k = asked_seen c.args.asked in
+    let o = opened_seen c.args.ready.opened in
+    let made = c.in-Ok.ensures in
+    let p = c.requires.ready.1 in
+    subst (λ cols. AreUnfilledIf c.in-Ok.work.newest cols.items) (sym made.columns)
+    (unfilled_unlabelled k (sizes_of g.D.Disk.size c.args.devices.items) c.requires.ready.0 o p.ready.opened c.in-Ok.work.newest (sym made.parts.0))
+
 pub returns-clause-does : goal.returns-clause-does
 returns-clause-does g c =
     let k = asked_seen c.args.asked in
@@ -70,6 +81,7 @@ returns-clause-does g c =
     let setup = work.setup in
     let p = c.requires.ready.1 in
     let back = c.serve.result.devices.items in
+    let graphs = length k.book + length k.joins in
     let same = work_same any.ghosts setup work.start (admitted_by k c.args.ready)
     (ap (λ l. any.ghosts.shape l) made.layout ∙ p.made.shape)
     (ap (λ v. v.items) made.columns)
@@ -79,6 +91,9 @@ returns-clause-does g c =
     came_does g.D.Disk k o c.args.ready.start c.args.ready.failed (sizes_of g.D.Disk.size c.args.devices.items) c.requires.ready.0 p.ready.starts (views_of c.args.ready.joined.items) c.args.devices.items back c.requires.within
     (subst (λ y. IsLayout y) p.made.shape (shape_lawful c.args.ready.layout))
     (subst (λ y. SparesLieByUnits y) p.made.shape (spares_by_units c.args.ready.layout))
+    (scripted k.conf.columns graphs (clients_by k.command.action k.clients (blocks_in (shape_of k.conf o.rows)))
+    (either_asked k.conf.columns graphs k.command.action k.clients (blocks_in (shape_of k.conf o.rows)) c.requires.within.asked
+    (subst (λ rows. All (All (IsAsked k.conf.columns graphs)) rows) p.made.drawn (p.made.asked k.conf.columns graphs))))
     o.newest (action_seen c.args.asked.command.action) c.args.asked.conf x refl
     (subst (λ w. CameOf g.D.Disk w o.newest c.args.ready.failed c.args.devices.items back x) same
     (subst (λ f. CameOf g.D.Disk (run_works.work_of any.ghosts setup work.start) o.newest f c.args.devices.items back x) made.failed

@@ -1,9 +1,11 @@
 use Rattle.std.proofs.Common.{Some, None}
 use Rattle.raid_recon.specs.declared.kind.Sweep.TheVariants as sweep
+use Rattle.top_rounds.specs.Rounds.{DiesIn}
 use Rattle.top_close.specs.Settled.{LosesDevice}
 use Rattle.top_rounds.proofs.RoundLaws.{any_death}
 use Rattle.top_acts.specs.Begun.{MayBegin}
 use Rattle.top_acts.proofs.Having.{acts_after}
+use Rattle.top_acts.proofs.Named.{apart_in}
 use Rattle.top_acts.proofs.beginning.begin_labelled.Goals as goal
 
 pub returns-then-dirty-clause-can : goal.returns-then-dirty-clause-can
@@ -14,8 +16,9 @@ returns-then-dirty-clause-can g c =
     let old = c.args.devices.now in
     let new = c.begin.new.devices in
     let b = c.begin.ensures.begun in
-    let dies = any_death (LosesDevice g.D.Disk columns old new) columns after b.named.dies in
-    acts_after g.D.Disk y (LosesDevice g.D.Disk columns old new) (MayBegin g.D.Disk (Some sweep.Sync) y columns old) columns after old new b.named.dies b.frame
+    let lost = c.begin.new.ending.lost in
+    let dies = any_death (DiesIn g.D.Disk lost columns old new) columns after b.named.dies in
+    acts_after g.D.Disk y (DiesIn g.D.Disk lost columns old new) (MayBegin g.D.Disk (Some sweep.Sync) y columns old) columns after old new b.named.dies (apart_in g.D.Disk lost columns after old new b.named.dies) b.frame
     (c.deaths_bring_no_unit_back.ensures.filling columns after dies) (c.deaths_bring_no_unit_back.ensures.spread columns after dies) c.requires.can
 
 pub returns-else-dirty-clause-can : goal.returns-else-dirty-clause-can
@@ -26,6 +29,7 @@ returns-else-dirty-clause-can g c =
     let old = c.args.devices.now in
     let new = c.begin-else-dirty.new.devices in
     let b = c.begin-else-dirty.ensures.begun in
-    let dies = any_death (LosesDevice g.D.Disk columns old new) columns after b.named.dies in
-    acts_after g.D.Disk y (LosesDevice g.D.Disk columns old new) (MayBegin g.D.Disk None y columns old) columns after old new b.named.dies b.frame
+    let lost = c.begin-else-dirty.new.ending.lost in
+    let dies = any_death (DiesIn g.D.Disk lost columns old new) columns after b.named.dies in
+    acts_after g.D.Disk y (DiesIn g.D.Disk lost columns old new) (MayBegin g.D.Disk None y columns old) columns after old new b.named.dies (apart_in g.D.Disk lost columns after old new b.named.dies) b.frame
     (c.deaths_bring_no_unit_back.ensures.filling columns after dies) (c.deaths_bring_no_unit_back.ensures.spread columns after dies) c.requires.can

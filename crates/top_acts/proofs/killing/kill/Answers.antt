@@ -1,20 +1,36 @@
-use Rattle.std.specs.Prelude.{slice_set}
-use Rattle.eng_cols.specs.declared.column.Column.TheVariants as column
-use Rattle.eng_cols.proofs.DeathLaws.{dies-set}
-use Rattle.blk_disk.proofs.DeviceLaws.{changes-refl}
-use Rattle.top_close.specs.Dying.{AnyCause}
-use Rattle.top_rounds.specs.Passes.{IsFirstInUse}
-use Rattle.top_rounds.proofs.RoundLaws.{can-after, settable_after}
+use Rattle.std.proofs.Common.{ap, sym}
+use Rattle.top_acts.specs.Done.{unless_lost}
+use Rattle.top_acts.specs.declared.done.Done.TheVariants as done
+use Rattle.top_acts.proofs.Held.{held_after}
+use Rattle.top_acts.proofs.Without.{labels, settable}
 use Rattle.top_acts.proofs.killing.kill.Goals as goal
 
 pub settle_and_close-requires-clause-array : goal.settle_and_close-requires-clause-array
 settle_and_close-requires-clause-array g c =
-    let old = c.args.ending.now.columns.items in
-    can-after g.D.Disk AnyCause (IsFirstInUse old) old (slice_set old c.args.column column.Dead) c.args.devices.now c.args.devices.now (dies-set AnyCause old c.args.column c.requires.within tt) (changes-refl g.D.Disk (IsFirstInUse old) c.args.devices.now) c.requires.array
+    labels (g.L.Layout.shape c.args.layout.now) c.args.ending.now.columns.items c.lose_column.new.ending.columns.items c.args.column c.lose_column.ensures.without g.D.Disk c.args.devices.now c.requires.array
 
 pub settle_and_close-requires-clause-columns : goal.settle_and_close-requires-clause-columns
 settle_and_close-requires-clause-columns g c =
-    let old = c.args.ending.now.columns.items in
-    let new = slice_set old c.args.column column.Dead in
-    let dies = dies-set AnyCause old c.args.column c.requires.within tt in
-    settable_after (g.L.Layout.shape c.args.layout.now) old new dies (c.deaths_bring_no_unit_back.ensures.filling old new dies) (c.deaths_bring_no_unit_back.ensures.spread old new dies) c.requires.columns
+    settable (g.L.Layout.shape c.args.layout.now) c.args.ending.now.columns.items c.lose_column.new.ending.columns.items c.args.column c.lose_column.ensures.without c.requires.columns
+
+pub settle_and_close-requires-clause-held : goal.settle_and_close-requires-clause-held
+settle_and_close-requires-clause-held g c =
+    held_after c.args.ending.now.columns.items c.lose_column.new.ending.columns.items c.args.label.now c.lose_column.ensures.without.entries c.requires.held
+
+pub returns-in-Some-clause-killed : goal.returns-in-Some-clause-killed
+returns-in-Some-clause-killed g c = record {
+  told = sym (ap (λ o. unless_lost o (done.Killed c.args.column)) c.in-Some.is);
+  left = c.lose_column.new.ending.columns.items;
+  without = c.lose_column.ensures.without;
+  ends = c.settle_and_close.ensures.ends;
+  lost_is = c.settle_and_close.ensures.lost;
+}
+
+pub returns-in-None-clause-killed : goal.returns-in-None-clause-killed
+returns-in-None-clause-killed g c = record {
+  told = sym (ap (λ o. unless_lost o (done.Killed c.args.column)) c.in-None.is);
+  left = c.lose_column.new.ending.columns.items;
+  without = c.lose_column.ensures.without;
+  ends = c.settle_and_close.ensures.ends;
+  lost_is = c.settle_and_close.ensures.lost;
+}

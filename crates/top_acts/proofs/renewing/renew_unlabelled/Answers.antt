@@ -1,8 +1,12 @@
-use Rattle.raid_recon.specs.Array.{states_of, Failed}
+use Rattle.std.proofs.Common.{None, arith}
+use Rattle.eng_cols.specs.Stripes.{states_of}
+use Rattle.raid_recon.specs.Array.{Failed}
 use Rattle.raid_recon.specs.Ends.{MayRewrite}
+use Rattle.top_rounds.proofs.RoundLaws.{any_death}
 use Rattle.top_acts.specs.Renewed.{sweep_of}
 use Rattle.top_acts.proofs.Backs.{array_after}
 use Rattle.top_acts.proofs.Having.{have_of}
+use Rattle.top_acts.proofs.Named.{apart_in, loses_of}
 use Rattle.top_acts.proofs.Renews.{renewed_plain}
 use Rattle.top_acts.proofs.renewing.renew_unlabelled.Goals as goal
 
@@ -14,12 +18,14 @@ end_unlabelled-requires-clause-devices g c =
     let old = c.args.devices.now in
     let dev = c.sweep_and_judge-count.new.devices in
     let s = c.sweep_and_judge-count.ensures.swept in
-    have_of g.D.Disk y mid dev (array_after g.D.Disk y (Failed g.D.Disk (states_of y columns) old dev) (MayRewrite g.D.Disk (sweep_of c.args.kind) y columns old) columns mid old dev s.dies s.frame c.requires.array)
+    have_of g.D.Disk y mid dev (array_after g.D.Disk y (Failed g.D.Disk (states_of y columns) old dev) (MayRewrite g.D.Disk (sweep_of c.args.kind) y columns old) columns mid old dev s.dies (apart_in g.D.Disk None columns mid old dev (loses_of g.D.Disk y None columns mid old dev s.dies)) c.requires.columns.filling s.frame c.requires.array)
 
 pub returns-clause-renewed : goal.returns-clause-renewed
 returns-clause-renewed g c =
     let y = g.L.Layout.shape c.args.layout.now in
     let s = c.sweep_and_judge-count in
     let e = c.end_unlabelled in
+    let columns = c.args.ending.now.columns.items in
+    let fewer = c.deaths_bring_no_unit_back.ensures.filling columns s.new.ending.columns.items (any_death (Failed g.D.Disk (states_of y columns) c.args.devices.now s.new.devices) columns s.new.ending.columns.items s.ensures.swept.dies) in
     renewed_plain g.D.Disk c.args.kind y c.args.ending.now.columns.items s.new.ending.columns.items e.new.ending.columns.items c.args.devices.now s.new.devices e.new.devices e.new.ending.lost s.result c.done.result
-    (g.met.L.Layout.is_layout c.args.layout.now).checks_most c.requires.columns.filling c.done.ensures e.ensures.lost s.ensures.swept e.ensures.settled e.ensures.last
+    (g.met.L.Layout.is_layout c.args.layout.now).checks_most (omega (arith, fewer, c.requires.columns.filling)) c.done.ensures e.ensures.lost s.ensures.swept e.ensures.settled e.ensures.last

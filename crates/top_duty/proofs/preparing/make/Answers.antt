@@ -1,4 +1,4 @@
-use Rattle.std.specs.Prelude.{◌≡◌, ◌<◌, ◌≤◌, ℕ, Some, List, Option, length}
+use Rattle.std.specs.Prelude.{◌≡◌, ◌<◌, ◌≤◌, ℕ, Some, List, length}
 use Rattle.std.proofs.Common.{◌∙◌, ap, arith, subst, sym}
 use Rattle.lay_core.specs.Layout.{Shape, blocks_in}
 use Rattle.eng_array.specs.Starts.{column_of}
@@ -10,7 +10,6 @@ use Rattle.top_bay.specs.Views.{asked_seen}
 use Rattle.top_open.specs.declared.plan.Needs.{Needs}
 use Rattle.top_open.specs.Opening.{opened_seen}
 use Rattle.top_words.specs.Views.{action_seen}
-use Rattle.top_duty.specs.Duty.{with_dead}
 use Rattle.top_duty.specs.Opening.{needs_of}
 use Rattle.top_duty.specs.Views.{drawn_by, views_of}
 use Rattle.top_duty.proofs.Tables.{few_blocks, some_blocks}
@@ -34,31 +33,30 @@ draw-requires-clause-blocks c = subst (λ (n : ℕ). 0 < n) (sym c.blocks-2.ensu
 pub draw-requires-clause-most : goal.draw-requires-clause-most
 draw-requires-clause-most c = subst (λ (n : ℕ). n ≤ 4294967296) (sym c.blocks-2.ensures) (few_blocks (shape_in c.in-Ok.layout) (shape_lawful c.in-Ok.layout))
 
+pub join_unless_refused-requires-clause-few : goal.join_unless_refused-requires-clause-few
+join_unless_refused-requires-clause-few c = omega (arith, c.requires.columns, c.requires.asked.conf.columns_most, ap (λ (l : List Column). length l) c.deref.ensures.value)
+
 pub join_unless_refused-requires-clause-start : goal.join_unless_refused-requires-clause-start
 join_unless_refused-requires-clause-start c = λ s e.
-    let lt : column_of s < c.args.asked.now.conf.columns = c.requires.dead (column_of s) (c.requires.start s e) in
+    let lt : column_of s < c.args.asked.now.conf.columns = c.requires.start s e in
     omega (arith, lt, c.requires.columns, ap (λ (l : List Column). length l) c.deref.ensures.value)
 
 pub returns-in-Err-join_unless_refused-clause-refused : goal.returns-in-Err-join_unless_refused-clause-refused
 returns-in-Err-join_unless_refused-clause-refused c =
-    let dead : c.needs_of-dead.result.excused ≡ (needs_of (asked_seen c.args.asked.now)).excused = ap (λ (q : Needs). q.excused) c.needs_of-dead.ensures in
-    after_if (asked_seen c.args.asked.now) (opened_seen c.args.opened.now) c.args.start c.requires.start c.in-Err-join_unless_refused.status
-    (if_same _ (shape_of c.args.asked.now.conf c.args.opened.now.rows) (asked_seen c.args.asked.now)
-    (with_dead c.needs_of-dead.result.excused c.deref.result.now) (with_dead (needs_of (asked_seen c.args.asked.now)).excused c.args.opened.now.columns.items)
-    c.deref.result.now c.args.opened.now.columns.items c.args.start c.in-Ok.ensures.shape
-    (ap (λ (e : Option ℕ). with_dead e c.deref.result.now) dead ∙ ap (λ (l : List Column). with_dead (needs_of (asked_seen c.args.asked.now)).excused l) c.deref.ensures.value)
-    c.deref.ensures.value c.in-Err-join_unless_refused.status c.in-Err-join_unless_refused.ensures.refused)
+    let k = asked_seen c.args.asked.now in
+    let z = shape_of c.args.asked.now.conf c.args.opened.now.rows in
+    after_if k (opened_seen c.args.opened.now) c.args.start c.requires.named c.in-Err-join_unless_refused.status
+    (if_same _ z k c.needs_of-dead.result.excused (needs_of k).excused c.deref.result.now c.args.opened.now.columns.items c.args.start
+    c.in-Ok.ensures.shape (ap (λ (q : Needs). q.excused) c.needs_of-dead.ensures) c.deref.ensures.value c.in-Err-join_unless_refused.status c.in-Err-join_unless_refused.ensures.refused)
 
 pub returns-in-Ok-room_for-clause-may : goal.returns-in-Ok-room_for-clause-may
 returns-in-Ok-room_for-clause-may c =
-    let dead : c.needs_of-dead.result.excused ≡ (needs_of (asked_seen c.args.asked.now)).excused = ap (λ (q : Needs). q.excused) c.needs_of-dead.ensures in
+    let k = asked_seen c.args.asked.now in
+    let z = shape_of c.args.asked.now.conf c.args.opened.now.rows in
     let views = views_of c.in-Ok-join_unless_refused.joined.items in
-    done_if (asked_seen c.args.asked.now) (opened_seen c.args.opened.now) c.args.start c.requires.start views
-    (goes_same _ (shape_of c.args.asked.now.conf c.args.opened.now.rows) (asked_seen c.args.asked.now)
-    (with_dead c.needs_of-dead.result.excused c.deref.result.now) (with_dead (needs_of (asked_seen c.args.asked.now)).excused c.args.opened.now.columns.items)
-    c.deref.result.now c.args.opened.now.columns.items c.args.start c.in-Ok.ensures.shape
-    (ap (λ (e : Option ℕ). with_dead e c.deref.result.now) dead ∙ ap (λ (l : List Column). with_dead (needs_of (asked_seen c.args.asked.now)).excused l) c.deref.ensures.value)
-    c.deref.ensures.value views c.in-Ok-join_unless_refused.ensures.goes)
+    done_if k (opened_seen c.args.opened.now) c.args.start c.requires.named views
+    (goes_same _ z k c.needs_of-dead.result.excused (needs_of k).excused c.deref.result.now c.args.opened.now.columns.items c.args.start
+    c.in-Ok.ensures.shape (ap (λ (q : Needs). q.excused) c.needs_of-dead.ensures) c.deref.ensures.value views c.in-Ok-join_unless_refused.ensures.goes)
 
 pub returns-in-Ok-room_for-clause-made : goal.returns-in-Ok-room_for-clause-made
 returns-in-Ok-room_for-clause-made c = record {

@@ -9,7 +9,7 @@ use Rattle.top_words.specs.declared.profile.Kind.TheVariants as kind
 use Rattle.top_duty.specs.Duty.{IsWanted, WantsMemory, admitted_with, duty_for}
 use Rattle.top_duty.specs.Opening.{needs_of}
 use Rattle.top_duty.specs.Views.{RefusedHere, dead_beside}
-use Rattle.top_duty.proofs.Named.{start_named}
+use Rattle.top_duty.proofs.Named.{start_named, start_within}
 use Rattle.top_duty.proofs.Opens.{dead_within, opened_count, opened_filling, opened_rows, opened_spread}
 use Rattle.top_duty.proofs.Wanting.{array_is, refused_after, refused_opening}
 use Rattle.top_duty.proofs.preparing.make_ready.Goals as goal
@@ -27,7 +27,7 @@ pub make-requires-clause-columns : goal.make-requires-clause-columns
 make-requires-clause-columns c = opened_count (asked_seen c.args.asked.now) c.args.sizes.now c.args.fronts.now (opened_seen c.in-Ok.opened) c.requires.asked.conf c.in-Ok.ensures
 
 pub make-requires-clause-filling : goal.make-requires-clause-filling
-make-requires-clause-filling c = omega (arith, opened_filling (asked_seen c.args.asked.now) c.args.sizes.now c.args.fronts.now (opened_seen c.in-Ok.opened) c.requires.asked.conf c.in-Ok.ensures)
+make-requires-clause-filling c = opened_filling (asked_seen c.args.asked.now) c.args.sizes.now c.args.fronts.now (opened_seen c.in-Ok.opened) c.requires.asked.conf c.in-Ok.ensures
 
 pub make-requires-clause-spread : goal.make-requires-clause-spread
 make-requires-clause-spread c = opened_spread (asked_seen c.args.asked.now) c.args.sizes.now c.args.fronts.now (opened_seen c.in-Ok.opened) c.requires.asked.conf c.in-Ok.ensures
@@ -41,8 +41,18 @@ refuse-requires c = λ i e.
     let lt : i < c.args.asked.now.conf.columns = dead_within (asked_seen c.args.asked.now) c.requires.asked i is in
     omega (arith, lt, opened_count (asked_seen c.args.asked.now) c.args.sizes.now c.args.fronts.now (opened_seen c.in-Ok.opened) c.requires.asked.conf c.in-Ok.ensures)
 
+pub start_in-start-requires-clause-columns : goal.start_in-start-requires-clause-columns
+start_in-start-requires-clause-columns c =
+    let entries = opened_count (asked_seen c.args.asked.now) c.args.sizes.now c.args.fronts.now (opened_seen c.in-Ok.opened) c.requires.asked.conf c.in-Ok.ensures in
+    omega (arith, entries, c.requires.asked.conf.columns_most)
+
 pub make-requires-clause-start : goal.make-requires-clause-start
-make-requires-clause-start c = λ s e. start_named c.args.fronts.now c.args.sizes.now (asked_seen c.args.asked.now) (opened_seen c.in-Ok.opened) c.requires.asked s (sym c.start_in-start.ensures ∙ e)
+make-requires-clause-start c = λ s e.
+    let entries = opened_count (asked_seen c.args.asked.now) c.args.sizes.now c.args.fronts.now (opened_seen c.in-Ok.opened) c.requires.asked.conf c.in-Ok.ensures in
+    start_within c.args.fronts.now c.args.sizes.now (asked_seen c.args.asked.now) (opened_seen c.in-Ok.opened) c.requires.asked entries s (sym c.start_in-start.ensures ∙ e)
+
+pub make-requires-clause-named : goal.make-requires-clause-named
+make-requires-clause-named c = λ s e. start_named c.args.fronts.now c.args.sizes.now (asked_seen c.args.asked.now) (opened_seen c.in-Ok.opened) c.requires.asked s (sym c.start_in-start.ensures ∙ e)
 
 pub returns-in-Err-make-clause-refused : goal.returns-in-Err-make-clause-refused
 returns-in-Err-make-clause-refused c =

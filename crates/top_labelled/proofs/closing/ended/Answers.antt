@@ -1,9 +1,10 @@
-use Rattle.std.proofs.Common.{◌≡◌, List, length, refl, sym, ap, subst, arith}
+use Rattle.std.proofs.Common.{◌≡◌, List, Option, length, refl, sym, ◌∙◌, ap, subst, arith}
 use Rattle.eng_cols.specs.declared.column.Column.{Column}
 use Rattle.top_run.specs.Work.{Service}
+use Rattle.top_run.specs.declared.service.Line.{Line}
 use Rattle.top_run.proofs.Settled.{lent-back}
 use Rattle.top_labelled.specs.Between.{HasEnded}
-use Rattle.top_labelled.specs.Ran.{line_of}
+use Rattle.top_labelled.specs.Ran.{line_at_end, line_kept}
 use Rattle.top_labelled.proofs.Steps.{ended-so}
 use Rattle.top_labelled.proofs.closing.ended.Goals as goal
 
@@ -11,16 +12,18 @@ pub returns : goal.returns
 returns g c =
     let devices = c.args.closed.devices in
     let new = c.end_labelled.new.devices in
+    let lost = c.end_labelled.new.ending.lost in
     let a : length new ≡ devices.len = omega (arith, c.end_labelled.auto.devices, ap length c.as_mut_slice.ensures.value, c.as_mut_slice.ensures.len) in
-    let line = subst (λ (cs : List Column). c.line_for-line.result ≡ line_of (g.L.Layout.shape c.args.closed.layout) c.args.asked cs) c.deref.ensures.value c.line_for-line.ensures in
+    let kept = subst (λ (cs : List Column). c.line_kept-line.result ≡ line_kept (g.L.Layout.shape c.args.closed.layout) c.args.asked c.args.device cs) c.deref.ensures.value c.line_kept-line.ensures in
+    let line = c.line_at_end-line.ensures ∙ ap (λ (l : Option Line). line_at_end lost l) kept in
     let v : Service = record {
       clients = c.args.closed.clients.items;
       replies = c.args.closed.replies.items;
       sectors = c.args.closed.sectors.items;
       history = c.args.closed.history.items;
       trace = c.args.closed.trace.items;
-      line = c.line_for-line.result;
-      ending = record { columns = c.end_labelled.new.ending.columns.items; lost = c.end_labelled.new.ending.lost };
+      line = c.line_at_end-line.result;
+      ending = record { columns = c.end_labelled.new.ending.columns.items; lost = lost };
     } in
-    subst (λ back. HasEnded g.L.Layout g.D.Disk c.args.closed c.args.label c.args.asked v back) (sym (lent-back devices.items new devices.len a))
-    (ended-so g.L.Layout g.D.Disk c.args.closed c.args.label c.end_labelled.new.label c.args.asked v c.as_mut_slice.result.now new refl line c.as_mut_slice.ensures.value c.end_labelled.ensures.closed c.end_labelled.ensures.first c.end_labelled.ensures.lost)
+    subst (λ back. HasEnded g.L.Layout g.D.Disk c.args.closed c.args.label c.args.asked c.args.device v back) (sym (lent-back devices.items new devices.len a))
+    (ended-so g.L.Layout g.D.Disk c.args.closed c.args.label c.end_labelled.new.label c.args.asked c.args.device v c.as_mut_slice.result.now new refl line c.as_mut_slice.ensures.value c.end_labelled.ensures.closed c.end_labelled.ensures.first c.end_labelled.ensures.lost)

@@ -1,16 +1,10 @@
 use Rattle.std.proofs.Common.{sym, subst}
 use Rattle.eng_cols.specs.Cols.{IsFor}
-use Rattle.top_serve.specs.Setups.{with_rebuilt}
 use Rattle.top_labelled.proofs.Steps.{may-close, within-closed}
 use Rattle.top_labelled.proofs.running.served.Goals as goal
 
 pub ended-requires-clause-closed : goal.ended-requires-clause-closed
-ended-requires-clause-closed g c =
-    let started = c.args.started in
-    let closed = c.serve_in-closed.result in
-    let was = with_rebuilt started.began started.setup.columns.items in
-    may-close g.L.Layout g.D.Disk started c.args.room closed c.requires.can c.serve_in-closed.ensures
-    (λ died. (c.deaths_bring_no_unit_back.ensures.filling was closed.columns.items died, c.deaths_bring_no_unit_back.ensures.spread was closed.columns.items died))
+ended-requires-clause-closed g c = may-close g.L.Layout g.D.Disk c.args.started c.args.room c.serve_in-closed.result c.requires.can c.serve_in-closed.ensures
 
 pub ended-requires-clause-within : goal.ended-requires-clause-within
 ended-requires-clause-within g c = within-closed g.L.Layout g.D.Disk c.args.started c.args.room c.serve_in-closed.result c.requires.can c.serve_in-closed.ensures

@@ -25,4 +25,5 @@ returns g c = λ setup given may opened worlds long.
       closes = c.closed.ensures.closed;
       regions = c.closed.ensures.regions;
       long = long;
+      far = c.a_rebuild_goes_so_far.ensures;
     })

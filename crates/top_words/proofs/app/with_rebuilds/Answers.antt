@@ -2,10 +2,12 @@ use Rattle.std.proofs.Common.{◌∙◌, ap}
 use Rattle.std.specs.Prelude.{codes}
 use Rattle.clap.specs.Words.{App, with_rule}
 use Rattle.std.proofs.lemmas.Result.{IfOk-weaker}
-use Rattle.top_words.specs.App.{valued_rule}
+use Rattle.top_words.specs.App.{flag_rule, option_rule, valued_rule}
 use Rattle.top_words.proofs.app.with_rebuilds.Goals as goal
 
 pub returns : goal.returns
 returns c =
-    IfOk-weaker c.with_valued-2.result _ _ (λ r h.
-    h ∙ ap (λ (a : App). with_rule a (valued_rule (codes "in_place") 82)) c.in_ok-app.ensures) c.with_valued-2.ensures
+    IfOk-weaker c.with_option.result _ _ (λ r h.
+    h ∙ ap (λ (a : App). with_rule a (option_rule (codes "limit"))) (c.in_ok-app-3.ensures
+    ∙ ap (λ (a : App). with_rule a (flag_rule (codes "resume"))) (c.in_ok-app-2.ensures
+    ∙ ap (λ (a : App). with_rule a (valued_rule (codes "in_place") 82)) c.in_ok-app.ensures))) c.with_option.ensures

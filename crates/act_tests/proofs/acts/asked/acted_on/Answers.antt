@@ -1,6 +1,7 @@
 use Rattle.std.proofs.Common.{List, None, subst}
 use Rattle.eng_cols.specs.declared.column.Column.{Column}
-use Rattle.top_close.specs.Ended.{IsLossBy, states_of}
+use Rattle.eng_cols.specs.Stripes.{states_of}
+use Rattle.top_close.specs.Ended.{IsLossBy}
 use Rattle.act_tests.proofs.acts.asked.acted_on.Goals as goal
 
 pub fail_column-requires-clause-by : goal.fail_column-requires-clause-by

@@ -3,7 +3,7 @@ use Rattle.blk_disk.specs.contracts.mem.MemDiskDisk.TheImpl as mem
 use Rattle.lay_plain.specs.contracts.level_five.Raid5Layout.TheImpl as five
 use Rattle.eng_cols.specs.declared.column.Column.{Column}
 use Rattle.eng_cols.specs.Lost.{NotLost}
-use Rattle.eng_events.specs.Opened.{states_of}
+use Rattle.eng_cols.specs.Stripes.{states_of}
 use Rattle.crew_tests.proofs.Setups.{degraded-ready}
 use Rattle.crew_tests.proofs.serves.ready.degraded.Goals as goal
 

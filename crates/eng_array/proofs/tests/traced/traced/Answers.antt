@@ -4,7 +4,7 @@ use Rattle.std.specs.declared.alloc.Global.{Global}
 use Rattle.graph_mean.specs.Graph.{Held}
 use Rattle.lay_plain.specs.LeftSymmetric.{left_symmetric}
 use Rattle.eng_world.specs.declared.item.Item.{Item}
-use Rattle.eng_events.specs.Opened.{states_of}
+use Rattle.eng_cols.specs.Stripes.{states_of}
 use Rattle.eng_array.specs.Fitting.{opening_events}
 use Rattle.eng_array.proofs.ShortTraces.{one-script, states-count}
 use Rattle.eng_array.proofs.tests.traced.traced.Goals as goal

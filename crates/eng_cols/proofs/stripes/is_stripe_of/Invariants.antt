@@ -1,0 +1,7 @@
+use Rattle.std.proofs.Common.{◌≡◌, false}
+use Rattle.eng_cols.specs.Stripes.{any_below, is_unit_by, spreads}
+use Rattle.eng_cols.proofs.stripes.is_stripe_of.Given as goal
+
+-- none of the units so far is one of the column's
+abbrev pub invariant-loop-unit : goal.invariant-loop-unit
+invariant-loop-unit g l = any_below (λ i. is_unit_by (g.L.Layout.shape l.layout) (spreads l.columns) l.stripe i l.column) l.unit ≡ false

@@ -1,0 +1,95 @@
+-- A stripe's turn by the judge's columns, and what becomes of these where a device failed.
+use Rattle.std.proofs.Common.{◌≡◌, ℕ, ◌<◌, List, Bool, true, false, Option, Some, None, Result, Ok, Err, length, length-set, slice_set, refl, sym, ap, ◌∙◌, subst, arith}
+use Rattle.blk_disk.specs.declared.disk.Disk.{Ghosts}
+use Rattle.lay_core.specs.Layout.{Shape, IsLayout, data_units}
+use Rattle.eng_cols.specs.declared.column.Column.{Column}
+use Rattle.eng_cols.specs.declared.column.Column.TheVariants as column
+use Rattle.eng_cols.specs.declared.spot.Spot.{Spot}
+use Rattle.eng_cols.specs.Cols.{ColumnState, Columns, Dead, InOrder}
+use Rattle.eng_cols.specs.Changes.{killed}
+use Rattle.eng_cols.specs.Seats.{seat}
+use Rattle.eng_cols.specs.Stripes.{states_of}
+use Rattle.eng_cols.proofs.Spots.{seat-within}
+use Rattle.raid_recon.specs.declared.kind.Sweep.{Sweep}
+use Rattle.raid_recon.specs.declared.kind.Sweep.TheVariants.{Check, Sync, Init}
+use Rattle.raid_recon.specs.declared.kind.FailedAt.{FailedAt}
+use Rattle.raid_recon.specs.Array.{IsJudge, Lacks}
+use Rattle.raid_recon.specs.Turns.{Turn, Left, Unread, Sound, Unsound, Written, Unwritten, failed_at, dead_at, does_count, units_read, IsTurn, IsVisit}
+use Rattle.raid_recon.specs.Units.{AnswersTurn, Visits, SweepsStripe}
+use Rattle.raid_recon.proofs.Backs.{failed-unspread}
+use Rattle.raid_recon.proofs.Frames.{last-unit}
+use Rattle.raid_recon.proofs.Places.{states-killed}
+use Rattle.raid_recon.proofs.Visits.{visit-left}
+
+no-some : {A X : Type 0} {x : X} → None ≡ Some x → A
+no-some h = absurd (let u : ⊥ = cc in u)
+
+-- a turn in which a device failed doesn't count
+failed-uncounted : (y : Shape) (cols : List ColumnState) (s : ℕ) (t : Turn) (at : Spot) → failed_at y cols s t ≡ Some at → false ≡ does_count t
+failed-uncounted y cols s Left at is = no-some is
+failed-uncounted y cols s (Unread i) at is = refl
+failed-uncounted y cols s Sound at is = no-some is
+failed-uncounted y cols s Unsound at is = no-some is
+failed-uncounted y cols s Written at is = no-some is
+failed-uncounted y cols s Unwritten at is = refl
+
+module _ {D : Type 0} (g : Ghosts D) (kind : Sweep) (y : Shape) (cols : List ColumnState) (s : ℕ) (old new : List (Option D)) where
+  pub visits-left : Lacks y cols s → Visits g kind y cols s old old (Ok false)
+  visits-left lacks = record { turn = Left; visit = visit-left g kind y cols s old lacks; answer = (refl, refl) }
+
+  module _ (r : Result Bool FailedAt) (v : Visits g kind y cols s old new r) where
+    -- the column of a device that failed is there
+    pub failed-within : (e : FailedAt) → r ≡ Err e → IsLayout y → y.checks ≡ 1 → s < y.stripes → e.column < y.columns
+    failed-within e is layout one sw =
+        let a = subst (AnswersTurn g y cols s v.turn) is v.answer in
+        let unit = of v.turn a.0 v.visit.is a.1 in
+        let within = (seat-within y cols s unit.0 a.0 layout sw unit.1 unit.2).0 in
+        omega (arith, within, a.2)
+      where
+        of : (t : Turn) (at : Spot) → IsTurn g.tells kind y (Rattle.blk_disk.specs.Devices.contents_of g old) cols s t → failed_at y cols s t ≡ Some at → (i : ℕ) × (i < y.width) × (seat y cols s i ≡ Some at)
+        of Left at t is = no-some is
+        of (Unread i) at t is = (i, read kind t.1, is)
+          where
+            read : (k : Sweep) → i < units_read k y → i < y.width
+            read Check lt = lt
+            read Sync lt = lt
+            read Init lt = omega (arith, lt)
+        of Sound at t is = no-some is
+        of Unsound at t is = no-some is
+        of Written at t is = no-some is
+        of Unwritten at t is = (data_units y, omega (arith, last-unit y layout one), is)
+
+    module _ (columns : List Column) (same : cols ≡ states_of y columns) where
+      visit : IsVisit g kind y (states_of y columns) s old new v.turn
+      visit = subst (λ c. IsVisit g kind y c s old new v.turn) same v.visit
+
+      pub swept-good : (b : Bool) → r ≡ Ok b → SweepsStripe g kind y s columns columns old new b
+      swept-good b is =
+          let a = subst (AnswersTurn g y cols s v.turn) is v.answer in
+          record {
+            turn = v.turn;
+            visit = visit;
+            columns_are = sym (ap (dead_at columns) (ap (λ c. failed_at y c s v.turn) (sym same) ∙ a.0));
+            count = a.1;
+          }
+
+      pub swept-bad : (e : FailedAt) → r ≡ Err e → SweepsStripe g kind y s columns (slice_set columns e.column column.Dead) old new false
+      swept-bad e is =
+          let a = subst (AnswersTurn g y cols s v.turn) is v.answer in
+          record {
+            turn = v.turn;
+            visit = visit;
+            columns_are = ap (λ k. slice_set columns k column.Dead) a.2 ∙ sym (ap (dead_at columns) (ap (λ c. failed_at y c s v.turn) (sym same) ∙ a.1));
+            count = failed-uncounted y cols s v.turn a.0 a.1;
+          }
+
+      -- the judge's columns are those behind the turn
+      pub judge-lost : (judge : Columns) (e : FailedAt) → r ≡ Err e → InOrder (states_of y columns) → judge.states ≡ cols → IsJudge y columns judge → IsJudge y (slice_set columns e.column column.Dead) (record judge { states = killed judge.states e.column })
+      judge-lost judge e is order were was =
+          let a = subst (AnswersTurn g y cols s v.turn) is v.answer in
+          let at = ap (λ c. failed_at y c s v.turn) (sym same) ∙ a.1 in
+          let dead = states-killed y columns a.0.column order (failed-unspread y columns s v.turn a.0 at) in
+          record {
+            fit = record { columns = length-set judge.states e.column Dead ∙ was.fit.columns; stripes = was.fit.stripes };
+            states = ap (λ c. killed c e.column) was.states ∙ (ap (killed (states_of y columns)) a.2 ∙ (sym dead ∙ ap (λ k. states_of y (slice_set columns k column.Dead)) (sym a.2)));
+          }

@@ -1,7 +1,0 @@
-use Rattle.std.proofs.Common.{◌≡◌, ◌≤◌, take}
-use Rattle.top_rounds.specs.Rounds.{live_count}
-use Rattle.top_acts.proofs.closing.count_live.Given as goal
-
--- those so far are counted
-abbrev pub invariant-loop-column : goal.invariant-loop-column
-invariant-loop-column l = (l.count ≡ live_count (take l.column-index l.columns)) × (l.count ≤ l.column-index)
