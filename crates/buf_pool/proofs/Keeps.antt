@@ -157,14 +157,14 @@ seen_set seats k s d w inside e = map-set seen seats k s ∙ ap (set (map seen s
 pub seen_at : (seats : List Seat) (k : ℕ) (s : Seat) → k < length seats → s ≡ get_or seats k s → seat_at (map seen seats) k ≡ seen s
 seen_at seats k s inside e = get_or-map seen seats k s nowhere inside ∙ ap seen (sym e)
 
-pub seen_claim : (seats : List Seat) (k : ℕ) (s : Seat) (first place : ℕ) → k < length seats → s ≡ get_or seats k s → map seen (set seats k (record s { owner = Leased first place })) ≡ claim first place k (map seen seats)
-seen_claim seats k s first place inside e = seen_set seats k (record s { owner = Leased first place }) s _ inside (ap (λ (v : SeatView). record v { owner = Leased first place }) (sym (seen_at seats k s inside e)))
+pub seen_claim : (seats : List Seat) (k : ℕ) (s : Seat) (first place : ℕ) (to : Snapshot Owner) → to.value ≡ Leased first place → k < length seats → s ≡ get_or seats k s → map seen (set seats k (record s { owner = to })) ≡ claim first place k (map seen seats)
+seen_claim seats k s first place to is inside e = seen_set seats k (record s { owner = to }) s _ inside (ap (λ (o : Owner). record (seen s) { owner = o }) is ∙ ap (λ (v : SeatView). record v { owner = Leased first place }) (sym (seen_at seats k s inside e)))
 
-pub seen_release : (seats : List Seat) (k : ℕ) (s : Seat) (at : ℕ) → k < length seats → s ≡ get_or seats k s → map seen (set seats k (record s { owner = Free at })) ≡ release at k (map seen seats)
-seen_release seats k s at inside e = seen_set seats k (record s { owner = Free at }) s _ inside (ap (λ (v : SeatView). record v { owner = Free at }) (sym (seen_at seats k s inside e)))
+pub seen_release : (seats : List Seat) (k : ℕ) (s : Seat) (at : ℕ) (to : Snapshot Owner) → to.value ≡ Free at → k < length seats → s ≡ get_or seats k s → map seen (set seats k (record s { owner = to })) ≡ release at k (map seen seats)
+seen_release seats k s at to is inside e = seen_set seats k (record s { owner = to }) s _ inside (ap (λ (o : Owner). record (seen s) { owner = o }) is ∙ ap (λ (v : SeatView). record v { owner = Free at }) (sym (seen_at seats k s inside e)))
 
 -- a seat of a lease is written in the pool's own list
-module _ (unit : ℕ) (free : List ℕ) (seats : List Seat) (k : ℕ) (s x : Seat) (inside : k < length seats) (read : s ≡ get_or seats k s) (was : leased s.owner ≡ 1) (is : leased x.owner ≡ 1) (many : length (seen x).bytes ≡ unit) where
+module _ (unit : ℕ) (free : List ℕ) (seats : List Seat) (k : ℕ) (s x : Seat) (inside : k < length seats) (read : s ≡ get_or seats k s) (was : leased s.owner.value ≡ 1) (is : leased x.owner.value ≡ 1) (many : length (seen x).bytes ≡ unit) where
   pub kept : IsPool (record { unit = unit; free = free; seats = map seen seats }) → IsPool (record { unit = unit; free = free; seats = map seen (set seats k x) })
   kept h =
       let long = length-map seats seen in
@@ -180,7 +180,7 @@ module _ (unit : ℕ) (free : List ℕ) (seats : List Seat) (k : ℕ) (s : Seat)
   left dest copy b home out same =
       let bytes : copy.value ≡ (seen s).bytes = same ∙ sym (ap bytes_in home) in
       let is : seen (record { owner = s.owner; place = dest }) ≡ record (seen s) { out = true } =
-      ap (λ (p : Place). seen (record { owner = s.owner; place = p })) out ∙ ap (λ (l : List ℕ). as_view s.owner true l) bytes in
+      ap (λ (p : Place). seen (record { owner = s.owner; place = p })) out ∙ ap (λ (l : List ℕ). as_view s.owner.value true l) bytes in
       ap held (seen_set seats k (record { owner = s.owner; place = dest }) s _ inside (is ∙ ap (λ (v : SeatView). record v { out = true }) (sym (seen_at seats k s inside read))))
 
   pub left_long : IsPool (held (map seen seats)) → (dest : Place) (copy : Snapshot (List ℕ)) (b : List ℕ) → s.place ≡ Home b → dest ≡ Out copy → copy.value ≡ b → length (seen (record { owner = s.owner; place = dest })).bytes ≡ unit

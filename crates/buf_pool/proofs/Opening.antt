@@ -4,6 +4,7 @@ use Rattle.std.proofs.lemmas.Bool.{cases_eq}
 use Rattle.std.proofs.lemmas.List.{length-replicate, length_push, get_or_append_left, get_or_push, map_push}
 use Rattle.std.proofs.lemmas.List.Sums.{sum_by_push}
 use Rattle.buf_pool.specs.Pool.{SeatView, IsPool, IsFresh, seat_at, nowhere, leased_in, seen}
+use Rattle.std.specs.declared.snapshot.Snapshot.{Snapshot}
 use Rattle.buf_pool.specs.declared.seat.Owner.{Owner}
 use Rattle.buf_pool.specs.declared.seat.Owner.TheVariants.{Free}
 use Rattle.buf_pool.specs.declared.seat.Seat.{Seat}
@@ -71,5 +72,5 @@ module _ (unit : ℕ) (free : List ℕ) (seats : List SeatView) (i : ℕ) (few :
     fresh = record { seats = omega arith; free = omega arith; each = each' };
   }
 
-pub seats_push : (seats : List Seat) (b : List ℕ) (unit i : ℕ) → b ≡ replicate unit 0 → map seen (seats ++ record { owner = Free i; place = Home b } ∷ []) ≡ map seen seats ++ fresh_seat unit i ∷ []
-seats_push seats b unit i zeros = map_push seen seats (record { owner = Free i; place = Home b }) ∙ ap (λ (l : List ℕ). map seen seats ++ record { owner = Free i; out = false; bytes = l } ∷ []) zeros
+pub seats_push : (seats : List Seat) (b : List ℕ) (unit i : ℕ) (o : Snapshot Owner) → o.value ≡ Free i → b ≡ replicate unit 0 → map seen (seats ++ record { owner = o; place = Home b } ∷ []) ≡ map seen seats ++ fresh_seat unit i ∷ []
+seats_push seats b unit i o free zeros = map_push seen seats (record { owner = o; place = Home b }) ∙ (ap (λ (w : Owner). map seen seats ++ record { owner = w; out = false; bytes = b } ∷ []) free ∙ ap (λ (l : List ℕ). map seen seats ++ record { owner = Free i; out = false; bytes = l } ∷ []) zeros)

@@ -39,11 +39,8 @@ zeroed_send = view_send _ _ _ _ _ (declared_send zeroed.TheInside.the_type (Vec-
 place_send : IsSend place.the_row
 place_send = let E = place.the_type in recorded_send (Enum (shape_of E)) E.D E.to E.to_one (enum_send (shape_of E) ((zeroed_send, tt), ((snapshot_send zeroed.the_row, tt), tt)))
 
-owner_send : IsSend owner.the_row
-owner_send = let E = owner.the_type in recorded_send (Enum (shape_of E)) E.D E.to E.to_one (enum_send (shape_of E) ((search sendable, tt), ((search sendable, (search sendable, tt)), tt)))
-
 seat_send : IsSend seat.the_row
-seat_send = declared_send seat.the_type (owner_send, (place_send, tt))
+seat_send = declared_send seat.the_type (snapshot_send owner.the_row, (place_send, tt))
 
 pub pool_send : IsSend pool.the_row
 pool_send = view_send _ _ _ _ _ (declared_send pool.TheInside.the_type (search sendable, (Vec-send u32-field.row number_send, (Vec-send seat.the_row seat_send, tt))))

@@ -1,15 +1,8 @@
 -- Bytes that are zero until they are written.
-use Rattle.std.proofs.Common.{◌≡◌, ◌≤◌, ◌+◌, ◌-◌, ◌++◌, ℕ, List, length, replicate, take, drop, sym, ap, ◌∙◌, arith}
-use Rattle.std.proofs.lemmas.List.{append_assoc, replicate-append-replicate, take-append-le, drop-append-le, length-append, length-take-le, length-drop, length-replicate}
-use Rattle.std.proofs.lemmas.List.{take_all}
-
--- the zeros behind what is written begin later where some of them are written
-pub filled : (w : List ℕ) (l n count : ℕ) → length w ≡ l → l ≤ n → n ≤ count → (take n w ++ replicate (n - l) 0) ++ replicate (count - n) 0 ≡ w ++ replicate (count - l) 0
-filled w l n count known a b =
-    append_assoc (take n w) (replicate (n - l) 0) (replicate (count - n) 0)
-    ∙ ap (λ z. take n w ++ z) (replicate-append-replicate (n - l) (count - n) 0)
-    ∙ ap (λ k. take n w ++ replicate k 0) (let e : n - l + (count - n) ≡ count - l = omega (arith, a, b) in e)
-    ∙ ap (λ v. v ++ replicate (count - l) 0) (take_all n w (omega (arith, known, a)))
+use Rattle.std.proofs.Common.{◌≡◌, ◌≤◌, ◌<◌, ◌+◌, ◌-◌, ◌++◌, ◌⊎◌, ℕ, List, length, replicate, take, drop, sym, ap, ◌∙◌, arith, inl, inr}
+use Rattle.std.proofs.Math.Seq.{drop-append-add}
+use Rattle.std.proofs.lemmas.Bool.{cases_lt}
+use Rattle.std.proofs.lemmas.List.{append_assoc, append-nil, replicate-append-replicate, take-append-le, drop-append-le, drop-replicate, length-append, length-take-le, length-drop, length-replicate, drop_all}
 
 -- what is put in front of the zeros is put into all
 pub overwritten : (a z from : List ℕ) (at : ℕ) → at + length from ≤ length a → (take at a ++ from ++ drop (at + length from) a) ++ z ≡ take at (a ++ z) ++ from ++ drop (at + length from) (a ++ z)
@@ -21,17 +14,46 @@ overwritten a z from at fits =
 pub length-overwritten : (a from : List ℕ) (at : ℕ) → at + length from ≤ length a → length (take at a ++ from ++ drop (at + length from) a) ≡ length a
 length-overwritten a from at fits = omega (arith, length-append (take at a ++ from) (drop (at + length from) a), length-append (take at a) from, length-take-le at a (omega (arith, fits)), length-drop (at + length from) a, fits)
 
--- Of bytes, l of which are written, n are written; then `from` is put in their place from `at` on. What a vector of m items then has is what is put there.
-pub put_is : (w v from made x : List ℕ) (count at l n m : ℕ) → length w ≡ l → w ++ replicate (count - l) 0 ≡ v → l ≤ n → n ≤ count → at + length from ≤ n → m ≡ n
-    → made ≡ take n w ++ replicate (n - l) 0 → x ≡ take at made ++ from ++ drop (at + length from) made
-    → take m (x ++ drop (length x) made) ++ replicate (count - m) 0 ≡ take at v ++ from ++ drop (at + length from) v
-put_is w v from made x count at l n m known whole few most fits all is put =
-    let zeros : length (replicate {A = ℕ} (n - l) 0) ≡ n - l = length-replicate {A = ℕ} (n - l) 0 in
-    let long : length made ≡ n = ap length is ∙ omega (arith, length-append (take n w) (replicate {A = ℕ} (n - l) 0), ap length (take_all n w (omega (arith, known, few))), zeros, known, few) in
-    let within : at + length from ≤ length made = omega (arith, fits, long) in
-    let same : length x ≡ n = ap length put ∙ (length-overwritten made from at within ∙ long) in
-    let kept : take m (x ++ drop (length x) made) ≡ x = take-append-le m x (drop (length x) made) (omega (arith, all, same)) ∙ take_all m x (omega (arith, all, same)) in
-    ap (λ y. y ++ replicate (count - m) 0) (kept ∙ put)
-    ∙ (ap (λ k. (take at made ++ from ++ drop (at + length from) made) ++ replicate (count - k) 0) all
-    ∙ (overwritten made (replicate (count - n) 0) from at within
-    ∙ ap (λ y. take at y ++ from ++ drop (at + length from) y) (ap (λ y. y ++ replicate (count - n) 0) is ∙ (filled w l n count known few most ∙ whole))))
+-- the zeros behind what is written, where more is put than was written
+behind : (w from : List ℕ) (at count m : ℕ) → at ≤ length w → length w ≤ at + length from → m ≡ at + length from → m ≤ count
+    → (take at w ++ from ++ drop (at + length from) w) ++ replicate (count - m) 0 ≡ take at (w ++ replicate (count - length w) 0) ++ from ++ drop (at + length from) (w ++ replicate (count - length w) 0)
+behind w from at count m within past is fits =
+    let z = replicate (count - length w) 0 in
+    let k = at + length from - length w in
+    let gone : drop (at + length from) (w ++ z) ≡ replicate (count - m) 0 =
+    ap (λ n. drop n (w ++ z)) (let e : at + length from ≡ length w + k = omega (arith, past) in e)
+    ∙ drop-append-add w z k
+    ∙ drop-replicate k (count - length w) 0
+    ∙ ap (λ n. replicate n 0) (let e : count - length w - k ≡ count - m = omega (arith, is, past, fits) in e) in
+    ap (λ d. (take at w ++ from ++ d) ++ replicate (count - m) 0) (drop_all (at + length from) w past)
+    ∙ ap (λ y. y ++ replicate (count - m) 0) (append-nil (take at w ++ from))
+    ∙ ap (λ d. take at w ++ from ++ d) (sym gone)
+    ∙ ap (λ t. t ++ from ++ drop (at + length from) (w ++ z)) (sym (take-append-le at w z within))
+
+-- bytes are put into those that are written, in front of zeros; m is how many are written then
+put_in : (w from x : List ℕ) (count at m : ℕ) → at ≤ length w → length w ≤ count → at + length from ≤ count → x ≡ take at w ++ from ++ drop (at + length from) w → m ≡ length x
+    → x ++ replicate (count - m) 0 ≡ take at (w ++ replicate (count - length w) 0) ++ from ++ drop (at + length from) (w ++ replicate (count - length w) 0)
+put_in w from x count at m within most fits is all = by (cases_lt (length w) (at + length from))
+  where
+    by : (length w < at + length from) ⊎ (at + length from ≤ length w) → x ++ replicate (count - m) 0 ≡ take at (w ++ replicate (count - length w) 0) ++ from ++ drop (at + length from) (w ++ replicate (count - length w) 0)
+    by (inr over) =
+        let long : m ≡ length w = all ∙ (ap length is ∙ length-overwritten w from at over) in
+        ap (λ y. y ++ replicate (count - m) 0) is ∙ (ap (λ k. (take at w ++ from ++ drop (at + length from) w) ++ replicate (count - k) 0) long ∙ overwritten w (replicate (count - length w) 0) from at over)
+    by (inl past) =
+        let below : length w ≤ at + length from = omega (arith, past) in
+        let long : m ≡ at + length from = all ∙ (ap length is ∙ omega (arith, length-append (take at w ++ from) (drop (at + length from) w), length-append (take at w) from, length-take-le at w within, ap length (drop_all (at + length from) w below))) in
+        ap (λ y. y ++ replicate (count - m) 0) is ∙ behind w from at count m within below long (omega (arith, long, fits))
+
+-- Of bytes, l of which are written, as many are written as lie before `at`; then `from` is put in their place from there on. What a vector of m items then has is what is put there.
+pub put_is : (w v from made x : List ℕ) (count at l m : ℕ) → length w ≡ l → l ≤ count → w ++ replicate (count - l) 0 ≡ v → at + length from ≤ count → made ≡ w ++ replicate (at - l) 0
+    → x ≡ take at made ++ from ++ drop (at + length from) made → m ≡ length x → x ++ replicate (count - m) 0 ≡ take at v ++ from ++ drop (at + length from) v
+put_is w v from made x count at l m known few whole fits is put all =
+    let long : length made ≡ l + (at - l) = ap length is ∙ omega (arith, length-append w (replicate {A = ℕ} (at - l) 0), length-replicate {A = ℕ} (at - l) 0, known) in
+    let same : made ++ replicate (count - length made) 0 ≡ v =
+    ap (λ k. made ++ replicate (count - k) 0) long
+    ∙ ap (λ y. y ++ replicate (count - (l + (at - l))) 0) is
+    ∙ append_assoc w (replicate (at - l) 0) (replicate (count - (l + (at - l))) 0)
+    ∙ ap (λ z. w ++ z) (replicate-append-replicate (at - l) (count - (l + (at - l))) 0)
+    ∙ ap (λ k. w ++ replicate k 0) (let e : at - l + (count - (l + (at - l))) ≡ count - l = omega (arith, few, fits) in e)
+    ∙ whole in
+    put_in made from x count at m (omega (arith, long)) (omega (arith, long, few, fits)) fits put all ∙ ap (λ y. take at y ++ from ++ drop (at + length from) y) same

@@ -27,7 +27,7 @@ bytes_in (Home bytes) = bytes
 bytes_in (Out copy) = copy.value
 
 abbrev pub seen : Seat → SeatView
-seen s = record { owner = s.owner; out = is_out s.place; bytes = bytes_in s.place }
+seen s = record { owner = s.owner.value; out = is_out s.place; bytes = bytes_in s.place }
 
 -- what is seen of a pool's fields
 abbrev pub shown : ℕ → List ℕ → List Seat → PoolView

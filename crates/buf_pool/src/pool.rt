@@ -50,7 +50,7 @@ impl Pool {
             let place = Place::Home(Zeroed::open(alloc, bytes as usize)?);
             free.push_reserved(k);
             seats.push_reserved(Seat {
-                owner: Owner::Free(k),
+                owner: Snapshot::of(&Owner::Free(k)),
                 place,
             });
         }
@@ -83,7 +83,7 @@ impl Pool {
         let Some(seat) = self.free.pop() else {
             unreachable!()
         };
-        self.seats[seat as usize].owner = Owner::Leased(first, place);
+        self.seats[seat as usize].owner = Snapshot::of(&Owner::Leased(first, place));
         seat
     }
 
@@ -98,7 +98,7 @@ impl Pool {
     {
         let at = self.free.len() as u32;
         self.free.push_reserved(seat);
-        self.seats[seat as usize].owner = Owner::Free(at);
+        self.seats[seat as usize].owner = Snapshot::of(&Owner::Free(at));
     }
 
     // The free seat that is given next.

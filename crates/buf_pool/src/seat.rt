@@ -18,8 +18,9 @@ pub(crate) enum Place {
     Out(Snapshot<Zeroed>),
 }
 
+/// Whose it is contracts see alone: no byte of it is written as a seat is leased or given back.
 #[derive(Drop)]
 pub(crate) struct Seat {
-    pub(crate) owner: Owner,
+    pub(crate) owner: Snapshot<Owner>,
     pub(crate) place: Place,
 }

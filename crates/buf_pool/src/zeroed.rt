@@ -1,5 +1,5 @@
 //! Bytes that are zero until they are written.
-ghost use Rattle.std.specs.Prelude.{◌≡◌, ◌≤◌, ◌+◌, ◌++◌, IfOk, length, replicate, take, drop};
+ghost use Rattle.std.specs.Prelude.{◌≡◌, ◌≤◌, ◌+◌, ◌-◌, ◌++◌, IfOk, length, replicate, take, drop, vec_len, vec_capacity};
 
 use crate::buffer::Memory;
 use std::alloc::Global;
@@ -9,7 +9,7 @@ use std::marker::Model;
 ///
 /// Who reserves memory for the most that a run may need often uses little of it. So there is room for
 /// all bytes from the start, which a system gives as it is touched, but those behind the last that was
-/// put aren't written before all are wanted.
+/// put aren't written before all are wanted, and what is put there is written once.
 #[derive(Drop)]
 pub struct Zeroed {
     written: Vec<u8>,
@@ -55,10 +55,8 @@ impl Zeroed {
         requires { at + length from.now ≤ length self.old }
         ensures { self.new ≡ take at self.old ++ from.now ++ drop (at + length from.now) self.old }
     {
-        let written = self.written.len();
-        let filled = self.written.resize(written.max(at + from.len()), 0).is_ok();
-        prove!(filled);
-        overwrite(self.written.as_mut_slice(), at, from);
+        reach(&mut self.written, at);
+        lay(&mut self.written, at, from);
     }
 
     /// All of them, written.
@@ -70,6 +68,31 @@ impl Zeroed {
         prove!(filled);
         bytes
     }
+}
+
+// So many bytes at least: where there are fewer, zeros stand behind them.
+fn reach(written: &mut Vec<u8>, count: usize)
+    requires { count ≤ vec_capacity written.old }
+    ensures items { written.new.items ≡ written.old.items ++ replicate (count - vec_len written.old) 0 }
+    ensures room { vec_capacity written.old ≤ vec_capacity written.new }
+{
+    if written.len() < count {
+        let filled = written.resize(count, 0).is_ok();
+        prove!(filled);
+    }
+}
+
+// Puts these bytes in the place of as many from a place on, and behind the last those for which there are none yet.
+fn lay(written: &mut Vec<u8>, at: usize, from: &[u8])
+    requires at { at ≤ vec_len written.old }
+    requires room { at + length from.now ≤ vec_capacity written.old }
+    ensures items { written.new.items ≡ take at written.old.items ++ from.now ++ drop (at + length from.now) written.old.items }
+    ensures room { vec_capacity written.old ≤ vec_capacity written.new }
+{
+    let over = from.len().min(written.len() - at);
+    overwrite(written.as_mut_slice(), at, &from[..over]);
+    let laid = written.extend_from_slice(&from[over..]).is_ok();
+    prove!(laid);
 }
 
 // Puts these bytes in the place of as many from a place on.

@@ -1,8 +1,9 @@
 -- Which event is the first, among a client's and round the ring of clients.
-use Rattle.std.proofs.Common.{◌≡◌, ◌↔◌, ℕ, ◌<◌, ◌≤◌, ◌+◌, ◌-◌, ◌%◌, Bool, true, false, is_some, subst, sym, ap, ◌∙◌, arith, inl, inr, refl, Option, Some, None}
+use Rattle.std.proofs.Common.{◌≡◌, ◌↔◌, ℕ, ◌<◌, ◌≤◌, ◌+◌, ◌-◌, ◌%◌, Bool, true, false, is_some, length, subst, sym, ap, ◌∙◌, arith, inl, inr, refl, Option, Some, None}
 use Rattle.std.specs.Prelude.{MatchOption}
 use Rattle.std.proofs.lemmas.Bool.{cases_lt}
 use Rattle.std.proofs.lemmas.List.{get_or_past}
+use Rattle.std.proofs.lemmas.Option.{slice_get_past}
 use Rattle.blk_disk.specs.declared.disk.Disk.{Ghosts as DiskGhosts}
 use Rattle.lay_core.specs.declared.layout.Layout.{Ghosts as LayoutGhosts}
 use Rattle.eng_world.specs.declared.item.Event.{Event}
@@ -17,7 +18,8 @@ use Rattle.eng_state.specs.Can.{CanFire, CanSkip}
 use Rattle.eng_state.specs.Beginning.{CanBegin}
 use Rattle.eng_state.specs.Serves.{Stands, CanTake, CanBack}
 use Rattle.eng_state.specs.Doing.{CanDo}
-use Rattle.eng_choice.specs.Picked.{client_of, rank, ring_at, CanNoNode, IsFirstNode, CanNothing, IsFirstOf, IsPicked, IsStuck}
+use Rattle.eng_clients.specs.Busy.{IsQuiet}
+use Rattle.eng_choice.specs.Picked.{client_of, rank, ring_at, CanNoNode, IsFirstNode, CanNothing, CanNothingAmong, IsFirstOf, IsFirstAmong, IsPicked, IsStuck}
 use Rattle.eng_one.specs.Control.{Control, IsReadyIn, NoneReady, IsLeastReady}
 
 -- what a test that says no says no to
@@ -29,9 +31,6 @@ refuted b P iff no_ h = let z : true ≡ false = sym (iff.1 h) ∙ no_ in let u 
 -- a client stands somewhere in the ring
 pub turn-of : (next c : ℕ) → c < 17 → (i : ℕ) × (i < 17) × (ring_at next i ≡ c)
 turn-of next c below = ((c + 17 - next % 17) % 17, omega arith, omega (arith, below))
-
-pub ring-is : (next i : ℕ) → (next % 17 + i) % 17 ≡ ring_at next i
-ring-is next i = omega arith
 
 module _ {L D : Type 0} (lay : LayoutGhosts L) (disk : DiskGhosts D) (core : Array L D) where
   -- ## Whose event can be done
@@ -133,15 +132,55 @@ module _ {L D : Type 0} (lay : LayoutGhosts L) (disk : DiskGhosts D) (core : Arr
   first-of c begin take back None h = nothing-of c begin take back h
   first-of c begin take back (Some e) h = first-node c e begin take back h
 
+  -- ## The first among some clients
+
+  pub quiet-nothing : (c : ℕ) → IsQuiet (desk_at core.clients c) → CanNothing lay core c
+  quiet-nothing c q =
+      nothing-begins c q.nothing
+      (λ begin. let z : None ≡ Some begin.item = sym (slice_get_past (desk_at core.clients c).items (length (desk_at core.clients c).replies) (omega (arith, q.replied))) ∙ begin.next in let u : ⊥ = cc in u)
+
+  pub among-more : (from at c : ℕ) → CanNothingAmong lay core from at → ((k : ℕ) → at ≤ k → k < c → IsQuiet (desk_at core.clients k)) → CanNothingAmong lay core from c
+  among-more from at c before quiet k least most = elim (cases_lt k at) [ inl low ↦ before k least low | inr high ↦ quiet-nothing k (quiet k high most) ]
+
+  pub among-one : (from c : ℕ) → CanNothingAmong lay core from c → (o : Option Event) → is_some o ≡ false → MatchOption o (CanNothing lay core c) (IsFirstOf lay core c) → CanNothingAmong lay core from (c + 1)
+  among-one from c before None none h k least most = elim (cases_lt k c) [ inl low ↦ before k least low | inr high ↦ subst (CanNothing lay core) (let e : c ≡ k = omega (arith, high, most) in e) h ]
+  among-one from c before (Some e) none h k least most = let z : true ≡ false = none in absurd (let u : ⊥ = cc in u)
+
+  pub among-here : (from to c : ℕ) → from ≤ c → c < to → CanNothingAmong lay core from c → (o : Option Event) → is_some o ≡ true → MatchOption o (CanNothing lay core c) (IsFirstOf lay core c) → MatchOption o (CanNothingAmong lay core from to) (IsFirstAmong lay core from to)
+  among-here from to c least most before None some h = let z : false ≡ true = some in absurd (let u : ⊥ = cc in u)
+  among-here from to c least most before (Some e) some h = record { client = c; least = least; most = most; event = h; before = before }
+
   -- ## The first in the ring
 
-  pub nothing-here : (k turn : ℕ) → k ≡ ring_at core.next turn → (o : Option Event) → is_some o ≡ false → MatchOption o (CanNothing lay core k) (IsFirstOf lay core k) → CanNothing lay core (ring_at core.next turn)
-  nothing-here k turn is None none h = subst (CanNothing lay core) is h
-  nothing-here k turn is (Some e) none h = let z : true ≡ false = none in absurd (let u : ⊥ = cc in u)
+  -- a client from where the ring begins on
+  pub picked-on : (next : ℕ) → next ≡ core.next % 17 → (o : Option Event) → is_some o ≡ true → MatchOption o (CanNothingAmong lay core next 17) (IsFirstAmong lay core next 17) → MatchOption o (IsStuck lay core) (IsPicked lay core)
+  picked-on next is None some h = let z : false ≡ true = some in absurd (let u : ⊥ = cc in u)
+  picked-on next is (Some e) some h = record {
+    turn = h.client - next;
+    within = omega (arith, h.most);
+    event = subst (λ (c : ℕ). IsFirstOf lay core c e) (let at : h.client ≡ ring_at core.next (h.client - next) = omega (arith, is, h.least, h.most) in at) h.event;
+    before = λ i lt. subst (CanNothing lay core) (let at : next + i ≡ ring_at core.next i = omega (arith, is, h.most, lt) in at) (h.before (next + i) (omega arith) (omega (arith, h.least, lt)));
+  }
 
-  pub picked-here : (k turn : ℕ) → k ≡ ring_at core.next turn → turn < 17 → ((i : ℕ) → i < turn → CanNothing lay core (ring_at core.next i)) → (o : Option Event) → is_some o ≡ true → MatchOption o (CanNothing lay core k) (IsFirstOf lay core k) → MatchOption o (IsStuck lay core) (IsPicked lay core)
-  picked-here k turn is within before None some h = let z : false ≡ true = some in absurd (let u : ⊥ = cc in u)
-  picked-here k turn is within before (Some e) some h = record { turn = turn; within = within; event = subst (λ (j : ℕ). IsFirstOf lay core j e) is h; before = before }
+  nothing-on : (o : Option Event) (next : ℕ) → is_some o ≡ false → MatchOption o (CanNothingAmong lay core next 17) (IsFirstAmong lay core next 17) → CanNothingAmong lay core next 17
+  nothing-on None next none h = h
+  nothing-on (Some e) next none h = let z : true ≡ false = none in absurd (let u : ⊥ = cc in u)
+
+  -- or one before it
+  pub picked-back : IsSound lay disk core → (next : ℕ) → next ≡ core.next % 17 → (first : Option Event) → is_some first ≡ false → MatchOption first (CanNothingAmong lay core next 17) (IsFirstAmong lay core next 17) → (o : Option Event) → MatchOption o (CanNothingAmong lay core 0 next) (IsFirstAmong lay core 0 next) → MatchOption o (IsStuck lay core) (IsPicked lay core)
+  picked-back sound next is first none a None h = ring-stuck sound (λ i lt. elim (cases_lt (next + i) 17) [
+    | inl low ↦ subst (CanNothing lay core) (let at : next + i ≡ ring_at core.next i = omega (arith, is, low) in at) (nothing-on first next none a (next + i) (omega arith) low)
+    | inr high ↦ subst (CanNothing lay core) (let at : next + i - 17 ≡ ring_at core.next i = omega (arith, is, high, lt) in at) (h (next + i - 17) (omega arith) (omega (arith, high, lt, is)))
+  ])
+  picked-back sound next is first none a (Some e) h = record {
+    turn = h.client + 17 - next;
+    within = omega (arith, h.most, is);
+    event = subst (λ (c : ℕ). IsFirstOf lay core c e) (let at : h.client ≡ ring_at core.next (h.client + 17 - next) = omega (arith, is, h.most) in at) h.event;
+    before = λ i lt. elim (cases_lt (next + i) 17) [
+      | inl low ↦ subst (CanNothing lay core) (let at : next + i ≡ ring_at core.next i = omega (arith, is, low) in at) (nothing-on first next none a (next + i) (omega arith) low)
+      | inr high ↦ subst (CanNothing lay core) (let at : next + i - 17 ≡ ring_at core.next i = omega (arith, is, high, lt, h.most) in at) (h.before (next + i - 17) (omega arith) (omega (arith, high, lt)))
+    ];
+  }
 
   -- ## The ring moves on
 

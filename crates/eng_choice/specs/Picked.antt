@@ -67,6 +67,18 @@ module _ {L D : Type 0} (lay : LayoutGhosts L) where
     pub can : CanDo lay core e
     pub first : (other : Event) → client_of other ≡ c → CanDo lay core other → rank e ≤ rank other
 
+  -- none of the clients from one number up to another has an event that can be done
+  abbrev pub CanNothingAmong : Array L D → ℕ → ℕ → Type 0
+  CanNothingAmong core from to = (c : ℕ) → from ≤ c → c < to → CanNothing core c
+
+  -- the first of the first of these clients that has one
+  pub record IsFirstAmong (core : Array L D) (from to : ℕ) (e : Event) : Type 0 where
+    pub client : ℕ
+    pub least : from ≤ client
+    pub most : client < to
+    pub event : IsFirstOf core client e
+    pub before : CanNothingAmong core from client
+
   -- the first of the first client in the ring that has one
   pub record IsPicked (core : Array L D) (e : Event) : Type 0 where
     pub turn : ℕ

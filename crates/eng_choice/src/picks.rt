@@ -1,5 +1,5 @@
 //! Which event is done next.
-ghost use Rattle.std.specs.Prelude.{◌≡◌, MatchOption, IfSome};
+ghost use Rattle.std.specs.Prelude.{◌≡◌, ◌≤◌, MatchOption, IfSome};
 ghost use Rattle.eng_clients.specs.Desk.{desk_at};
 ghost use Rattle.eng_world.specs.World.{World};
 ghost use Rattle.eng_state.specs.Out.{IsOut};
@@ -7,7 +7,7 @@ ghost use Rattle.eng_state.specs.Serves.{Stands};
 ghost use Rattle.eng_state.specs.Shows.{Shows};
 ghost use Rattle.eng_state.specs.Sound.{IsSound};
 ghost use Rattle.eng_state.specs.Doing.{CanDo};
-ghost use Rattle.eng_choice.specs.Picked.{client_of, next_after, NoneReadyOf, IsLeastReadyOf, CanNoNode, IsFirstNode, CanNothing, IsFirstOf, IsPicked, IsStuck};
+ghost use Rattle.eng_choice.specs.Picked.{client_of, next_after, NoneReadyOf, IsLeastReadyOf, CanNoNode, IsFirstNode, CanNothing, CanNothingAmong, IsFirstOf, IsFirstAmong, IsPicked, IsStuck};
 
 use crate::doable::{can_back, can_begin, can_fire, can_skip};
 use crate::takable::can_take;
@@ -109,19 +109,41 @@ fn pick_of<L: Layout, D: Disk>(array: &Array<L, D>, client: u32) -> Option<Event
     }
 }
 
+// The first event of the first client that has one, of those from one number up to another. Only clients that may have
+// something to do are looked at.
+fn pick_among<L: Layout, D: Disk>(array: &Array<L, D>, from: u32, to: u32) -> Option<Event>
+    requires sound { IsSound L.Layout D.Disk array.now }
+    requires stands { Stands L.Layout array.now }
+    requires from { from ≤ 17 }
+    requires to { to ≤ 17 }
+    ensures { MatchOption result (CanNothingAmong L.Layout array.now from to) (IsFirstAmong L.Layout array.now from to) }
+{
+    let mut from = from;
+    while let Some(client) = array.clients.busy_from(from) {
+        if client >= to {
+            return None;
+        }
+        let event = pick_of(array, client);
+        if event.is_some() {
+            return event;
+        }
+        from = client + 1;
+    }
+    None
+}
+
 // The first event of the first client in the ring that has one.
 fn pick_first<L: Layout, D: Disk>(array: &Array<L, D>) -> Option<Event>
     requires sound { IsSound L.Layout D.Disk array.now }
     requires stands { Stands L.Layout array.now }
     ensures { MatchOption result (IsStuck L.Layout array.now) (IsPicked L.Layout array.now) }
 {
-    for turn in 0..CLIENTS {
-        let event = pick_of(array, (array.next % CLIENTS + turn) % CLIENTS);
-        if event.is_some() {
-            return event;
-        }
+    let next = array.next % CLIENTS;
+    let event = pick_among(array, next, CLIENTS);
+    if event.is_some() {
+        return event;
     }
-    None
+    pick_among(array, 0, next)
 }
 
 /// Chooses the event that is done next: the clients are tried in a ring, from the one after that of the last

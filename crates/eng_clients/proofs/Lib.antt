@@ -3,6 +3,7 @@ pub mod Gathering
 pub mod MadeDesk
 pub mod Closing
 pub mod MoreDesks
+pub mod Keeping
 pub mod SeatsApart
 pub mod Scattered
 pub mod Sent

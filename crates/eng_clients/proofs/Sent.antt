@@ -73,7 +73,7 @@ client_send = view_send _ _ _ _ _ (declared_send client.TheInside.the_type (
 ))
 
 pub clients_send : IsSend clients.the_row
-clients_send = view_send _ _ _ _ _ (declared_send clients.TheInside.the_type (Vec-send client.the_row client_send, tt))
+clients_send = view_send _ _ _ _ _ (declared_send clients.TheInside.the_type (Vec-send client.the_row client_send, (search sendable depth 20, tt)))
 
 pub rebuilds_send : IsSend rebuilds.the_row
 rebuilds_send = view_send _ _ _ _ _ (declared_send rebuilds.TheInside.the_type (number_send, (Vec-send item.the_row item_send, (Vec-send reply.the_row reply_send, tt))))

@@ -1,3 +1,4 @@
+pub mod Busy
 pub mod Desk
 pub mod Seats
 pub mod Gathered

@@ -7,6 +7,7 @@ ghost use Rattle.buf_pool.specs.Pool.{IsLease, taken, put};
 ghost use Rattle.eng_clients.specs.Seats.{bytes_at, seat_of};
 ghost use Rattle.eng_clients.specs.Desk.{Desk, Lends, desk_at, spot_at, with_fired, with_ended, with_reply, with_skipped, with_waiting};
 
+mod busy;
 mod close;
 mod fails;
 mod open;
@@ -15,6 +16,7 @@ use crate::client::Client;
 use blk_plain::Outcome;
 use buf_pool::{Buffer, Pool};
 use eng_cols::Spot;
+use eng_one::{with_bit, without_bit};
 use eng_world::Reply;
 use graph_mean::{Buf, Graph, Node, Phase, Status};
 use std::marker::Model;
@@ -23,15 +25,21 @@ use std::marker::Model;
 #[derive(Drop)]
 pub struct Clients {
     pub(crate) list: Vec<Client>,
+    // A bit for each client that may have something to do, so that who looks for one passes over the others: they have no
+    // operation, and each of their items has a reply.
+    pub(crate) busy: u64,
 }
 
 impl Model for Clients {
     ghost use Rattle.std.specs.Prelude.{List};
     ghost use Rattle.eng_clients.specs.Desk.{Desk};
+    ghost use Rattle.eng_clients.specs.Busy.{AreKept};
 
     ghost Value = { List Desk };
 
     ghost view = { λ c. c.list.items };
+
+    ghost invariant = { λ c. AreKept c.list.items c.busy };
 }
 
 impl Clients {
@@ -144,6 +152,9 @@ impl Clients {
         ensures { self.new ≡ slice_set self.old client (with_reply (desk_at self.old client) reply) }
     {
         self.list[client as usize].reply(reply);
+        if self.list[client as usize].is_replied() {
+            self.busy = without_bit(self.busy, client);
+        }
     }
 
     /// The write of a missing unit is skipped.
@@ -164,5 +175,6 @@ impl Clients {
         ensures { self.new ≡ slice_set self.old client (with_waiting (desk_at self.old client)) }
     {
         self.list[client as usize].wait();
+        self.busy = with_bit(self.busy, client);
     }
 }

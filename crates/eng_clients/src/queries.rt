@@ -41,7 +41,8 @@ impl Client {
         }
     }
 
-    fn is_replied(&self) -> bool
+    /// Whether each of its items has a reply.
+    pub fn is_replied(&self) -> bool
         ensures { IsTrue result ↔ (length self.now.replies ≡ length self.now.items) }
     {
         self.replies.len() == self.items.len()

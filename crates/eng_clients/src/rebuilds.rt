@@ -7,6 +7,7 @@ use crate::client::Client;
 use crate::clients::Clients;
 use crate::memory::Memory;
 use blk_plain::Op;
+use eng_one::with_bit;
 use eng_world::{Item, Reply};
 use std::alloc::Global;
 use std::marker::Model;
@@ -66,6 +67,7 @@ impl Rebuilds {
         ensures left { self.new ≡ record { items = []; room = 0 } }
     {
         hand_to(self, &mut clients.list[client as usize]);
+        clients.busy = with_bit(clients.busy, client);
     }
 }
 

@@ -15,6 +15,7 @@ use crate::planned::Asked;
 use blk_plain::Op;
 use buf_pool::Pool;
 use eng_cols::Cols;
+use eng_one::with_bit;
 use eng_world::{Item, Reply};
 use graph_check::Scratch;
 use graph_mean::{Graph, Refusal};
@@ -77,6 +78,7 @@ impl Clients {
         ensures { self.new ≡ slice_set self.old client (with_started graphs.now (desk_at self.old client)) }
     {
         self.list[client as usize].start(graphs);
+        self.busy = with_bit(self.busy, client);
     }
 
     /// It leases that many buffers, which are free.

@@ -23,7 +23,7 @@ use Rattle.eng_array.specs.Tickets.{AllOf, IsEndOf, is_of, out_by, out_at, IsHel
 use Rattle.eng_array.proofs.OutNodes.{node-here}
 use Rattle.eng_array.proofs.Quietly.{quiet-happens, quiet-keeps, quiet-lends}
 use Rattle.eng_turn.specs.Turn.{KeepsFit}
-use Rattle.eng_crew.specs.Laws.{between, all_there, all_without, all_with, later_later, later_step, FitsIn}
+use Rattle.eng_crew.specs.Laws.{between, all_there, all_without, all_with, later_later, later_step, FitsIn, Steps, TurnsTo}
 
 module _ {A : Type 0} where
   all-map : (P Q : A → Type 0) → ((t : A) → P t → Q t) → (xs : List A) → AllOf P xs → AllOf Q xs
@@ -107,9 +107,41 @@ module _ {L D : Type 0} (lay : LayoutGhosts L) (disk : DiskGhosts D) where
   shared-keeps v w t u xs ys (fired j e p q r d k) s = subst (λ (x : Option (Job D)). Shared lay disk w (xs ++ x ∷ ys)) (sym r) (fired-shared lay disk v w xs ys j d.sound k (subst (λ (x : Option (Job D)). Shared lay disk v (xs ++ x ∷ ys)) q s))
   shared-keeps v w t u xs ys (ended j e p q r d k) s = subst (λ (x : Option (Job D)). Shared lay disk w (xs ++ x ∷ ys)) (sym r) (ended-shared lay disk v w xs ys j d.sound k (subst (λ (x : Option (Job D)). Shared lay disk v (xs ++ x ∷ ys)) q s))
 
-  -- all that `leave` owes follows from the step
-  pub turned-keeps : (o v w : Core L D) (t u : Option (Job D)) → Turned lay disk v.array t w.array u → KeepsFit (FitsIn lay disk) o v t w u
+  turned-keeps : (o v w : Core L D) (t u : Option (Job D)) → Turned lay disk v.array t w.array u → KeepsFit (FitsIn lay disk) o v t w u
   turned-keeps o v w t u turned xs ys f = record { after = later_later lay disk o.array v.array w.array f.after (later_step lay disk v.array w.array t u turned); shared = shared-keeps v.array w.array t u xs ys turned f.shared }
+
+  pub turned-steady : (v w : Array L D) (t u : Option (Job D)) → Turned lay disk v t w u → IsSteady lay disk v → IsSteady lay disk w
+  turned-steady v w t u (nothing e q) s = subst (λ (c : Array L D). IsSteady lay disk c) (sym e) s
+  turned-steady v w t u (plain e p q d k) s = d.sound
+  turned-steady v w t u (fired j e p q r d k) s = d.sound
+  turned-steady v w t u (ended j e p q r d k) s = d.sound
+
+  -- the job with which a step leaves is out
+  pub turned-out : (v w : Array L D) (j : Job D) (u : Option (Job D)) → Turned lay disk v None w u → u ≡ Some j → IsOut disk lay w j
+  turned-out v w j u (nothing e q) is = let z : None ≡ Some j = sym q ∙ is in cc
+  turned-out v w j u (plain e p q d k) is = let z : None ≡ Some j = sym q ∙ is in cc
+  turned-out v w j u (fired i e p q r d k) is = let z : Some i ≡ Some j = sym r ∙ is in let same : i ≡ j = cc in subst (λ (x : Job D). IsOut disk lay w x) same k.is_out
+  turned-out v w j u (ended i e p q r d k) is = let z : None ≡ Some j = sym r ∙ is in cc
+
+  -- ## Turns of several steps
+
+  steps-on : (a b c : Core L D) (t s u : Option (Job D)) (ms ns : List (Core L D × Option (Job D))) → Steps lay disk a t ms b s → Steps lay disk b s ns c u → Steps lay disk a t (ms ++ (b, s) ∷ ns) c u
+  steps-on a b c t s u [] ns x y = (x, y)
+  steps-on a b c t s u (m ∷ ms) ns x y = (x.0, steps-on m.0 b c m.1 s u ms ns x.1 y)
+
+  pub turns-on : (a b c : Core L D) (t s u : Option (Job D)) → TurnsTo lay disk a t b s → TurnsTo lay disk b s c u → TurnsTo lay disk a t c u
+  turns-on a b c t s u x y = (x.0 ++ (b, s) ∷ y.0, steps-on a b c t s u x.0 y.0 x.1 y.1)
+
+  pub turns-once : (v w : Core L D) (t u : Option (Job D)) → Turned lay disk v.array t w.array u → TurnsTo lay disk v t w u
+  turns-once v w t u turned = ([], turned)
+
+  steps-keep : (o v w : Core L D) (t u : Option (Job D)) (ms : List (Core L D × Option (Job D))) → Steps lay disk v t ms w u → KeepsFit (FitsIn lay disk) o v t w u
+  steps-keep o v w t u [] s xs ys f = turned-keeps o v w t u s xs ys f
+  steps-keep o v w t u (m ∷ ms) s xs ys f = steps-keep o m.0 w m.1 u ms s.1 xs ys (turned-keeps o v m.0 t m.1 s.0 xs ys f)
+
+  -- all that `leave` owes follows from the turn
+  pub turns-keep : (o v w : Core L D) (t u : Option (Job D)) → TurnsTo lay disk v t w u → KeepsFit (FitsIn lay disk) o v t w u
+  turns-keep o v w t u turn = steps-keep o v w t u turn.0 turn.1
 
   -- ## A look and an event
 

@@ -103,9 +103,14 @@ module _ {L D : Type 0} (lay : LayoutGhosts L) (disk : DiskGhosts D) where
   abbrev pub FitsIn : Core L D → Core L D → List (Option (Job D)) → Type 0
   FitsIn opening now tickets = Fits lay disk opening.array now.array tickets
 
-  -- one turn: nothing, or exactly one event
+  -- steps of a turn, one after another, with a core and a ticket between any two: each is nothing, or exactly one event
+  abbrev pub Steps : Core L D → Option (Job D) → List (Core L D × Option (Job D)) → Core L D → Option (Job D) → Type 0
+  Steps old t [] new u = Turned lay disk old.array t new.array u
+  Steps old t (m ∷ between) new u = Turned lay disk old.array t m.0.array m.1 × Steps m.0 m.1 between new u
+
+  -- one turn
   abbrev pub TurnsTo : Core L D → Option (Job D) → Core L D → Option (Job D) → Type 0
-  TurnsTo old t new u = Turned lay disk old.array t new.array u
+  TurnsTo old t new u = (between : List (Core L D × Option (Job D))) × Steps old t between new u
 
   abbrev pub ComesAfter : Core L D → Core L D → Type 0
   ComesAfter old new = After lay disk old.array new.array
@@ -137,5 +142,9 @@ module _ {L D : Type 0} (lay : LayoutGhosts L) (disk : DiskGhosts D) where
   pub after_later : (u v w : Core L D) → ComesAfter u v → ComesAfter v w → ComesAfter u w
   after_later u v w a b = later_later u.array v.array w.array a b
 
+  steps_later : (v w : Core L D) (t u : Option (Job D)) (ms : List (Core L D × Option (Job D))) → Steps v t ms w u → After lay disk v.array w.array
+  steps_later v w t u [] s = later_step v.array w.array t u s
+  steps_later v w t u (m ∷ ms) s = later_later v.array m.0.array w.array (later_step v.array m.0.array t m.1 s.0) (steps_later m.0 w m.1 u ms s.1)
+
   pub after_step : (v w : Core L D) (t u : Option (Job D)) → TurnsTo v t w u → ComesAfter v w
-  after_step v w t u step = later_step v.array w.array t u step
+  after_step v w t u step = steps_later v w t u step.0 step.1

@@ -8,8 +8,8 @@ use std::marker::PhantomData;
 /// A ticket is the job of a node that is out, as it left; the empty ticket is none.
 ///
 /// Core and tickets fit where the core came of the opening by events of clients, is steady, and has out exactly the
-/// jobs of the tickets, each once. One turn makes at most one event: a job that leaves becomes the pass's ticket, and
-/// the one that comes home is the pass's own.
+/// jobs of the tickets, each once. One turn makes any number of events, each of which the rule sees: a job that leaves
+/// becomes the pass's ticket, and one that comes home is the pass's own.
 pub struct CrewRule<L, D> {
     layouts: PhantomData<L>,
     disks: PhantomData<D>,

@@ -1,18 +1,17 @@
-//! One turn: at most one event, and what it gives to do outside.
-ghost use Rattle.std.specs.Prelude.{◌≡◌, ◌⊎◌, None, Some};
+//! The events of one turn, and what they give to do outside.
+ghost use Rattle.std.specs.Prelude.{◌≡◌, ◌≤◌, ◌⊎◌, None, Some, false};
 ghost use Rattle.eng_state.specs.Doing.{CanDo};
-ghost use Rattle.eng_array.specs.Progress.{Falls};
+ghost use Rattle.eng_state.specs.Out.{IsOut};
+ghost use Rattle.eng_array.specs.Progress.{left_of, Falls};
 ghost use Rattle.eng_array.specs.Steady.{IsSteady};
 ghost use Rattle.eng_array.specs.Tickets.{Turned, Acts};
-ghost use Rattle.eng_turn.specs.Turn.{IsOf, IsOutside, opening_of, ticket_of, share_of};
-ghost use Rattle.eng_crew.specs.Idle.{IsIdle, IsReady, HasIdleMark};
+ghost use Rattle.eng_crew.specs.Idle.{IsIdle};
+ghost use Rattle.eng_crew.specs.Laws.{TurnsTo};
 
-use crate::rule::CrewRule;
 use blk_disk::Disk;
 use eng_array::{Core, Event, Job};
-use eng_turn::{Pass, Turn};
+use eng_job::Work;
 use lay_core::Layout;
-use std::sync::Wait;
 
 /// How many items have a reply is looked at each so many turns.
 pub(crate) const LOOK: u32 = 64;
@@ -83,56 +82,58 @@ pub(crate) fn go_on<L: Layout, D: Disk>(core: &mut Core<L, D>) -> (Found, Option
     (Found::Event, job)
 }
 
-/// One entry, and what comes of it.
-pub(crate) fn turn_by<L: Layout + Drop, D: Disk + Drop, W: Wait>(
-    rt: &W,
-    turn: &Turn<CrewRule<L, D>>,
-    pass: &mut Pass<CrewRule<L, D>>,
-) -> Found
-    requires { IsReady turn.now pass.old }
-    ensures ready { IsReady turn.now pass.new }
-    ensures share { share_of pass.new ≡ share_of pass.old }
-    ensures idle { (result ≡ Found.Event) ⊎ HasIdleMark L.Layout D.Disk (opening_of turn.now) pass.new }
+// Whether a job has something to do: all but a commit's and a terminator's.
+fn has_work<D>(job: &Job<D>) -> bool
+    ensures { result ≡ false → job.now.work ≡ Work.Nothing }
 {
-    let mut core = turn.enter(rt, pass);
-    let (found, ticket) = go_on(&mut core);
-    turn.leave(pass, core, &ticket);
-    if let Some(job) = ticket {
-        bring_back(rt, turn, pass, job);
+    match job.work {
+        Work::Nothing => false,
+        Work::Read { .. } | Work::Write { .. } | Work::Sum { .. } => true,
     }
-    found
 }
 
-/// How many items have a reply. A turn in which nothing is done.
-pub(crate) fn look<L: Layout + Drop, D: Disk + Drop, W: Wait>(
-    rt: &W,
-    turn: &Turn<CrewRule<L, D>>,
-    pass: &mut Pass<CrewRule<L, D>>,
-) -> u64
-    requires { IsReady turn.now pass.old }
-    ensures ready { IsReady turn.now pass.new }
-    ensures share { share_of pass.new ≡ share_of pass.old }
-{
-    let core = turn.enter(rt, pass);
-    let replied = core.replied();
-    turn.leave(pass, core, &None);
-    replied
-}
-
-// The job is performed outside, and comes home in a turn of its own.
-fn bring_back<L: Layout + Drop, D: Disk + Drop, W: Wait>(
-    rt: &W,
-    turn: &Turn<CrewRule<L, D>>,
-    pass: &mut Pass<CrewRule<L, D>>,
-    mut job: Job<D>,
-)
-    requires mine { IsOf pass.old turn.now × IsOutside pass.old }
-    requires ticket { ticket_of pass.old ≡ Some job }
-    ensures ready { IsReady turn.now pass.new }
-    ensures share { share_of pass.new ≡ share_of pass.old }
+// A job is performed in the turn in which it was fired, and its node ends.
+fn end_at_once<L: Layout, D: Disk>(core: &mut Core<L, D>, mut job: Job<D>)
+    requires steady { IsSteady L.Layout D.Disk core.old.array }
+    requires out { IsOut D.Disk L.Layout core.old.array job }
+    ensures turned { Turned L.Layout D.Disk core.old.array (Some job) core.new.array None }
+    ensures left { left_of core.new.array ≤ left_of core.old.array }
 {
     let outcome = job.perform();
-    let mut core = turn.enter(rt, pass);
     core.finish(job, outcome);
-    turn.leave(pass, core, &None);
+}
+
+// One event, if there is one but the end of a job; and the end of the node that it fired, where that has no work. Else
+// its job.
+fn go_by<L: Layout, D: Disk>(core: &mut Core<L, D>) -> (Found, Option<Job<D>>)
+    requires { IsSteady L.Layout D.Disk core.old.array }
+    ensures turned { TurnsTo L.Layout D.Disk core.old None core.new result.1 }
+    ensures steady { IsSteady L.Layout D.Disk core.new.array }
+    ensures event { result.0 ≡ Found.Event → Falls core.old.array core.new.array }
+    ensures idle { (result.0 ≡ Found.Event) ⊎ ((result.1 ≡ None) × IsIdle L.Layout core.new.array) }
+{
+    let (found, ticket) = go_on(core);
+    let Some(job) = ticket else {
+        return (found, None)
+    };
+    if has_work(&job) {
+        return (found, Some(job));
+    }
+    end_at_once(core, job);
+    (found, None)
+}
+
+/// Events, one after another, until a node is fired that has work, or there is no event but the end of a job; and the
+/// job of that node.
+pub(crate) fn go_far<L: Layout, D: Disk + Drop>(core: &mut Core<L, D>) -> (Found, Option<Job<D>>)
+    requires { IsSteady L.Layout D.Disk core.old.array }
+    ensures turned { TurnsTo L.Layout D.Disk core.old None core.new result.1 }
+    ensures idle { (result.0 ≡ Found.Event) ⊎ ((result.1 ≡ None) × IsIdle L.Layout core.new.array) }
+{
+    loop {
+        match go_by(core) {
+            (Found::Event, None) => {}
+            (found, ticket) => return (found, ticket),
+        }
+    }
 }

@@ -3,8 +3,9 @@ ghost use Rattle.std.specs.Prelude.{◌≡◌};
 ghost use Rattle.eng_turn.specs.Turn.{opening_of, share_of};
 ghost use Rattle.eng_crew.specs.Idle.{IsReady, HasIdleMark};
 
+use crate::entries::{look, turn_by};
 use crate::rule::CrewRule;
-use crate::turns::{Found, LOOK, look, turn_by};
+use crate::turns::{Found, LOOK};
 use crate::waiting::back_off;
 use blk_disk::Disk;
 use eng_turn::{Pass, Turn};
@@ -36,14 +37,17 @@ pub fn work<L: Layout + Drop, D: Disk + Drop, W: Wait, P: Progress>(
     ensures idle { HasIdleMark L.Layout D.Disk (opening_of turn.now) pass.new }
 {
     let idle = Parker::new();
+    let mut held = None;
     let mut empty = 0;
     let mut turns: u32 = 0;
     for _ in rt.forever() {
         turns = turns.wrapping_add(1);
         if turns % LOOK == 0 {
-            progress.tell(look(rt, turn, pass), all);
+            progress.tell(look(rt, turn, pass, &held), all);
         }
-        match turn_by(rt, turn, pass) {
+        let (found, job) = turn_by(rt, turn, pass, held);
+        held = job;
+        match found {
             Found::Event => empty = 0,
             Found::Rest => return,
             Found::Nothing => {

@@ -3,21 +3,24 @@ ghost use Rattle.std.specs.Prelude.{◌≡◌, ℕ, ◌<◌, ◌==◌, MatchOpti
 ghost use Rattle.std.specs.Int.{bit_at};
 ghost use Rattle.eng_one.specs.Bits.{NoBit, IsFirstBit};
 
-pub(crate) fn with_bit(word: u64, bit: u32) -> u64
+/// The word with this bit set.
+pub fn with_bit(word: u64, bit: u32) -> u64
     requires { bit < 64 }
     ensures { (k : ℕ) → bit_at result k ≡ (if k == bit then 1 else bit_at word k) }
 {
     word | (1 << bit)
 }
 
-pub(crate) fn without_bit(word: u64, bit: u32) -> u64
+/// The word without this bit.
+pub fn without_bit(word: u64, bit: u32) -> u64
     requires { bit < 64 }
     ensures { (k : ℕ) → bit_at result k ≡ (if k == bit then 0 else bit_at word k) }
 {
     word & !(1 << bit)
 }
 
-pub(crate) fn first_bit(word: u64, from: u32) -> Option<u32>
+/// The first bit that is set from this one on.
+pub fn first_bit(word: u64, from: u32) -> Option<u32>
     requires { from < 64 }
     ensures { MatchOption result (NoBit word from) (IsFirstBit word from) }
 {

@@ -34,7 +34,7 @@ start_needs Init comp conf o sizes fronts s e = cc e
 start_needs Check comp conf o sizes fronts s e = cc e
 start_needs Rewrite comp conf o sizes fronts s e = cc e
 start_needs Print comp conf o sizes fronts s e = cc e
-start_needs (Fail name) comp conf o sizes fronts s e = cc e
+start_needs (Fail name) comp conf o sizes fronts s e = refl
 start_needs (ShowLabel name) comp conf o sizes fronts s e = cc e
 start_needs (Labels serial) comp conf o sizes fronts s e = cc e
 

@@ -1,20 +1,19 @@
 -- How a run over an array without labels ends.
 use Rattle.std.proofs.Common.{◌≡◌, ◌⊎◌, inl, ℕ, List, [], ◌∷◌, ◌++◌, Option, Some, None, sym, ◌∙◌, ap, subst}
 use Rattle.std.specs.Prelude.{option_and_then, slice_get, slice_index}
-use Rattle.top_close.proofs.SettledLaws.{device_within}
 use Rattle.blk_disk.specs.declared.disk.Call.{Call}
 use Rattle.blk_disk.specs.declared.disk.Disk.{Ghosts as DiskGhosts}
 use Rattle.blk_disk.specs.Disk.{Tells, call_of}
 use Rattle.blk_disk.specs.Devices.{contents_of, calls_of}
 use Rattle.blk_disk.proofs.DeviceLaws.{changes-more, changes-then, changes_sector}
 use Rattle.lay_core.specs.declared.layout.Layout.{Ghosts as LayoutGhosts}
-use Rattle.eng_cols.specs.declared.column.Column.{Column}
 use Rattle.eng_cols.proofs.DeathLaws.{dies-more}
 use Rattle.eng_events.specs.Opened.{IsSetup}
 use Rattle.eng_state.specs.Shows.{AreTold}
 use Rattle.eng_parts.specs.declared.setup.Setup.{Setup}
 use Rattle.eng_parts.specs.declared.setup.Closed.{Closed}
 use Rattle.top_close.specs.Settled.{LosesDevice, HasDeviceOn, has_device}
+use Rattle.top_close.proofs.SettledLaws.{device_within}
 use Rattle.top_rounds.specs.Rounds.{IsGivenUp}
 use Rattle.top_serve.specs.Served as served
 use Rattle.top_run.specs.Work.{Service}

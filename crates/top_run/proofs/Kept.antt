@@ -1,5 +1,5 @@
 -- The columns as they are kept at the end of a run, by those as its rebuild began.
-use Rattle.std.proofs.Common.{◌≡◌, ◌⊎◌, inl, inr, ℕ, ◌<◌, List, [], ◌∷◌, ◌++◌, length, map, Bool, true, false, Option, Some, None, option_map, slice_get, IsSome, refl, sym, ◌∙◌, ap, subst}
+use Rattle.std.proofs.Common.{◌≡◌, ◌⊎◌, inl, inr, ℕ, ◌<◌, List, length, map, Bool, true, false, Option, Some, None, option_map, slice_get, IsSome, refl, sym, ◌∙◌, ap, subst}
 use Rattle.std.proofs.lemmas.Option.{slice_get-map}
 use Rattle.blk_disk.specs.declared.disk.Disk.{Ghosts}
 use Rattle.lay_core.specs.Layout.{Shape}
@@ -11,7 +11,7 @@ use Rattle.eng_cols.proofs.Fewer.{states-spread}
 use Rattle.eng_cols.proofs.Lists.{get_set_same}
 use Rattle.eng_world.specs.declared.item.Traced.{Traced}
 use Rattle.eng_world.specs.World.{World}
-use Rattle.eng_world.specs.Step.{EventsLead, Step, StepBy}
+use Rattle.eng_world.specs.Step.{EventsLead, StepBy}
 use Rattle.eng_world.proofs.Starting.{fill-order, spread-order}
 use Rattle.eng_array.specs.Starts.{event_of}
 use Rattle.eng_array.specs.declared.start.Start.{Start}

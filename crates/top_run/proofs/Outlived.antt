@@ -13,7 +13,7 @@ use Rattle.lay_core.specs.Layout.{Shape}
 use Rattle.eng_cols.specs.declared.column.Column.{Column}
 use Rattle.eng_cols.specs.declared.column.Column.TheVariants as set
 use Rattle.eng_cols.specs.declared.spot.Loss.{Loss}
-use Rattle.eng_cols.specs.Cols.{AtMostOne, ColumnState, Live, Dead, Filling, Spread, HasDevice, all_done, device_set, is_set_filling, is_set_spread, passes, state_set}
+use Rattle.eng_cols.specs.Cols.{AtMostOne, ColumnState, Live, Dead, Filling, Spread, device_set, is_set_filling, is_set_spread, passes, state_set}
 use Rattle.eng_cols.specs.Deaths.{Dies}
 use Rattle.eng_cols.specs.Fewer.{DieApart}
 use Rattle.eng_cols.specs.Lost.{NotLost}
@@ -44,7 +44,7 @@ use Rattle.top_serve.proofs.Alike.{IsOther, other-or-not, start-other}
 use Rattle.top_serve.proofs.Behind.{IsFresh}
 use Rattle.top_serve.proofs.Closings.{none-count}
 use Rattle.top_run.specs.Work.{Work, Service}
-use Rattle.top_run.specs.Ran.{WasFailed, IsDeadBy, IsLossAtEnd, EndsAs, RisesAt, IsFailedBy, begun_in, begun_for, Ran, RanPlain}
+use Rattle.top_run.specs.Ran.{WasFailed, IsDeadBy, IsLossAtEnd, EndsAs, RisesAt, IsFailedBy, begun_for, Ran, RanPlain}
 use Rattle.top_run.specs.Outliving.{HasFail, done_reply, MayDie, OutlivesCall, HasFaulted, IsAnswered, IsReplyTo, AllAnswered}
 use Rattle.top_run.proofs.Columns.{device-on, device-same, given-unspread, kept-same, kept-unspread, no-device, not-so}
 use Rattle.top_run.proofs.Kept.{one-kept}

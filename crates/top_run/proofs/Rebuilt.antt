@@ -1,5 +1,5 @@
 -- A rebuild that is done makes its column whole.
-use Rattle.std.proofs.Common.{◌≡◌, ◌≢◌, ◌⊎◌, inl, inr, ℕ, ◌<◌, List, Bool, true, false, Option, Some, None, slice_get, slice_set, refl, sym, ◌∙◌, ap, subst}
+use Rattle.std.proofs.Common.{◌≡◌, ◌≢◌, ◌⊎◌, inl, inr, ℕ, ◌<◌, List, true, false, Option, Some, None, slice_get, slice_set, refl, sym, ◌∙◌, ap, subst}
 use Rattle.std.specs.Prelude.{◌==◌, ◌&&◌, ◌||◌, IsSome}
 use Rattle.std.proofs.lemmas.Bool.{and_from, and_parts, cases_Bool, eq-eqb, or_left, or_right}
 use Rattle.std.proofs.lemmas.List.{get_or-replicate}
@@ -7,7 +7,7 @@ use Rattle.blk_disk.specs.declared.disk.Disk.{Ghosts}
 use Rattle.lay_core.specs.Layout.{Shape, IsLayout, SparesLieByUnits}
 use Rattle.eng_cols.specs.declared.column.Column.{Column}
 use Rattle.eng_cols.specs.declared.column.Column.TheVariants as set
-use Rattle.eng_cols.specs.Cols.{ColumnState, Live, Dead, Filling, Spread, all_done, is_done, is_done_on, is_filling, is_set_filling, is_set_spread, is_spread, passes}
+use Rattle.eng_cols.specs.Cols.{ColumnState, Live, Dead, Filling, Spread, all_done, is_done, is_done_on, is_filling, is_set_filling, is_spread, passes}
 use Rattle.eng_cols.specs.Laws.{AllAvailable, FilledAreWhole, HasSpares, OthersAvailable}
 use Rattle.eng_cols.specs.Seats.{IsStripeOf, IsWhole, is_place_on, is_unit_of}
 use Rattle.eng_cols.specs.Stripes.{filled_in}

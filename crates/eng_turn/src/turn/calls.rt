@@ -9,9 +9,22 @@ use crate::table_rule::{CountDown, CountUp, Give, Shares, Take};
 use crate::view::Resting;
 use atomic_table::Table;
 use std::alloc::{AllocFailed, Global};
+use std::hint::spin_loop;
 use std::snapshot::Snapshot;
 use std::sync::Wait;
 use std::sync::atomic::{AtomicU64, Ordering};
+
+// A pass that finds the value away pauses so many times before it is counted, and parks.
+const PAUSES: u32 = 5;
+
+// Pauses the processor, twice as long for each look that there was.
+fn pause(looks: u32)
+    requires { looks < 5 }
+{
+    for _ in 0..1u32 << looks {
+        spin_loop();
+    }
+}
 
 impl<R: TurnRule> Turn<R> {
     /// A turn that holds this value, and a pass with every share, the empty ticket and the value as its mark.
@@ -69,34 +82,36 @@ impl<R: TurnRule> Turn<R> {
         ensures fits { FitsAmong R.fits (opening_of self.now) result (ticket_of pass.old) }
         ensures after { ForSome (mark_of pass.old) (λ mark. R.after mark result) }
     {
-        let mut waits = false;
+        let mut looks = 0;
         for _ in rt.forever() {
             let found = self.table.shared.fetch_or::<Take<R>>(&mut pass.seat, 0, 1);
             if found % 2 == 0 {
-                self.got_in(waits);
+                self.got_in(looks);
                 let taken = self.table.shared.exchange(&mut pass.seat, 0, None);
                 let Some(resting) = taken else { unreachable!() };
                 return resting.value;
             }
-            self.wait(rt, found as u32, waits);
-            waits = true;
+            self.wait(rt, found as u32, looks);
+            looks = looks.saturating_add(1);
         }
         unreachable!()
     }
 
-    // A pass found the value away. At first it is counted, and is to look once more; from then on it parks while the word is
-    // as it was found.
-    fn wait<W: Wait>(&self, rt: &W, found: u32, waits: bool) {
-        if waits {
-            self.table.shared.park(rt, 0, found);
-        } else {
+    // A pass found the value away, for the first time or after so many looks. At first it pauses, longer each time, since a
+    // turn is short; then it is counted, and is to look once more; from then on it parks while the word is as it was found.
+    fn wait<W: Wait>(&self, rt: &W, found: u32, looks: u32) {
+        if looks < PAUSES {
+            pause(looks);
+        } else if looks == PAUSES {
             self.parked.fetch_add(1, Ordering::SeqCst);
+        } else {
+            self.table.shared.park(rt, 0, found);
         }
     }
 
-    // A pass got in, and is no longer counted, if it was.
-    fn got_in(&self, waits: bool) {
-        if waits {
+    // A pass got in after so many looks, and is no longer counted, if it was.
+    fn got_in(&self, looks: u32) {
+        if looks > PAUSES {
             self.parked.fetch_sub(1, Ordering::SeqCst);
         }
     }

@@ -9,7 +9,7 @@ invariant_of-self c =
     let items = c.self.inside.seats.items in let k : ℕ = get_or c.args.lease.now c.args.i 0 in let read : c.seat.result ≡ k = c.seat.ensures in
     let mine = subst (λ (q : PoolView). IsLease q c.args.lease.now) (sym c.self.view_is) c.requires.lease c.args.i c.requires.i in
     let m = length-map items seen in let inside : c.seat.result < length items = omega (arith, mine.0, read, m) in
-    let owner : leased c.index_mut.result.now.owner ≡ 1 = ap (λ (v : SeatView). leased v.owner) (sym (seen_at items c.seat.result c.index_mut.result.now inside c.index_mut.ensures.value)) ∙ (ap (λ (i : ℕ). leased (seat_at (map seen items) i).owner) read ∙ ap leased mine.1) in
+    let owner : leased c.index_mut.result.now.owner.value ≡ 1 = ap (λ (v : SeatView). leased v.owner) (sym (seen_at items c.seat.result c.index_mut.result.now inside c.index_mut.ensures.value)) ∙ (ap (λ (i : ℕ). leased (seat_at (map seen items) i).owner) read ∙ ap leased mine.1) in
     let long = length-set items c.seat.result (record c.index_mut.result.now { place = Rattle.buf_pool.specs.declared.seat.Place.TheVariants.Home c.of.result }) in let cap = c.self.invariant.1 in
     (kept _ _ items c.seat.result c.index_mut.result.now _ inside c.index_mut.ensures.value owner owner (ap length (c.of.ensures ∙ c.buffer.view_is) ∙ c.requires.long ∙ sym (ap (λ (q : PoolView). q.unit) c.self.view_is)) c.self.invariant.0, omega arith)
 

@@ -1,4 +1,4 @@
-use Rattle.std.proofs.Common.{◌≡◌, ℕ, length, map, sym, ap, ◌∙◌, subst, arith, ◌<◌, List, false, set}
+use Rattle.std.proofs.Common.{◌≡◌, ℕ, length, map, sym, ap, ◌∙◌, subst, arith, ◌<◌, List, false}
 use Rattle.std.proofs.lemmas.List.{length-set, length-map}
 use Rattle.buf_pool.specs.declared.seat.Owner.TheVariants.{Free}
 use Rattle.buf_pool.specs.Pool.{seen, seat_at, release, IsPool, PoolView, SeatView, leased_in}
@@ -25,9 +25,9 @@ invariant_of-self c =
     let home = subst (λ (q : PoolView). (seat_at q.seats k).out ≡ false) (sym c.self.view_is) c.requires.home in
     let m = length-map items seen in let in_items : k < length items = omega arith in
     let at_is : c.len-at.result ≡ length c.self.inside.free.items = omega arith in
-    let seats = ap (λ (n : ℕ). map seen (set items k (record c.index_mut.result.now { owner = Free n }))) at_is ∙ seen_release items k _ (length c.self.inside.free.items) in_items c.index_mut.ensures.value in
+    let seats = seen_release items k _ (length c.self.inside.free.items) c.of.result (c.of.ensures ∙ ap Free at_is) in_items c.index_mut.ensures.value in
     let pushed = c.push_reserved.ensures.items in
-    let long = length-set items k (record c.index_mut.result.now { owner = Free c.len-at.result }) in let cap = c.self.invariant.1 in let more = c.push_reserved.ensures.capacity in (
+    let long = length-set items k (record c.index_mut.result.now { owner = c.of.result }) in let cap = c.self.invariant.1 in let more = c.push_reserved.ensures.capacity in (
       subst (λ (l : List SeatView). IsPool (record { unit = c.self.inside.unit; free = c.push_reserved.new.self.items; seats = l })) (sym seats)
           (subst (λ (l : List ℕ). IsPool (record { unit = c.self.inside.unit; free = l; seats = release (length p.free) k p.seats })) (sym pushed) (releases p k inside was home c.self.invariant.0)),
       omega arith,
@@ -38,4 +38,4 @@ returns-clause-seats c =
     let items = c.self.inside.seats.items in let k : ℕ = c.args.seat in
     let inside : k < length items = let l = subst (λ (q : PoolView). k < length q.seats) (sym c.self.view_is) c.requires.inside in let m = length-map items seen in omega arith in
     let at_is : c.len-at.result ≡ length c.self.inside.free.items = omega arith in
-    ap (λ (n : ℕ). map seen (set items k (record c.index_mut.result.now { owner = Free n }))) at_is ∙ (seen_release items k _ (length c.self.inside.free.items) inside c.index_mut.ensures.value ∙ ap (λ (q : PoolView). release (length q.free) k q.seats) (c.self.view_is))
+    seen_release items k _ (length c.self.inside.free.items) c.of.result (c.of.ensures ∙ ap Free at_is) inside c.index_mut.ensures.value ∙ ap (λ (q : PoolView). release (length q.free) k q.seats) (c.self.view_is)
