@@ -10,7 +10,8 @@ fn add(graph: &mut Graph, node: Node)
     requires { length graph.old.drawn.nodes < graph.old.node_room }
     ensures nodes { length graph.new.drawn.nodes ≡ length graph.old.drawn.nodes + 1 }
     ensures edges { edge_count graph.new.drawn ≡ edge_count graph.old.drawn }
-    ensures room { (graph.new.node_room ≡ graph.old.node_room) × (graph.new.edge_room ≡ graph.old.edge_room) }
+    ensures room { (graph.new.node_room ≡ graph.old.node_room)
+        × (graph.new.edge_room ≡ graph.old.edge_room) }
 {
     graph.push_node(node);
 }
@@ -21,7 +22,8 @@ fn follow(graph: &mut Graph, node: u32)
     requires room { edge_count graph.old.drawn < graph.old.edge_room }
     ensures nodes { length graph.new.drawn.nodes ≡ length graph.old.drawn.nodes }
     ensures edges { edge_count graph.new.drawn ≡ edge_count graph.old.drawn + 1 }
-    ensures room { (graph.new.node_room ≡ graph.old.node_room) × (graph.new.edge_room ≡ graph.old.edge_room) }
+    ensures room { (graph.new.node_room ≡ graph.old.node_room)
+        × (graph.new.edge_room ≡ graph.old.edge_room) }
 {
     graph.push_ante(node);
 }
@@ -30,7 +32,8 @@ fn add_reads(graph: &mut Graph, count: u32)
     requires { length graph.old.drawn.nodes + count ≤ graph.old.node_room }
     ensures nodes { length graph.new.drawn.nodes ≡ length graph.old.drawn.nodes + count }
     ensures edges { edge_count graph.new.drawn ≡ edge_count graph.old.drawn }
-    ensures room { (graph.new.node_room ≡ graph.old.node_room) × (graph.new.edge_room ≡ graph.old.edge_room) }
+    ensures room { (graph.new.node_room ≡ graph.old.node_room)
+        × (graph.new.edge_room ≡ graph.old.edge_room) }
 {
     for _ in 0..count {
         add(graph, Node::Rd { unit: 0, buf: 0 });
@@ -43,7 +46,8 @@ fn follow_first(graph: &mut Graph, count: u32)
     requires room { edge_count graph.old.drawn + count ≤ graph.old.edge_room }
     ensures nodes { length graph.new.drawn.nodes ≡ length graph.old.drawn.nodes }
     ensures edges { edge_count graph.new.drawn ≡ edge_count graph.old.drawn + count }
-    ensures room { (graph.new.node_room ≡ graph.old.node_room) × (graph.new.edge_room ≡ graph.old.edge_room) }
+    ensures room { (graph.new.node_room ≡ graph.old.node_room)
+        × (graph.new.edge_room ≡ graph.old.edge_room) }
 {
     for node in 0..count {
         follow(graph, node);

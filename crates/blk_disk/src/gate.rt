@@ -101,14 +101,16 @@ impl GateDisk {
 
     // Whether the sector is one of so many from this one on.
     fn has_sector(&self, first: u64, count: u64) -> bool
-        ensures { IsTrue result ↔ ((first ≤ sector_of self.now) × (sector_of self.now < first + count)) }
+        ensures { IsTrue result ↔
+            ((first ≤ sector_of self.now) × (sector_of self.now < first + count)) }
     {
         first <= self.sector && self.sector - first < count
     }
 
     // Whether a write may go on. One that isn't held back always may.
     fn passes(&self, first: u64, count: u64) -> bool
-        ensures { ((side_of self.now ≡ 0) × (first ≤ sector_of self.now) × (sector_of self.now < first + count) → ⊥) → IsTrue result }
+        ensures { ((side_of self.now ≡ 0) × (first ≤ sector_of self.now)
+            × (sector_of self.now < first + count) → ⊥) → IsTrue result }
     {
         if !self.has_sector(first, count) {
             return true;
@@ -159,10 +161,12 @@ impl Disk for GateDisk {
 
     fn read(&mut self, first: u64, into: &mut [u8]) -> Result<(), Failed>
         requires whole { length into.old % 512 ≡ 0 }
-        requires inside { first + length into.old / 512 ≤ length (mem_bytes (inner_of self.old)) / 512 }
+        requires inside { first + length into.old / 512
+            ≤ length (mem_bytes (inner_of self.old)) / 512 }
         ensures later { gate_faults self.old ≤ gate_faults self.new }
         ensures cause { OnErr result (Rose (gate_faults self.old) (gate_faults self.new)) }
-        ensures bytes { OnOk result ((k : ℕ) → k < length into.old / 512 → sector_at into.new k ≡ sector_at (mem_bytes (inner_of self.old)) (first + k)) }
+        ensures bytes { OnOk result ((k : ℕ) → k < length into.old / 512
+            → sector_at into.new k ≡ sector_at (mem_bytes (inner_of self.old)) (first + k)) }
         ensures gate { SameGate self.old self.new }
         ensures held { mem_bytes (inner_of self.new) ≡ mem_bytes (inner_of self.old) }
         ensures passes { PassesOn self.old 0 first (length into.old) (is_ok result) self.new }
@@ -179,16 +183,25 @@ impl Disk for GateDisk {
 
     fn write(&mut self, first: u64, from: &[u8]) -> Result<(), Failed>
         requires whole { length from.now % 512 ≡ 0 }
-        requires inside { first + length from.now / 512 ≤ length (mem_bytes (inner_of self.old)) / 512 }
-        ensures size { length (mem_bytes (inner_of self.new)) ≡ length (mem_bytes (inner_of self.old)) }
+        requires inside { first + length from.now / 512
+            ≤ length (mem_bytes (inner_of self.old)) / 512 }
+        ensures size { length (mem_bytes (inner_of self.new))
+            ≡ length (mem_bytes (inner_of self.old)) }
         ensures later { gate_faults self.old ≤ gate_faults self.new }
         ensures cause { OnErr result (Rose (gate_faults self.old) (gate_faults self.new)) }
-        ensures before { (s : ℕ) → s < first → sector_at (mem_bytes (inner_of self.new)) s ≡ sector_at (mem_bytes (inner_of self.old)) s }
-        ensures behind { (s : ℕ) → first + length from.now / 512 ≤ s → sector_at (mem_bytes (inner_of self.new)) s ≡ sector_at (mem_bytes (inner_of self.old)) s }
-        ensures bytes { OnOk result ((k : ℕ) → k < length from.now / 512 → sector_at (mem_bytes (inner_of self.new)) (first + k) ≡ sector_at from.now k) }
+        ensures before { (s : ℕ) → s < first → sector_at (mem_bytes (inner_of self.new)) s
+            ≡ sector_at (mem_bytes (inner_of self.old)) s }
+        ensures behind { (s : ℕ) → first + length from.now / 512 ≤ s → sector_at
+            (mem_bytes (inner_of self.new)) s ≡ sector_at (mem_bytes (inner_of self.old)) s }
+        ensures bytes { OnOk result ((k : ℕ) → k < length from.now / 512
+            → sector_at (mem_bytes (inner_of self.new)) (first + k) ≡ sector_at from.now k) }
         ensures gate { SameGate self.old self.new }
-        ensures passes { PassesOn self.old 1 first (length from.now) (is_ok result) self.new ⊎ (IsHeldBack self.old first (length from.now) × IsKeptOut self.old (is_ok result) self.new) }
-        ensures held { mem_bytes (inner_of self.new) ≡ mem_bytes (inner_of self.old) ⊎ (mem_bytes (inner_of self.new) ≡ put (mem_bytes (inner_of self.old)) first (if is_ok result then from.now else replicate (length from.now) 238)) }
+        ensures passes { PassesOn self.old 1 first
+            (length from.now) (is_ok result) self.new ⊎ (IsHeldBack self.old first (length from.now)
+            × IsKeptOut self.old (is_ok result) self.new) }
+        ensures held { mem_bytes (inner_of self.new) ≡ mem_bytes (inner_of self.old)
+            ⊎ (mem_bytes (inner_of self.new) ≡ put (mem_bytes (inner_of self.old)) first
+            (if is_ok result then from.now else replicate (length from.now) 238)) }
     {
         if !self.passes(first, (from.len() / SECTOR) as u64) {
             self.count_fault();

@@ -34,7 +34,8 @@ fn log_sector(logged: &mut Vec<Logged>, first: u64, from: &[u8], i: usize)
     requires there { 512 * i + 512 ≤ length from.now }
     requires room { length logged.old.items < vec_capacity logged.old }
     requires small { first + i < 2 ^ 64 }
-    ensures items { logged.new.items ≡ logged.old.items ++ record { sector = first + i; bytes = sector_at from.now i } ∷ [] }
+    ensures items { logged.new.items ≡ logged.old.items
+        ++ record { sector = first + i; bytes = sector_at from.now i } ∷ [] }
     ensures room { vec_capacity logged.new ≡ vec_capacity logged.old }
 {
     let mut bytes = [0; SECTOR];
@@ -51,7 +52,8 @@ fn log_sectors(logged: &mut Vec<Logged>, first: u64, from: &[u8])
     requires whole { length from.now % 512 ≡ 0 }
     requires room { length logged.old.items + length from.now / 512 ≤ vec_capacity logged.old }
     requires small { first + length from.now / 512 < 2 ^ 64 }
-    ensures items { logged.new.items ≡ logged.old.items ++ written first from.now (length from.now / 512) }
+    ensures items { logged.new.items ≡ logged.old.items
+        ++ written first from.now (length from.now / 512) }
     ensures room { vec_capacity logged.new ≡ vec_capacity logged.old }
 {
     for i in 0..from.len() / SECTOR {
@@ -62,9 +64,11 @@ fn log_sectors(logged: &mut Vec<Logged>, first: u64, from: &[u8])
 // Puts a logged sector over the bytes, if it is kept.
 fn put_if(bytes: &mut [u8], kept: bool, entry: &Logged)
     requires { entry.now.sector < length bytes.old / 512 }
-    ensures bytes { bytes.new ≡ (if kept then put bytes.old entry.now.sector entry.now.bytes else bytes.old) }
+    ensures bytes { bytes.new
+        ≡ (if kept then put bytes.old entry.now.sector entry.now.bytes else bytes.old) }
     ensures size { length bytes.new ≡ length bytes.old }
-    ensures image { (n : ℕ) → (sector_at bytes.new n ≡ sector_at bytes.old n) ⊎ ((n ≡ entry.now.sector) × (sector_at bytes.new n ≡ entry.now.bytes)) }
+    ensures image { (n : ℕ) → (sector_at bytes.new n ≡ sector_at bytes.old n) ⊎
+        ((n ≡ entry.now.sector) × (sector_at bytes.new n ≡ entry.now.bytes)) }
 {
     if kept {
         put_at(bytes, entry.sector as usize, &entry.bytes);
@@ -130,7 +134,8 @@ impl MemStop {
     /// settled, in their order. Its log is empty, and its count of faults begins anew.
     pub fn stop(self, keep: &[bool]) -> MemStop
         requires { length keep.now ≡ length (stop_logged self) }
-        ensures bytes { stop_bytes result ≡ stopped (stop_settled self) keep.now (stop_logged self) (length keep.now) }
+        ensures bytes { stop_bytes result
+            ≡ stopped (stop_settled self) keep.now (stop_logged self) (length keep.now) }
         ensures image { (n : ℕ) → MayHold (stop_left self) n (sector_at (stop_bytes result) n) }
         ensures settled { stop_settled result ≡ stop_bytes result }
         ensures logged { stop_logged result ≡ [] }
@@ -188,7 +193,8 @@ impl Disk for MemStop {
         ensures good { is_ok result ≡ true }
         ensures same { self.new ≡ self.old }
         ensures got { into.new ≡ take (length into.old) (drop (512 * first) (stop_bytes self.old)) }
-        ensures bytes { OnOk result ((k : ℕ) → k < length into.old / 512 → sector_at into.new k ≡ sector_at (stop_bytes self.old) (first + k)) }
+        ensures bytes { OnOk result ((k : ℕ) → k < length into.old / 512
+            → sector_at into.new k ≡ sector_at (stop_bytes self.old) (first + k)) }
     {
         get_at(&self.bytes, first as usize, into);
         Ok(())
@@ -201,15 +207,22 @@ impl Disk for MemStop {
         ensures size { length (stop_bytes self.new) ≡ length (stop_bytes self.old) }
         ensures later { stop_faults self.old ≤ stop_faults self.new }
         ensures cause { OnErr result (Rose (stop_faults self.old) (stop_faults self.new)) }
-        ensures faults { stop_faults self.new ≡ (if is_ok result then stop_faults self.old else one_more (stop_faults self.old)) }
-        ensures held { stop_bytes self.new ≡ (if is_ok result then put (stop_bytes self.old) first from.now else stop_bytes self.old) }
+        ensures faults { stop_faults self.new
+            ≡ (if is_ok result then stop_faults self.old else one_more (stop_faults self.old)) }
+        ensures held { stop_bytes self.new ≡ (if is_ok result
+            then put (stop_bytes self.old) first from.now else stop_bytes self.old) }
         ensures settled { stop_settled self.new ≡ stop_settled self.old }
-        ensures logged { stop_logged self.new ≡ (if is_ok result then stop_logged self.old ++ written first from.now (length from.now / 512) else stop_logged self.old) }
+        ensures logged { stop_logged self.new ≡ (if is_ok result then stop_logged self.old
+            ++ written first from.now (length from.now / 512) else stop_logged self.old) }
         ensures room { stop_room self.new ≡ stop_room self.old }
-        ensures left { Logs first from.now (is_ok result) (stop_left self.old) (stop_left self.new) }
-        ensures before { (s : ℕ) → s < first → sector_at (stop_bytes self.new) s ≡ sector_at (stop_bytes self.old) s }
-        ensures behind { (s : ℕ) → first + length from.now / 512 ≤ s → sector_at (stop_bytes self.new) s ≡ sector_at (stop_bytes self.old) s }
-        ensures bytes { OnOk result ((k : ℕ) → k < length from.now / 512 → sector_at (stop_bytes self.new) (first + k) ≡ sector_at from.now k) }
+        ensures left { Logs first from.now (is_ok result) (stop_left self.old)
+            (stop_left self.new) }
+        ensures before { (s : ℕ) → s < first
+            → sector_at (stop_bytes self.new) s ≡ sector_at (stop_bytes self.old) s }
+        ensures behind { (s : ℕ) → first + length from.now / 512 ≤ s
+            → sector_at (stop_bytes self.new) s ≡ sector_at (stop_bytes self.old) s }
+        ensures bytes { OnOk result ((k : ℕ) → k < length from.now / 512
+            → sector_at (stop_bytes self.new) (first + k) ≡ sector_at from.now k) }
     {
         if from.len() / SECTOR > self.room as usize - self.logged.len() {
             self.faults = self.faults.saturating_add(1);

@@ -73,7 +73,8 @@ impl Zeroed {
 // So many bytes at least: where there are fewer, zeros stand behind them.
 fn reach(written: &mut Vec<u8>, count: usize)
     requires { count ≤ vec_capacity written.old }
-    ensures items { written.new.items ≡ written.old.items ++ replicate (count - vec_len written.old) 0 }
+    ensures items { written.new.items ≡ written.old.items
+        ++ replicate (count - vec_len written.old) 0 }
     ensures room { vec_capacity written.old ≤ vec_capacity written.new }
 {
     if written.len() < count {
@@ -86,7 +87,8 @@ fn reach(written: &mut Vec<u8>, count: usize)
 fn lay(written: &mut Vec<u8>, at: usize, from: &[u8])
     requires at { at ≤ vec_len written.old }
     requires room { at + length from.now ≤ vec_capacity written.old }
-    ensures items { written.new.items ≡ take at written.old.items ++ from.now ++ drop (at + length from.now) written.old.items }
+    ensures items { written.new.items ≡ take at written.old.items ++ from.now
+        ++ drop (at + length from.now) written.old.items }
     ensures room { vec_capacity written.old ≤ vec_capacity written.new }
 {
     let over = from.len().min(written.len() - at);

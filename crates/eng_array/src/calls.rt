@@ -39,11 +39,15 @@ impl<L: Layout, D: Disk> Core<L, D> {
         requires can { CanFire L.Layout self.old.array client node }
         ensures out { IsOut D.Disk L.Layout self.new.array result }
         ensures job { (result.client ≡ client) × (result.node ≡ node) }
-        ensures step { Follows L.Layout D.Disk self.old.array (event.Fire (id_of self.old.array.clients client) node) self.new.array }
+        ensures step { Follows L.Layout D.Disk self.old.array
+            (event.Fire (id_of self.old.array.clients client) node) self.new.array }
         ensures steady { IsSteady L.Layout D.Disk self.new.array }
-        ensures trace { self.new.array.log ≡ noted self.old.array.log (event.Fire (id_of self.old.array.clients client) node) }
-        ensures stays { (job : Job D) → IsOut D.Disk L.Layout self.old.array job → IsOut D.Disk L.Layout self.new.array job }
-        ensures happens { Happens L.Layout D.Disk (event.Fire (id_of self.old.array.clients client) node) self.old.array self.new.array }
+        ensures trace { self.new.array.log
+            ≡ noted self.old.array.log (event.Fire (id_of self.old.array.clients client) node) }
+        ensures stays { (job : Job D) → IsOut D.Disk L.Layout self.old.array job
+            → IsOut D.Disk L.Layout self.new.array job }
+        ensures happens { Happens L.Layout D.Disk
+            (event.Fire (id_of self.old.array.clients client) node) self.old.array self.new.array }
         ensures lends { Lends L.Layout D.Disk result self.old.array self.new.array }
     {
         fire(&mut self.array, client, node)
@@ -54,13 +58,22 @@ impl<L: Layout, D: Disk> Core<L, D> {
     pub fn finish(&mut self, job: Job<D>, outcome: Outcome)
         requires steady { IsSteady L.Layout D.Disk self.old.array }
         requires back { CameBack D.Disk L.Layout self.old.array job outcome }
-        ensures step { Follows L.Layout D.Disk self.old.array (ended_by self.old.array job outcome) self.new.array }
+        ensures step { Follows L.Layout D.Disk self.old.array (ended_by self.old.array job outcome)
+            self.new.array }
         ensures steady { IsSteady L.Layout D.Disk self.new.array }
-        ensures trace { LogEnds (L.shape self.old.array.layout) self.old.array.cols.states (desk_at self.old.array.clients job.client) self.old.array.log (ended_by self.old.array job outcome) self.new.array.log (id_of self.old.array.clients job.client) (kind_at (desk_at self.old.array.clients job.client).run.graph job.node) self.old.array.lost }
-        ensures stays { OthersStay D.Disk L.Layout job.client job.node self.old.array self.new.array }
-        ensures happens { Happens L.Layout D.Disk (ended_by self.old.array job outcome) self.old.array self.new.array }
+        ensures trace { LogEnds (L.shape self.old.array.layout) self.old.array.cols.states
+            (desk_at self.old.array.clients job.client)
+            self.old.array.log (ended_by self.old.array job outcome) self.new.array.log
+            (id_of self.old.array.clients job.client)
+            (kind_at (desk_at self.old.array.clients job.client).run.graph job.node)
+            self.old.array.lost }
+        ensures stays { OthersStay D.Disk L.Layout job.client job.node self.old.array
+            self.new.array }
+        ensures happens { Happens L.Layout D.Disk (ended_by self.old.array job outcome)
+            self.old.array self.new.array }
         ensures end { IsEndOf (ended_by self.old.array job outcome) job.client job.node }
-        ensures devices { self.new.array.devices.slots ≡ slots_home (device_in job.work) (spot_at (desk_at self.old.array.clients job.client) job.node) self.old.array.devices }
+        ensures devices { self.new.array.devices.slots ≡ slots_home (device_in job.work)
+            (spot_at (desk_at self.old.array.clients job.client) job.node) self.old.array.devices }
         ensures gets { GetsBack L.Layout D.Disk job.client job.node self.old.array self.new.array }
     {
         goes_home(&mut self.array, job, outcome);
@@ -70,11 +83,15 @@ impl<L: Layout, D: Disk> Core<L, D> {
     pub fn skip(&mut self, client: u32, node: u32)
         requires steady { IsSteady L.Layout D.Disk self.old.array }
         requires can { CanSkip L.Layout self.old.array client node }
-        ensures step { Follows L.Layout D.Disk self.old.array (event.Skip (id_of self.old.array.clients client) node) self.new.array }
+        ensures step { Follows L.Layout D.Disk self.old.array
+            (event.Skip (id_of self.old.array.clients client) node) self.new.array }
         ensures steady { IsSteady L.Layout D.Disk self.new.array }
-        ensures trace { self.new.array.log ≡ noted self.old.array.log (event.Skip (id_of self.old.array.clients client) node) }
-        ensures stays { (job : Job D) → IsOut D.Disk L.Layout self.old.array job → IsOut D.Disk L.Layout self.new.array job }
-        ensures happens { Happens L.Layout D.Disk (event.Skip (id_of self.old.array.clients client) node) self.old.array self.new.array }
+        ensures trace { self.new.array.log
+            ≡ noted self.old.array.log (event.Skip (id_of self.old.array.clients client) node) }
+        ensures stays { (job : Job D) → IsOut D.Disk L.Layout self.old.array job
+            → IsOut D.Disk L.Layout self.new.array job }
+        ensures happens { Happens L.Layout D.Disk
+            (event.Skip (id_of self.old.array.clients client) node) self.old.array self.new.array }
         ensures keeps { KeepsJobs L.Layout D.Disk self.old.array self.new.array }
     {
         skip(&mut self.array, client, node);
@@ -85,11 +102,15 @@ impl<L: Layout, D: Disk> Core<L, D> {
     pub fn begin(&mut self, client: u32)
         requires steady { IsSteady L.Layout D.Disk self.old.array }
         requires can { CanBegin self.old.array client }
-        ensures step { Follows L.Layout D.Disk self.old.array (event.Begin (id_of self.old.array.clients client)) self.new.array }
+        ensures step { Follows L.Layout D.Disk self.old.array
+            (event.Begin (id_of self.old.array.clients client)) self.new.array }
         ensures steady { IsSteady L.Layout D.Disk self.new.array }
-        ensures trace { self.new.array.log ≡ noted self.old.array.log (event.Begin (id_of self.old.array.clients client)) }
-        ensures stays { (job : Job D) → IsOut D.Disk L.Layout self.old.array job → IsOut D.Disk L.Layout self.new.array job }
-        ensures happens { Happens L.Layout D.Disk (event.Begin (id_of self.old.array.clients client)) self.old.array self.new.array }
+        ensures trace { self.new.array.log
+            ≡ noted self.old.array.log (event.Begin (id_of self.old.array.clients client)) }
+        ensures stays { (job : Job D) → IsOut D.Disk L.Layout self.old.array job
+            → IsOut D.Disk L.Layout self.new.array job }
+        ensures happens { Happens L.Layout D.Disk
+            (event.Begin (id_of self.old.array.clients client)) self.old.array self.new.array }
         ensures keeps { KeepsJobs L.Layout D.Disk self.old.array self.new.array }
     {
         begin(&mut self.array, client);
@@ -100,12 +121,17 @@ impl<L: Layout, D: Disk> Core<L, D> {
         requires steady { IsSteady L.Layout D.Disk self.old.array }
         requires column { column < length self.old.array.cols.states }
         requires not_lost { self.old.array.lost ≡ None }
-        ensures dead { slice_get self.old.array.cols.states column ≡ Some Dead → self.new.array ≡ self.old.array }
-        ensures step { (slice_get self.old.array.cols.states column ≡ Some Dead → ⊥) → Follows L.Layout D.Disk self.old.array (event.Fail column) self.new.array }
+        ensures dead { slice_get self.old.array.cols.states column ≡ Some Dead
+            → self.new.array ≡ self.old.array }
+        ensures step { (slice_get self.old.array.cols.states column ≡ Some Dead → ⊥)
+            → Follows L.Layout D.Disk self.old.array (event.Fail column) self.new.array }
         ensures steady { IsSteady L.Layout D.Disk self.new.array }
-        ensures trace { (slice_get self.old.array.cols.states column ≡ Some Dead → ⊥) → self.new.array.log ≡ noted self.old.array.log (event.Fail column) }
-        ensures stays { (job : Job D) → IsOut D.Disk L.Layout self.old.array job → IsOut D.Disk L.Layout self.new.array job }
-        ensures happens { (slice_get self.old.array.cols.states column ≡ Some Dead → ⊥) → Happens L.Layout D.Disk (event.Fail column) self.old.array self.new.array }
+        ensures trace { (slice_get self.old.array.cols.states column ≡ Some Dead → ⊥)
+            → self.new.array.log ≡ noted self.old.array.log (event.Fail column) }
+        ensures stays { (job : Job D) → IsOut D.Disk L.Layout self.old.array job
+            → IsOut D.Disk L.Layout self.new.array job }
+        ensures happens { (slice_get self.old.array.cols.states column ≡ Some Dead → ⊥)
+            → Happens L.Layout D.Disk (event.Fail column) self.old.array self.new.array }
         ensures keeps { KeepsJobs L.Layout D.Disk self.old.array self.new.array }
     {
         if is_dead(&self.array, column) {
@@ -119,11 +145,15 @@ impl<L: Layout, D: Disk> Core<L, D> {
     pub fn take(&mut self, client: u32)
         requires steady { IsSteady L.Layout D.Disk self.old.array }
         requires can { CanTake L.Layout self.old.array client }
-        ensures step { Follows L.Layout D.Disk self.old.array (event.Take (id_of self.old.array.clients client)) self.new.array }
+        ensures step { Follows L.Layout D.Disk self.old.array
+            (event.Take (id_of self.old.array.clients client)) self.new.array }
         ensures steady { IsSteady L.Layout D.Disk self.new.array }
-        ensures trace { self.new.array.log ≡ noted self.old.array.log (event.Take (id_of self.old.array.clients client)) }
-        ensures stays { (job : Job D) → IsOut D.Disk L.Layout self.old.array job → IsOut D.Disk L.Layout self.new.array job }
-        ensures happens { Happens L.Layout D.Disk (event.Take (id_of self.old.array.clients client)) self.old.array self.new.array }
+        ensures trace { self.new.array.log
+            ≡ noted self.old.array.log (event.Take (id_of self.old.array.clients client)) }
+        ensures stays { (job : Job D) → IsOut D.Disk L.Layout self.old.array job
+            → IsOut D.Disk L.Layout self.new.array job }
+        ensures happens { Happens L.Layout D.Disk (event.Take (id_of self.old.array.clients client))
+            self.old.array self.new.array }
         ensures keeps { KeepsJobs L.Layout D.Disk self.old.array self.new.array }
     {
         take(&mut self.array, client);
@@ -133,11 +163,15 @@ impl<L: Layout, D: Disk> Core<L, D> {
     pub fn back(&mut self, client: u32)
         requires steady { IsSteady L.Layout D.Disk self.old.array }
         requires can { CanBack L.Layout self.old.array client }
-        ensures step { Follows L.Layout D.Disk self.old.array (event.Back (id_of self.old.array.clients client)) self.new.array }
+        ensures step { Follows L.Layout D.Disk self.old.array
+            (event.Back (id_of self.old.array.clients client)) self.new.array }
         ensures steady { IsSteady L.Layout D.Disk self.new.array }
-        ensures trace { self.new.array.log ≡ noted self.old.array.log (event.Back (id_of self.old.array.clients client)) }
-        ensures stays { (job : Job D) → IsOut D.Disk L.Layout self.old.array job → IsOut D.Disk L.Layout self.new.array job }
-        ensures happens { Happens L.Layout D.Disk (event.Back (id_of self.old.array.clients client)) self.old.array self.new.array }
+        ensures trace { self.new.array.log
+            ≡ noted self.old.array.log (event.Back (id_of self.old.array.clients client)) }
+        ensures stays { (job : Job D) → IsOut D.Disk L.Layout self.old.array job
+            → IsOut D.Disk L.Layout self.new.array job }
+        ensures happens { Happens L.Layout D.Disk (event.Back (id_of self.old.array.clients client))
+            self.old.array self.new.array }
         ensures keeps { KeepsJobs L.Layout D.Disk self.old.array self.new.array }
     {
         back(&mut self.array, client);

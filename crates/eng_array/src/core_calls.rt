@@ -35,12 +35,16 @@ impl<L: Layout, D: Disk> Core<L, D> {
     /// exactly where no event can be done but the end of a job.
     pub fn pick(&mut self) -> Option<Event>
         requires { IsSteady L.Layout D.Disk self.old.array }
-        ensures event { MatchOption result (IsStuck L.Layout self.old.array) (IsPicked L.Layout self.old.array) }
+        ensures event { MatchOption result (IsStuck L.Layout self.old.array)
+            (IsPicked L.Layout self.old.array) }
         ensures can { IfSome result (CanDo L.Layout self.new.array) }
-        ensures next { self.new.array ≡ record self.old.array { next = next_after self.old.array.next result } }
+        ensures next { self.new.array
+            ≡ record self.old.array { next = next_after self.old.array.next result } }
         ensures steady { IsSteady L.Layout D.Disk self.new.array }
-        ensures shows { (w : World) → Shows D.Disk self.old.array w → Shows D.Disk self.new.array w }
-        ensures stays { (job : Job D) → IsOut D.Disk L.Layout self.old.array job → IsOut D.Disk L.Layout self.new.array job }
+        ensures shows { (w : World) → Shows D.Disk self.old.array w
+            → Shows D.Disk self.new.array w }
+        ensures stays { (job : Job D) → IsOut D.Disk L.Layout self.old.array job
+            → IsOut D.Disk L.Layout self.new.array job }
         ensures quiet { Quiet L.Layout D.Disk self.old.array self.new.array }
         ensures none { result ≡ None → self.new.array ≡ self.old.array }
     {

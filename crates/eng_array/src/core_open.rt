@@ -26,17 +26,23 @@ impl<L: Layout, D: Disk + Drop> Core<L, D> {
         room: CoreRoom<D>,
     ) -> Result<Core<L, D>, (OpenFault, Setup<L, D>)>
         requires setup { IsSetup L.Layout D.Disk setup }
-        requires room { IsRoomFor (L.shape setup.layout) (length setup.devices.items) setup.clients.items setup.trace room }
+        requires room { IsRoomFor (L.shape setup.layout) (length setup.devices.items)
+            setup.clients.items setup.trace room }
         requires trace { FitsTrace L.Layout setup }
-        ensures fault { MatchResult result (λ engine. NotLost (L.shape setup.layout) (states_of (L.shape setup.layout) setup.columns.items)) (λ e. IsFault (L.shape setup.layout) (states_of (L.shape setup.layout) setup.columns.items) e.0) }
+        ensures fault { MatchResult result (λ engine. NotLost (L.shape setup.layout)
+            (states_of (L.shape setup.layout) setup.columns.items)) (λ e. IsFault
+            (L.shape setup.layout) (states_of (L.shape setup.layout) setup.columns.items) e.0) }
         ensures back { IfErr result (λ e. e.1 ≡ setup) }
         ensures opened { IfOk result (λ engine. IsOpened L.Layout D.Disk setup engine.array) }
         ensures none_out { IfOk result (λ engine. NoneOut engine.array.clients) }
         ensures stands { IfOk result (λ engine. Stands L.Layout engine.array) }
         ensures worlds { IfOk result (λ engine. OpensWorlds L.Layout D.Disk engine.array) }
-        ensures laid { IfOk result (λ engine. AreLaid engine.array.log.handed engine.array.clients) }
+        ensures laid { IfOk result
+            (λ engine. AreLaid engine.array.log.handed engine.array.clients) }
         ensures steady { IfOk result (λ engine. IsSteady L.Layout D.Disk engine.array) }
-        ensures rebuilds { IfOk result (λ engine. (cols : List ColumnState) (column asked : ℕ) → FitsRebuilding L.Layout setup cols column asked → FitsRebuild L.Layout engine.array cols column asked) }
+        ensures rebuilds { IfOk result (λ engine. (cols : List ColumnState) (column asked : ℕ)
+            → FitsRebuilding L.Layout setup cols column asked
+            → FitsRebuild L.Layout engine.array cols column asked) }
     {
         match open(setup, room) {
             Ok(array) => Ok(Core { array }),

@@ -25,12 +25,18 @@ impl<L: Layout, D: Disk> Core<L, D> {
     pub fn fill(&mut self, column: u32, device: u32, count: u32)
         requires steady { IsSteady L.Layout D.Disk self.old.array }
         requires can { CanFill L.Layout D.Disk self.old.array column device }
-        requires room { FitsRebuild L.Layout self.old.array (begun_filling self.old.array.cols column device) column count }
-        ensures started { Started L.Layout self.old.array column count (begun_filling self.old.array.cols column device) (event.Fill column device) self.new.array }
-        ensures step { Follows L.Layout D.Disk self.old.array (event.Fill column device (added self.new.array)) self.new.array }
+        requires room { FitsRebuild L.Layout self.old.array
+            (begun_filling self.old.array.cols column device) column count }
+        ensures started { Started L.Layout self.old.array column
+            count (begun_filling self.old.array.cols column device) (event.Fill column device)
+            self.new.array }
+        ensures step { Follows L.Layout D.Disk self.old.array
+            (event.Fill column device (added self.new.array)) self.new.array }
         ensures steady { IsSteady L.Layout D.Disk self.new.array }
-        ensures trace { self.new.array.log ≡ noted self.old.array.log (event.Fill column device (added self.new.array)) }
-        ensures happens { Happens L.Layout D.Disk (event.Fill column device (added self.new.array)) self.old.array self.new.array }
+        ensures trace { self.new.array.log
+            ≡ noted self.old.array.log (event.Fill column device (added self.new.array)) }
+        ensures happens { Happens L.Layout D.Disk (event.Fill column device (added self.new.array))
+            self.old.array self.new.array }
         ensures keeps { KeepsJobs L.Layout D.Disk self.old.array self.new.array }
     {
         fill(&mut self.array, column, device, count);
@@ -41,12 +47,17 @@ impl<L: Layout, D: Disk> Core<L, D> {
     pub fn resume_column(&mut self, column: u32, count: u32)
         requires steady { IsSteady L.Layout D.Disk self.old.array }
         requires can { CanResume L.Layout D.Disk self.old.array column }
-        requires room { FitsRebuild L.Layout self.old.array self.old.array.cols.states column count }
-        ensures started { Started L.Layout self.old.array column count self.old.array.cols.states (event.Resume column) self.new.array }
-        ensures step { Follows L.Layout D.Disk self.old.array (event.Resume column (added self.new.array)) self.new.array }
+        requires room { FitsRebuild L.Layout self.old.array self.old.array.cols.states column
+            count }
+        ensures started { Started L.Layout self.old.array column count self.old.array.cols.states
+            (event.Resume column) self.new.array }
+        ensures step { Follows L.Layout D.Disk self.old.array
+            (event.Resume column (added self.new.array)) self.new.array }
         ensures steady { IsSteady L.Layout D.Disk self.new.array }
-        ensures trace { self.new.array.log ≡ noted self.old.array.log (event.Resume column (added self.new.array)) }
-        ensures happens { Happens L.Layout D.Disk (event.Resume column (added self.new.array)) self.old.array self.new.array }
+        ensures trace { self.new.array.log
+            ≡ noted self.old.array.log (event.Resume column (added self.new.array)) }
+        ensures happens { Happens L.Layout D.Disk (event.Resume column (added self.new.array))
+            self.old.array self.new.array }
         ensures keeps { KeepsJobs L.Layout D.Disk self.old.array self.new.array }
     {
         resume(&mut self.array, column, count);
@@ -57,8 +68,10 @@ impl<L: Layout, D: Disk> Core<L, D> {
         requires steady { IsSteady L.Layout D.Disk self.old.array }
         requires starts { CanRebuild L.Layout D.Disk self.old.array }
         requires filling { list_any is_filling self.old.array.cols.states ≡ true }
-        requires room { (column : ℕ) → CanResume L.Layout D.Disk self.old.array column → FitsRebuild L.Layout self.old.array self.old.array.cols.states column count }
-        ensures resumed { (column : ℕ) → CanResume L.Layout D.Disk self.old.array column → HasResumed L.Layout D.Disk column count self.old.array self.new.array }
+        requires room { (column : ℕ) → CanResume L.Layout D.Disk self.old.array column
+            → FitsRebuild L.Layout self.old.array self.old.array.cols.states column count }
+        ensures resumed { (column : ℕ) → CanResume L.Layout D.Disk self.old.array column
+            → HasResumed L.Layout D.Disk column count self.old.array self.new.array }
     {
         match self.filling() {
             Some(column) => self.resume_column(column, count),
@@ -71,12 +84,15 @@ impl<L: Layout, D: Disk> Core<L, D> {
     pub fn spread(&mut self, column: u32)
         requires steady { IsSteady L.Layout D.Disk self.old.array }
         requires can { CanSpread L.Layout D.Disk self.old.array column }
-        requires room { FitsRebuild L.Layout self.old.array (begun_spreading self.old.array.cols column) column 4294967295 }
-        ensures started { Started L.Layout self.old.array column 4294967295 (begun_spreading self.old.array.cols column) (λ _. event.Spread column) self.new.array }
+        requires room { FitsRebuild L.Layout self.old.array
+            (begun_spreading self.old.array.cols column) column 4294967295 }
+        ensures started { Started L.Layout self.old.array column 4294967295
+            (begun_spreading self.old.array.cols column) (λ _. event.Spread column) self.new.array }
         ensures step { Follows L.Layout D.Disk self.old.array (event.Spread column) self.new.array }
         ensures steady { IsSteady L.Layout D.Disk self.new.array }
         ensures trace { self.new.array.log ≡ noted self.old.array.log (event.Spread column) }
-        ensures happens { Happens L.Layout D.Disk (event.Spread column) self.old.array self.new.array }
+        ensures happens { Happens L.Layout D.Disk (event.Spread column) self.old.array
+            self.new.array }
         ensures keeps { KeepsJobs L.Layout D.Disk self.old.array self.new.array }
     {
         spread(&mut self.array, column);
@@ -87,12 +103,17 @@ impl<L: Layout, D: Disk> Core<L, D> {
     pub fn start(&mut self, start: Start)
         requires steady { IsSteady L.Layout D.Disk self.old.array }
         requires can { CanStart L.Layout D.Disk self.old.array start }
-        requires room { FitsRebuild L.Layout self.old.array (begun_by self.old.array.cols start) (column_of start) (most_of start) }
-        ensures started { Started L.Layout self.old.array (column_of start) (most_of start) (begun_by self.old.array.cols start) (event_of start) self.new.array }
-        ensures step { Follows L.Layout D.Disk self.old.array (event_of start (added self.new.array)) self.new.array }
+        requires room { FitsRebuild L.Layout self.old.array (begun_by self.old.array.cols start)
+            (column_of start) (most_of start) }
+        ensures started { Started L.Layout self.old.array (column_of start) (most_of start)
+            (begun_by self.old.array.cols start) (event_of start) self.new.array }
+        ensures step { Follows L.Layout D.Disk self.old.array
+            (event_of start (added self.new.array)) self.new.array }
         ensures steady { IsSteady L.Layout D.Disk self.new.array }
-        ensures trace { self.new.array.log ≡ noted self.old.array.log (event_of start (added self.new.array)) }
-        ensures happens { Happens L.Layout D.Disk (event_of start (added self.new.array)) self.old.array self.new.array }
+        ensures trace { self.new.array.log
+            ≡ noted self.old.array.log (event_of start (added self.new.array)) }
+        ensures happens { Happens L.Layout D.Disk (event_of start (added self.new.array))
+            self.old.array self.new.array }
         ensures keeps { KeepsJobs L.Layout D.Disk self.old.array self.new.array }
     {
         match start {
@@ -110,8 +131,10 @@ impl<L: Layout, D: Disk> Core<L, D> {
     pub fn filling(&self) -> Option<u32>
         requires steady { IsSteady L.Layout D.Disk self.now.array }
         ensures { MatchOption result
-            ((c : ℕ) → c < (L.shape self.now.array.layout).columns → passes is_filling (slice_get self.now.array.cols.states c) ≡ false)
-            (λ c. (c < (L.shape self.now.array.layout).columns) × (passes is_filling (slice_get self.now.array.cols.states c) ≡ true)) }
+            ((c : ℕ) → c < (L.shape self.now.array.layout).columns
+            → passes is_filling (slice_get self.now.array.cols.states c) ≡ false)
+            (λ c. (c < (L.shape self.now.array.layout).columns)
+            × (passes is_filling (slice_get self.now.array.cols.states c) ≡ true)) }
     {
         self.array.cols.filling(self.array.layout.columns())
     }

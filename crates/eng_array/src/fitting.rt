@@ -12,11 +12,17 @@ use lay_core::Layout;
 /// too, so has that of an opening from which a column is rebuilt. There are at least as many devices as columns. It does
 /// nothing: what it ensures is so.
 pub fn what_is_counted_fits_the_trace<L: Layout, D: Disk>()
-    ensures opening { (setup : Setup L D) (devices : ℕ) → length setup.columns.items ≡ (L.shape setup.layout).columns → (L.shape setup.layout).columns ≤ devices
-        → trace_sum (L.shape setup.layout) setup.graphs.items devices setup.clients.items ≤ 1048576 → FitsTrace L.Layout setup }
-    ensures rebuild { (setup : Setup L D) (cols : List ColumnState) (devices column asked rebuilds : ℕ) → length setup.columns.items ≡ (L.shape setup.layout).columns → (L.shape setup.layout).columns ≤ devices
+    ensures opening { (setup : Setup L D) (devices : ℕ)
+        → length setup.columns.items ≡ (L.shape setup.layout).columns
+        → (L.shape setup.layout).columns ≤ devices
+        → trace_sum (L.shape setup.layout) setup.graphs.items devices setup.clients.items ≤ 1048576
+        → FitsTrace L.Layout setup }
+    ensures rebuild { (setup : Setup L D) (cols : List ColumnState) (devices column asked rebuilds : ℕ)
+        → length setup.columns.items ≡ (L.shape setup.layout).columns
+        → (L.shape setup.layout).columns ≤ devices
         → length cols ≡ (L.shape setup.layout).columns
         → BeginsAtMost (L.shape setup.layout) cols column asked rebuilds
-        → trace_sum (L.shape setup.layout) setup.graphs.items devices setup.clients.items + rebuilds_sum (L.shape setup.layout) devices rebuilds ≤ 1048576
+        → trace_sum (L.shape setup.layout) setup.graphs.items devices setup.clients.items
+        + rebuilds_sum (L.shape setup.layout) devices rebuilds ≤ 1048576
         → FitsRebuilding L.Layout setup cols column asked }
 {}

@@ -22,27 +22,38 @@ use lay_core::Layout;
 /// What a core has left to do is what each world that it shows has left, and each event of an operation lowers it. So a
 /// core that makes one after another comes to an end.
 pub fn each_event_leaves_less<L: Layout, D: Disk>()
-    ensures shown { (core : Array L D) (w : World) → Shows D.Disk core w → all_left most_nodes w 17 ≡ left_of core }
-    ensures falls { (old new : Array L D) (event : Traced) → IsOwn event → IsSteady L.Layout D.Disk old → IsSteady L.Layout D.Disk new
+    ensures shown { (core : Array L D) (w : World) → Shows D.Disk core w
+        → all_left most_nodes w 17 ≡ left_of core }
+    ensures falls { (old new : Array L D) (event : Traced) → IsOwn event
+        → IsSteady L.Layout D.Disk old → IsSteady L.Layout D.Disk new
         → Follows L.Layout D.Disk old event new → Falls old new }
-    ensures happens { (old new : Array L D) (event : Traced) → IsOwn event → IsSteady L.Layout D.Disk old
+    ensures happens { (old new : Array L D) (event : Traced) → IsOwn event
+        → IsSteady L.Layout D.Disk old
         → Happens L.Layout D.Disk event old new → Falls old new }
-    ensures chain { (old new : Array L D) (events : List Traced) → AllOf IsOwn events → IsSteady L.Layout D.Disk old
+    ensures chain { (old new : Array L D) (events : List Traced) → AllOf IsOwn events
+        → IsSteady L.Layout D.Disk old
         → Goes L.Layout D.Disk old events new → length events + left_of new ≤ left_of old }
-    ensures look { (old new : Array L D) → Quiet L.Layout D.Disk old new → left_of new ≡ left_of old }
-    ensures choice { (core : Array L D) (next : ℕ) → left_of (record core { next = next }) ≡ left_of core }
+    ensures look { (old new : Array L D) → Quiet L.Layout D.Disk old new
+        → left_of new ≡ left_of old }
+    ensures choice { (core : Array L D) (next : ℕ)
+        → left_of (record core { next = next }) ≡ left_of core }
 {}
 
 /// A chain of cores has at most as many events of an item as the item had left at its start. Where none of the client's
 /// nodes is out then, and no graph of the item has more than m nodes in any core of the chain, these are at most 2 m + 4,
 /// and as many again for each column that dies.
 pub fn events_of_an_item_are_few<L: Layout, D: Disk>()
-    ensures left { (old new : Array L D) (events : List Traced) (m c i : ℕ) → (chain : Chain L.Layout D.Disk old events new)
-        → IsSteady L.Layout D.Disk old → i < length (desk_at old.clients c).items → HaveFewNodes L.Layout D.Disk m c i old events new chain
+    ensures left { (old new : Array L D) (events : List Traced) (m c i : ℕ)
+        → (chain : Chain L.Layout D.Disk old events new)
+        → IsSteady L.Layout D.Disk old → i < length (desk_at old.clients c).items
+        → HaveFewNodes L.Layout D.Disk m c i old events new chain
         → item_left_of m new c i + count_of events c i ≤ item_left_of m old c i }
-    ensures few { (old new : Array L D) (events : List Traced) (m c i deaths : ℕ) → (chain : Chain L.Layout D.Disk old events new)
-        → IsSteady L.Layout D.Disk old → i < length (desk_at old.clients c).items → HaveFewNodes L.Layout D.Disk m c i old events new chain
-        → ((n : ℕ) → IsOutOf (desk_at old.clients c) n → ⊥) → alive old.cols.states ≡ alive new.cols.states + deaths
+    ensures few { (old new : Array L D) (events : List Traced) (m c i deaths : ℕ)
+        → (chain : Chain L.Layout D.Disk old events new)
+        → IsSteady L.Layout D.Disk old → i < length (desk_at old.clients c).items
+        → HaveFewNodes L.Layout D.Disk m c i old events new chain
+        → ((n : ℕ) → IsOutOf (desk_at old.clients c) n → ⊥)
+        → alive old.cols.states ≡ alive new.cols.states + deaths
         → count_of events c i ≤ (1 + deaths) * (2 * m + 4) }
 {}
 

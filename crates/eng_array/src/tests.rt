@@ -55,7 +55,8 @@ fn live(alloc: Global, count: u32) -> Result<Vec<Column>, Fail>
 }
 
 fn write(first: u64, count: u32, byte: u8) -> Item
-    ensures { (pattern : Pattern) × (result ≡ Item.Run (Op.Write (record { first = first; count = count }) pattern) None) }
+    ensures { (pattern : Pattern)
+        × (result ≡ Item.Run (Op.Write (record { first = first; count = count }) pattern) None) }
 {
     let mut bytes = [0; 32];
     bytes[0] = byte;

@@ -34,7 +34,8 @@ fn client_of(event: Event) -> u32
 // The first node that is ready, from this number on, of a client's run.
 fn ready_from<L: Layout, D: Disk>(array: &Array<L, D>, client: u32, from: u32) -> Option<u32>
     requires { IsSound L.Layout D.Disk array.now }
-    ensures { MatchOption result (NoneReadyOf array.now client from) (IsLeastReadyOf array.now client from) }
+    ensures { MatchOption result (NoneReadyOf array.now client from)
+        (IsLeastReadyOf array.now client from) }
 {
     match array.clients.stage(client) {
         Stage::Runs => array.clients.least_ready(client, from),
@@ -45,7 +46,8 @@ fn ready_from<L: Layout, D: Disk>(array: &Array<L, D>, client: u32, from: u32) -
 // The first node of the client's that can be skipped or fired. Only nodes that are ready are looked at.
 fn pick_node<L: Layout, D: Disk>(array: &Array<L, D>, client: u32) -> Option<Event>
     requires { IsSound L.Layout D.Disk array.now }
-    ensures { MatchOption result (CanNoNode L.Layout array.now client) (IsFirstNode L.Layout array.now client) }
+    ensures { MatchOption result (CanNoNode L.Layout array.now client)
+        (IsFirstNode L.Layout array.now client) }
 {
     let mut from = 0;
     while let Some(node) = ready_from(array, client, from) {
@@ -63,7 +65,8 @@ fn pick_node<L: Layout, D: Disk>(array: &Array<L, D>, client: u32) -> Option<Eve
 // The first event of a client's that no operation of its own keeps busy.
 fn pick_begin<L: Layout, D: Disk>(array: &Array<L, D>, client: u32) -> Option<Event>
     requires { (desk_at array.now.clients client).stage ≡ Stage.Nothing }
-    ensures { MatchOption result (CanNothing L.Layout array.now client) (IsFirstOf L.Layout array.now client) }
+    ensures { MatchOption result (CanNothing L.Layout array.now client)
+        (IsFirstOf L.Layout array.now client) }
 {
     if can_begin(array, client) {
         return Some(Event::Begin { client });
@@ -76,7 +79,8 @@ fn pick_take<L: Layout, D: Disk>(array: &Array<L, D>, client: u32) -> Option<Eve
     requires sound { IsSound L.Layout D.Disk array.now }
     requires stands { Stands L.Layout array.now }
     requires waits { (desk_at array.now.clients client).stage ≡ Stage.Waits }
-    ensures { MatchOption result (CanNothing L.Layout array.now client) (IsFirstOf L.Layout array.now client) }
+    ensures { MatchOption result (CanNothing L.Layout array.now client)
+        (IsFirstOf L.Layout array.now client) }
 {
     if can_take(array, client) {
         return Some(Event::Take { client });
@@ -88,7 +92,8 @@ fn pick_take<L: Layout, D: Disk>(array: &Array<L, D>, client: u32) -> Option<Eve
 fn pick_step<L: Layout, D: Disk>(array: &Array<L, D>, client: u32) -> Option<Event>
     requires sound { IsSound L.Layout D.Disk array.now }
     requires runs { (desk_at array.now.clients client).stage ≡ Stage.Runs }
-    ensures { MatchOption result (CanNothing L.Layout array.now client) (IsFirstOf L.Layout array.now client) }
+    ensures { MatchOption result (CanNothing L.Layout array.now client)
+        (IsFirstOf L.Layout array.now client) }
 {
     if can_back(array, client) {
         return Some(Event::Back { client });
@@ -100,7 +105,8 @@ fn pick_step<L: Layout, D: Disk>(array: &Array<L, D>, client: u32) -> Option<Eve
 fn pick_of<L: Layout, D: Disk>(array: &Array<L, D>, client: u32) -> Option<Event>
     requires sound { IsSound L.Layout D.Disk array.now }
     requires stands { Stands L.Layout array.now }
-    ensures { MatchOption result (CanNothing L.Layout array.now client) (IsFirstOf L.Layout array.now client) }
+    ensures { MatchOption result (CanNothing L.Layout array.now client)
+        (IsFirstOf L.Layout array.now client) }
 {
     match array.clients.stage(client) {
         Stage::Nothing => pick_begin(array, client),
@@ -116,7 +122,8 @@ fn pick_among<L: Layout, D: Disk>(array: &Array<L, D>, from: u32, to: u32) -> Op
     requires stands { Stands L.Layout array.now }
     requires from { from ≤ 17 }
     requires to { to ≤ 17 }
-    ensures { MatchOption result (CanNothingAmong L.Layout array.now from to) (IsFirstAmong L.Layout array.now from to) }
+    ensures { MatchOption result (CanNothingAmong L.Layout array.now from to)
+        (IsFirstAmong L.Layout array.now from to) }
 {
     let mut from = from;
     while let Some(client) = array.clients.busy_from(from) {
@@ -158,7 +165,8 @@ pub fn pick<L: Layout, D: Disk>(array: &mut Array<L, D>) -> Option<Event>
     ensures sound { IsSound L.Layout D.Disk array.new }
     ensures stands { Stands L.Layout array.new }
     ensures shows { (w : World) → Shows D.Disk array.old w → Shows D.Disk array.new w }
-    ensures stays { (job : Job D) → IsOut D.Disk L.Layout array.old job → IsOut D.Disk L.Layout array.new job }
+    ensures stays { (job : Job D) → IsOut D.Disk L.Layout array.old job
+        → IsOut D.Disk L.Layout array.new job }
 {
     let event = pick_first(array);
     if let Some(event) = event {

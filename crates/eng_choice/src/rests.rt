@@ -13,7 +13,8 @@ use lay_core::Layout;
 // Whether each item of every client has a reply.
 fn is_replied<L: Layout, D: Disk>(array: &Array<L, D>) -> bool
     requires { IsSound L.Layout D.Disk array.now }
-    ensures { IsTrue result ↔ ((c : ℕ) → length (desk_at array.now.clients c).replies ≡ length (desk_at array.now.clients c).items) }
+    ensures { IsTrue result ↔ ((c : ℕ) → length (desk_at array.now.clients c).replies
+        ≡ length (desk_at array.now.clients c).items) }
 {
     for client in 0..CLIENTS {
         if !array.clients.is_replied(client) {

@@ -81,7 +81,8 @@ fn is_span_free<L: Layout, D: Disk>(
     requires some { 1 ≤ span.count }
     requires inside { PassesEnd (L.shape array.now.layout) span → ⊥ }
     requires few { stripe_count (L.shape array.now.layout) span ≤ 16 }
-    ensures { IsTrue result ↔ AreFreeOf array.now.locks client mode (HasBlock (L.shape array.now.layout) (is_in span)) }
+    ensures { IsTrue result ↔ AreFreeOf array.now.locks client mode
+        (HasBlock (L.shape array.now.layout) (is_in span)) }
 {
     let stripes = stripes_of(&array.layout, span);
     let numbers = numbers_from(stripes.first);
@@ -100,7 +101,8 @@ fn is_stripe_free<L: Layout, D: Disk>(array: &Array<L, D>, client: u32, stripe: 
 // Whether no other holds a stripe of one of the spans.
 fn are_spans_free<L: Layout, D: Disk>(array: &Array<L, D>, client: u32, patches: &Patches) -> bool
     requires { IsInside (L.shape array.now.layout) (op.Writes patches.now) }
-    ensures { IsTrue result ↔ AreFreeOf array.now.locks client Mode.Exclude (HasBlock (L.shape array.now.layout) (is_in_some (spans_of patches.now))) }
+    ensures { IsTrue result ↔ AreFreeOf array.now.locks client Mode.Exclude
+        (HasBlock (L.shape array.now.layout) (is_in_some (spans_of patches.now))) }
 {
     for i in 0..patches.used as usize {
         if !is_span_free(array, client, patches.list[i].span, Mode::Exclude) {
@@ -128,7 +130,8 @@ fn are_free<L: Layout, D: Disk>(array: &Array<L, D>, client: u32, op: &Op) -> bo
 fn fits<L: Layout, D: Disk>(array: &Array<L, D>, op: &Op, file: Option<u32>) -> bool
     requires inside { IsInside (L.shape array.now.layout) op.now }
     requires there { (n : ℕ) → file ≡ Some n → n < length array.now.graphs.items }
-    ensures { IsTrue result ↔ (lease_for (L.shape array.now.layout) array.now.graphs.items op.now file ≤ length array.now.pool.free) }
+    ensures { IsTrue result ↔ (lease_for (L.shape array.now.layout) array.now.graphs.items op.now
+        file ≤ length array.now.pool.free) }
 {
     let stripes = count_stripes(&array.layout, op);
     lease_size(&array.layout, stripes, span_count(op), file, &array.graphs) <= array.pool.free()
@@ -143,7 +146,8 @@ fn can_take_op<L: Layout, D: Disk>(
 ) -> bool
     requires not_lost { array.now.lost ≡ None }
     requires waits { (desk_at array.now.clients client).stage ≡ stage.Waits }
-    requires serves { Serves array.now.graphs.items (L.shape array.now.layout) (desk_at array.now.clients client) op.now file }
+    requires serves { Serves array.now.graphs.items (L.shape array.now.layout)
+        (desk_at array.now.clients client) op.now file }
     ensures { IsTrue result ↔ CanTake L.Layout array.now client }
 {
     are_free(array, client, op) && fits(array, op, file)

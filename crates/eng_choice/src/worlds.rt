@@ -18,7 +18,8 @@ use lay_core::Layout;
 pub fn what_is_possible_can_be_done<L: Layout, D: Disk>(core: &Array<L, D>, event: Event)
     requires sound { IsSound L.Layout D.Disk core.now }
     requires stands { Stands L.Layout core.now }
-    ensures { (w : World) → Shows D.Disk core.now w → Possible (L.shape core.now.layout) (graphs_of core.now.graphs.items) event w ↔ CanDo L.Layout core.now event }
+    ensures { (w : World) → Shows D.Disk core.now w → Possible (L.shape core.now.layout)
+        (graphs_of core.now.graphs.items) event w ↔ CanDo L.Layout core.now event }
 {
     let _ = core;
     let _ = event;

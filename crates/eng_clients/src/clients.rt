@@ -119,7 +119,8 @@ impl Clients {
         requires lends { Lends graphs.now (desk_at self.old client) }
         requires few { length (desk_at self.old client).run.graph.nodes ≤ 2048 }
         requires ready { IsReadyIn (desk_at self.old client).run node }
-        ensures { self.new ≡ slice_set self.old client (with_fired (desk_at self.old client) node at) }
+        ensures { self.new
+            ≡ slice_set self.old client (with_fired (desk_at self.old client) node at) }
     {
         self.list[client as usize].fire(node, at, graphs);
     }
@@ -130,8 +131,10 @@ impl Clients {
         requires lends { Lends graphs.now (desk_at self.old client) }
         requires node { node < length (desk_at self.old client).run.graph.nodes }
         requires out { mark_of (desk_at self.old client).run node ≡ Status.Out }
-        requires may { MayEnd outcome (kind_at (desk_at self.old client).run.graph node) (desk_at self.old client).run.phase }
-        ensures { self.new ≡ slice_set self.old client (with_ended (desk_at self.old client) node outcome) }
+        requires may { MayEnd outcome (kind_at (desk_at self.old client).run.graph node)
+            (desk_at self.old client).run.phase }
+        ensures { self.new
+            ≡ slice_set self.old client (with_ended (desk_at self.old client) node outcome) }
     {
         self.list[client as usize].finish(node, outcome, graphs);
     }
@@ -148,8 +151,10 @@ impl Clients {
     /// Its item is replied, and it has no operation and no lease any more.
     pub fn reply(&mut self, client: u32, reply: Reply)
         requires client { client < length self.old }
-        requires left { length (desk_at self.old client).replies < length (desk_at self.old client).items }
-        ensures { self.new ≡ slice_set self.old client (with_reply (desk_at self.old client) reply) }
+        requires left { length (desk_at self.old client).replies
+            < length (desk_at self.old client).items }
+        ensures { self.new
+            ≡ slice_set self.old client (with_reply (desk_at self.old client) reply) }
     {
         self.list[client as usize].reply(reply);
         if self.list[client as usize].is_replied() {
@@ -164,7 +169,8 @@ impl Clients {
         requires ready { IsReadyIn (desk_at self.old client).run node }
         requires write { IsWrite (kind_at (desk_at self.old client).run.graph node) }
         requires after { (desk_at self.old client).run.phase ≡ Phase.After }
-        ensures { self.new ≡ slice_set self.old client (with_skipped (desk_at self.old client) node) }
+        ensures { self.new
+            ≡ slice_set self.old client (with_skipped (desk_at self.old client) node) }
     {
         self.list[client as usize].skip(node, graphs);
     }

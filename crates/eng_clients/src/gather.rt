@@ -44,8 +44,10 @@ impl Client {
     fn gather_one(&self, buf: u32, pool: &mut Pool, sources: &mut Vec<Source>)
         requires lease { IsLease pool.old self.now.lease }
         requires buf { buf < length self.now.lease }
-        requires room { (seat_of pool.old self.now buf).out ≡ false → vec_len sources.old < vec_capacity sources.old }
-        ensures one { GathersOne pool.old self.now.lease buf sources.old.items pool.new sources.new.items }
+        requires room { (seat_of pool.old self.now buf).out ≡ false
+            → vec_len sources.old < vec_capacity sources.old }
+        ensures one { GathersOne pool.old self.now.lease buf sources.old.items pool.new
+            sources.new.items }
         ensures room { vec_capacity sources.new ≡ vec_capacity sources.old }
     {
         if self.is_home(buf, pool) {
@@ -81,10 +83,12 @@ impl Client {
         requires node { node < length self.now.run.graph.nodes }
         requires lease { IsLease pool.old self.now.lease }
         requires named { AreInLease self.now.lease (vertex_at self.now.run.graph node).sources }
-        requires home { All (λ b. (seat_of pool.old self.now b).out ≡ false) (vertex_at self.now.run.graph node).sources }
+        requires home { All (λ b. (seat_of pool.old self.now b).out ≡ false)
+            (vertex_at self.now.run.graph node).sources }
         requires empty { sources.old.items ≡ [] }
         requires room { 2048 ≤ vec_capacity sources.old }
-        ensures gathered { Gathered pool.old self.now.lease (vertex_at self.now.run.graph node).sources pool.new sources.new.items }
+        ensures gathered { Gathered pool.old self.now.lease
+            (vertex_at self.now.run.graph node).sources pool.new sources.new.items }
         ensures room { 2048 ≤ vec_capacity sources.new }
     {
         match self.file {
@@ -108,11 +112,15 @@ impl Clients {
         requires lends { Lends graphs.now (desk_at self.now client) }
         requires node { node < length (desk_at self.now client).run.graph.nodes }
         requires lease { IsLease pool.old (desk_at self.now client).lease }
-        requires named { AreInLease (desk_at self.now client).lease (vertex_at (desk_at self.now client).run.graph node).sources }
-        requires home { All (λ b. (seat_of pool.old (desk_at self.now client) b).out ≡ false) (vertex_at (desk_at self.now client).run.graph node).sources }
+        requires named { AreInLease (desk_at self.now client).lease
+            (vertex_at (desk_at self.now client).run.graph node).sources }
+        requires home { All (λ b. (seat_of pool.old (desk_at self.now client) b).out ≡ false)
+            (vertex_at (desk_at self.now client).run.graph node).sources }
         requires empty { sources.old.items ≡ [] }
         requires room { 2048 ≤ vec_capacity sources.old }
-        ensures gathered { Gathered pool.old (desk_at self.now client).lease (vertex_at (desk_at self.now client).run.graph node).sources pool.new sources.new.items }
+        ensures gathered { Gathered pool.old (desk_at self.now client).lease
+            (vertex_at (desk_at self.now client).run.graph node).sources pool.new
+            sources.new.items }
         ensures room { 2048 ≤ vec_capacity sources.new }
     {
         self.list[client as usize].gather(node, graphs, pool, sources);

@@ -42,7 +42,10 @@ impl Client {
         requires fit { IsFor (L.shape layout.now) cols.now }
         requires stripes { All (λ s. s < cols.now.stripes) self.old.map.stripes }
         requires few { length self.old.map.stripes ≤ 16 }
-        ensures { self.new ≡ record self.old { missing = map (missing_for (L.shape layout.now) cols.now.states op) self.old.map.stripes } }
+        ensures { self.new ≡ record self.old {
+          missing = map
+              (missing_for (L.shape layout.now) cols.now.states op) self.old.map.stripes;
+        } }
     {
         list_missing(layout, cols, op, self.map.stripes(), &mut self.missing);
     }
@@ -51,7 +54,8 @@ impl Client {
     fn aim<L: Layout>(&mut self, layout: &L, kind: Kind)
         requires map { IsMapOf (L.shape layout.now) self.old.map }
         requires unit { HasUnitBelow (L.shape layout.now).width kind }
-        ensures { self.new ≡ record self.old { task = task_of (L.shape layout.now) kind self.old.map } }
+        ensures { self.new
+            ≡ record self.old { task = task_of (L.shape layout.now) kind self.old.map } }
     {
         self.task.set(layout, kind, &self.map);
     }
@@ -61,7 +65,11 @@ impl Client {
         requires missing { length self.old.missing ≡ self.old.task.stripes }
         requires gone { AreMissing self.old.task (missing_of self.old.missing) }
         requires task { IsPlannable self.old.task }
-        ensures drawn { self.new ≡ record self.old { file = None; graph = record self.old.graph { drawn = library self.old.task (missing_of self.old.missing) true } } }
+        ensures drawn { self.new ≡ record self.old {
+          file = None;
+          graph = record self.old.graph
+              { drawn = library self.old.task (missing_of self.old.missing) true };
+        } }
         ensures passes { CanRun graphs.now self.new }
     {
         let _ = graphs;
@@ -74,7 +82,8 @@ impl Client {
         requires { file < length graphs.now }
         ensures chosen { self.new ≡ record self.old { file = Some file } }
         ensures passes { OnOk result (CanRun graphs.now self.new) }
-        ensures refused { IfErr result (λ cause. IsRefused (graph_of graphs.now self.new) self.new.task (missing_of self.new.missing) cause) }
+        ensures refused { IfErr result (λ cause. IsRefused (graph_of graphs.now self.new)
+            self.new.task (missing_of self.new.missing) cause) }
     {
         self.file = Some(file);
         check(&graphs[file as usize], &self.task, &self.missing, scratch)?;
@@ -121,10 +130,18 @@ impl Client {
         requires op { IsInside (L.shape layout.now) asked.op }
         requires kept { NotLost (L.shape layout.now) cols.now.states }
         requires file { (n : ℕ) → asked.file ≡ Some n → n < length graphs.now }
-        ensures planned { IsPlanned (L.shape layout.now) graphs.now cols.now.states asked.op asked.file self.new }
-        ensures rest { self.new ≡ record self.old { map = self.new.map; missing = self.new.missing; task = self.new.task; graph = self.new.graph; file = asked.file } }
+        ensures planned { IsPlanned (L.shape layout.now) graphs.now cols.now.states asked.op
+            asked.file self.new }
+        ensures rest { self.new ≡ record self.old {
+          map = self.new.map;
+          missing = self.new.missing;
+          task = self.new.task;
+          graph = self.new.graph;
+          file = asked.file;
+        } }
         ensures passes { OnOk result (CanRun graphs.now self.new) }
-        ensures refused { IfErr result (λ cause. IsRefusedFor graphs.now asked.file self.new cause) }
+        ensures refused { IfErr result
+            (λ cause. IsRefusedFor graphs.now asked.file self.new cause) }
     {
         let Asked { op, file } = asked;
         self.cut(layout, op);

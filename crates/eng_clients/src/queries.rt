@@ -33,7 +33,8 @@ impl Client {
         requires node { node < length self.now.run.graph.nodes }
         requires lease { IsLease pool.now self.now.lease }
         requires named { AreInLease self.now.lease (vertex_at self.now.run.graph node).sources }
-        ensures { IsTrue result ↔ All (λ b. (seat_of pool.now self.now b).out ≡ false) (vertex_at self.now.run.graph node).sources }
+        ensures { IsTrue result ↔ All (λ b. (seat_of pool.now self.now b).out ≡ false)
+            (vertex_at self.now.run.graph node).sources }
     {
         match self.file {
             None => self.all_home(self.graph.sources(node), pool),
@@ -73,7 +74,8 @@ impl Clients {
     /// Whether each of its items has a reply.
     pub fn is_replied(&self, client: u32) -> bool
         requires { client < length self.now }
-        ensures { IsTrue result ↔ (length (desk_at self.now client).replies ≡ length (desk_at self.now client).items) }
+        ensures { IsTrue result ↔
+            (length (desk_at self.now client).replies ≡ length (desk_at self.now client).items) }
     {
         self.list[client as usize].is_replied()
     }
@@ -98,7 +100,8 @@ impl Clients {
     /// The first node of its run that is ready from this number on; None exactly where there is none.
     pub fn least_ready(&self, client: u32, from: u32) -> Option<u32>
         requires { client < length self.now }
-        ensures { MatchOption result (NoneReady (desk_at self.now client).run from) (IsLeastReady (desk_at self.now client).run from) }
+        ensures { MatchOption result (NoneReady (desk_at self.now client).run from)
+            (IsLeastReady (desk_at self.now client).run from) }
     {
         self.list[client as usize].run.least_ready(from)
     }
@@ -119,8 +122,10 @@ impl Clients {
         requires lends { Lends graphs.now (desk_at self.now client) }
         requires node { node < length (desk_at self.now client).run.graph.nodes }
         requires lease { IsLease pool.now (desk_at self.now client).lease }
-        requires named { AreInLease (desk_at self.now client).lease (vertex_at (desk_at self.now client).run.graph node).sources }
-        ensures { IsTrue result ↔ All (λ b. (seat_of pool.now (desk_at self.now client) b).out ≡ false) (vertex_at (desk_at self.now client).run.graph node).sources }
+        requires named { AreInLease (desk_at self.now client).lease
+            (vertex_at (desk_at self.now client).run.graph node).sources }
+        ensures { IsTrue result ↔ All (λ b. (seat_of pool.now (desk_at self.now client) b).out
+            ≡ false) (vertex_at (desk_at self.now client).run.graph node).sources }
     {
         self.list[client as usize].sources_home(node, graphs, pool)
     }

@@ -63,7 +63,8 @@ impl Rebuilds {
         requires client { client < length clients.old }
         requires items { (desk_at clients.old client).items ≡ [] }
         requires replies { (desk_at clients.old client).replies ≡ [] }
-        ensures now { clients.new ≡ slice_set clients.old client (record (desk_at clients.old client) { items = self.old.items }) }
+        ensures now { clients.new ≡ slice_set clients.old client
+            (record (desk_at clients.old client) { items = self.old.items }) }
         ensures left { self.new ≡ record { items = []; room = 0 } }
     {
         hand_to(self, &mut clients.list[client as usize]);

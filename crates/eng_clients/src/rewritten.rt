@@ -12,7 +12,8 @@ use graph_mean::{Graph, Kind, Node, Status};
 impl Client {
     // The unit of which its operation is the rebuild.
     fn own_unit(&self) -> Option<u32>
-        ensures { MatchOption result ((unit : ℕ) → is_rebuild_of self.now.task.kind unit ≡ false) (λ unit. self.now.task.kind ≡ Kind.Rebuild unit) }
+        ensures { MatchOption result ((unit : ℕ) → is_rebuild_of self.now.task.kind unit ≡ false)
+            (λ unit. self.now.task.kind ≡ Kind.Rebuild unit) }
     {
         match self.task.kind() {
             Kind::Rebuild { unit } => Some(unit),
@@ -25,8 +26,10 @@ impl Client {
         requires lends { Lends graphs.now self.now }
         requires node { node < length self.now.run.graph.nodes }
         requires task { IsTask self.now.task }
-        requires accepted { Accepted self.now.run.graph self.now.task (missing_of self.now.missing) }
-        ensures { MatchOption result (¬ (WroteGood self.now node unit from)) (λ end. (from < end) × ((o : ℕ) → from ≤ o → o < end → WroteGood self.now node unit o)) }
+        requires accepted { Accepted self.now.run.graph self.now.task
+            (missing_of self.now.missing) }
+        ensures { MatchOption result (¬ (WroteGood self.now node unit from)) (λ end. (from < end)
+            × ((o : ℕ) → from ≤ o → o < end → WroteGood self.now node unit o)) }
     {
         let Node::Wr { unit: own, buf } = self.node(node, graphs) else {
             return None;
@@ -49,8 +52,10 @@ impl Client {
     fn written_from(&self, unit: u32, from: u32, graphs: &[Graph]) -> Option<u32>
         requires lends { Lends graphs.now self.now }
         requires task { IsTask self.now.task }
-        requires accepted { Accepted self.now.run.graph self.now.task (missing_of self.now.missing) }
-        ensures { MatchOption result ((n : ℕ) → ¬ (WroteGood self.now n unit from)) (λ end. (from < end) × ((o : ℕ) → from ≤ o → o < end → (n : ℕ) × WroteGood self.now n unit o)) }
+        requires accepted { Accepted self.now.run.graph self.now.task
+            (missing_of self.now.missing) }
+        ensures { MatchOption result ((n : ℕ) → ¬ (WroteGood self.now n unit from)) (λ end.
+            (from < end) × ((o : ℕ) → from ≤ o → o < end → (n : ℕ) × WroteGood self.now n unit o)) }
     {
         for node in 0..self.nodes(graphs) {
             if let Some(end) = self.written_by(node, unit, from, graphs) {
@@ -64,7 +69,8 @@ impl Client {
     fn has_written(&self, unit: u32, graphs: &[Graph]) -> bool
         requires lends { Lends graphs.now self.now }
         requires task { IsTask self.now.task }
-        requires accepted { Accepted self.now.run.graph self.now.task (missing_of self.now.missing) }
+        requires accepted { Accepted self.now.run.graph self.now.task
+            (missing_of self.now.missing) }
         ensures { IsTrue result ↔ WroteAll self.now unit }
     {
         let mut from = 0;
@@ -81,8 +87,11 @@ impl Client {
     pub fn rewritten(&self, graphs: &[Graph]) -> Option<u32>
         requires lends { Lends graphs.now self.now }
         requires task { IsTask self.now.task }
-        requires accepted { Accepted self.now.run.graph self.now.task (missing_of self.now.missing) }
-        ensures { MatchOption result ((unit : ℕ) → is_rebuild_of self.now.task.kind unit ≡ true → ¬ (WroteAll self.now unit)) (λ unit. (is_rebuild_of self.now.task.kind unit ≡ true) × WroteAll self.now unit) }
+        requires accepted { Accepted self.now.run.graph self.now.task
+            (missing_of self.now.missing) }
+        ensures { MatchOption result
+            ((unit : ℕ) → is_rebuild_of self.now.task.kind unit ≡ true → ¬ (WroteAll self.now unit))
+            (λ unit. (is_rebuild_of self.now.task.kind unit ≡ true) × WroteAll self.now unit) }
     {
         let unit = self.own_unit()?;
         if self.has_written(unit, graphs) {
@@ -99,8 +108,12 @@ impl Clients {
         requires client { client < length self.now }
         requires lends { Lends graphs.now (desk_at self.now client) }
         requires task { IsTask (desk_at self.now client).task }
-        requires accepted { Accepted (desk_at self.now client).run.graph (desk_at self.now client).task (missing_of (desk_at self.now client).missing) }
-        ensures { MatchOption result ((unit : ℕ) → is_rebuild_of (desk_at self.now client).task.kind unit ≡ true → ¬ (WroteAll (desk_at self.now client) unit)) (λ unit. (is_rebuild_of (desk_at self.now client).task.kind unit ≡ true) × WroteAll (desk_at self.now client) unit) }
+        requires accepted { Accepted (desk_at self.now client).run.graph
+            (desk_at self.now client).task (missing_of (desk_at self.now client).missing) }
+        ensures { MatchOption result ((unit : ℕ) → is_rebuild_of (desk_at self.now client).task.kind
+            unit ≡ true → ¬ (WroteAll (desk_at self.now client) unit))
+            (λ unit. (is_rebuild_of (desk_at self.now client).task.kind unit ≡ true)
+            × WroteAll (desk_at self.now client) unit) }
     {
         self.list[client as usize].rewritten(graphs)
     }

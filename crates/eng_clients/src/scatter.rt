@@ -30,7 +30,8 @@ impl Clients {
         requires client { client < length self.now }
         requires lease { IsLease pool.old (desk_at self.now client).lease }
         requires out { SourcesOut pool.old (desk_at self.now client).lease sources.old.items }
-        ensures home { SourcesHome pool.old (desk_at self.now client).lease sources.old.items pool.new }
+        ensures home { SourcesHome pool.old (desk_at self.now client).lease sources.old.items
+            pool.new }
         ensures empty { sources.new.items ≡ [] }
         ensures room { vec_capacity sources.new ≡ vec_capacity sources.old }
     {

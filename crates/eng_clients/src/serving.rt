@@ -72,7 +72,8 @@ impl Client {
         requires there { (n : ℕ) → self.now.file ≡ Some n → n < length graphs.now }
         requires buffers { HasBuffers (graph_of graphs.now self.now) pool.old self.now.lease }
         requires few { span_count op.now ≤ 8 }
-        ensures { Filled (L.shape layout.now) self.now.map.stripes (graph_of graphs.now self.now) op.now self.now.lease pool.old pool.new }
+        ensures { Filled (L.shape layout.now) self.now.map.stripes (graph_of graphs.now self.now)
+            op.now self.now.lease pool.old pool.new }
     {
         match self.file {
             None => fill_fresh(

@@ -62,10 +62,12 @@ impl Clients {
         requires op { IsInside (L.shape layout.now) asked.op }
         requires kept { NotLost (L.shape layout.now) cols.now.states }
         requires file { (n : ℕ) → asked.file ≡ Some n → n < length graphs.now }
-        ensures planned { Replanned (L.shape layout.now) graphs.now cols.now.states asked.op asked.file (desk_at self.old client) (desk_at self.new client) }
+        ensures planned { Replanned (L.shape layout.now) graphs.now cols.now.states asked.op
+            asked.file (desk_at self.old client) (desk_at self.new client) }
         ensures now { self.new ≡ slice_set self.old client (desk_at self.new client) }
         ensures passes { OnOk result (CanRun graphs.now (desk_at self.new client)) }
-        ensures refused { IfErr result (λ cause. IsRefusedFor graphs.now asked.file (desk_at self.new client) cause) }
+        ensures refused { IfErr result
+            (λ cause. IsRefusedFor graphs.now asked.file (desk_at self.new client) cause) }
     {
         self.list[client as usize].plan(layout, cols, asked, graphs, scratch)
     }
@@ -75,7 +77,8 @@ impl Clients {
         requires client { client < length self.old }
         requires there { (n : ℕ) → (desk_at self.old client).file ≡ Some n → n < length graphs.now }
         requires can { CanStart (graph_of graphs.now (desk_at self.old client)) }
-        ensures { self.new ≡ slice_set self.old client (with_started graphs.now (desk_at self.old client)) }
+        ensures { self.new
+            ≡ slice_set self.old client (with_started graphs.now (desk_at self.old client)) }
     {
         self.list[client as usize].start(graphs);
         self.busy = with_bit(self.busy, client);
@@ -87,7 +90,8 @@ impl Clients {
         requires fits { count ≤ length pool.old.free }
         ensures leased { Leases pool.old count (desk_at self.new client).lease pool.new }
         ensures apart { StandsApart pool.old (desk_at self.new client).lease pool.new }
-        ensures now { self.new ≡ slice_set self.old client (with_lease (desk_at self.old client) (desk_at self.new client).lease) }
+        ensures now { self.new ≡ slice_set self.old client
+            (with_lease (desk_at self.old client) (desk_at self.new client).lease) }
     {
         self.list[client as usize].hold(count, pool);
     }
@@ -114,9 +118,12 @@ impl Clients {
     )
         requires client { client < length self.now }
         requires there { (n : ℕ) → (desk_at self.now client).file ≡ Some n → n < length graphs.now }
-        requires buffers { HasBuffers (graph_of graphs.now (desk_at self.now client)) pool.old (desk_at self.now client).lease }
+        requires buffers { HasBuffers (graph_of graphs.now (desk_at self.now client)) pool.old
+            (desk_at self.now client).lease }
         requires few { span_count op.now ≤ 8 }
-        ensures { Filled (L.shape layout.now) (desk_at self.now client).map.stripes (graph_of graphs.now (desk_at self.now client)) op.now (desk_at self.now client).lease pool.old pool.new }
+        ensures { Filled (L.shape layout.now) (desk_at self.now client).map.stripes
+            (graph_of graphs.now (desk_at self.now client)) op.now (desk_at self.now client).lease
+            pool.old pool.new }
     {
         self.list[client as usize].fill(layout, op, graphs, pool);
     }

@@ -118,8 +118,11 @@ fn crew<
             ensures { IsSpare turn.entry.now result }
         { worked(rt, turn, other, progress, all) },
         || -> Pass<CrewRule<L, D>>
-            requires { IsSync R.row × IsSync P.row × (IsReady turn.now pass × All (IsSpare turn.now) others.items) }
-            ensures { IsReady turn.entry.now result × (share_of result ≡ share_of pass + vec_len others) × HasIdleMark L.Layout D.Disk (opening_of turn.entry.now) result }
+            requires { IsSync R.row × IsSync P.row
+                × (IsReady turn.now pass × All (IsSpare turn.now) others.items) }
+            ensures { IsReady turn.entry.now result
+                × (share_of result ≡ share_of pass + vec_len others)
+                × HasIdleMark L.Layout D.Disk (opening_of turn.entry.now) result }
         { crew(rt, turn, pass, others, progress, all) },
     );
     turn.join(&mut pass, other);

@@ -24,7 +24,8 @@ pub(crate) fn turn_by<L: Layout + Drop, D: Disk + Drop, W: Wait>(
     ensures mine { IsOf pass.new turn.now × IsOutside pass.new }
     ensures ticket { ticket_of pass.new ≡ result.1 }
     ensures share { share_of pass.new ≡ share_of pass.old }
-    ensures idle { (result.0 ≡ Found.Event) ⊎ ((result.1 ≡ None) × HasIdleMark L.Layout D.Disk (opening_of turn.now) pass.new) }
+    ensures idle { (result.0 ≡ Found.Event) ⊎
+        ((result.1 ≡ None) × HasIdleMark L.Layout D.Disk (opening_of turn.now) pass.new) }
 {
     match job {
         None => turn_without(rt, turn, pass),
@@ -43,7 +44,8 @@ fn turn_without<L: Layout + Drop, D: Disk + Drop, W: Wait>(
     ensures mine { IsOf pass.new turn.now × IsOutside pass.new }
     ensures ticket { ticket_of pass.new ≡ result.1 }
     ensures share { share_of pass.new ≡ share_of pass.old }
-    ensures idle { (result.0 ≡ Found.Event) ⊎ ((result.1 ≡ None) × HasIdleMark L.Layout D.Disk (opening_of turn.now) pass.new) }
+    ensures idle { (result.0 ≡ Found.Event) ⊎
+        ((result.1 ≡ None) × HasIdleMark L.Layout D.Disk (opening_of turn.now) pass.new) }
 {
     let mut core = turn.enter(rt, pass);
     let (found, ticket) = go_far(&mut core);
@@ -63,7 +65,8 @@ fn turn_with<L: Layout + Drop, D: Disk + Drop, W: Wait>(
     ensures mine { IsOf pass.new turn.now × IsOutside pass.new }
     ensures ticket { ticket_of pass.new ≡ result.1 }
     ensures share { share_of pass.new ≡ share_of pass.old }
-    ensures idle { (result.0 ≡ Found.Event) ⊎ ((result.1 ≡ None) × HasIdleMark L.Layout D.Disk (opening_of turn.now) pass.new) }
+    ensures idle { (result.0 ≡ Found.Event) ⊎
+        ((result.1 ≡ None) × HasIdleMark L.Layout D.Disk (opening_of turn.now) pass.new) }
 {
     let outcome = job.perform();
     let mut core = turn.enter(rt, pass);

@@ -40,8 +40,10 @@ pub(crate) fn commit_ends<L: Layout, D: Disk>(
     requires commit { kind_at (desk_at array.old.clients client).run.graph node ≡ Node.Cmt }
     requires empty { sources.items ≡ [] }
     requires room { 2048 ≤ vec_capacity sources }
-    ensures home { EndsNode L.Layout D.Disk array.old client node (event.Good (id_of array.old.clients client) node) None array.new }
-    ensures trace { array.new.log ≡ noted (entered array.old.log (id_of array.old.clients client)) (event.Good (id_of array.old.clients client) node) }
+    ensures home { EndsNode L.Layout D.Disk array.old client node
+        (event.Good (id_of array.old.clients client) node) None array.new }
+    ensures trace { array.new.log ≡ noted (entered array.old.log (id_of array.old.clients client))
+        (event.Good (id_of array.old.clients client) node) }
 {
     let id = array.id(client);
     array.plain_home(client, node, sources, Outcome::Good);

@@ -25,8 +25,10 @@ fn lease_home<L: Layout, D: Disk>(array: &mut Array<L, D>, client: u32)
     requires client { client < length array.old.clients }
     requires lease { IsLease array.old.pool (desk_at array.old.clients client).lease }
     requires home { AllHome array.old.pool (desk_at array.old.clients client).lease }
-    ensures returns { Returns array.old.pool (desk_at array.old.clients client).lease array.new.pool }
-    ensures others { KeepsOthers array.old.pool (desk_at array.old.clients client).lease array.new.pool }
+    ensures returns { Returns array.old.pool (desk_at array.old.clients client).lease
+        array.new.pool }
+    ensures others { KeepsOthers array.old.pool (desk_at array.old.clients client).lease
+        array.new.pool }
     ensures rest { array.new ≡ record array.old { pool = array.new.pool } }
 {
     array.clients.give_back(client, &mut array.pool);
@@ -45,7 +47,8 @@ fn unlock<L: Layout, D: Disk>(array: &mut Array<L, D>, client: u32)
 pub(crate) fn release<L: Layout, D: Disk>(array: &mut Array<L, D>, client: u32, reply: Reply)
     requires client { client < length array.old.clients }
     requires owner { client < owners_of array.old.locks }
-    requires left { length (desk_at array.old.clients client).replies < length (desk_at array.old.clients client).items }
+    requires left { length (desk_at array.old.clients client).replies
+        < length (desk_at array.old.clients client).items }
     requires lease { IsLease array.old.pool (desk_at array.old.clients client).lease }
     requires home { AllHome array.old.pool (desk_at array.old.clients client).lease }
     ensures released { Released array.old client reply array.new }
@@ -90,8 +93,10 @@ pub(crate) fn end_plain<L: Layout, D: Disk>(
     requires plain { IsPlain (item_at (desk_at array.old.clients client)) }
     requires empty { sources.items ≡ [] }
     requires room { 2048 ≤ vec_capacity sources }
-    ensures home { EndsNode L.Layout D.Disk array.old client node (event.Good (id_of array.old.clients client) node) None array.new }
-    ensures trace { array.new.log ≡ noted array.old.log (event.Good (id_of array.old.clients client) node) }
+    ensures home { EndsNode L.Layout D.Disk array.old client node
+        (event.Good (id_of array.old.clients client) node) None array.new }
+    ensures trace { array.new.log
+        ≡ noted array.old.log (event.Good (id_of array.old.clients client) node) }
 {
     let id = array.id(client);
     terminate(array, client, node, sources, Reply::Done);

@@ -28,8 +28,10 @@ fn call_buf<L: Layout, D: Disk>(array: &Array<L, D>, client: u32, node: u32) -> 
     requires out { IsOutOf (desk_at array.now.clients client) node }
     requires node { node < length (desk_at array.now.clients client).run.graph.nodes }
     requires call { IsCall (kind_at (desk_at array.now.clients client).run.graph node) }
-    ensures read { (i b : ℕ) → kind_at (desk_at array.now.clients client).run.graph node ≡ Node.Rd i b → result ≡ b }
-    ensures write { (i b : ℕ) → kind_at (desk_at array.now.clients client).run.graph node ≡ Node.Wr i b → result ≡ b }
+    ensures read { (i b : ℕ)
+        → kind_at (desk_at array.now.clients client).run.graph node ≡ Node.Rd i b → result ≡ b }
+    ensures write { (i b : ℕ)
+        → kind_at (desk_at array.now.clients client).run.graph node ≡ Node.Wr i b → result ≡ b }
 {
     match array.clients.node(client, node, &array.graphs) {
         Node::Rd { buf, .. } | Node::Wr { buf, .. } => buf,
@@ -44,8 +46,10 @@ fn read_ends<L: Layout, D: Disk>(array: &mut Array<L, D>, client: u32, node: u32
     requires back { ReadCame L.Layout D.Disk array.old client node coming }
     requires empty { coming.sources.items ≡ [] }
     requires room { 2048 ≤ vec_capacity coming.sources }
-    ensures home { EndsNode L.Layout D.Disk array.old client node (event.Good (id_of array.old.clients client) node) (Some coming.disk) array.new }
-    ensures trace { array.new.log ≡ noted array.old.log (event.Good (id_of array.old.clients client) node) }
+    ensures home { EndsNode L.Layout D.Disk array.old client node
+        (event.Good (id_of array.old.clients client) node) (Some coming.disk) array.new }
+    ensures trace { array.new.log
+        ≡ noted array.old.log (event.Good (id_of array.old.clients client) node) }
 {
     let buf = call_buf(array, client, node);
     let id = array.id(client);
@@ -68,8 +72,10 @@ fn write_ends<L: Layout, D: Disk>(
     requires back { WriteCame L.Layout D.Disk array.old client node coming }
     requires empty { coming.sources.items ≡ [] }
     requires room { 2048 ≤ vec_capacity coming.sources }
-    ensures home { EndsNode L.Layout D.Disk array.old client node (event.Good (id_of array.old.clients client) node) (Some coming.disk) array.new }
-    ensures trace { array.new.log ≡ noted array.old.log (event.Good (id_of array.old.clients client) node) }
+    ensures home { EndsNode L.Layout D.Disk array.old client node
+        (event.Good (id_of array.old.clients client) node) (Some coming.disk) array.new }
+    ensures trace { array.new.log
+        ≡ noted array.old.log (event.Good (id_of array.old.clients client) node) }
 {
     let buf = call_buf(array, client, node);
     let id = array.id(client);
@@ -85,9 +91,12 @@ pub fn read_returns<L: Layout, D: Disk>(array: &mut Array<L, D>, job: Job<D>)
     requires sound { IsSound L.Layout D.Disk array.old }
     requires place { HasRoom array.old.log }
     requires back { CameBack D.Disk L.Layout array.old job Outcome.Good }
-    requires read { (disk : D) × (first : ℕ) × (buffer : List ℕ) × (count : ℕ) × (job.work ≡ Work.Read disk first buffer count) }
-    ensures home { EndsNode L.Layout D.Disk array.old job.client job.node (event.Good (id_of array.old.clients job.client) job.node) (device_in job.work) array.new }
-    ensures trace { array.new.log ≡ noted array.old.log (event.Good (id_of array.old.clients job.client) job.node) }
+    requires read { (disk : D) × (first : ℕ) × (buffer : List ℕ) × (count : ℕ)
+        × (job.work ≡ Work.Read disk first buffer count) }
+    ensures home { EndsNode L.Layout D.Disk array.old job.client job.node
+        (event.Good (id_of array.old.clients job.client) job.node) (device_in job.work) array.new }
+    ensures trace { array.new.log
+        ≡ noted array.old.log (event.Good (id_of array.old.clients job.client) job.node) }
 {
     let Job {
         client,
@@ -113,10 +122,14 @@ pub fn write_returns<L: Layout, D: Disk>(array: &mut Array<L, D>, job: Job<D>)
     requires sound { IsSound L.Layout D.Disk array.old }
     requires place { HasRoom array.old.log }
     requires back { CameBack D.Disk L.Layout array.old job Outcome.Good }
-    requires write { (disk : D) × (first : ℕ) × (buffer : List ℕ) × (count : ℕ) × (job.work ≡ Work.Write disk first buffer count) }
-    requires sane { (a : Spot) → spot_at (desk_at array.old.clients job.client) job.node ≡ Some a → has_failed array.old.devices a.device ≡ false }
-    ensures home { EndsNode L.Layout D.Disk array.old job.client job.node (event.Good (id_of array.old.clients job.client) job.node) (device_in job.work) array.new }
-    ensures trace { array.new.log ≡ noted array.old.log (event.Good (id_of array.old.clients job.client) job.node) }
+    requires write { (disk : D) × (first : ℕ) × (buffer : List ℕ) × (count : ℕ)
+        × (job.work ≡ Work.Write disk first buffer count) }
+    requires sane { (a : Spot) → spot_at (desk_at array.old.clients job.client) job.node ≡ Some a
+        → has_failed array.old.devices a.device ≡ false }
+    ensures home { EndsNode L.Layout D.Disk array.old job.client job.node
+        (event.Good (id_of array.old.clients job.client) job.node) (device_in job.work) array.new }
+    ensures trace { array.new.log
+        ≡ noted array.old.log (event.Good (id_of array.old.clients job.client) job.node) }
 {
     let Job {
         client,

@@ -48,13 +48,17 @@ fn operation_ends<L: Layout, D: Disk>(
     requires not_lost { array.old.lost ≡ None }
     requires out { IsOutOf (desk_at array.old.clients client) node }
     requires end { kind_at (desk_at array.old.clients client).run.graph node ≡ Node.Trm }
-    requires serves { (file : Option ℕ) × (item_at (desk_at array.old.clients client) ≡ Some (item.Run op file)) }
+    requires serves { (file : Option ℕ)
+        × (item_at (desk_at array.old.clients client) ≡ Some (item.Run op file)) }
     requires laid { AreLaid array.old.log.handed array.old.clients }
     requires count { MayCount array.old.log }
     requires empty { sources.items ≡ [] }
     requires room { 2048 ≤ vec_capacity sources }
-    ensures home { EndsNode L.Layout D.Disk array.old client node (event.Good (id_of array.old.clients client) node) None array.new }
-    ensures trace { LogEndsOp (L.shape array.old.layout) array.old.cols.states (desk_at array.old.clients client) array.old.log (event.Good (id_of array.old.clients client) node) array.new.log op }
+    ensures home { EndsNode L.Layout D.Disk array.old client node
+        (event.Good (id_of array.old.clients client) node) None array.new }
+    ensures trace { LogEndsOp (L.shape array.old.layout) array.old.cols.states
+        (desk_at array.old.clients client) array.old.log
+        (event.Good (id_of array.old.clients client) node) array.new.log op }
 {
     match op {
         Op::Write { .. } => end_plain(array, client, node, sources),
@@ -81,8 +85,12 @@ fn terminator_ends<L: Layout, D: Disk>(
     requires count { MayCount array.old.log }
     requires empty { sources.items ≡ [] }
     requires room { 2048 ≤ vec_capacity sources }
-    ensures home { EndsNode L.Layout D.Disk array.old client node (event.Good (id_of array.old.clients client) node) None array.new }
-    ensures trace { LogEndsItem (L.shape array.old.layout) array.old.cols.states (desk_at array.old.clients client) array.old.log (event.Good (id_of array.old.clients client) node) array.new.log (item_at (desk_at array.old.clients client)) }
+    ensures home { EndsNode L.Layout D.Disk array.old client node
+        (event.Good (id_of array.old.clients client) node) None array.new }
+    ensures trace { LogEndsItem (L.shape array.old.layout)
+        array.old.cols.states (desk_at array.old.clients client)
+        array.old.log (event.Good (id_of array.old.clients client) node) array.new.log
+        (item_at (desk_at array.old.clients client)) }
 {
     let Some(item) = array.clients.item(client) else {
         unreachable!()
@@ -101,14 +109,21 @@ fn terminator_ends<L: Layout, D: Disk>(
 pub fn nothing_returns<L: Layout, D: Disk>(array: &mut Array<L, D>, job: Job<D>)
     requires sound { IsSound L.Layout D.Disk array.old }
     requires place { HasRoom array.old.log }
-    requires history { kind_at (desk_at array.old.clients job.client).run.graph job.node ≡ Node.Cmt → MayEnter array.old.log }
+    requires history { kind_at (desk_at array.old.clients job.client).run.graph job.node ≡ Node.Cmt
+        → MayEnter array.old.log }
     requires not_lost { array.old.lost ≡ None }
     requires back { CameBack D.Disk L.Layout array.old job Outcome.Good }
     requires nothing { job.work ≡ Work.Nothing }
     requires laid { AreLaid array.old.log.handed array.old.clients }
-    requires count { kind_at (desk_at array.old.clients job.client).run.graph job.node ≡ Node.Trm → MayCount array.old.log }
-    ensures home { EndsNode L.Layout D.Disk array.old job.client job.node (event.Good (id_of array.old.clients job.client) job.node) (device_in job.work) array.new }
-    ensures trace { LogEnds (L.shape array.old.layout) array.old.cols.states (desk_at array.old.clients job.client) array.old.log (event.Good (id_of array.old.clients job.client) job.node) array.new.log (id_of array.old.clients job.client) (kind_at (desk_at array.old.clients job.client).run.graph job.node) array.old.lost }
+    requires count { kind_at (desk_at array.old.clients job.client).run.graph job.node ≡ Node.Trm
+        → MayCount array.old.log }
+    ensures home { EndsNode L.Layout D.Disk array.old job.client job.node
+        (event.Good (id_of array.old.clients job.client) job.node) (device_in job.work) array.new }
+    ensures trace { LogEnds
+        (L.shape array.old.layout) array.old.cols.states (desk_at array.old.clients job.client)
+        array.old.log (event.Good (id_of array.old.clients job.client) job.node) array.new.log
+        (id_of array.old.clients job.client)
+        (kind_at (desk_at array.old.clients job.client).run.graph job.node) array.old.lost }
 {
     let Job {
         client,

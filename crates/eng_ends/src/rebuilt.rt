@@ -28,7 +28,9 @@ use lay_core::Layout;
 fn rebuilt<L: Layout, D: Disk>(array: &Array<L, D>, client: u32) -> Option<u32>
     requires sound { IsSound L.Layout D.Disk array.now }
     requires runs { (desk_at array.now.clients client).stage ≡ stage.Runs }
-    ensures { MatchOption result ((unit : ℕ) → ¬ (HasRebuilt (L.shape array.now.layout) array.now.cols.states (desk_at array.now.clients client) unit)) (HasRebuilt (L.shape array.now.layout) array.now.cols.states (desk_at array.now.clients client)) }
+    ensures { MatchOption result ((unit : ℕ) → ¬ (HasRebuilt (L.shape array.now.layout)
+        array.now.cols.states (desk_at array.now.clients client) unit)) (HasRebuilt
+        (L.shape array.now.layout) array.now.cols.states (desk_at array.now.clients client)) }
 {
     let unit = array.clients.rewritten(client, &array.graphs)?;
     let stripe = array.clients.stripe(client, 0);
@@ -43,13 +45,16 @@ fn stripe_done<L: Layout, D: Disk>(array: &mut Array<L, D>, stripe: u32, unit: u
     requires layout { IsFor (L.shape array.old.layout) array.old.cols }
     requires stripe { stripe < array.old.cols.stripes }
     requires unit { unit < (L.shape array.old.layout).width }
-    requires target { (at : Spot) × (target (L.shape array.old.layout) array.old.cols.states stripe unit ≡ Some at) }
+    requires target { (at : Spot)
+        × (target (L.shape array.old.layout) array.old.cols.states stripe unit ≡ Some at) }
     requires room { MayCount array.old.log }
-    ensures ended { IsEnded (L.shape array.old.layout) stripe unit array.old.cols.states array.new.cols.states }
+    ensures ended { IsEnded (L.shape array.old.layout) stripe unit array.old.cols.states
+        array.new.cols.states }
     ensures columns { length array.new.cols.states ≡ length array.old.cols.states }
     ensures stripes { array.new.cols.stripes ≡ array.old.cols.stripes }
     ensures kept { IsKept array.new.cols }
-    ensures rest { array.new ≡ record array.old { cols = array.new.cols; log = counted array.old.log } }
+    ensures rest { array.new
+        ≡ record array.old { cols = array.new.cols; log = counted array.old.log } }
 {
     array.cols.end(&array.layout, stripe, unit);
     array.log.count();
@@ -88,8 +93,11 @@ pub(crate) fn end_rebuild<L: Layout, D: Disk>(
     requires rebuild { IsRebuild (item_at (desk_at array.old.clients client)) }
     requires empty { sources.items ≡ [] }
     requires room { 2048 ≤ vec_capacity sources }
-    ensures home { EndsNode L.Layout D.Disk array.old client node (event.Good (id_of array.old.clients client) node) None array.new }
-    ensures trace { CountsRebuilt (L.shape array.old.layout) array.old.cols.states (desk_at array.old.clients client) (noted array.old.log (event.Good (id_of array.old.clients client) node)) array.new.log }
+    ensures home { EndsNode L.Layout D.Disk array.old client node
+        (event.Good (id_of array.old.clients client) node) None array.new }
+    ensures trace { CountsRebuilt
+        (L.shape array.old.layout) array.old.cols.states (desk_at array.old.clients client)
+        (noted array.old.log (event.Good (id_of array.old.clients client) node)) array.new.log }
 {
     let id = array.id(client);
     end_stripe(array, client);

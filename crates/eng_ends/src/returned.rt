@@ -51,8 +51,12 @@ fn copy_front<L: Layout, D: Disk>(
     requires home { AllHome array.old.pool (desk_at array.old.clients client).lease }
     requires count { 512 * count ≤ array.old.pool.unit }
     requires fits { 512 * first + 512 * count ≤ length array.old.log.handed.bytes }
-    ensures now { array.new ≡ record array.old { log = with_bytes array.old.log (put array.old.log.handed.bytes first (take (512 * count) (bytes_at array.old.pool (desk_at array.old.clients client).lease buf))) } }
-    ensures long { length (bytes_at array.old.pool (desk_at array.old.clients client).lease buf) ≡ array.old.pool.unit }
+    ensures now { array.new ≡ record array.old {
+      log = with_bytes array.old.log (put array.old.log.handed.bytes first (take (512 * count)
+          (bytes_at array.old.pool (desk_at array.old.clients client).lease buf)));
+    } }
+    ensures long { length (bytes_at array.old.pool (desk_at array.old.clients client).lease buf)
+        ≡ array.old.pool.unit }
 {
     let buffer = array.buffer_leaves(client, buf);
     let front = &buffer.bytes()[..SECTOR * count as usize];
@@ -68,8 +72,14 @@ fn copy_return<L: Layout, D: Disk>(array: &mut Array<L, D>, client: u32, number:
     requires reads { Reads array.old.clients client span }
     requires laid { AreLaid array.old.log.handed array.old.clients }
     requires home { AllHome array.old.pool (desk_at array.old.clients client).lease }
-    ensures copied { CopiesOne (desk_at array.old.clients client).run.graph (sector_for (L.shape array.old.layout) (desk_at array.old.clients client) span (region_at array.old.log.handed client (length (desk_at array.old.clients client).replies)).first) (bytes_at array.old.pool (desk_at array.old.clients client).lease) (ret_at (desk_at array.old.clients client).run.graph number) array.old.log.handed.bytes array.new.log.handed.bytes }
-    ensures rest { array.new ≡ record array.old { log = with_bytes array.old.log array.new.log.handed.bytes } }
+    ensures copied { CopiesOne (desk_at array.old.clients client).run.graph
+        (sector_for (L.shape array.old.layout) (desk_at array.old.clients client) span (region_at
+        array.old.log.handed client (length (desk_at array.old.clients client).replies)).first)
+        (bytes_at array.old.pool (desk_at array.old.clients client).lease)
+        (ret_at (desk_at array.old.clients client).run.graph number) array.old.log.handed.bytes
+        array.new.log.handed.bytes }
+    ensures rest { array.new
+        ≡ record array.old { log = with_bytes array.old.log array.new.log.handed.bytes } }
 {
     array.log.stands();
     let ret = array.clients.ret(client, number, &array.graphs);
@@ -87,8 +97,14 @@ fn copy_returns<L: Layout, D: Disk>(array: &mut Array<L, D>, client: u32, span: 
     requires reads { Reads array.old.clients client span }
     requires laid { AreLaid array.old.log.handed array.old.clients }
     requires home { AllHome array.old.pool (desk_at array.old.clients client).lease }
-    ensures copied { Copies (desk_at array.old.clients client).run.graph (sector_for (L.shape array.old.layout) (desk_at array.old.clients client) span (region_at array.old.log.handed client (length (desk_at array.old.clients client).replies)).first) (bytes_at array.old.pool (desk_at array.old.clients client).lease) (length (desk_at array.old.clients client).run.graph.rets) array.old.log.handed.bytes array.new.log.handed.bytes }
-    ensures rest { array.new ≡ record array.old { log = with_bytes array.old.log array.new.log.handed.bytes } }
+    ensures copied { Copies (desk_at array.old.clients client).run.graph
+        (sector_for (L.shape array.old.layout) (desk_at array.old.clients client) span (region_at
+        array.old.log.handed client (length (desk_at array.old.clients client).replies)).first)
+        (bytes_at array.old.pool (desk_at array.old.clients client).lease)
+        (length (desk_at array.old.clients client).run.graph.rets) array.old.log.handed.bytes
+        array.new.log.handed.bytes }
+    ensures rest { array.new
+        ≡ record array.old { log = with_bytes array.old.log array.new.log.handed.bytes } }
 {
     for number in 0..array.clients.rets(client, &array.graphs) {
         copy_return(array, client, number, span);
@@ -127,8 +143,10 @@ pub(crate) fn end_read<L: Layout, D: Disk>(
     requires laid { AreLaid array.old.log.handed array.old.clients }
     requires empty { sources.items ≡ [] }
     requires room { 2048 ≤ vec_capacity sources }
-    ensures home { EndsNode L.Layout D.Disk array.old client node (event.Good (id_of array.old.clients client) node) None array.new }
-    ensures trace { array.new.log ≡ noted (with_bytes array.old.log array.new.log.handed.bytes) (event.Good (id_of array.old.clients client) node) }
+    ensures home { EndsNode L.Layout D.Disk array.old client node
+        (event.Good (id_of array.old.clients client) node) None array.new }
+    ensures trace { array.new.log ≡ noted (with_bytes array.old.log array.new.log.handed.bytes)
+        (event.Good (id_of array.old.clients client) node) }
 {
     let id = array.id(client);
     let span = read_span(array, client);

@@ -26,8 +26,10 @@ use lay_core::Layout;
 fn sources_home<L: Layout, D: Disk>(array: &mut Array<L, D>, client: u32, sources: &mut Vec<Source>)
     requires client { client < length array.old.clients }
     requires lease { IsLease array.old.pool (desk_at array.old.clients client).lease }
-    requires out { SourcesOut array.old.pool (desk_at array.old.clients client).lease sources.old.items }
-    ensures home { SourcesHome array.old.pool (desk_at array.old.clients client).lease sources.old.items array.new.pool }
+    requires out { SourcesOut array.old.pool (desk_at array.old.clients client).lease
+        sources.old.items }
+    ensures home { SourcesHome array.old.pool (desk_at array.old.clients client).lease
+        sources.old.items array.new.pool }
     ensures rest { array.new ≡ record array.old { pool = array.new.pool } }
     ensures empty { sources.new.items ≡ [] }
     ensures room { vec_capacity sources.new ≡ vec_capacity sources.old }
@@ -40,8 +42,10 @@ fn sum_buf<L: Layout, D: Disk>(array: &Array<L, D>, client: u32, node: u32) -> u
     requires sound { IsSound L.Layout D.Disk array.now }
     requires out { IsOutOf (desk_at array.now.clients client) node }
     requires node { node < length (desk_at array.now.clients client).run.graph.nodes }
-    requires sum { (b : ℕ) × (kind_at (desk_at array.now.clients client).run.graph node ≡ Node.Xor b) }
-    ensures { (b : ℕ) → kind_at (desk_at array.now.clients client).run.graph node ≡ Node.Xor b → result ≡ b }
+    requires sum { (b : ℕ)
+        × (kind_at (desk_at array.now.clients client).run.graph node ≡ Node.Xor b) }
+    ensures { (b : ℕ) → kind_at (desk_at array.now.clients client).run.graph node ≡ Node.Xor b
+        → result ≡ b }
 {
     match array.clients.node(client, node, &array.graphs) {
         Node::Xor { to } => to,
@@ -61,7 +65,8 @@ fn sum_home<L: Layout, D: Disk>(
     requires sound { IsSound L.Layout D.Disk array.old }
     requires back { SumBack D.Disk array.old client node target sources.items count Outcome.Good }
     requires room { 2048 ≤ vec_capacity sources }
-    ensures { (r : SumBack D.Disk array.old client node target sources.items count Outcome.Good) → SumHome array.old client node r.to target sources.items array.new }
+    ensures { (r : SumBack D.Disk array.old client node target sources.items count Outcome.Good)
+        → SumHome array.old client node r.to target sources.items array.new }
 {
     let _ = count;
     let to = sum_buf(array, client, node);
@@ -83,8 +88,10 @@ fn sum_ends<L: Layout, D: Disk>(
     requires place { HasRoom array.old.log }
     requires back { SumBack D.Disk array.old client node target sources.items count Outcome.Good }
     requires room { 2048 ≤ vec_capacity sources }
-    ensures home { EndsNode L.Layout D.Disk array.old client node (event.Good (id_of array.old.clients client) node) None array.new }
-    ensures trace { array.new.log ≡ noted array.old.log (event.Good (id_of array.old.clients client) node) }
+    ensures home { EndsNode L.Layout D.Disk array.old client node
+        (event.Good (id_of array.old.clients client) node) None array.new }
+    ensures trace { array.new.log
+        ≡ noted array.old.log (event.Good (id_of array.old.clients client) node) }
 {
     let id = array.id(client);
     sum_home(array, client, node, target, sources, count);
@@ -97,8 +104,10 @@ pub fn sum_returns<L: Layout, D: Disk>(array: &mut Array<L, D>, job: Job<D>)
     requires place { HasRoom array.old.log }
     requires back { CameBack D.Disk L.Layout array.old job Outcome.Good }
     requires sum { (target : List ℕ) × (count : ℕ) × (job.work ≡ Work.Sum target count) }
-    ensures home { EndsNode L.Layout D.Disk array.old job.client job.node (event.Good (id_of array.old.clients job.client) job.node) (device_in job.work) array.new }
-    ensures trace { array.new.log ≡ noted array.old.log (event.Good (id_of array.old.clients job.client) job.node) }
+    ensures home { EndsNode L.Layout D.Disk array.old job.client job.node
+        (event.Good (id_of array.old.clients job.client) job.node) (device_in job.work) array.new }
+    ensures trace { array.new.log
+        ≡ noted array.old.log (event.Good (id_of array.old.clients job.client) job.node) }
 {
     let Job {
         client,

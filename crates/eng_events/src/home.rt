@@ -30,8 +30,10 @@ use lay_core::Layout;
 fn has_failed_since<L: Layout, D: Disk>(array: &Array<L, D>, client: u32, node: u32) -> bool
     requires client { client < length array.now.clients }
     requires node { node < 2048 }
-    requires there { (at : Spot) → spot_at (desk_at array.now.clients client) node ≡ Some at → at.device < length array.now.devices.slots }
-    ensures { result ≡ failed_at array.now.devices (spot_at (desk_at array.now.clients client) node) }
+    requires there { (at : Spot) → spot_at (desk_at array.now.clients client) node ≡ Some at
+        → at.device < length array.now.devices.slots }
+    ensures { result
+        ≡ failed_at array.now.devices (spot_at (desk_at array.now.clients client) node) }
 {
     match array.clients.spot(client, node) {
         Some(at) => array.devices.has_failed(at.device),
@@ -58,13 +60,22 @@ fn comes_back_bad<L: Layout, D: Disk>(array: &Array<L, D>, job: &Job<D>, outcome
 fn nothing_goes_home<L: Layout, D: Disk>(array: &mut Array<L, D>, job: Job<D>)
     requires sound { IsSound L.Layout D.Disk array.old }
     requires place { HasRoom array.old.log }
-    requires history { array.old.lost ≡ None → kind_at (desk_at array.old.clients job.client).run.graph job.node ≡ Node.Cmt → MayEnter array.old.log }
+    requires history { array.old.lost ≡ None
+        → kind_at (desk_at array.old.clients job.client).run.graph job.node ≡ Node.Cmt
+        → MayEnter array.old.log }
     requires back { CameBack D.Disk L.Layout array.old job Outcome.Good }
     requires nothing { job.work ≡ Work.Nothing }
     requires laid { array.old.lost ≡ None → AreLaid array.old.log.handed array.old.clients }
-    requires count { array.old.lost ≡ None → kind_at (desk_at array.old.clients job.client).run.graph job.node ≡ Node.Trm → MayCount array.old.log }
-    ensures home { EndsNode L.Layout D.Disk array.old job.client job.node (event.Good (id_of array.old.clients job.client) job.node) (device_in job.work) array.new }
-    ensures trace { LogEnds (L.shape array.old.layout) array.old.cols.states (desk_at array.old.clients job.client) array.old.log (event.Good (id_of array.old.clients job.client) job.node) array.new.log (id_of array.old.clients job.client) (kind_at (desk_at array.old.clients job.client).run.graph job.node) array.old.lost }
+    requires count { array.old.lost ≡ None
+        → kind_at (desk_at array.old.clients job.client).run.graph job.node ≡ Node.Trm
+        → MayCount array.old.log }
+    ensures home { EndsNode L.Layout D.Disk array.old job.client job.node
+        (event.Good (id_of array.old.clients job.client) job.node) (device_in job.work) array.new }
+    ensures trace { LogEnds
+        (L.shape array.old.layout) array.old.cols.states (desk_at array.old.clients job.client)
+        array.old.log (event.Good (id_of array.old.clients job.client) job.node) array.new.log
+        (id_of array.old.clients job.client)
+        (kind_at (desk_at array.old.clients job.client).run.graph job.node) array.old.lost }
 {
     match array.lost {
         None => nothing_returns(array, job),
@@ -76,13 +87,22 @@ fn nothing_goes_home<L: Layout, D: Disk>(array: &mut Array<L, D>, job: Job<D>)
 fn good_returns<L: Layout, D: Disk>(array: &mut Array<L, D>, job: Job<D>)
     requires sound { IsSound L.Layout D.Disk array.old }
     requires place { HasRoom array.old.log }
-    requires history { array.old.lost ≡ None → kind_at (desk_at array.old.clients job.client).run.graph job.node ≡ Node.Cmt → MayEnter array.old.log }
+    requires history { array.old.lost ≡ None
+        → kind_at (desk_at array.old.clients job.client).run.graph job.node ≡ Node.Cmt
+        → MayEnter array.old.log }
     requires back { CameBack D.Disk L.Layout array.old job Outcome.Good }
     requires sane { IsWriteJob job → DeviceFailed array.old job false }
     requires laid { array.old.lost ≡ None → AreLaid array.old.log.handed array.old.clients }
-    requires count { array.old.lost ≡ None → kind_at (desk_at array.old.clients job.client).run.graph job.node ≡ Node.Trm → MayCount array.old.log }
-    ensures home { EndsNode L.Layout D.Disk array.old job.client job.node (event.Good (id_of array.old.clients job.client) job.node) (device_in job.work) array.new }
-    ensures trace { LogEnds (L.shape array.old.layout) array.old.cols.states (desk_at array.old.clients job.client) array.old.log (event.Good (id_of array.old.clients job.client) job.node) array.new.log (id_of array.old.clients job.client) (kind_at (desk_at array.old.clients job.client).run.graph job.node) array.old.lost }
+    requires count { array.old.lost ≡ None
+        → kind_at (desk_at array.old.clients job.client).run.graph job.node ≡ Node.Trm
+        → MayCount array.old.log }
+    ensures home { EndsNode L.Layout D.Disk array.old job.client job.node
+        (event.Good (id_of array.old.clients job.client) job.node) (device_in job.work) array.new }
+    ensures trace { LogEnds
+        (L.shape array.old.layout) array.old.cols.states (desk_at array.old.clients job.client)
+        array.old.log (event.Good (id_of array.old.clients job.client) job.node) array.new.log
+        (id_of array.old.clients job.client)
+        (kind_at (desk_at array.old.clients job.client).run.graph job.node) array.old.lost }
 {
     match &job.work {
         Work::Nothing => nothing_goes_home(array, job),
@@ -96,15 +116,26 @@ fn good_returns<L: Layout, D: Disk>(array: &mut Array<L, D>, job: Job<D>)
 pub fn goes_home<L: Layout, D: Disk>(array: &mut Array<L, D>, job: Job<D>, outcome: Outcome)
     requires sound { IsSound L.Layout D.Disk array.old }
     requires place { HasRoom array.old.log }
-    requires history { array.old.lost ≡ None → kind_at (desk_at array.old.clients job.client).run.graph job.node ≡ Node.Cmt → MayEnter array.old.log }
+    requires history { array.old.lost ≡ None
+        → kind_at (desk_at array.old.clients job.client).run.graph job.node ≡ Node.Cmt
+        → MayEnter array.old.log }
     requires standing { array.old.lost ≡ None → Standing L.Layout array.old }
-    requires within { (at : Spot) → spot_at (desk_at array.old.clients job.client) job.node ≡ Some at → at.column < (L.shape array.old.layout).columns }
-    requires on { (loss : Loss) → array.old.lost ≡ Some loss → IsOnColumn array.old job.client job.node }
+    requires within { (at : Spot)
+        → spot_at (desk_at array.old.clients job.client) job.node ≡ Some at
+        → at.column < (L.shape array.old.layout).columns }
+    requires on { (loss : Loss) → array.old.lost ≡ Some loss
+        → IsOnColumn array.old job.client job.node }
     requires back { CameBack D.Disk L.Layout array.old job outcome }
     requires laid { array.old.lost ≡ None → AreLaid array.old.log.handed array.old.clients }
-    requires count { array.old.lost ≡ None → kind_at (desk_at array.old.clients job.client).run.graph job.node ≡ Node.Trm → MayCount array.old.log }
-    ensures home { EndsNode L.Layout D.Disk array.old job.client job.node (ended_by array.old job outcome) (device_in job.work) array.new }
-    ensures trace { LogEnds (L.shape array.old.layout) array.old.cols.states (desk_at array.old.clients job.client) array.old.log (ended_by array.old job outcome) array.new.log (id_of array.old.clients job.client) (kind_at (desk_at array.old.clients job.client).run.graph job.node) array.old.lost }
+    requires count { array.old.lost ≡ None
+        → kind_at (desk_at array.old.clients job.client).run.graph job.node ≡ Node.Trm
+        → MayCount array.old.log }
+    ensures home { EndsNode L.Layout D.Disk array.old job.client job.node
+        (ended_by array.old job outcome) (device_in job.work) array.new }
+    ensures trace { LogEnds (L.shape array.old.layout)
+        array.old.cols.states (desk_at array.old.clients job.client) array.old.log
+        (ended_by array.old job outcome) array.new.log (id_of array.old.clients job.client)
+        (kind_at (desk_at array.old.clients job.client).run.graph job.node) array.old.lost }
 {
     if comes_back_bad(array, &job, outcome) {
         bad_returns(array, job);

@@ -44,8 +44,11 @@ pub fn open<L: Layout, D: Disk + Drop>(
     room: CoreRoom<D>,
 ) -> Result<Array<L, D>, (OpenFault, Setup<L, D>)>
     requires setup { IsSetup L.Layout D.Disk setup }
-    requires room { IsRoomFor (L.shape setup.layout) (length setup.devices.items) setup.clients.items setup.trace room }
-    ensures fault { MatchResult result (λ core. NotLost (L.shape setup.layout) (states_of (L.shape setup.layout) setup.columns.items)) (λ e. IsFault (L.shape setup.layout) (states_of (L.shape setup.layout) setup.columns.items) e.0) }
+    requires room { IsRoomFor (L.shape setup.layout) (length setup.devices.items)
+        setup.clients.items setup.trace room }
+    ensures fault { MatchResult result (λ core.
+        NotLost (L.shape setup.layout) (states_of (L.shape setup.layout) setup.columns.items)) (λ e.
+        IsFault (L.shape setup.layout) (states_of (L.shape setup.layout) setup.columns.items) e.0) }
     ensures back { IfErr result (λ e. e.1 ≡ setup) }
     ensures opened { IfOk result (IsOpened L.Layout D.Disk setup) }
     ensures sound { IfOk result (IsSound L.Layout D.Disk) }

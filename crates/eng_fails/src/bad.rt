@@ -29,8 +29,10 @@ fn buf_of<L: Layout, D: Disk>(array: &Array<L, D>, client: u32, node: u32) -> u3
     requires out { IsOutOf (desk_at array.now.clients client) node }
     requires node { node < length (desk_at array.now.clients client).run.graph.nodes }
     requires call { IsCall (kind_at (desk_at array.now.clients client).run.graph node) }
-    ensures read { (i b : ℕ) → kind_at (desk_at array.now.clients client).run.graph node ≡ Node.Rd i b → result ≡ b }
-    ensures write { (i b : ℕ) → kind_at (desk_at array.now.clients client).run.graph node ≡ Node.Wr i b → result ≡ b }
+    ensures read { (i b : ℕ)
+        → kind_at (desk_at array.now.clients client).run.graph node ≡ Node.Rd i b → result ≡ b }
+    ensures write { (i b : ℕ)
+        → kind_at (desk_at array.now.clients client).run.graph node ≡ Node.Wr i b → result ≡ b }
 {
     match array.clients.node(client, node, &array.graphs) {
         Node::Rd { buf, .. } => buf,
@@ -56,7 +58,9 @@ fn bad_home<L: Layout, D: Disk>(array: &mut Array<L, D>, client: u32, node: u32,
     requires back { CallCameBack L.Layout D.Disk array.old client node coming.disk coming.buffer }
     requires empty { coming.sources.items ≡ [] }
     requires room { 2048 ≤ vec_capacity coming.sources }
-    ensures { (r : CallCameBack L.Layout D.Disk array.old client node coming.disk coming.buffer) → CameHome array.old client node r.back.buf r.back.at coming.disk coming.buffer Bad array.new }
+    ensures { (r : CallCameBack L.Layout D.Disk array.old client node coming.disk coming.buffer)
+        → CameHome array.old client node r.back.buf r.back.at coming.disk coming.buffer Bad
+        array.new }
 {
     let buf = buf_of(array, client, node);
     let Some(at) = array.clients.spot(client, node) else {
@@ -80,8 +84,10 @@ pub(crate) fn ends_bad<L: Layout, D: Disk>(
     requires empty { coming.sources.items ≡ [] }
     requires list { 2048 ≤ vec_capacity coming.sources }
     requires room { HasRoom array.old.log }
-    ensures home { EndsNode L.Layout D.Disk array.old client node (event.Bad (id_of array.old.clients client) node) (Some coming.disk) array.new }
-    ensures trace { array.new.log ≡ noted array.old.log (event.Bad (id_of array.old.clients client) node) }
+    ensures home { EndsNode L.Layout D.Disk array.old client node
+        (event.Bad (id_of array.old.clients client) node) (Some coming.disk) array.new }
+    ensures trace { array.new.log
+        ≡ noted array.old.log (event.Bad (id_of array.old.clients client) node) }
 {
     let id = array.id(client);
     array.clients.stands(client);
@@ -112,14 +118,17 @@ pub(crate) fn comes_bad<L: Layout, D: Disk>(
 )
     requires sound { IsSound L.Layout D.Disk array.old }
     requires lost { (loss : Loss) × (array.old.lost ≡ Some loss) }
-    requires within { (at : Spot) → spot_at (desk_at array.old.clients client) node ≡ Some at → at.column < (L.shape array.old.layout).columns }
+    requires within { (at : Spot) → spot_at (desk_at array.old.clients client) node ≡ Some at
+        → at.column < (L.shape array.old.layout).columns }
     requires on { IsOnColumn array.old client node }
     requires back { CallCameBad L.Layout D.Disk array.old client node coming.disk coming.buffer }
     requires empty { coming.sources.items ≡ [] }
     requires list { 2048 ≤ vec_capacity coming.sources }
     requires room { HasRoom array.old.log }
-    ensures home { EndsNode L.Layout D.Disk array.old client node (event.Bad (id_of array.old.clients client) node) (Some coming.disk) array.new }
-    ensures trace { array.new.log ≡ noted array.old.log (event.Bad (id_of array.old.clients client) node) }
+    ensures home { EndsNode L.Layout D.Disk array.old client node
+        (event.Bad (id_of array.old.clients client) node) (Some coming.disk) array.new }
+    ensures trace { array.new.log
+        ≡ noted array.old.log (event.Bad (id_of array.old.clients client) node) }
 {
     let id = array.id(client);
     let Some(at) = array.clients.spot(client, node) else {

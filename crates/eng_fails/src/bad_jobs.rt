@@ -29,14 +29,17 @@ fn call_ends_bad<L: Layout, D: Disk>(
 )
     requires sound { IsSound L.Layout D.Disk array.old }
     requires standing { array.old.lost ≡ None → Standing L.Layout array.old }
-    requires within { (at : Spot) → spot_at (desk_at array.old.clients client) node ≡ Some at → at.column < (L.shape array.old.layout).columns }
+    requires within { (at : Spot) → spot_at (desk_at array.old.clients client) node ≡ Some at
+        → at.column < (L.shape array.old.layout).columns }
     requires on { (loss : Loss) → array.old.lost ≡ Some loss → IsOnColumn array.old client node }
     requires back { CallCameBad L.Layout D.Disk array.old client node coming.disk coming.buffer }
     requires empty { coming.sources.items ≡ [] }
     requires list { 2048 ≤ vec_capacity coming.sources }
     requires room { HasRoom array.old.log }
-    ensures home { EndsNode L.Layout D.Disk array.old client node (event.Bad (id_of array.old.clients client) node) (Some coming.disk) array.new }
-    ensures trace { array.new.log ≡ noted array.old.log (event.Bad (id_of array.old.clients client) node) }
+    ensures home { EndsNode L.Layout D.Disk array.old client node
+        (event.Bad (id_of array.old.clients client) node) (Some coming.disk) array.new }
+    ensures trace { array.new.log
+        ≡ noted array.old.log (event.Bad (id_of array.old.clients client) node) }
 {
     match array.lost {
         None => ends_bad(array, client, node, coming),
@@ -49,12 +52,17 @@ fn call_ends_bad<L: Layout, D: Disk>(
 pub fn bad_returns<L: Layout, D: Disk>(array: &mut Array<L, D>, job: Job<D>)
     requires sound { IsSound L.Layout D.Disk array.old }
     requires standing { array.old.lost ≡ None → Standing L.Layout array.old }
-    requires within { (at : Spot) → spot_at (desk_at array.old.clients job.client) job.node ≡ Some at → at.column < (L.shape array.old.layout).columns }
-    requires on { (loss : Loss) → array.old.lost ≡ Some loss → IsOnColumn array.old job.client job.node }
+    requires within { (at : Spot)
+        → spot_at (desk_at array.old.clients job.client) job.node ≡ Some at
+        → at.column < (L.shape array.old.layout).columns }
+    requires on { (loss : Loss) → array.old.lost ≡ Some loss
+        → IsOnColumn array.old job.client job.node }
     requires back { JobCameBad L.Layout D.Disk array.old job }
     requires room { HasRoom array.old.log }
-    ensures home { EndsNode L.Layout D.Disk array.old job.client job.node (event.Bad (id_of array.old.clients job.client) job.node) (device_in job.work) array.new }
-    ensures trace { array.new.log ≡ noted array.old.log (event.Bad (id_of array.old.clients job.client) job.node) }
+    ensures home { EndsNode L.Layout D.Disk array.old job.client job.node
+        (event.Bad (id_of array.old.clients job.client) job.node) (device_in job.work) array.new }
+    ensures trace { array.new.log
+        ≡ noted array.old.log (event.Bad (id_of array.old.clients job.client) job.node) }
 {
     let Job {
         client,

@@ -44,7 +44,9 @@ fn dies<L: Layout, D: Disk>(array: &Array<L, D>, column: u32, stripe: u32, unit:
     requires columns { IsFor (L.shape array.now.layout) array.now.cols }
     requires stripe { stripe < array.now.cols.stripes }
     requires unit { unit < (L.shape array.now.layout).width }
-    ensures { result ≡ (is_available (L.shape array.now.layout) array.now.cols.states stripe unit && not (is_available (L.shape array.now.layout) (killed array.now.cols.states column) stripe unit)) }
+    ensures { result ≡ (is_available (L.shape array.now.layout) array.now.cols.states stripe unit
+        && not (is_available (L.shape array.now.layout) (killed array.now.cols.states column) stripe
+        unit)) }
 {
     match array.cols.spot(&array.layout, stripe, unit) {
         None => false,
@@ -57,7 +59,10 @@ fn node_reads<L: Layout, D: Disk>(array: &Array<L, D>, client: u32, node: u32, c
     requires sound { IsSound L.Layout D.Disk array.now }
     requires runs { (desk_at array.now.clients client).stage ≡ stage.Runs }
     requires node { node < length (desk_at array.now.clients client).run.graph.nodes }
-    ensures { result ≡ (reads (desk_at array.now.clients client).run.graph (kind_at (desk_at array.now.clients client).run.graph node) (dying (L.shape array.now.layout) array.now.cols.states column (desk_at array.now.clients client)) && not (is_good (mark_of (desk_at array.now.clients client).run node))) }
+    ensures { result ≡ (reads (desk_at array.now.clients client).run.graph
+        (kind_at (desk_at array.now.clients client).run.graph node) (dying
+        (L.shape array.now.layout) array.now.cols.states column (desk_at array.now.clients client))
+        && not (is_good (mark_of (desk_at array.now.clients client).run node))) }
 {
     match array.clients.node(client, node, &array.graphs) {
         Node::Rd { unit, buf } => {
@@ -72,7 +77,8 @@ fn node_reads<L: Layout, D: Disk>(array: &Array<L, D>, client: u32, node: u32, c
 fn still_reads<L: Layout, D: Disk>(array: &Array<L, D>, client: u32, column: u32) -> bool
     requires sound { IsSound L.Layout D.Disk array.now }
     requires runs { (desk_at array.now.clients client).stage ≡ stage.Runs }
-    ensures { result ≡ reads_dying (L.shape array.now.layout) array.now.cols.states column (desk_at array.now.clients client) }
+    ensures { result ≡ reads_dying (L.shape array.now.layout) array.now.cols.states column
+        (desk_at array.now.clients client) }
 {
     for node in 0..array.clients.nodes(client, &array.graphs) {
         if node_reads(array, client, node, column) {
@@ -86,7 +92,10 @@ fn abandon<L: Layout, D: Disk>(array: &mut Array<L, D>, client: u32, device: u32
     requires client { client < length array.old.clients }
     requires before { (desk_at array.old.clients client).run.phase ≡ Phase.Before }
     requires read { HasReadLeft (desk_at array.old.clients client).run }
-    ensures { array.new ≡ record array.old { clients = slice_set array.old.clients client (with_abandoned (desk_at array.old.clients client) device) } }
+    ensures { array.new ≡ record array.old {
+      clients = slice_set array.old.clients client
+          (with_abandoned (desk_at array.old.clients client) device);
+    } }
 {
     array.clients.abandon(client, device);
 }
@@ -96,7 +105,10 @@ fn suffer<L: Layout, D: Disk>(array: &mut Array<L, D>, client: u32, column: u32,
     requires sound { IsSound L.Layout D.Disk array.old }
     requires client { client < 17 }
     requires device { device ≡ device_on (slice_get array.old.cols.states column) column }
-    ensures { array.new ≡ record array.old { clients = slice_set array.old.clients client (suffered (L.shape array.old.layout) array.old.cols.states column (desk_at array.old.clients client)) } }
+    ensures { array.new ≡ record array.old {
+      clients = slice_set array.old.clients client (suffered (L.shape array.old.layout)
+          array.old.cols.states column (desk_at array.old.clients client));
+    } }
 {
     array.clients.stands(client);
     if !array.clients.is_before(client) {
@@ -110,7 +122,8 @@ fn suffer<L: Layout, D: Disk>(array: &mut Array<L, D>, client: u32, column: u32,
 fn suffer_all<L: Layout, D: Disk>(array: &mut Array<L, D>, column: u32, device: u32)
     requires sound { IsSound L.Layout D.Disk array.old }
     requires device { device ≡ device_on (slice_get array.old.cols.states column) column }
-    ensures desks { HaveSuffered (L.shape array.old.layout) array.old.cols.states column array.old.clients array.new.clients }
+    ensures desks { HaveSuffered (L.shape array.old.layout) array.old.cols.states column
+        array.old.clients array.new.clients }
     ensures rest { array.new ≡ record array.old { clients = array.new.clients } }
     ensures sound { IsSound L.Layout D.Disk array.new }
 {
@@ -121,7 +134,8 @@ fn suffer_all<L: Layout, D: Disk>(array: &mut Array<L, D>, column: u32, device: 
 
 pub(crate) fn kill<L: Layout, D: Disk>(array: &mut Array<L, D>, column: u32)
     requires { column < length array.old.cols.states }
-    ensures dead { array.new ≡ record array.old { cols = record array.old.cols { states = killed array.old.cols.states column } } }
+    ensures dead { array.new ≡ record array.old
+        { cols = record array.old.cols { states = killed array.old.cols.states column } } }
 {
     array.cols.kill(column);
 }
@@ -148,7 +162,13 @@ fn device_of<L: Layout, D: Disk>(array: &Array<L, D>, column: u32) -> u32
 fn blame<L: Layout, D: Disk>(array: &mut Array<L, D>, column: u32)
     requires sound { IsSound L.Layout D.Disk array.old }
     requires column { column < length array.old.cols.states }
-    ensures { array.new ≡ record array.old { devices = record array.old.devices { failed = failed_after (slice_get array.old.cols.states column) array.old.devices.failed } } }
+    ensures { array.new
+        ≡ record array.old {
+          devices = record array.old.devices {
+            failed = failed_after
+                (slice_get array.old.cols.states column) array.old.devices.failed;
+          };
+        } }
 {
     if let Some(device) = array.cols.device(column) {
         device_fails(array, device);
@@ -158,7 +178,9 @@ fn blame<L: Layout, D: Disk>(array: &mut Array<L, D>, column: u32)
 // Whether the array is lost is asked anew.
 fn judge<L: Layout, D: Disk>(array: &mut Array<L, D>)
     requires { IsFor (L.shape array.old.layout) array.old.cols }
-    ensures lost { MatchOption array.new.lost (NotLost (L.shape array.old.layout) array.old.cols.states) (IsLost (L.shape array.old.layout) array.old.cols.states) }
+    ensures lost { MatchOption
+        array.new.lost (NotLost (L.shape array.old.layout) array.old.cols.states)
+        (IsLost (L.shape array.old.layout) array.old.cols.states) }
     ensures rest { array.new ≡ record array.old { lost = array.new.lost } }
 {
     array.lost = array.cols.lost(&array.layout);
@@ -185,11 +207,16 @@ pub fn fail<L: Layout, D: Disk>(array: &mut Array<L, D>, column: u32)
     requires not_lost { array.old.lost ≡ None }
     requires room { HasRoom array.old.log }
     ensures dead { slice_get array.old.cols.states column ≡ Some Dead → array.new ≡ array.old }
-    ensures step { (slice_get array.old.cols.states column ≡ Some Dead → ⊥) → Follows L.Layout D.Disk array.old (event.Fail column) array.new }
-    ensures trace { (slice_get array.old.cols.states column ≡ Some Dead → ⊥) → array.new.log ≡ noted array.old.log (event.Fail column) }
-    ensures failed { (slice_get array.old.cols.states column ≡ Some Dead → ⊥) → (mid : Array L D) × FailedBy L.Layout array.old column mid × (array.new ≡ record mid { log = noted mid.log (event.Fail column) }) }
+    ensures step { (slice_get array.old.cols.states column ≡ Some Dead → ⊥)
+        → Follows L.Layout D.Disk array.old (event.Fail column) array.new }
+    ensures trace { (slice_get array.old.cols.states column ≡ Some Dead → ⊥)
+        → array.new.log ≡ noted array.old.log (event.Fail column) }
+    ensures failed { (slice_get array.old.cols.states column ≡ Some Dead → ⊥)
+        → (mid : Array L D) × FailedBy L.Layout array.old column mid
+        × (array.new ≡ record mid { log = noted mid.log (event.Fail column) }) }
     ensures sound { IsSound L.Layout D.Disk array.new }
-    ensures stays { (job : Job D) → IsOut D.Disk L.Layout array.old job → IsOut D.Disk L.Layout array.new job }
+    ensures stays { (job : Job D) → IsOut D.Disk L.Layout array.old job
+        → IsOut D.Disk L.Layout array.new job }
 {
     if is_dead(array, column) {
         return;

@@ -31,11 +31,14 @@ fn nothing_comes<L: Layout, D: Disk>(
     requires place { HasRoom array.old.log }
     requires lost { (loss : Loss) × (array.old.lost ≡ Some loss) }
     requires out { IsOutOf (desk_at array.old.clients client) node }
-    requires kind { (kind_at (desk_at array.old.clients client).run.graph node ≡ Node.Cmt) ⊎ (kind_at (desk_at array.old.clients client).run.graph node ≡ Node.Trm) }
+    requires kind { (kind_at (desk_at array.old.clients client).run.graph node ≡ Node.Cmt) ⊎
+        (kind_at (desk_at array.old.clients client).run.graph node ≡ Node.Trm) }
     requires empty { sources.items ≡ [] }
     requires room { 2048 ≤ vec_capacity sources }
-    ensures home { EndsNode L.Layout D.Disk array.old client node (event.Good (id_of array.old.clients client) node) None array.new }
-    ensures trace { array.new.log ≡ noted array.old.log (event.Good (id_of array.old.clients client) node) }
+    ensures home { EndsNode L.Layout D.Disk array.old client node
+        (event.Good (id_of array.old.clients client) node) None array.new }
+    ensures trace { array.new.log
+        ≡ noted array.old.log (event.Good (id_of array.old.clients client) node) }
 {
     let id = array.id(client);
     array.plain_home(client, node, sources, Outcome::Good);
@@ -50,8 +53,10 @@ pub fn nothing_comes_home<L: Layout, D: Disk>(array: &mut Array<L, D>, job: Job<
     requires lost { (loss : Loss) × (array.old.lost ≡ Some loss) }
     requires back { CameBack D.Disk L.Layout array.old job Outcome.Good }
     requires nothing { job.work ≡ Work.Nothing }
-    ensures home { EndsNode L.Layout D.Disk array.old job.client job.node (event.Good (id_of array.old.clients job.client) job.node) (device_in job.work) array.new }
-    ensures trace { array.new.log ≡ noted array.old.log (event.Good (id_of array.old.clients job.client) job.node) }
+    ensures home { EndsNode L.Layout D.Disk array.old job.client job.node
+        (event.Good (id_of array.old.clients job.client) job.node) (device_in job.work) array.new }
+    ensures trace { array.new.log
+        ≡ noted array.old.log (event.Good (id_of array.old.clients job.client) job.node) }
 {
     let Job {
         client,

@@ -18,7 +18,8 @@ fn clear_front(bytes: &mut [u8], count: u32)
 fn add_front(to: &mut [u8], from: &[u8], count: u32)
     requires to { 512 * count ≤ length to.old }
     requires from { 512 * count ≤ length from.now }
-    ensures sum { (k : ℕ) → k < 512 * count → slice_index to.new k ≡ bit_xor (slice_index to.old k) (slice_index from.now k) }
+    ensures sum { (k : ℕ) → k < 512 * count
+        → slice_index to.new k ≡ bit_xor (slice_index to.old k) (slice_index from.now k) }
     ensures rest { drop (512 * count) to.new ≡ drop (512 * count) to.old }
 {
     let bytes = SECTOR * count as usize;
@@ -29,7 +30,8 @@ fn add_front(to: &mut [u8], from: &[u8], count: u32)
 fn add_source(to: &mut [u8], from: &Source, count: u32)
     requires to { 512 * count ≤ length to.old }
     requires from { 512 * count ≤ length from.now.buffer }
-    ensures sum { (k : ℕ) → k < 512 * count → slice_index to.new k ≡ bit_xor (slice_index to.old k) (byte_at from.now k) }
+    ensures sum { (k : ℕ) → k < 512 * count
+        → slice_index to.new k ≡ bit_xor (slice_index to.old k) (byte_at from.now k) }
     ensures rest { drop (512 * count) to.new ≡ drop (512 * count) to.old }
 {
     if from.counts {
@@ -67,7 +69,8 @@ fn begin_front(to: &mut [u8], from: &[Source], count: u32) -> usize
     requires to { 512 * count ≤ length to.old }
     requires from { AreLong count from.now }
     ensures within { result ≤ length from.now }
-    ensures sum { (k : ℕ) → k < 512 * count → slice_index to.new k ≡ sum_at (take result from.now) k }
+    ensures sum { (k : ℕ) → k < 512 * count
+        → slice_index to.new k ≡ sum_at (take result from.now) k }
     ensures rest { drop (512 * count) to.new ≡ drop (512 * count) to.old }
 {
     if !from.is_empty() && from[0].counts {

@@ -60,7 +60,8 @@ pub fn fill_fresh<L: Layout>(
 )
     requires buffers { HasBuffers graph.now.drawn pool.old lease.now }
     requires few { span_count op.now ≤ 8 }
-    ensures { Filled (L.shape layout.now) stripes.now graph.now.drawn op.now lease.now pool.old pool.new }
+    ensures { Filled (L.shape layout.now) stripes.now graph.now.drawn op.now lease.now pool.old
+        pool.new }
 {
     match op {
         Op::Writes { patches } => fill_patches(layout, stripes, graph, pool, lease, patches),

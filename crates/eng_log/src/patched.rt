@@ -39,7 +39,8 @@ fn patch_bytes(bytes: &mut [u8], patches: &Patches, first: u64, count: u32)
     requires few { patches.now.used ≤ 8 }
     requires first { first < 2 ^ 63 }
     requires room { 512 * count ≤ length bytes.old }
-    ensures { (j : ℕ) → j < count → sector_at bytes.new j ≡ patched_sector (used_of patches.now) (first + j) zero_sector }
+    ensures { (j : ℕ) → j < count
+        → sector_at bytes.new j ≡ patched_sector (used_of patches.now) (first + j) zero_sector }
 {
     for j in 0..count as usize {
         let sector = patch_sector(patches, first + j as u64);
@@ -74,8 +75,10 @@ fn patch_in(pool: &mut Pool, lease: &Lease, buf: u32, patches: &Patches, first: 
     requires few { patches.now.used ≤ 8 }
     requires first { first < 2 ^ 63 }
     requires room { 512 * count ≤ pool.old.unit }
-    ensures stored { pool.new ≡ stored pool.old (get_or lease.now buf 0) (bytes_of pool.new lease.now buf) }
-    ensures bytes { (j : ℕ) → j < count → sector_at (bytes_of pool.new lease.now buf) j ≡ patched_sector (used_of patches.now) (first + j) zero_sector }
+    ensures stored { pool.new
+        ≡ stored pool.old (get_or lease.now buf 0) (bytes_of pool.new lease.now buf) }
+    ensures bytes { (j : ℕ) → j < count → sector_at (bytes_of pool.new lease.now buf) j
+        ≡ patched_sector (used_of patches.now) (first + j) zero_sector }
 {
     let mut buffer = pool.take(lease, buf);
     patch_bytes(buffer.bytes_mut(), patches, first, count);
@@ -97,7 +100,8 @@ fn fill_one<L: Layout>(
     requires few { patches.now.used ≤ 8 }
     ensures filled { (u j : ℕ) → (buf_at graph.now.drawn b).new_of ≡ Some u →
         j < (buf_at graph.now.drawn b).count →
-        sector_at (bytes_of pool.new lease.now b) j ≡ sector_for (L.shape layout.now) stripes.now graph.now.drawn (used_of patches.now) b u j }
+        sector_at (bytes_of pool.new lease.now b) j
+        ≡ sector_for (L.shape layout.now) stripes.now graph.now.drawn (used_of patches.now) b u j }
     ensures old { (buf_at graph.now.drawn b).new_of ≡ None → pool.new ≡ pool.old }
     ensures others { (c : ℕ) → c < length graph.now.drawn.bufs → c ≢ b →
         bytes_of pool.new lease.now c ≡ bytes_of pool.old lease.now c }
@@ -127,7 +131,9 @@ pub(crate) fn fill_patches<L: Layout>(
     ensures filled { (b u o : ℕ) → (buf_at graph.now.drawn b).new_of ≡ Some u →
         Covers graph.now.drawn b o →
         sector_at (bytes_of pool.new lease.now b) (o - (buf_at graph.now.drawn b).from)
-        ≡ patched_sector (used_of patches.now) (block_of (L.shape layout.now) (slice_index stripes.now (stripe_of graph.now.drawn b)) u o) zero_sector }
+        ≡ patched_sector (used_of patches.now)
+        (block_of (L.shape layout.now) (slice_index stripes.now (stripe_of graph.now.drawn b)) u o)
+        zero_sector }
     ensures fills { FillsAlone pool.old lease.now pool.new }
 {
     for b in 0..graph.bufs() {

@@ -13,7 +13,8 @@ use graph_mean::Graph;
 pub(crate) fn count_all(graph: &Graph, unmet: &mut [u32])
     requires can { CanStart graph.now.drawn }
     requires all { length unmet.old ≡ length graph.now.drawn.nodes }
-    ensures { (k : ℕ) → k < length graph.now.drawn.nodes → slice_index_or unmet.new k 0 ≡ length (vertex_at graph.now.drawn k).antes }
+    ensures { (k : ℕ) → k < length graph.now.drawn.nodes
+        → slice_index_or unmet.new k 0 ≡ length (vertex_at graph.now.drawn k).antes }
 {
     for n in 0..graph.nodes() {
         unmet[n as usize] = graph.antes(n).len() as u32;

@@ -63,7 +63,8 @@ impl Followers {
     pub(crate) fn push(&mut self, node: u32, follower: u32)
         requires node { node < length self.old.first }
         requires room { length self.old.names < 16384 }
-        ensures lists { (c : ℕ) → followers_in self.new c ≡ (if c == node then follower ∷ followers_in self.old c else followers_in self.old c) }
+        ensures lists { (c : ℕ) → followers_in self.new c
+            ≡ (if c == node then follower ∷ followers_in self.old c else followers_in self.old c) }
         ensures nodes { length self.new.first ≡ length self.old.first }
         ensures entries { length self.new.names ≡ length self.old.names + 1 }
     {
@@ -77,7 +78,8 @@ impl Followers {
     pub(crate) fn enter(&mut self, follower: u32, antes: &[u32])
         requires nodes { All (λ a. a < length self.old.first) antes.now }
         requires room { length self.old.names + length antes.now ≤ 16384 }
-        ensures lists { (c k : ℕ) → times k (followers_in self.new c) ≡ times k (followers_in self.old c) + (if k == follower then times c antes.now else 0) }
+        ensures lists { (c k : ℕ) → times k (followers_in self.new c)
+            ≡ times k (followers_in self.old c) + (if k == follower then times c antes.now else 0) }
         ensures nodes { length self.new.first ≡ length self.old.first }
         ensures entries { length self.new.names ≡ length self.old.names + length antes.now }
     {
@@ -89,10 +91,12 @@ impl Followers {
     // A node has ended: each of its followers waits for one node less, once for each time that it names it.
     pub(crate) fn lower(&self, node: u32, marks: &[Status], unmet: &mut [u32], ready: &mut NodeSet)
         requires node { node < length self.now.first }
-        requires fits { (k : ℕ) → times k (followers_in self.now node) ≤ slice_index_or unmet.old k 0 }
+        requires fits { (k : ℕ)
+            → times k (followers_in self.now node) ≤ slice_index_or unmet.old k 0 }
         requires few { (length unmet.old ≡ length marks.now) × (length marks.now ≤ 2048) }
         requires ready { AreWaiting marks.now unmet.old ready.old }
-        ensures counts { (k : ℕ) → slice_index_or unmet.new k 0 + times k (followers_in self.now node) ≡ slice_index_or unmet.old k 0 }
+        ensures counts { (k : ℕ) → slice_index_or unmet.new k 0
+            + times k (followers_in self.now node) ≡ slice_index_or unmet.old k 0 }
         ensures all { length unmet.new ≡ length unmet.old }
         ensures ready { AreWaiting marks.now unmet.new ready.new }
     {
@@ -112,10 +116,12 @@ fn lower_from(
 )
     requires linked { (e : ℕ) → slice_index_or next.now e 0 ≤ e }
     requires entries { (length next.now ≡ length names.now) × (first ≤ length names.now) }
-    requires fits { (k : ℕ) → times k (names_from next.now names.now first) ≤ slice_index_or unmet.old k 0 }
+    requires fits { (k : ℕ)
+        → times k (names_from next.now names.now first) ≤ slice_index_or unmet.old k 0 }
     requires few { (length unmet.old ≡ length marks.now) × (length marks.now ≤ 2048) }
     requires ready { AreWaiting marks.now unmet.old ready.old }
-    ensures counts { (k : ℕ) → slice_index_or unmet.new k 0 + times k (names_from next.now names.now first) ≡ slice_index_or unmet.old k 0 }
+    ensures counts { (k : ℕ) → slice_index_or unmet.new k 0
+        + times k (names_from next.now names.now first) ≡ slice_index_or unmet.old k 0 }
     ensures all { length unmet.new ≡ length unmet.old }
     ensures ready { AreWaiting marks.now unmet.new ready.new }
 {

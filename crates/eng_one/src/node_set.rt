@@ -68,7 +68,8 @@ impl NodeSet {
 
     // The first node of the set from this number on, which may be any.
     pub(crate) fn first_from(&self, from: u32) -> Option<u32>
-        ensures { MatchOption result (NoneFrom (has self.now) from) (IsFirstFrom (has self.now) from) }
+        ensures { MatchOption result (NoneFrom (has self.now) from)
+            (IsFirstFrom (has self.now) from) }
     {
         let words = &self.words;
         if from >= 2048 {
@@ -84,7 +85,8 @@ impl NodeSet {
     // The first node of the set in the words after this one.
     fn first_after(&self, block: u32) -> Option<u32>
         requires { block < 32 }
-        ensures { MatchOption result (NoneFrom (has self.now) (64 * block + 64)) (IsFirstFrom (has self.now) (64 * block + 64)) }
+        ensures { MatchOption result (NoneFrom (has self.now) (64 * block + 64))
+            (IsFirstFrom (has self.now) (64 * block + 64)) }
     {
         match first_bit(self.blocks, block + 1) {
             None => None,

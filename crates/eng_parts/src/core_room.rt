@@ -39,7 +39,10 @@ impl<D: Drop> CoreRoom<D> {
         requires entries { length columns.now ≡ length self.old.cols.states }
         requires filling { count_by is_set_filling columns.now ≤ 1 }
         requires spread { count_by is_set_spread columns.now ≤ 1 }
-        ensures set { self.new ≡ record self.old { cols = record self.old.cols { states = states_of (L.shape layout.now) columns.now } } }
+        ensures set { self.new ≡ record self.old {
+          cols = record self.old.cols
+              { states = states_of (L.shape layout.now) columns.now };
+        } }
         ensures kept { IsKept self.new.cols }
     {
         self.cols.set(layout, columns);
@@ -48,7 +51,8 @@ impl<D: Drop> CoreRoom<D> {
     /// By what the array is lost, if it is.
     pub fn fault<L: Layout>(&self, layout: &L) -> Option<OpenFault>
         requires { IsFor (L.shape layout.now) self.now.cols }
-        ensures { MatchOption result (NotLost (L.shape layout.now) self.now.cols.states) (IsFault (L.shape layout.now) self.now.cols.states) }
+        ensures { MatchOption result (NotLost (L.shape layout.now) self.now.cols.states)
+            (IsFault (L.shape layout.now) self.now.cols.states) }
     {
         let Loss {
             first,

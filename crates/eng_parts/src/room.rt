@@ -31,7 +31,11 @@ const OWNERS: u32 = limits::CLIENTS + 1;
 
 // The columns, all dead.
 fn cols_for<L: Layout>(alloc: Global, layout: &L) -> Result<Cols, Memory>
-    ensures { IfOk result (λ cols. cols ≡ record { states = replicate (L.shape layout.now).columns Dead; stripes = (L.shape layout.now).stripes }) }
+    ensures { IfOk result (λ cols. cols ≡ record {
+      states = replicate (L.shape layout.now).columns
+          Dead;
+      stripes = (L.shape layout.now).stripes;
+    }) }
 {
     Ok(Cols::with_room(alloc, layout.columns(), layout.stripes())?)
 }
@@ -55,7 +59,8 @@ fn log_for<L: Layout>(
     requires clients { length clients.now ≤ 16 }
     requires sectors { sectors_before clients.now 16 ≤ 262144 }
     ensures log { IfOk result (λ log. log ≡ fresh_log (L.shape layout.now) trace log.handed) }
-    ensures laid { IfOk result (λ log. IsLaidOut clients.now (L.shape layout.now).stripes log.handed) }
+    ensures laid { IfOk result
+        (λ log. IsLaidOut clients.now (L.shape layout.now).stripes log.handed) }
 {
     let events = if trace {
         limits::EVENTS + 2 + layout.columns()
@@ -77,7 +82,8 @@ fn clients_for(alloc: Global, clients: &[Vec<Item>]) -> Result<Clients, Memory>
     requires clients { length clients.now ≤ 16 }
     requires items { items_before clients.now 16 ≤ 65536 }
     ensures count { IfOk result (λ opened. length opened ≡ 17) }
-    ensures each { IfOk result (λ opened. (c : ℕ) → c < 17 → desk_at opened c ≡ new_desk (items_at clients.now c)) }
+    ensures each { IfOk result
+        (λ opened. (c : ℕ) → c < 17 → desk_at opened c ≡ new_desk (items_at clients.now c)) }
 {
     Ok(Clients::open(alloc, clients)?)
 }
@@ -118,11 +124,18 @@ fn shaped_for<L: Layout>(
 ) -> Result<Shaped, Memory>
     requires clients { length clients.now ≤ 16 }
     requires sectors { sectors_before clients.now 16 ≤ 262144 }
-    ensures cols { IfOk result (λ shaped. shaped.cols ≡ record { states = replicate (L.shape layout.now).columns Dead; stripes = (L.shape layout.now).stripes }) }
-    ensures unit { IfOk result (λ shaped. shaped.pool.unit ≡ 512 * (L.shape layout.now).unit_sectors) }
+    ensures cols { IfOk result (λ shaped. shaped.cols ≡ record {
+      states = replicate
+          (L.shape layout.now).columns Dead;
+      stripes = (L.shape layout.now).stripes;
+    }) }
+    ensures unit { IfOk result
+        (λ shaped. shaped.pool.unit ≡ 512 * (L.shape layout.now).unit_sectors) }
     ensures fresh { IfOk result (λ shaped. IsFresh shaped.pool 2048) }
-    ensures log { IfOk result (λ shaped. shaped.log ≡ fresh_log (L.shape layout.now) trace shaped.log.handed) }
-    ensures laid { IfOk result (λ shaped. IsLaidOut clients.now (L.shape layout.now).stripes shaped.log.handed) }
+    ensures log { IfOk result
+        (λ shaped. shaped.log ≡ fresh_log (L.shape layout.now) trace shaped.log.handed) }
+    ensures laid { IfOk result
+        (λ shaped. IsLaidOut clients.now (L.shape layout.now).stripes shaped.log.handed) }
 {
     Ok(Shaped {
         cols: cols_for(alloc, layout)?,
@@ -150,8 +163,10 @@ fn desks_for(alloc: Global, stripes: u32, clients: &[Vec<Item>]) -> Result<Desks
     requires clients { length clients.now ≤ 16 }
     requires items { items_before clients.now 16 ≤ 65536 }
     ensures count { IfOk result (λ desks. length desks.clients ≡ 17) }
-    ensures each { IfOk result (λ desks. (c : ℕ) → c < 17 → desk_at desks.clients c ≡ new_desk (items_at clients.now c)) }
-    ensures rebuilds { IfOk result (λ desks. desks.rebuilds ≡ record { items = []; room = stripes }) }
+    ensures each { IfOk result
+        (λ desks. (c : ℕ) → c < 17 → desk_at desks.clients c ≡ new_desk (items_at clients.now c)) }
+    ensures rebuilds { IfOk result
+        (λ desks. desks.rebuilds ≡ record { items = []; room = stripes }) }
     ensures spare { IfOk result (λ desks. desks.spare ≡ length clients.now) }
 {
     Ok(Desks {

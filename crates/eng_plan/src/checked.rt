@@ -22,9 +22,11 @@ pub fn plan_and_check(
     requires missing { length missing.now ≡ task.now.stripes }
     requires gone { AreMissing task.now (missing_of missing.now) }
     requires task { IsPlannable task.now }
-    ensures graph { graph.new ≡ record graph.old { drawn = library task.now (missing_of missing.now) true } }
+    ensures graph { graph.new
+        ≡ record graph.old { drawn = library task.now (missing_of missing.now) true } }
     ensures accepted { IsOk result }
-    ensures pieces { pieces_in scratch.new ≡ pieces_of (library task.now (missing_of missing.now) true) task.now }
+    ensures pieces { pieces_in scratch.new
+        ≡ pieces_of (library task.now (missing_of missing.now) true) task.now }
 {
     plan(task, missing, true, graph);
     check(graph, task, missing, scratch)

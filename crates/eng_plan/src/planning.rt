@@ -140,7 +140,8 @@ pub fn list_missing<L: Layout>(
     requires fit { IsFor (L.shape layout.now) cols.now }
     requires stripes { All (λ s. s < cols.now.stripes) stripes.now }
     requires room { length stripes.now ≤ vec_capacity missing.old }
-    ensures items { missing.new.items ≡ map (missing_for (L.shape layout.now) cols.now.states op) stripes.now }
+    ensures items { missing.new.items
+        ≡ map (missing_for (L.shape layout.now) cols.now.states op) stripes.now }
     ensures room { vec_capacity missing.old ≤ vec_capacity missing.new }
 {
     missing.clear();

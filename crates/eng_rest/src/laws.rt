@@ -42,7 +42,8 @@ pub fn all_falls()
 /// client's jobs is out then, and no graph of the item has more than m nodes, these are at most
 /// 2 m + 4, and as many again for each column that dies.
 pub fn events_of_an_item_are_few()
-    ensures left { (y : Shape) (graphs : Graphs) (start now : World) (events : List Traced) (m c i : ℕ)
+    ensures left { (y : Shape) (graphs : Graphs) (start now : World) (events : List Traced)
+        (m c i : ℕ)
         → (run : EventsLead y graphs start events now) → AreLater events → IsIndexed start
         → i < length (start.clients c).items → GraphsWithin y graphs m c i start events now run
         → left m now c i + count_of events c i ≤ left m start c i }

@@ -26,9 +26,12 @@ fn plan_anew<L: Layout, D: Disk>(array: &mut Array<L, D>, client: u32, op: Op)
     requires sound { IsSound L.Layout D.Disk array.old }
     requires stands { Stands L.Layout array.old }
     requires can { CanBack L.Layout array.old client }
-    requires serves { Serves array.old.graphs.items (L.shape array.old.layout) (desk_at array.old.clients client) op None }
-    requires place { array.old.log.keeps ≡ true → length array.old.log.trace < array.old.log.trace_room }
-    ensures { Replaced L.Layout array.old client op (event.Back (id_of array.old.clients client)) array.new }
+    requires serves { Serves array.old.graphs.items (L.shape array.old.layout)
+        (desk_at array.old.clients client) op None }
+    requires place { array.old.log.keeps ≡ true
+        → length array.old.log.trace < array.old.log.trace_room }
+    ensures { Replaced L.Layout array.old client op (event.Back (id_of array.old.clients client))
+        array.new }
 {
     let id = array.id(client);
     match plan(array, client, op, None) {
@@ -44,11 +47,14 @@ fn plan_anew<L: Layout, D: Disk>(array: &mut Array<L, D>, client: u32, op: Op)
 fn give_up<L: Layout, D: Disk>(array: &mut Array<L, D>, client: u32, device: u32)
     requires client { client < length array.old.clients }
     requires owner { client < owners_of array.old.locks }
-    requires item { length (desk_at array.old.clients client).replies < length (desk_at array.old.clients client).items }
+    requires item { length (desk_at array.old.clients client).replies
+        < length (desk_at array.old.clients client).items }
     requires lease { IsLease array.old.pool (desk_at array.old.clients client).lease }
     requires home { AllHome array.old.pool (desk_at array.old.clients client).lease }
-    requires place { array.old.log.keeps ≡ true → length array.old.log.trace < array.old.log.trace_room }
-    ensures { GivenUp L.Layout array.old client (reply.Undone device) (event.Back (id_of array.old.clients client)) array.new }
+    requires place { array.old.log.keeps ≡ true
+        → length array.old.log.trace < array.old.log.trace_room }
+    ensures { GivenUp L.Layout array.old client (reply.Undone device)
+        (event.Back (id_of array.old.clients client)) array.new }
 {
     let id = array.id(client);
     array.clients.give_back(client, &mut array.pool);
@@ -62,9 +68,12 @@ fn back_op<L: Layout, D: Disk>(array: &mut Array<L, D>, client: u32, op: Op, fil
     requires sound { IsSound L.Layout D.Disk array.old }
     requires stands { Stands L.Layout array.old }
     requires can { CanBack L.Layout array.old client }
-    requires serves { Serves array.old.graphs.items (L.shape array.old.layout) (desk_at array.old.clients client) op file }
-    requires place { array.old.log.keeps ≡ true → length array.old.log.trace < array.old.log.trace_room }
-    ensures { BackAs L.Layout array.old client op file (event.Back (id_of array.old.clients client)) array.new }
+    requires serves { Serves array.old.graphs.items (L.shape array.old.layout)
+        (desk_at array.old.clients client) op file }
+    requires place { array.old.log.keeps ≡ true
+        → length array.old.log.trace < array.old.log.trace_room }
+    ensures { BackAs L.Layout array.old client op file (event.Back (id_of array.old.clients client))
+        array.new }
 {
     match file {
         None => plan_anew(array, client, op),
@@ -80,8 +89,10 @@ fn back_item<L: Layout, D: Disk>(array: &mut Array<L, D>, client: u32)
     requires sound { IsSound L.Layout D.Disk array.old }
     requires stands { Stands L.Layout array.old }
     requires can { CanBack L.Layout array.old client }
-    requires place { array.old.log.keeps ≡ true → length array.old.log.trace < array.old.log.trace_room }
-    ensures { IsBack L.Layout array.old client (event.Back (id_of array.old.clients client)) array.new }
+    requires place { array.old.log.keeps ≡ true
+        → length array.old.log.trace < array.old.log.trace_room }
+    ensures { IsBack L.Layout array.old client (event.Back (id_of array.old.clients client))
+        array.new }
 {
     let Some(item) = array.clients.item(client) else {
         unreachable!()
@@ -100,13 +111,18 @@ pub fn back<L: Layout, D: Disk>(array: &mut Array<L, D>, client: u32)
     requires sound { IsSound L.Layout D.Disk array.old }
     requires stands { Stands L.Layout array.old }
     requires can { CanBack L.Layout array.old client }
-    requires place { array.old.log.keeps ≡ true → length array.old.log.trace < array.old.log.trace_room }
-    ensures step { Follows L.Layout D.Disk array.old (event.Back (id_of array.old.clients client)) array.new }
+    requires place { array.old.log.keeps ≡ true
+        → length array.old.log.trace < array.old.log.trace_room }
+    ensures step { Follows L.Layout D.Disk array.old (event.Back (id_of array.old.clients client))
+        array.new }
     ensures sound { IsSound L.Layout D.Disk array.new }
     ensures stands { Stands L.Layout array.new }
-    ensures trace { array.new.log ≡ noted array.old.log (event.Back (id_of array.old.clients client)) }
-    ensures became { IsBack L.Layout array.old client (event.Back (id_of array.old.clients client)) array.new }
-    ensures stays { (job : Job D) → IsOut D.Disk L.Layout array.old job → IsOut D.Disk L.Layout array.new job }
+    ensures trace { array.new.log
+        ≡ noted array.old.log (event.Back (id_of array.old.clients client)) }
+    ensures became { IsBack L.Layout array.old client (event.Back (id_of array.old.clients client))
+        array.new }
+    ensures stays { (job : Job D) → IsOut D.Disk L.Layout array.old job
+        → IsOut D.Disk L.Layout array.new job }
 {
     back_item(array, client);
 }

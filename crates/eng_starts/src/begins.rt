@@ -27,7 +27,8 @@ use lay_core::{Layout, blocks, count_all, home, some_passes_end};
 // Whether a span is refused: it passes the end, or touches more than 16 stripes.
 fn judge_span<L: Layout, D: Disk>(array: &Array<L, D>, span: Span) -> Result<(), Reply>
     requires { 1 ≤ span.count }
-    ensures read { MatchResult result (λ u. IsFine (L.shape array.now.layout) (op.Read span)) (IsRefusal (L.shape array.now.layout) (op.Read span)) }
+    ensures read { MatchResult result (λ u. IsFine (L.shape array.now.layout) (op.Read span))
+        (IsRefusal (L.shape array.now.layout) (op.Read span)) }
 {
     let all = blocks(&array.layout);
     let count = u64::from(span.count);
@@ -44,7 +45,8 @@ fn judge_span<L: Layout, D: Disk>(array: &Array<L, D>, span: Span) -> Result<(),
 
 // Whether a stripe is out of range.
 fn judge_stripe<L: Layout, D: Disk>(array: &Array<L, D>, stripe: u32) -> Result<(), Reply>
-    ensures { MatchResult result (λ u. IsFine (L.shape array.now.layout) (op.Sync stripe)) (IsRefusal (L.shape array.now.layout) (op.Sync stripe)) }
+    ensures { MatchResult result (λ u. IsFine (L.shape array.now.layout) (op.Sync stripe))
+        (IsRefusal (L.shape array.now.layout) (op.Sync stripe)) }
 {
     if array.layout.stripes() <= stripe {
         return Err(Reply::Range);
@@ -55,7 +57,8 @@ fn judge_stripe<L: Layout, D: Disk>(array: &Array<L, D>, stripe: u32) -> Result<
 // Whether some spans are refused: one passes the end, or they touch more than 16 stripes together.
 fn judge_spans<L: Layout, D: Disk>(array: &Array<L, D>, patches: &Patches) -> Result<(), Reply>
     requires { HasBlocks (op.Writes patches.now) }
-    ensures { MatchResult result (λ u. IsFine (L.shape array.now.layout) (op.Writes patches.now)) (IsRefusal (L.shape array.now.layout) (op.Writes patches.now)) }
+    ensures { MatchResult result (λ u. IsFine (L.shape array.now.layout) (op.Writes patches.now))
+        (IsRefusal (L.shape array.now.layout) (op.Writes patches.now)) }
 {
     if some_passes_end(blocks(&array.layout), patches) {
         return Err(Reply::Range);
@@ -69,7 +72,8 @@ fn judge_spans<L: Layout, D: Disk>(array: &Array<L, D>, patches: &Patches) -> Re
 // Whether an operation is refused as it begins.
 fn judge_op<L: Layout, D: Disk>(array: &Array<L, D>, op: &Op) -> Result<(), Reply>
     requires { HasBlocks op.now }
-    ensures { MatchResult result (λ u. IsFine (L.shape array.now.layout) op.now) (IsRefusal (L.shape array.now.layout) op.now) }
+    ensures { MatchResult result (λ u. IsFine (L.shape array.now.layout) op.now)
+        (IsRefusal (L.shape array.now.layout) op.now) }
 {
     match op {
         Op::Write { span, .. } => judge_span(array, *span),
@@ -90,7 +94,8 @@ fn wait<L: Layout, D: Disk>(array: &mut Array<L, D>, client: u32)
 // The client's item is replied, which has taken nothing.
 fn reply_at_once<L: Layout, D: Disk>(array: &mut Array<L, D>, client: u32, reply: Reply)
     requires client { client < length array.old.clients }
-    requires left { length (desk_at array.old.clients client).replies < length (desk_at array.old.clients client).items }
+    requires left { length (desk_at array.old.clients client).replies
+        < length (desk_at array.old.clients client).items }
     ensures { array.new ≡ replied array.old client reply }
 {
     array.reply(client, reply);
@@ -99,8 +104,10 @@ fn reply_at_once<L: Layout, D: Disk>(array: &mut Array<L, D>, client: u32, reply
 // The client waits with its operation, or it is replied, as that is judged.
 fn begin_run<L: Layout, D: Disk>(array: &mut Array<L, D>, client: u32, judged: Result<(), Reply>)
     requires client { client < length array.old.clients }
-    requires left { length (desk_at array.old.clients client).replies < length (desk_at array.old.clients client).items }
-    ensures { MatchResult judged (λ u. array.new ≡ waiting array.old client) (λ reply. array.new ≡ replied array.old client reply) }
+    requires left { length (desk_at array.old.clients client).replies
+        < length (desk_at array.old.clients client).items }
+    ensures { MatchResult judged (λ u. array.new ≡ waiting array.old client)
+        (λ reply. array.new ≡ replied array.old client reply) }
 {
     match judged {
         Ok(()) => wait(array, client),
@@ -113,7 +120,8 @@ fn begin_fail<L: Layout, D: Disk>(array: &mut Array<L, D>, client: u32, column: 
     requires sound { IsSound L.Layout D.Disk array.old }
     requires client { client < length array.old.clients }
     requires nothing { (desk_at array.old.clients client).stage ≡ stage.Nothing }
-    requires left { length (desk_at array.old.clients client).replies < length (desk_at array.old.clients client).items }
+    requires left { length (desk_at array.old.clients client).replies
+        < length (desk_at array.old.clients client).items }
     requires column { column < length array.old.cols.states }
     ensures { BegunAs L.Layout (item.Fail column) array.old client array.new }
 {
@@ -128,7 +136,8 @@ fn begin_item<L: Layout, D: Disk>(array: &mut Array<L, D>, client: u32)
     requires sound { IsSound L.Layout D.Disk array.old }
     requires can { CanBegin array.old client }
     requires asked { AllAsked L.Layout array.old }
-    ensures { (i : Item) × (item_at (desk_at array.old.clients client) ≡ Some i) × BegunAs L.Layout i array.old client array.new }
+    ensures { (i : Item) × (item_at (desk_at array.old.clients client) ≡ Some i)
+        × BegunAs L.Layout i array.old client array.new }
 {
     match array.clients.next_item(client) {
         Item::Run { op, .. } => {
@@ -149,11 +158,17 @@ pub fn begin<L: Layout, D: Disk>(array: &mut Array<L, D>, client: u32)
     requires can { CanBegin array.old client }
     requires asked { AllAsked L.Layout array.old }
     requires room { HasRoom array.old.log }
-    ensures step { Follows L.Layout D.Disk array.old (event.Begin (id_of array.old.clients client)) array.new }
+    ensures step { Follows L.Layout D.Disk array.old (event.Begin (id_of array.old.clients client))
+        array.new }
     ensures sound { IsSound L.Layout D.Disk array.new }
-    ensures trace { array.new.log ≡ noted array.old.log (event.Begin (id_of array.old.clients client)) }
-    ensures begun { (i : Item) × (mid : Array L D) × (item_at (desk_at array.old.clients client) ≡ Some i) × BegunAs L.Layout i array.old client mid × (array.new ≡ record mid { log = noted mid.log (event.Begin (id_of array.old.clients client)) }) }
-    ensures stays { (job : Job D) → IsOut D.Disk L.Layout array.old job → IsOut D.Disk L.Layout array.new job }
+    ensures trace { array.new.log
+        ≡ noted array.old.log (event.Begin (id_of array.old.clients client)) }
+    ensures begun { (i : Item)
+        × (mid : Array L D) × (item_at (desk_at array.old.clients client) ≡ Some i)
+        × BegunAs L.Layout i array.old client mid × (array.new
+        ≡ record mid { log = noted mid.log (event.Begin (id_of array.old.clients client)) }) }
+    ensures stays { (job : Job D) → IsOut D.Disk L.Layout array.old job
+        → IsOut D.Disk L.Layout array.new job }
 {
     let id = array.id(client);
     begin_item(array, client);

@@ -25,7 +25,10 @@ fn mark_out<L: Layout, D: Disk>(array: &mut Array<L, D>, client: u32, node: u32,
     requires lends { Lends array.old.graphs.items (desk_at array.old.clients client) }
     requires few { length (desk_at array.old.clients client).run.graph.nodes ≤ 2048 }
     requires ready { IsReadyIn (desk_at array.old.clients client).run node }
-    ensures { array.new ≡ record array.old { clients = slice_set array.old.clients client (with_fired (desk_at array.old.clients client) node at) } }
+    ensures { array.new ≡ record array.old {
+      clients = slice_set array.old.clients client
+          (with_fired (desk_at array.old.clients client) node at);
+    } }
 {
     array.clients.fire(client, node, at, &array.graphs);
 }
@@ -35,7 +38,12 @@ fn fire_node<L: Layout, D: Disk>(array: &mut Array<L, D>, client: u32, node: u32
     requires place { HasRoom array.old.log }
     requires can { CanFire L.Layout array.old client node }
     ensures fired { Fired L.Layout array.old client node array.new }
-    ensures work { IsWork D.Disk (L.shape array.old.layout) array.new.devices array.new.pool (desk_at array.old.clients client).run.graph (desk_at array.old.clients client).lease (place_now L.Layout array.old client node) (kind_at (desk_at array.old.clients client).run.graph node) (vertex_at (desk_at array.old.clients client).run.graph node).sources result.work result.sources.items }
+    ensures work { IsWork D.Disk (L.shape array.old.layout) array.new.devices array.new.pool
+        (desk_at array.old.clients client).run.graph (desk_at array.old.clients client).lease
+        (place_now L.Layout array.old client node)
+        (kind_at (desk_at array.old.clients client).run.graph node)
+        (vertex_at (desk_at array.old.clients client).run.graph node).sources result.work
+        result.sources.items }
     ensures room { 2048 ≤ vec_capacity result.sources }
     ensures job { (result.client ≡ client) × (result.node ≡ node) }
 {
@@ -59,10 +67,13 @@ pub fn fire<L: Layout, D: Disk>(array: &mut Array<L, D>, client: u32, node: u32)
     requires can { CanFire L.Layout array.old client node }
     ensures out { IsOut D.Disk L.Layout array.new result }
     ensures job { (result.client ≡ client) × (result.node ≡ node) }
-    ensures step { Follows L.Layout D.Disk array.old (event.Fire (id_of array.old.clients client) node) array.new }
+    ensures step { Follows L.Layout D.Disk array.old
+        (event.Fire (id_of array.old.clients client) node) array.new }
     ensures sound { IsSound L.Layout D.Disk array.new }
-    ensures trace { array.new.log ≡ noted array.old.log (event.Fire (id_of array.old.clients client) node) }
-    ensures stays { (job : Job D) → IsOut D.Disk L.Layout array.old job → IsOut D.Disk L.Layout array.new job }
+    ensures trace { array.new.log
+        ≡ noted array.old.log (event.Fire (id_of array.old.clients client) node) }
+    ensures stays { (job : Job D) → IsOut D.Disk L.Layout array.old job
+        → IsOut D.Disk L.Layout array.new job }
     ensures fired { Fired L.Layout array.old client node array.new }
 {
     fire_node(array, client, node)

@@ -36,7 +36,8 @@ pub struct Packed<D> {
 
 fn device_leaves<L: Layout, D: Disk>(array: &mut Array<L, D>, device: u32) -> D
     requires { IsHome array.old.devices device }
-    ensures was { seen_at array.old.devices device ≡ Some (record { out = false; device = result }) }
+    ensures was { seen_at array.old.devices device
+        ≡ Some (record { out = false; device = result }) }
     ensures now { array.new ≡ record array.old { devices = left array.old.devices device result } }
 {
     array.devices.leave(device)
@@ -53,10 +54,13 @@ fn call_leaves<L: Layout, D: Disk>(
     requires buf { buf < length (desk_at array.old.clients client).run.graph.bufs }
     requires device { IsHome array.old.devices at.device }
     requires home { (seat_of array.old.pool (desk_at array.old.clients client) buf).out ≡ false }
-    ensures was { seen_at array.old.devices at.device ≡ Some (record { out = false; device = result.disk }) }
-    ensures bytes { result.buffer ≡ bytes_at array.old.pool (desk_at array.old.clients client).lease buf }
+    ensures was { seen_at array.old.devices at.device
+        ≡ Some (record { out = false; device = result.disk }) }
+    ensures bytes { result.buffer
+        ≡ bytes_at array.old.pool (desk_at array.old.clients client).lease buf }
     ensures long { length result.buffer ≡ array.old.pool.unit }
-    ensures first { result.first ≡ first_of (L.shape array.old.layout) (desk_at array.old.clients client).run.graph buf at }
+    ensures first { result.first
+        ≡ first_of (L.shape array.old.layout) (desk_at array.old.clients client).run.graph buf at }
     ensures count { result.count ≡ (buf_at (desk_at array.old.clients client).run.graph buf).count }
     ensures now { array.new ≡ record array.old {
       devices = left array.old.devices at.device result.disk;
@@ -94,11 +98,17 @@ pub(crate) fn pack<L: Layout, D: Disk>(
     requires sound { IsSound L.Layout D.Disk array.old }
     requires can { CanFire L.Layout array.old client node }
     requires at { at ≡ place_now L.Layout array.old client node }
-    ensures work { IsWork D.Disk (L.shape array.old.layout) array.new.devices array.new.pool (desk_at array.old.clients client).run.graph (desk_at array.old.clients client).lease at (kind_at (desk_at array.old.clients client).run.graph node) (vertex_at (desk_at array.old.clients client).run.graph node).sources result.work result.sources.items }
+    ensures work { IsWork D.Disk (L.shape array.old.layout) array.new.devices array.new.pool
+        (desk_at array.old.clients client).run.graph (desk_at array.old.clients client).lease at
+        (kind_at (desk_at array.old.clients client).run.graph node)
+        (vertex_at (desk_at array.old.clients client).run.graph node).sources result.work
+        result.sources.items }
     ensures devices { DeviceLeft at array.old.devices array.new.devices }
-    ensures pool { BuffersLeft array.old.pool (IsTaken (desk_at array.old.clients client) node) array.new.pool }
+    ensures pool { BuffersLeft array.old.pool (IsTaken (desk_at array.old.clients client) node)
+        array.new.pool }
     ensures lists { array.new.lists + 1 ≡ array.old.lists }
-    ensures rest { array.new ≡ record array.old { devices = array.new.devices; pool = array.new.pool; lists = array.new.lists } }
+    ensures rest { array.new ≡ record array.old
+        { devices = array.new.devices; pool = array.new.pool; lists = array.new.lists } }
     ensures room { 2048 ≤ vec_capacity result.sources }
 {
     match array.clients.node(client, node, &array.graphs) {
@@ -157,11 +167,15 @@ fn sources_leave<L: Layout, D: Disk>(
     requires lends { Lends array.old.graphs.items (desk_at array.old.clients client) }
     requires node { node < length (desk_at array.old.clients client).run.graph.nodes }
     requires lease { IsLease array.old.pool (desk_at array.old.clients client).lease }
-    requires named { AreInLease (desk_at array.old.clients client).lease (vertex_at (desk_at array.old.clients client).run.graph node).sources }
-    requires home { All (λ b. (seat_of array.old.pool (desk_at array.old.clients client) b).out ≡ false) (vertex_at (desk_at array.old.clients client).run.graph node).sources }
+    requires named { AreInLease (desk_at array.old.clients client).lease
+        (vertex_at (desk_at array.old.clients client).run.graph node).sources }
+    requires home { All (λ b. (seat_of array.old.pool (desk_at array.old.clients client) b).out
+        ≡ false) (vertex_at (desk_at array.old.clients client).run.graph node).sources }
     requires empty { sources.old.items ≡ [] }
     requires room { 2048 ≤ vec_capacity sources.old }
-    ensures gathered { Gathered array.old.pool (desk_at array.old.clients client).lease (vertex_at (desk_at array.old.clients client).run.graph node).sources array.new.pool sources.new.items }
+    ensures gathered { Gathered array.old.pool (desk_at array.old.clients client).lease
+        (vertex_at (desk_at array.old.clients client).run.graph node).sources array.new.pool
+        sources.new.items }
     ensures rest { array.new ≡ record array.old { pool = array.new.pool } }
     ensures room { 2048 ≤ vec_capacity sources.new }
 {
@@ -180,8 +194,13 @@ fn sum_leaves<L: Layout, D: Disk>(
     requires sound { IsSound L.Layout D.Disk array.old }
     requires can { CanFire L.Layout array.old client node }
     requires sum { kind_at (desk_at array.old.clients client).run.graph node ≡ Node.Xor to }
-    ensures work { (target : List ℕ) × (count : ℕ) × (result.work ≡ Work.Sum target count) × AreSources D.Disk array.new.pool (desk_at array.old.clients client).run.graph (desk_at array.old.clients client).lease to (vertex_at (desk_at array.old.clients client).run.graph node).sources target result.sources.items count }
-    ensures pool { BuffersLeft array.old.pool (IsTaken (desk_at array.old.clients client) node) array.new.pool }
+    ensures work { (target : List ℕ)
+        × (count : ℕ) × (result.work ≡ Work.Sum target count) × AreSources D.Disk array.new.pool
+        (desk_at array.old.clients client).run.graph (desk_at array.old.clients client).lease
+        to (vertex_at (desk_at array.old.clients client).run.graph node).sources target
+        result.sources.items count }
+    ensures pool { BuffersLeft array.old.pool (IsTaken (desk_at array.old.clients client) node)
+        array.new.pool }
     ensures lists { array.new.lists + 1 ≡ array.old.lists }
     ensures rest { array.new ≡ record array.old { pool = array.new.pool; lists = array.new.lists } }
     ensures room { 2048 ≤ vec_capacity result.sources }

@@ -44,10 +44,12 @@ fn list_stripe<L: Layout>(
     requires column { column < length cols.now.states }
     requires stripe { stripe < (L.shape layout.now).stripes }
     requires room { (L.shape layout.now).stripes ≤ rebuilds.old.room }
-    requires before { AreRebuildsBelow (L.shape layout.now) cols.now.states column (left + length rebuilds.old.items) stripe rebuilds.old.items }
+    requires before { AreRebuildsBelow (L.shape layout.now) cols.now.states column
+        (left + length rebuilds.old.items) stripe rebuilds.old.items }
     ensures room { rebuilds.new.room ≡ rebuilds.old.room }
     ensures count { result + length rebuilds.new.items ≡ left + length rebuilds.old.items }
-    ensures listed { AreRebuildsBelow (L.shape layout.now) cols.now.states column (left + length rebuilds.old.items) (stripe + 1) rebuilds.new.items }
+    ensures listed { AreRebuildsBelow (L.shape layout.now) cols.now.states column
+        (left + length rebuilds.old.items) (stripe + 1) rebuilds.new.items }
 {
     if left == 0 {
         return 0;
@@ -72,7 +74,8 @@ fn list_stripes<L: Layout>(
     requires column { column < length cols.now.states }
     requires none { rebuilds.old.items ≡ [] }
     requires room { (L.shape layout.now).stripes ≤ rebuilds.old.room }
-    ensures listed { AreRebuildsBelow (L.shape layout.now) cols.now.states column count (L.shape layout.now).stripes rebuilds.new.items }
+    ensures listed { AreRebuildsBelow (L.shape layout.now) cols.now.states column count
+        (L.shape layout.now).stripes rebuilds.new.items }
     ensures count { result ≡ length rebuilds.new.items }
 {
     let mut left = count;
@@ -88,7 +91,8 @@ fn list_rebuilds<L: Layout, D: Disk>(array: &mut Array<L, D>, column: u32, count
     requires column { column < length array.old.cols.states }
     requires none { array.old.rebuilds.items ≡ [] }
     requires room { (L.shape array.old.layout).stripes ≤ array.old.rebuilds.room }
-    ensures listed { AreRebuildsBelow (L.shape array.old.layout) array.old.cols.states column count (L.shape array.old.layout).stripes array.new.rebuilds.items }
+    ensures listed { AreRebuildsBelow (L.shape array.old.layout) array.old.cols.states column count
+        (L.shape array.old.layout).stripes array.new.rebuilds.items }
     ensures count { result ≡ length array.new.rebuilds.items }
     ensures rest { array.new ≡ record array.old { rebuilds = array.new.rebuilds } }
 {
@@ -106,7 +110,11 @@ fn hand_over_rebuilds<L: Layout, D: Disk>(array: &mut Array<L, D>)
     requires count { length array.old.clients ≡ 17 }
     requires items { (desk_at array.old.clients 16).items ≡ [] }
     requires replies { (desk_at array.old.clients 16).replies ≡ [] }
-    ensures { array.new ≡ record array.old { clients = slice_set array.old.clients 16 (with_items (desk_at array.old.clients 16) array.old.rebuilds.items); rebuilds = record { items = []; room = 0 } } }
+    ensures { array.new ≡ record array.old {
+      clients = slice_set
+          array.old.clients 16 (with_items (desk_at array.old.clients 16) array.old.rebuilds.items);
+      rebuilds = record { items = []; room = 0 };
+    } }
 {
     array
         .rebuilds
@@ -116,7 +124,8 @@ fn hand_over_rebuilds<L: Layout, D: Disk>(array: &mut Array<L, D>)
 fn begin_filling<L: Layout, D: Disk>(array: &mut Array<L, D>, column: u32, device: u32)
     requires dead { slice_get array.old.cols.states column ≡ Some Dead }
     requires only { list_any is_filling array.old.cols.states ≡ false }
-    ensures is { array.new ≡ record array.old { cols = record array.old.cols { states = begun_filling array.old.cols column device } } }
+    ensures is { array.new ≡ record array.old
+        { cols = record array.old.cols { states = begun_filling array.old.cols column device } } }
     ensures kept { IsKept array.new.cols }
 {
     array.cols.fill(column, device);
@@ -125,7 +134,8 @@ fn begin_filling<L: Layout, D: Disk>(array: &mut Array<L, D>, column: u32, devic
 fn begin_spreading<L: Layout, D: Disk>(array: &mut Array<L, D>, column: u32)
     requires dead { slice_get array.old.cols.states column ≡ Some Dead }
     requires only { list_any is_spread array.old.cols.states ≡ false }
-    ensures is { array.new ≡ record array.old { cols = record array.old.cols { states = begun_spreading array.old.cols column } } }
+    ensures is { array.new ≡ record array.old
+        { cols = record array.old.cols { states = begun_spreading array.old.cols column } } }
     ensures kept { IsKept array.new.cols }
 {
     array.cols.spread(column);
@@ -136,7 +146,8 @@ fn start_filling<L: Layout, D: Disk>(array: &mut Array<L, D>, column: u32, devic
     requires sound { IsSound L.Layout D.Disk array.old }
     requires can { CanFill L.Layout D.Disk array.old column device }
     requires place { HasRoom array.old.log }
-    ensures { Started L.Layout array.old column count (begun_filling array.old.cols column device) (event.Fill column device) array.new }
+    ensures { Started L.Layout array.old column count (begun_filling array.old.cols column device)
+        (event.Fill column device) array.new }
 {
     begin_filling(array, column, device);
     let count = list_rebuilds(array, column, count);
@@ -153,7 +164,8 @@ fn start_resuming<L: Layout, D: Disk>(array: &mut Array<L, D>, column: u32, coun
     requires sound { IsSound L.Layout D.Disk array.old }
     requires can { CanResume L.Layout D.Disk array.old column }
     requires place { HasRoom array.old.log }
-    ensures { Started L.Layout array.old column count array.old.cols.states (event.Resume column) array.new }
+    ensures { Started L.Layout array.old column count array.old.cols.states (event.Resume column)
+        array.new }
 {
     let count = list_rebuilds(array, column, count);
     hand_over_rebuilds(array);
@@ -165,7 +177,8 @@ fn start_spreading<L: Layout, D: Disk>(array: &mut Array<L, D>, column: u32)
     requires sound { IsSound L.Layout D.Disk array.old }
     requires can { CanSpread L.Layout D.Disk array.old column }
     requires place { HasRoom array.old.log }
-    ensures { Started L.Layout array.old column 4294967295 (begun_spreading array.old.cols column) (λ _. event.Spread column) array.new }
+    ensures { Started L.Layout array.old column 4294967295 (begun_spreading array.old.cols column)
+        (λ _. event.Spread column) array.new }
 {
     begin_spreading(array, column);
     let _ = list_rebuilds(array, column, u32::MAX);
@@ -179,10 +192,13 @@ pub fn fill<L: Layout, D: Disk>(array: &mut Array<L, D>, column: u32, device: u3
     requires sound { IsSound L.Layout D.Disk array.old }
     requires can { CanFill L.Layout D.Disk array.old column device }
     requires place { HasRoom array.old.log }
-    ensures step { Follows L.Layout D.Disk array.old (event.Fill column device (added array.new)) array.new }
+    ensures step { Follows L.Layout D.Disk array.old (event.Fill column device (added array.new))
+        array.new }
     ensures sound { IsSound L.Layout D.Disk array.new }
-    ensures trace { array.new.log ≡ noted array.old.log (event.Fill column device (added array.new)) }
-    ensures started { Started L.Layout array.old column count (begun_filling array.old.cols column device) (event.Fill column device) array.new }
+    ensures trace { array.new.log
+        ≡ noted array.old.log (event.Fill column device (added array.new)) }
+    ensures started { Started L.Layout array.old column count
+        (begun_filling array.old.cols column device) (event.Fill column device) array.new }
 {
     start_filling(array, column, device, count);
 }
@@ -193,10 +209,12 @@ pub fn resume<L: Layout, D: Disk>(array: &mut Array<L, D>, column: u32, count: u
     requires sound { IsSound L.Layout D.Disk array.old }
     requires can { CanResume L.Layout D.Disk array.old column }
     requires place { HasRoom array.old.log }
-    ensures step { Follows L.Layout D.Disk array.old (event.Resume column (added array.new)) array.new }
+    ensures step { Follows L.Layout D.Disk array.old (event.Resume column (added array.new))
+        array.new }
     ensures sound { IsSound L.Layout D.Disk array.new }
     ensures trace { array.new.log ≡ noted array.old.log (event.Resume column (added array.new)) }
-    ensures started { Started L.Layout array.old column count array.old.cols.states (event.Resume column) array.new }
+    ensures started { Started L.Layout array.old column count array.old.cols.states
+        (event.Resume column) array.new }
 {
     start_resuming(array, column, count);
 }
@@ -210,7 +228,8 @@ pub fn spread<L: Layout, D: Disk>(array: &mut Array<L, D>, column: u32)
     ensures step { Follows L.Layout D.Disk array.old (event.Spread column) array.new }
     ensures sound { IsSound L.Layout D.Disk array.new }
     ensures trace { array.new.log ≡ noted array.old.log (event.Spread column) }
-    ensures started { Started L.Layout array.old column 4294967295 (begun_spreading array.old.cols column) (λ _. event.Spread column) array.new }
+    ensures started { Started L.Layout array.old column 4294967295
+        (begun_spreading array.old.cols column) (λ _. event.Spread column) array.new }
 {
     start_spreading(array, column);
 }

@@ -25,7 +25,10 @@ fn mark_skipped<L: Layout, D: Disk>(array: &mut Array<L, D>, client: u32, node: 
     requires ready { IsReadyIn (desk_at array.old.clients client).run node }
     requires write { IsWrite (kind_at (desk_at array.old.clients client).run.graph node) }
     requires after { (desk_at array.old.clients client).run.phase ≡ Phase.After }
-    ensures { array.new ≡ record array.old { clients = slice_set array.old.clients client (with_skipped (desk_at array.old.clients client) node) } }
+    ensures { array.new ≡ record array.old {
+      clients = slice_set array.old.clients client
+          (with_skipped (desk_at array.old.clients client) node);
+    } }
 {
     array.clients.skip(client, node, &array.graphs);
 }
@@ -35,11 +38,18 @@ pub fn skip<L: Layout, D: Disk>(array: &mut Array<L, D>, client: u32, node: u32)
     requires sound { IsSound L.Layout D.Disk array.old }
     requires place { HasRoom array.old.log }
     requires can { CanSkip L.Layout array.old client node }
-    ensures step { Follows L.Layout D.Disk array.old (event.Skip (id_of array.old.clients client) node) array.new }
+    ensures step { Follows L.Layout D.Disk array.old
+        (event.Skip (id_of array.old.clients client) node) array.new }
     ensures sound { IsSound L.Layout D.Disk array.new }
-    ensures trace { array.new.log ≡ noted array.old.log (event.Skip (id_of array.old.clients client) node) }
-    ensures skipped { array.new ≡ record array.old { clients = slice_set array.old.clients client (with_skipped (desk_at array.old.clients client) node); log = noted array.old.log (event.Skip (id_of array.old.clients client) node) } }
-    ensures stays { (job : Job D) → IsOut D.Disk L.Layout array.old job → IsOut D.Disk L.Layout array.new job }
+    ensures trace { array.new.log
+        ≡ noted array.old.log (event.Skip (id_of array.old.clients client) node) }
+    ensures skipped { array.new ≡ record array.old {
+      clients = slice_set
+          array.old.clients client (with_skipped (desk_at array.old.clients client) node);
+      log = noted array.old.log (event.Skip (id_of array.old.clients client) node);
+    } }
+    ensures stays { (job : Job D) → IsOut D.Disk L.Layout array.old job
+        → IsOut D.Disk L.Layout array.new job }
 {
     let id = array.id(client);
     mark_skipped(array, client, node);

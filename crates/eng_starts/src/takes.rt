@@ -45,8 +45,10 @@ pub(crate) fn plan<L: Layout, D: Disk>(
     requires kept { NotLost (L.shape array.old.layout) array.old.cols.states }
     requires file { (n : ℕ) → file ≡ Some n → n < length array.old.graphs.items }
     ensures planned { PlannedFor L.Layout array.old client op file array.new }
-    ensures passes { OnOk result (CanRun array.old.graphs.items (desk_at array.new.clients client)) }
-    ensures refused { IfErr result (λ cause. IsRefusedFor array.old.graphs.items file (desk_at array.new.clients client) cause) }
+    ensures passes { OnOk result
+        (CanRun array.old.graphs.items (desk_at array.new.clients client)) }
+    ensures refused { IfErr result (λ cause.
+        IsRefusedFor array.old.graphs.items file (desk_at array.new.clients client) cause) }
 {
     array.clients.plan(
         client,
@@ -63,8 +65,10 @@ fn lock<L: Layout, D: Disk>(array: &mut Array<L, D>, client: u32, mode: Mode)
     requires owner { client < owners_of array.old.locks }
     requires few { length (desk_at array.old.clients client).map.stripes ≤ 16 }
     requires none { HoldsNothing array.old.locks client }
-    requires is_free { Conflict array.old.locks client (desk_at array.old.clients client).map.stripes mode → ⊥ }
-    ensures taken { Acquires array.old.locks client (desk_at array.old.clients client).map.stripes mode array.new.locks }
+    requires is_free { Conflict array.old.locks client
+        (desk_at array.old.clients client).map.stripes mode → ⊥ }
+    ensures taken { Acquires array.old.locks client (desk_at array.old.clients client).map.stripes
+        mode array.new.locks }
     ensures rest { array.new ≡ record array.old { locks = array.new.locks } }
 {
     let taken = array
@@ -77,9 +81,16 @@ fn lock<L: Layout, D: Disk>(array: &mut Array<L, D>, client: u32, mode: Mode)
 fn lend<L: Layout, D: Disk>(array: &mut Array<L, D>, client: u32, count: u32)
     requires client { client < length array.old.clients }
     requires fits { count ≤ length array.old.pool.free }
-    ensures leased { Leases array.old.pool count (desk_at array.new.clients client).lease array.new.pool }
-    ensures apart { StandsApart array.old.pool (desk_at array.new.clients client).lease array.new.pool }
-    ensures now { array.new ≡ record array.old { pool = array.new.pool; clients = slice_set array.old.clients client (with_lease (desk_at array.old.clients client) (desk_at array.new.clients client).lease) } }
+    ensures leased { Leases array.old.pool count (desk_at array.new.clients client).lease
+        array.new.pool }
+    ensures apart { StandsApart array.old.pool (desk_at array.new.clients client).lease
+        array.new.pool }
+    ensures now { array.new
+        ≡ record array.old {
+          pool = array.new.pool;
+          clients = slice_set array.old.clients client
+              (with_lease (desk_at array.old.clients client) (desk_at array.new.clients client).lease);
+        } }
 {
     array.clients.hold(client, count, &mut array.pool);
 }
@@ -87,9 +98,13 @@ fn lend<L: Layout, D: Disk>(array: &mut Array<L, D>, client: u32, count: u32)
 // Its graph is run from the beginning.
 pub(crate) fn start<L: Layout, D: Disk>(array: &mut Array<L, D>, client: u32)
     requires client { client < length array.old.clients }
-    requires there { (n : ℕ) → (desk_at array.old.clients client).file ≡ Some n → n < length array.old.graphs.items }
+    requires there { (n : ℕ) → (desk_at array.old.clients client).file ≡ Some n
+        → n < length array.old.graphs.items }
     requires can { CanStart (graph_of array.old.graphs.items (desk_at array.old.clients client)) }
-    ensures { array.new ≡ record array.old { clients = slice_set array.old.clients client (with_started array.old.graphs.items (desk_at array.old.clients client)) } }
+    ensures { array.new ≡ record array.old {
+      clients = slice_set array.old.clients client
+          (with_started array.old.graphs.items (desk_at array.old.clients client));
+    } }
 {
     array.clients.start(client, &array.graphs);
 }
@@ -97,10 +112,15 @@ pub(crate) fn start<L: Layout, D: Disk>(array: &mut Array<L, D>, client: u32)
 // Its buffers of new data are filled.
 pub(crate) fn fill_buffers<L: Layout, D: Disk>(array: &mut Array<L, D>, client: u32, op: Op)
     requires client { client < length array.old.clients }
-    requires there { (n : ℕ) → (desk_at array.old.clients client).file ≡ Some n → n < length array.old.graphs.items }
-    requires buffers { HasBuffers (graph_of array.old.graphs.items (desk_at array.old.clients client)) array.old.pool (desk_at array.old.clients client).lease }
+    requires there { (n : ℕ) → (desk_at array.old.clients client).file ≡ Some n
+        → n < length array.old.graphs.items }
+    requires buffers { HasBuffers
+        (graph_of array.old.graphs.items (desk_at array.old.clients client)) array.old.pool
+        (desk_at array.old.clients client).lease }
     requires few { span_count op ≤ 8 }
-    ensures filled { Filled (L.shape array.old.layout) (desk_at array.old.clients client).map.stripes (graph_of array.old.graphs.items (desk_at array.old.clients client)) op (desk_at array.old.clients client).lease array.old.pool array.new.pool }
+    ensures filled { Filled (L.shape array.old.layout) (desk_at array.old.clients client).map.stripes
+        (graph_of array.old.graphs.items (desk_at array.old.clients client)) op
+        (desk_at array.old.clients client).lease array.old.pool array.new.pool }
     ensures rest { array.new ≡ record array.old { pool = array.new.pool } }
 {
     array
@@ -114,7 +134,8 @@ fn size<L: Layout, D: Disk>(array: &Array<L, D>, client: u32, op: &Op, file: Opt
     requires few { length (desk_at array.now.clients client).map.stripes ≤ 16 }
     requires spans { span_count op.now ≤ 8 }
     requires there { (n : ℕ) → file ≡ Some n → n < length array.now.graphs.items }
-    ensures { result ≡ lease_by (L.shape array.now.layout) array.now.graphs.items (length (desk_at array.now.clients client).map.stripes) (span_count op.now) file }
+    ensures { result ≡ lease_by (L.shape array.now.layout) array.now.graphs.items
+        (length (desk_at array.now.clients client).map.stripes) (span_count op.now) file }
 {
     let stripes = array.clients.stripes(client).len() as u32;
     lease_size(&array.layout, stripes, span_count(op), file, &array.graphs)
@@ -128,10 +149,13 @@ fn settle<L: Layout, D: Disk>(array: &mut Array<L, D>, client: u32, op: Op, file
     requires none { HoldsNothing array.old.locks client }
     requires inside { IsInside (L.shape array.old.layout) op }
     requires there { (n : ℕ) → file ≡ Some n → n < length array.old.graphs.items }
-    requires planned { IsPlanned (L.shape array.old.layout) array.old.graphs.items array.old.cols.states op file (desk_at array.old.clients client) }
+    requires planned { IsPlanned (L.shape array.old.layout) array.old.graphs.items
+        array.old.cols.states op file (desk_at array.old.clients client) }
     requires runs { CanRun array.old.graphs.items (desk_at array.old.clients client) }
-    requires is_free { Conflict array.old.locks client (desk_at array.old.clients client).map.stripes (mode_by op) → ⊥ }
-    requires fits { lease_for (L.shape array.old.layout) array.old.graphs.items op file ≤ length array.old.pool.free }
+    requires is_free { Conflict array.old.locks client
+        (desk_at array.old.clients client).map.stripes (mode_by op) → ⊥ }
+    requires fits { lease_for (L.shape array.old.layout) array.old.graphs.items op file
+        ≤ length array.old.pool.free }
     ensures { Settled L.Layout array.old client op file array.new }
 {
     lock(array, client, mode_by(op));
@@ -155,12 +179,17 @@ fn take_planned<L: Layout, D: Disk>(
     requires none { HoldsNothing array.old.locks client }
     requires inside { IsInside (L.shape array.old.layout) op }
     requires there { (n : ℕ) → file ≡ Some n → n < length array.old.graphs.items }
-    requires planned { IsPlanned (L.shape array.old.layout) array.old.graphs.items array.old.cols.states op file (desk_at array.old.clients client) }
+    requires planned { IsPlanned (L.shape array.old.layout) array.old.graphs.items
+        array.old.cols.states op file (desk_at array.old.clients client) }
     requires runs { CanRun array.old.graphs.items (desk_at array.old.clients client) }
-    requires is_free { Conflict array.old.locks client (desk_at array.old.clients client).map.stripes (mode_by op) → ⊥ }
-    requires fits { lease_for (L.shape array.old.layout) array.old.graphs.items op file ≤ length array.old.pool.free }
-    requires place { array.old.log.keeps ≡ true → length array.old.log.trace < array.old.log.trace_room }
-    ensures { (mid : Array L D) × Settled L.Layout array.old client op file mid × (array.new ≡ record mid { log = noted mid.log (event.Take id) }) }
+    requires is_free { Conflict array.old.locks client
+        (desk_at array.old.clients client).map.stripes (mode_by op) → ⊥ }
+    requires fits { lease_for (L.shape array.old.layout) array.old.graphs.items op file
+        ≤ length array.old.pool.free }
+    requires place { array.old.log.keeps ≡ true
+        → length array.old.log.trace < array.old.log.trace_room }
+    ensures { (mid : Array L D) × Settled L.Layout array.old client op file mid
+        × (array.new ≡ record mid { log = noted mid.log (event.Take id) }) }
 {
     settle(array, client, op, file);
     array.note(Traced::Take { id });
@@ -169,9 +198,15 @@ fn take_planned<L: Layout, D: Disk>(
 // Its item is replied, and the event is traced.
 fn refuse<L: Layout, D: Disk>(array: &mut Array<L, D>, client: u32, cause: Refusal, id: OpId)
     requires client { client < length array.old.clients }
-    requires item { length (desk_at array.old.clients client).replies < length (desk_at array.old.clients client).items }
-    requires place { array.old.log.keeps ≡ true → length array.old.log.trace < array.old.log.trace_room }
-    ensures { array.new ≡ record array.old { clients = slice_set array.old.clients client (with_reply (desk_at array.old.clients client) (reply.Refused cause)); log = noted array.old.log (event.Take id) } }
+    requires item { length (desk_at array.old.clients client).replies
+        < length (desk_at array.old.clients client).items }
+    requires place { array.old.log.keeps ≡ true
+        → length array.old.log.trace < array.old.log.trace_room }
+    ensures { array.new ≡ record array.old {
+      clients = slice_set array.old.clients
+          client (with_reply (desk_at array.old.clients client) (reply.Refused cause));
+      log = noted array.old.log (event.Take id);
+    } }
 {
     array.clients.reply(client, Reply::Refused(cause));
     array.note(Traced::Take { id });
@@ -182,9 +217,12 @@ fn take_op<L: Layout, D: Disk>(array: &mut Array<L, D>, client: u32, op: Op, fil
     requires sound { IsSound L.Layout D.Disk array.old }
     requires stands { Stands L.Layout array.old }
     requires can { CanTake L.Layout array.old client }
-    requires serves { Serves array.old.graphs.items (L.shape array.old.layout) (desk_at array.old.clients client) op file }
-    requires place { array.old.log.keeps ≡ true → length array.old.log.trace < array.old.log.trace_room }
-    ensures { IsTaken L.Layout array.old client (event.Take (id_of array.old.clients client)) array.new }
+    requires serves { Serves array.old.graphs.items (L.shape array.old.layout)
+        (desk_at array.old.clients client) op file }
+    requires place { array.old.log.keeps ≡ true
+        → length array.old.log.trace < array.old.log.trace_room }
+    ensures { IsTaken L.Layout array.old client (event.Take (id_of array.old.clients client))
+        array.new }
 {
     let id = array.id(client);
     match plan(array, client, op, file) {
@@ -198,8 +236,10 @@ fn take_item<L: Layout, D: Disk>(array: &mut Array<L, D>, client: u32)
     requires sound { IsSound L.Layout D.Disk array.old }
     requires stands { Stands L.Layout array.old }
     requires can { CanTake L.Layout array.old client }
-    requires place { array.old.log.keeps ≡ true → length array.old.log.trace < array.old.log.trace_room }
-    ensures { IsTaken L.Layout array.old client (event.Take (id_of array.old.clients client)) array.new }
+    requires place { array.old.log.keeps ≡ true
+        → length array.old.log.trace < array.old.log.trace_room }
+    ensures { IsTaken L.Layout array.old client (event.Take (id_of array.old.clients client))
+        array.new }
 {
     let Some(item) = array.clients.item(client) else {
         unreachable!()
@@ -219,13 +259,18 @@ pub fn take<L: Layout, D: Disk>(array: &mut Array<L, D>, client: u32)
     requires sound { IsSound L.Layout D.Disk array.old }
     requires stands { Stands L.Layout array.old }
     requires can { CanTake L.Layout array.old client }
-    requires place { array.old.log.keeps ≡ true → length array.old.log.trace < array.old.log.trace_room }
-    ensures step { Follows L.Layout D.Disk array.old (event.Take (id_of array.old.clients client)) array.new }
+    requires place { array.old.log.keeps ≡ true
+        → length array.old.log.trace < array.old.log.trace_room }
+    ensures step { Follows L.Layout D.Disk array.old (event.Take (id_of array.old.clients client))
+        array.new }
     ensures sound { IsSound L.Layout D.Disk array.new }
     ensures stands { Stands L.Layout array.new }
-    ensures trace { array.new.log ≡ noted array.old.log (event.Take (id_of array.old.clients client)) }
-    ensures became { IsTaken L.Layout array.old client (event.Take (id_of array.old.clients client)) array.new }
-    ensures stays { (job : Job D) → IsOut D.Disk L.Layout array.old job → IsOut D.Disk L.Layout array.new job }
+    ensures trace { array.new.log
+        ≡ noted array.old.log (event.Take (id_of array.old.clients client)) }
+    ensures became { IsTaken L.Layout array.old client (event.Take (id_of array.old.clients client))
+        array.new }
+    ensures stays { (job : Job D) → IsOut D.Disk L.Layout array.old job
+        → IsOut D.Disk L.Layout array.new job }
 {
     take_item(array, client);
 }

@@ -16,9 +16,11 @@ impl<L: Layout, D: Disk> Array<L, D> {
         requires lease { IsLease self.old.pool (desk_at self.old.clients client).lease }
         requires buf { buf < length (desk_at self.old.clients client).lease }
         requires home { (seat_of self.old.pool (desk_at self.old.clients client) buf).out ≡ false }
-        ensures bytes { result ≡ bytes_at self.old.pool (desk_at self.old.clients client).lease buf }
+        ensures bytes { result
+            ≡ bytes_at self.old.pool (desk_at self.old.clients client).lease buf }
         ensures long { length result ≡ self.old.pool.unit }
-        ensures now { self.new ≡ record self.old { pool = taken self.old.pool (get_or (desk_at self.old.clients client).lease buf 0) } }
+        ensures now { self.new ≡ record self.old
+            { pool = taken self.old.pool (get_or (desk_at self.old.clients client).lease buf 0) } }
     {
         self.clients.take(client, buf, &mut self.pool)
     }

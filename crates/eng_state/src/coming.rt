@@ -36,7 +36,10 @@ impl<L: Layout, D: Disk> Array<L, D> {
         requires buf { buf < length (desk_at self.old.clients client).lease }
         requires out { (seat_of self.old.pool (desk_at self.old.clients client) buf).out ≡ true }
         requires long { length buffer ≡ self.old.pool.unit }
-        ensures { self.new ≡ record self.old { pool = put self.old.pool (get_or (desk_at self.old.clients client).lease buf 0) buffer } }
+        ensures { self.new ≡ record self.old {
+          pool = put self.old.pool
+              (get_or (desk_at self.old.clients client).lease buf 0) buffer;
+        } }
     {
         self.clients.put(client, buf, buffer, &mut self.pool);
     }
@@ -54,7 +57,10 @@ impl<L: Layout, D: Disk> Array<L, D> {
     fn mark_ended(&mut self, client: u32, node: u32, outcome: Outcome)
         requires client { client < length self.old.clients }
         requires can { CanEnd self.old client node outcome }
-        ensures { self.new ≡ record self.old { clients = slice_set self.old.clients client (with_ended (desk_at self.old.clients client) node outcome) } }
+        ensures { self.new ≡ record self.old {
+          clients = slice_set self.old.clients client
+              (with_ended (desk_at self.old.clients client) node outcome);
+        } }
     {
         self.clients.finish(client, node, outcome, &self.graphs);
     }

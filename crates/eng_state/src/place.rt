@@ -18,7 +18,8 @@ impl<L: Layout, D: Disk> Array<L, D> {
         requires sound { IsSound L.Layout D.Disk self.now }
         requires runs { (desk_at self.now.clients client).stage ≡ stage.Runs }
         requires buf { buf < length (desk_at self.now.clients client).run.graph.bufs }
-        ensures stripe { result ≡ slice_index (desk_at self.now.clients client).map.stripes (buf_at (desk_at self.now.clients client).run.graph buf).stripe }
+        ensures stripe { result ≡ slice_index (desk_at self.now.clients client).map.stripes
+            (buf_at (desk_at self.now.clients client).run.graph buf).stripe }
         ensures within { result < self.now.cols.stripes }
     {
         let buf = self.clients.buf(client, buf, &self.graphs);

@@ -34,8 +34,12 @@ impl<L: Layout, D: Disk> Array<L, D> {
     /// A client's item is replied, and it has no lease any more.
     pub fn reply(&mut self, client: u32, reply: Reply)
         requires client { client < length self.old.clients }
-        requires left { length (desk_at self.old.clients client).replies < length (desk_at self.old.clients client).items }
-        ensures { self.new ≡ record self.old { clients = slice_set self.old.clients client (with_reply (desk_at self.old.clients client) reply) } }
+        requires left { length (desk_at self.old.clients client).replies
+            < length (desk_at self.old.clients client).items }
+        ensures { self.new ≡ record self.old {
+          clients = slice_set self.old.clients client
+              (with_reply (desk_at self.old.clients client) reply);
+        } }
     {
         self.clients.reply(client, reply);
     }

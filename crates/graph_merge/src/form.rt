@@ -47,7 +47,8 @@ fn has_misformed(graph: &Graph) -> bool
 
 // Whether a return names a buffer that there isn't.
 fn has_foreign_ret(graph: &Graph) -> bool
-    ensures { IsTrue result ↔ ((k : ℕ) × (k < length graph.now.drawn.rets) × (length graph.now.drawn.bufs ≤ (ret_at graph.now.drawn k).buf)) }
+    ensures { IsTrue result ↔ ((k : ℕ) × (k < length graph.now.drawn.rets)
+        × (length graph.now.drawn.bufs ≤ (ret_at graph.now.drawn k).buf)) }
 {
     for k in 0..graph.rets() {
         if graph.ret(k).buf >= graph.bufs() {
@@ -67,7 +68,8 @@ fn has_ante(graph: &Graph, m: u32, n: u32) -> bool
 
 // Whether some node has this one among its antecedents.
 fn is_ante(graph: &Graph, n: u32) -> bool
-    ensures { IsTrue result ↔ ((m : ℕ) × (m < length graph.now.drawn.nodes) × IsAnte graph.now.drawn m n) }
+    ensures { IsTrue result ↔
+        ((m : ℕ) × (m < length graph.now.drawn.nodes) × IsAnte graph.now.drawn m n) }
 {
     for m in 0..graph.nodes() {
         if has_ante(graph, m, n) {
@@ -108,8 +110,10 @@ fn is_of(node: Node, mark: Mark) -> bool
 fn next_of(graph: &Graph, mark: Mark, from: u32) -> Option<u32>
     requires { from ≤ length graph.now.drawn.nodes }
     ensures { MatchOption result
-        ((n : ℕ) → from ≤ n → n < length graph.now.drawn.nodes → kind_at graph.now.drawn n ≡ kind_of mark → ⊥)
-        (λ c. (from ≤ c) × (c < length graph.now.drawn.nodes) × (kind_at graph.now.drawn c ≡ kind_of mark)
+        ((n : ℕ) → from ≤ n → n < length graph.now.drawn.nodes
+        → kind_at graph.now.drawn n ≡ kind_of mark → ⊥)
+        (λ c. (from ≤ c) × (c < length graph.now.drawn.nodes)
+        × (kind_at graph.now.drawn c ≡ kind_of mark)
         × ((n : ℕ) → from ≤ n → n < c → kind_at graph.now.drawn n ≡ kind_of mark → ⊥)) }
 {
     for n in from..graph.nodes() {
@@ -122,7 +126,8 @@ fn next_of(graph: &Graph, mark: Mark, from: u32) -> Option<u32>
 
 // The one node of a kind, if there is one and no more.
 fn only_of(graph: &Graph, mark: Mark) -> Option<u32>
-    ensures { MatchOption result ((c : ℕ) → IsOnly graph.now.drawn mark c → ⊥) (IsOnly graph.now.drawn mark) }
+    ensures { MatchOption result ((c : ℕ) → IsOnly graph.now.drawn mark c → ⊥)
+        (IsOnly graph.now.drawn mark) }
 {
     let nodes = graph.nodes();
     let Some(only) = next_of(graph, mark, 0) else {
@@ -137,7 +142,8 @@ fn only_of(graph: &Graph, mark: Mark) -> Option<u32>
 
 /// The commit and the terminator of a graph that is formed.
 pub(crate) fn ends_of(graph: &Graph) -> Option<Ends>
-    ensures { MatchOption result ((c e : ℕ) → IsFormed graph.now.drawn c e → ⊥) (λ r. IsFormed graph.now.drawn r.commit r.end) }
+    ensures { MatchOption result ((c e : ℕ) → IsFormed graph.now.drawn c e → ⊥)
+        (λ r. IsFormed graph.now.drawn r.commit r.end) }
 {
     if has_misformed(graph) {
         return None;

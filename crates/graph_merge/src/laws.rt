@@ -58,5 +58,6 @@ pub fn spans_in_turn_follow()
     ensures task { (y : Shape) (kind : Kind) (a b : Touched)
         → task_of y kind (map_followed a b) ≡ followed (task_of y kind a) (task_of y kind b) }
     ensures missing { (t : Aim) (m k : List (Option ℕ))
-        → length m ≡ t.stripes → missing_of (m ++ k) ≡ missing_followed t (missing_of m) (missing_of k) }
+        → length m ≡ t.stripes
+        → missing_of (m ++ k) ≡ missing_followed t (missing_of m) (missing_of k) }
 {}

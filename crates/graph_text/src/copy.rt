@@ -9,7 +9,8 @@ use std::alloc::Global;
 fn copy_bufs(from: &Graph, to: &mut Graph)
     requires empty { to.old.drawn.bufs ≡ [] }
     requires room { length from.now.drawn.bufs ≤ to.old.buf_room }
-    ensures { to.new ≡ record to.old { drawn = record to.old.drawn { bufs = from.now.drawn.bufs } } }
+    ensures { to.new
+        ≡ record to.old { drawn = record to.old.drawn { bufs = from.now.drawn.bufs } } }
 {
     for i in 0..from.bufs() {
         to.push_buf(from.buf(i));
@@ -20,7 +21,8 @@ fn copy_nodes(from: &Graph, to: &mut Graph)
     requires empty { to.old.drawn.nodes ≡ [] }
     requires room { length from.now.drawn.nodes ≤ to.old.node_room }
     requires edges { edge_count from.now.drawn ≤ to.old.edge_room }
-    ensures { to.new ≡ record to.old { drawn = record to.old.drawn { nodes = from.now.drawn.nodes } } }
+    ensures { to.new
+        ≡ record to.old { drawn = record to.old.drawn { nodes = from.now.drawn.nodes } } }
 {
     for i in 0..from.nodes() {
         push_vertex(to, from.node(i), from.sources(i), from.antes(i));
@@ -30,7 +32,8 @@ fn copy_nodes(from: &Graph, to: &mut Graph)
 fn copy_rets(from: &Graph, to: &mut Graph)
     requires empty { to.old.drawn.rets ≡ [] }
     requires room { length from.now.drawn.rets ≤ to.old.buf_room }
-    ensures { to.new ≡ record to.old { drawn = record to.old.drawn { rets = from.now.drawn.rets } } }
+    ensures { to.new
+        ≡ record to.old { drawn = record to.old.drawn { rets = from.now.drawn.rets } } }
 {
     for i in 0..from.rets() {
         to.push_ret(from.ret(i));

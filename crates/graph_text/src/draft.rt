@@ -126,7 +126,8 @@ impl Draft {
 fn has_room(nodes: u32, count: u32, sources: &[u32], antes: &[u32]) -> bool
     requires sources { length sources.now ≤ 16385 }
     requires antes { length antes.now ≤ 16385 }
-    ensures { result ≡ (nat_lt nodes 2048 && nat_le (count + (length sources.now + length antes.now)) 16384) }
+    ensures { result
+        ≡ (nat_lt nodes 2048 && nat_le (count + (length sources.now + length antes.now)) 16384) }
 {
     let edges = count as usize + (sources.len() + antes.len());
     nodes < limits::NODES && edges <= limits::EDGES as usize

@@ -15,7 +15,8 @@ use raid_text::Words;
 #[tactic(auto, unfolding(crate::specs::FormatSteps::numbers_of))]
 fn numbers_in(words: &mut Words, kept: &mut Kept) -> Result<(), u8>
     requires { length kept.old ≤ 16385 }
-    ensures { Gives (λ _. kept.new) result (with_kept kept.old (numbers_of (words_left words.old))) }
+    ensures { Gives (λ _. kept.new) result
+        (with_kept kept.old (numbers_of (words_left words.old))) }
 {
     while let Some(word) = words.next() {
         let n = number_in(word)?;
@@ -27,7 +28,8 @@ fn numbers_in(words: &mut Words, kept: &mut Kept) -> Result<(), u8>
 /// Passes `after`, if a word is left, and answers whether it did.
 #[tactic(auto, unfolding(crate::specs::FormatLines::after_of))]
 pub fn pass_after(words: &mut Words) -> Result<bool, u8>
-    ensures { Gives (λ more. behind more (words_left words.new)) result (after_of (words_left words.old)) }
+    ensures { Gives (λ more. behind more (words_left words.new)) result
+        (after_of (words_left words.old)) }
 {
     match words.next() {
         Some(word) if word == b"after".as_slice() => Ok(true),
@@ -40,7 +42,8 @@ pub fn pass_after(words: &mut Words) -> Result<bool, u8>
 #[tactic(auto, unfolding(crate::specs::FormatLines::antes_of))]
 pub fn antes_in(more: bool, words: &mut Words, kept: &mut Kept) -> Result<(), u8>
     requires { length kept.old ≤ 16385 }
-    ensures { Gives (λ _. kept.new) result (with_kept kept.old (antes_of (behind more (words_left words.old)))) }
+    ensures { Gives (λ _. kept.new) result
+        (with_kept kept.old (antes_of (behind more (words_left words.old)))) }
 {
     if !more {
         return Ok(());

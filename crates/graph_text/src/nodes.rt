@@ -18,7 +18,8 @@ use raid_text::Words;
 fn plain_in(kind: Node, words: &mut Words, edges: &mut Edges) -> Result<Node, u8>
     requires sources { edges.old.sources ≡ [] }
     requires antes { edges.old.antes ≡ [] }
-    ensures node { GivesNode result edges.new.sources edges.new.antes (plain_of kind (words_left words.old)) }
+    ensures node { GivesNode result edges.new.sources edges.new.antes
+        (plain_of kind (words_left words.old)) }
     ensures sums { IfOk result (λ node. 0 < length edges.new.sources → IsTrue (is_xor node)) }
 {
     let more = pass_after(words)?;
@@ -31,7 +32,8 @@ fn plain_in(kind: Node, words: &mut Words, edges: &mut Edges) -> Result<Node, u8
 fn read_in(words: &mut Words, edges: &mut Edges) -> Result<Node, u8>
     requires sources { edges.old.sources ≡ [] }
     requires antes { edges.old.antes ≡ [] }
-    ensures node { GivesNode result edges.new.sources edges.new.antes (read_of (words_left words.old)) }
+    ensures node { GivesNode result edges.new.sources edges.new.antes
+        (read_of (words_left words.old)) }
     ensures sums { IfOk result (λ node. 0 < length edges.new.sources → IsTrue (is_xor node)) }
 {
     let (unit, buf) = next_pair(words)?;
@@ -43,7 +45,8 @@ fn read_in(words: &mut Words, edges: &mut Edges) -> Result<Node, u8>
 fn write_in(words: &mut Words, edges: &mut Edges) -> Result<Node, u8>
     requires sources { edges.old.sources ≡ [] }
     requires antes { edges.old.antes ≡ [] }
-    ensures node { GivesNode result edges.new.sources edges.new.antes (write_of (words_left words.old)) }
+    ensures node { GivesNode result edges.new.sources edges.new.antes
+        (write_of (words_left words.old)) }
     ensures sums { IfOk result (λ node. 0 < length edges.new.sources → IsTrue (is_xor node)) }
 {
     let (unit, buf) = next_pair(words)?;
@@ -55,7 +58,8 @@ fn write_in(words: &mut Words, edges: &mut Edges) -> Result<Node, u8>
 fn xor_in(words: &mut Words, edges: &mut Edges) -> Result<Node, u8>
     requires sources { edges.old.sources ≡ [] }
     requires antes { edges.old.antes ≡ [] }
-    ensures node { GivesNode result edges.new.sources edges.new.antes (xor_of (words_left words.old)) }
+    ensures node { GivesNode result edges.new.sources edges.new.antes
+        (xor_of (words_left words.old)) }
     ensures sums { IfOk result (λ node. 0 < length edges.new.sources → IsTrue (is_xor node)) }
 {
     let to = next_number(words)?;
@@ -69,7 +73,8 @@ fn xor_in(words: &mut Words, edges: &mut Edges) -> Result<Node, u8>
 fn kind_in(kind: &[u8], words: &mut Words, edges: &mut Edges) -> Result<Node, u8>
     requires sources { edges.old.sources ≡ [] }
     requires antes { edges.old.antes ≡ [] }
-    ensures node { GivesNode result edges.new.sources edges.new.antes (kind_of kind.now (words_left words.old)) }
+    ensures node { GivesNode result edges.new.sources edges.new.antes
+        (kind_of kind.now (words_left words.old)) }
     ensures sums { IfOk result (λ node. 0 < length edges.new.sources → IsTrue (is_xor node)) }
 {
     if kind == b"read".as_slice() {
@@ -91,7 +96,8 @@ fn kind_in(kind: &[u8], words: &mut Words, edges: &mut Edges) -> Result<Node, u8
 /// 16,385 each.
 #[tactic(auto, unfolding(crate::specs::FormatLines::node_of))]
 pub fn node_in(index: u32, words: &mut Words, edges: &mut Edges) -> Result<Node, u8>
-    ensures node { GivesNode result edges.new.sources edges.new.antes (node_of index (words_left words.old)) }
+    ensures node { GivesNode result edges.new.sources edges.new.antes
+        (node_of index (words_left words.old)) }
     ensures sums { IfOk result (λ node. 0 < length edges.new.sources → IsTrue (is_xor node)) }
 {
     pass_index(words, index)?;

@@ -129,7 +129,8 @@ fn push_node(
 ) -> Result<(), Memory>
     ensures line { OnOk result (
         text.new.items ≡ text.old.items
-        ++ line_text (node_places i (record { kind = node; sources = sources.now; antes = antes.now }))
+        ++ line_text
+        (node_places i (record { kind = node; sources = sources.now; antes = antes.now }))
         ) }
     ensures kind { IsWordKind node }
     ensures sources { All (λ n. n < 2 ^ 32) sources.now }
@@ -148,7 +149,8 @@ fn push_node_line(
 ) -> Result<(), Memory>
     ensures { OnOk result (
         text.new.items ≡ text.old.items
-        ++ line_text (node_places i (record { kind = node; sources = sources.now; antes = antes.now }))
+        ++ line_text
+        (node_places i (record { kind = node; sources = sources.now; antes = antes.now }))
         ) }
 {
     text.extend_from_slice(b"node")?;

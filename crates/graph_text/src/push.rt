@@ -32,8 +32,10 @@ fn push_antes(graph: &mut Graph, antes: &[u32])
 pub fn push_vertex(graph: &mut Graph, node: Node, sources: &[u32], antes: &[u32])
     requires sum { 0 < length sources.now → IsTrue (is_xor node) }
     requires room { length graph.old.drawn.nodes < graph.old.node_room }
-    requires edges { edge_count graph.old.drawn + (length sources.now + length antes.now) ≤ graph.old.edge_room }
-    ensures { graph.new ≡ with_vertex graph.old (record { kind = node; sources = sources.now; antes = antes.now }) }
+    requires edges { edge_count graph.old.drawn + (length sources.now + length antes.now)
+        ≤ graph.old.edge_room }
+    ensures { graph.new
+        ≡ with_vertex graph.old (record { kind = node; sources = sources.now; antes = antes.now }) }
 {
     graph.push_node(node);
     push_sources(graph, sources);

@@ -51,7 +51,8 @@ impl Reader {
     // Reads a line between graphs.
     #[tactic(auto, unfolding(crate::specs::Format::outside_line))]
     fn begin(&mut self, first: &[u8], words: &mut Words) -> Result<(), u8>
-        ensures { Gives (λ _. self.new) result (outside_line self.old.ended first.now (words_left words.old)) }
+        ensures { Gives (λ _. self.new) result
+            (outside_line self.old.ended first.now (words_left words.old)) }
     {
         if first != b"graph".as_slice() {
             return Err(WORD);

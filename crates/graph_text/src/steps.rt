@@ -12,7 +12,8 @@ use raid_text::{Words, number};
 /// The next word.
 #[tactic(auto, unfolding(crate::specs::FormatSteps::next_word))]
 pub fn next_word<'a>(words: &mut Words<'a>) -> Result<&'a [u8], u8>
-    ensures { Gives (λ word. (word.now, words_left words.new)) result (next_word (words_left words.old)) }
+    ensures { Gives (λ word. (word.now, words_left words.new)) result
+        (next_word (words_left words.old)) }
 {
     match words.next() {
         Some(word) => Ok(word),
@@ -23,7 +24,8 @@ pub fn next_word<'a>(words: &mut Words<'a>) -> Result<&'a [u8], u8>
 /// Passes this word.
 #[tactic(auto, unfolding(crate::specs::FormatSteps::after_word))]
 pub fn pass_word(words: &mut Words, wanted: &[u8]) -> Result<(), u8>
-    ensures { Gives (λ _. words_left words.new) result (after_word wanted.now (words_left words.old)) }
+    ensures { Gives (λ _. words_left words.new) result
+        (after_word wanted.now (words_left words.old)) }
 {
     match words.next() {
         Some(word) if word == wanted => Ok(()),
@@ -65,7 +67,8 @@ pub fn pass_index(words: &mut Words, wanted: u32) -> Result<(), u8>
 /// The next two words, which are numbers.
 #[tactic(auto, unfolding(crate::specs::FormatSteps::next_pair))]
 pub fn next_pair(words: &mut Words) -> Result<(u32, u32), u8>
-    ensures { Gives (λ pair. (pair.0, pair.1, words_left words.new)) result (next_pair (words_left words.old)) }
+    ensures { Gives (λ pair. (pair.0, pair.1, words_left words.new)) result
+        (next_pair (words_left words.old)) }
 {
     let first = next_number(words)?;
     let second = next_number(words)?;

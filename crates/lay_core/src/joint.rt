@@ -62,7 +62,8 @@ fn add_stripe(stripes: &mut Vec<u32>, stripe: u32) -> Result<(), SplitFault>
     requires few { length stripes.old.items ≤ 16 }
     ensures items { OnOk result (stripes.new.items ≡ with_stripe stripes.old.items stripe) }
     ensures few { OnOk result (length stripes.new.items ≤ 16) }
-    ensures full { OnErr result ((length stripes.old.items ≡ 16) × (ends_with stripes.old.items stripe ≡ false)) }
+    ensures full { OnErr result
+        ((length stripes.old.items ≡ 16) × (ends_with stripes.old.items stripe ≡ false)) }
     ensures room { vec_capacity stripes.old ≤ vec_capacity stripes.new }
 {
     let len = stripes.len();
@@ -117,13 +118,15 @@ fn add_blocks<L: Layout>(
 ) -> Result<(), SplitFault>
     requires some { low < high }
     requires inside { high ≤ blocks_in (L.shape layout.now) }
-    requires one { offset_of (L.shape layout.now) low + (high - low) ≤ (L.shape layout.now).unit_sectors }
+    requires one { offset_of (L.shape layout.now) low + (high - low)
+        ≤ (L.shape layout.now).unit_sectors }
     requires few { length map.old.stripes ≤ 16 }
     requires room { length map.old.parts < 520 }
     requires fit { All (λ p. p.from + p.count ≤ 128) map.old.parts }
     ensures added { OnOk result (map.new ≡ added (L.shape layout.now) map.old low high) }
     ensures few { OnOk result (length map.new.stripes ≤ 16) }
-    ensures full { OnErr result ((length map.old.stripes ≡ 16) × (ends_with map.old.stripes (stripe_of (L.shape layout.now) low) ≡ false)) }
+    ensures full { OnErr result ((length map.old.stripes ≡ 16)
+        × (ends_with map.old.stripes (stripe_of (L.shape layout.now) low) ≡ false)) }
 {
     let sectors = u64::from(layout.unit_sectors());
     let units = u64::from(data_units(layout));
@@ -152,10 +155,13 @@ fn add_span<L: Layout>(
     requires some { 1 ≤ span.count }
     requires inside { span.first + span.count ≤ blocks_in (L.shape layout.now) }
     requires own { Contains (spans_of patches.now) span }
-    requires walked { IsWalked (L.shape layout.now) (is_in_some (spans_of patches.now)) map.old span.first (began (spans_of patches.now) span.first) }
+    requires walked { IsWalked (L.shape layout.now) (is_in_some (spans_of patches.now)) map.old
+        span.first (began (spans_of patches.now) span.first) }
     requires less { began (spans_of patches.now) span.first ≤ 7 }
-    ensures walked { OnOk result (IsWalked (L.shape layout.now) (is_in_some (spans_of patches.now)) map.new (span.first + span.count) (began (spans_of patches.now) span.first + 1)) }
-    ensures full { OnErr result (16 < stripes_among (L.shape layout.now) (is_in_some (spans_of patches.now))) }
+    ensures walked { OnOk result (IsWalked (L.shape layout.now) (is_in_some (spans_of patches.now))
+        map.new (span.first + span.count) (began (spans_of patches.now) span.first + 1)) }
+    ensures full { OnErr result
+        (16 < stripes_among (L.shape layout.now) (is_in_some (spans_of patches.now))) }
 {
     let _ = patches;
     let sectors = u64::from(layout.unit_sectors());
@@ -179,7 +185,8 @@ fn add_all<L: Layout>(layout: &L, map: &mut StripeMap, patches: &Patches) -> Res
     requires inside { PassesEndSome (L.shape layout.now) (spans_of patches.now) → ⊥ }
     requires empty { map.old ≡ nothing }
     ensures split { OnOk result (IsJointSplit (L.shape layout.now) (spans_of patches.now) map.new) }
-    ensures full { OnErr result (16 < stripes_among (L.shape layout.now) (is_in_some (spans_of patches.now))) }
+    ensures full { OnErr result
+        (16 < stripes_among (L.shape layout.now) (is_in_some (spans_of patches.now))) }
 {
     let mut at = 0;
     while let Some(span) = next_span(patches, at) {
@@ -209,8 +216,11 @@ pub fn split_all<L: Layout>(
     requires sound { AreSound patches.now }
     requires some { All (λ s. 1 ≤ s.count) (spans_of patches.now) }
     ensures split { OnOk result (IsJointSplit (L.shape layout.now) (spans_of patches.now) map.new) }
-    ensures out_of_range { IsErrOf result SplitFault.OutOfRange ↔ PassesEndSome (L.shape layout.now) (spans_of patches.now) }
-    ensures too_long { IsErrOf result SplitFault.TooLong ↔ ((PassesEndSome (L.shape layout.now) (spans_of patches.now) → ⊥) × (16 < stripes_among (L.shape layout.now) (is_in_some (spans_of patches.now)))) }
+    ensures out_of_range { IsErrOf result SplitFault.OutOfRange ↔ PassesEndSome (L.shape layout.now)
+        (spans_of patches.now) }
+    ensures too_long { IsErrOf
+        result SplitFault.TooLong ↔ ((PassesEndSome (L.shape layout.now) (spans_of patches.now) → ⊥)
+        × (16 < stripes_among (L.shape layout.now) (is_in_some (spans_of patches.now)))) }
     ensures refused { OnErr result (map.new ≡ nothing) }
 {
     map.clear();

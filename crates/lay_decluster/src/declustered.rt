@@ -43,11 +43,15 @@ impl Declustered {
         unit_sectors: u32,
         rows: u32,
     ) -> Result<Declustered, TableFault>
-        ensures made { IfOk result (λ layout. ⟦<Declustered as Layout>⟧.shape layout ≡ declustered design unit_sectors rows) }
+        ensures made { IfOk result (λ layout. ⟦<Declustered as Layout>⟧.shape layout
+            ≡ declustered design unit_sectors rows) }
         ensures width { ¬ (IsErrOf result TableFault.Width) }
         ensures unit { IsErrOf result TableFault.Unit ↔ IsNoUnit unit_sectors }
-        ensures rows { IsErrOf result TableFault.Rows ↔ (IsUnit unit_sectors × AreNoTables design rows) }
-        ensures balanced { IfOk result (λ layout. IsBalanced (⟦<Declustered as Layout>⟧.shape layout) (table_stripes design) (design.lambda * design.k) design.r 0) }
+        ensures rows { IsErrOf result TableFault.Rows ↔
+            (IsUnit unit_sectors × AreNoTables design rows) }
+        ensures balanced { IfOk result
+            (λ layout. IsBalanced (⟦<Declustered as Layout>⟧.shape layout) (table_stripes design)
+            (design.lambda * design.k) design.r 0) }
     {
         if let Err(fault) = check_numbers(&design, unit_sectors, rows) {
             return Err(fault);

@@ -19,7 +19,8 @@ pub(crate) fn check_numbers(design: &Design, unit_sectors: u32, rows: u32) -> Re
     ensures ok { OnOk result (IsTabled design.now unit_sectors rows) }
     ensures width { ¬ (IsErrOf result TableFault.Width) }
     ensures unit { IsErrOf result TableFault.Unit ↔ IsNoUnit unit_sectors }
-    ensures rows { IsErrOf result TableFault.Rows ↔ (IsUnit unit_sectors × AreNoTables design.now rows) }
+    ensures rows { IsErrOf result TableFault.Rows ↔
+        (IsUnit unit_sectors × AreNoTables design.now rows) }
     ensures memory { ¬ (IsErrOf result TableFault.Memory) }
 {
     if !(1..=limits::UNIT_SECTORS).contains(&unit_sectors) {

@@ -47,11 +47,14 @@ impl Spared {
         unit_sectors: u32,
         rows: u32,
     ) -> Result<Spared, TableFault>
-        ensures made { IfOk result (λ layout. ⟦<Spared as Layout>⟧.shape layout ≡ spared design unit_sectors rows) }
+        ensures made { IfOk result
+            (λ layout. ⟦<Spared as Layout>⟧.shape layout ≡ spared design unit_sectors rows) }
         ensures width { IsErrOf result TableFault.Width ↔ (design.k < 3) }
         ensures unit { IsErrOf result TableFault.Unit ↔ ((3 ≤ design.k) × IsNoUnit unit_sectors) }
-        ensures rows { IsErrOf result TableFault.Rows ↔ ((3 ≤ design.k) × IsUnit unit_sectors × AreNoTables design rows) }
-        ensures balanced { IfOk result (λ layout. IsBalanced (⟦<Spared as Layout>⟧.shape layout) (table_stripes design) (design.lambda * (design.k - 2)) design.r design.r) }
+        ensures rows { IsErrOf result TableFault.Rows ↔
+            ((3 ≤ design.k) × IsUnit unit_sectors × AreNoTables design rows) }
+        ensures balanced { IfOk result (λ layout. IsBalanced (⟦<Spared as Layout>⟧.shape layout)
+            (table_stripes design) (design.lambda * (design.k - 2)) design.r design.r) }
     {
         if design.k() < 3 {
             return Err(TableFault::Width);

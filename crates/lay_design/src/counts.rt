@@ -17,7 +17,8 @@ fn count_with(counts: &mut [u32], x: u32, objects: &[u32])
     requires short { length objects.now ≤ 32 }
     requires low { (y : ℕ) → y < 32 → entry counts.old x y ≤ 2000000 }
     ensures length { length counts.new ≡ 1024 }
-    ensures counted { (y : ℕ) → y < 32 → entry counts.new x y ≡ entry counts.old x y + times y objects.now }
+    ensures counted { (y : ℕ) → y < 32
+        → entry counts.new x y ≡ entry counts.old x y + times y objects.now }
     ensures others { (z y : ℕ) → z ≢ x → y < 32 → entry counts.new z y ≡ entry counts.old z y }
 {
     for y in objects {
@@ -32,7 +33,8 @@ fn count_tuple(counts: &mut [u32], objects: &[u32])
     requires short { length objects.now ≤ 32 }
     requires low { IsLow counts.old }
     ensures length { length counts.new ≡ 1024 }
-    ensures counted { (x y : ℕ) → x < 32 → y < 32 → entry counts.new x y ≡ entry counts.old x y + times x objects.now * times y objects.now }
+    ensures counted { (x y : ℕ) → x < 32 → y < 32
+        → entry counts.new x y ≡ entry counts.old x y + times x objects.now * times y objects.now }
 {
     for x in objects {
         count_with(counts, *x, objects);
@@ -45,7 +47,8 @@ fn count_tuples(counts: &mut [u32], tuples: Tuples)
     requires zeros { (x y : ℕ) → x < 32 → y < 32 → entry counts.old x y ≡ 0 }
     requires fit { AreFit tuples }
     ensures length { length counts.new ≡ 1024 }
-    ensures counted { AreCounted tuples.entry.count tuples.entry.width tuples.entry.objects.now counts.new }
+    ensures counted { AreCounted tuples.entry.count tuples.entry.width tuples.entry.objects.now
+        counts.new }
 {
     for number in 0..tuples.count {
         count_tuple(counts, tuples.at(number));
@@ -57,7 +60,8 @@ fn count_tuples(counts: &mut [u32], tuples: Tuples)
 pub(crate) fn count_pairs(alloc: Global, tuples: Tuples) -> Result<Vec<u32>, DesignFault>
     requires { AreFit tuples }
     ensures length { IfOk result (λ counts. length counts.items ≡ 1024) }
-    ensures counted { IfOk result (λ counts. AreCounted tuples.entry.count tuples.entry.width tuples.entry.objects.now counts.items) }
+    ensures counted { IfOk result (λ counts.
+        AreCounted tuples.entry.count tuples.entry.width tuples.entry.objects.now counts.items) }
     ensures memory { IfErr result (λ fault. fault ≡ DesignFault.Memory) }
 {
     let mut counts = match vec![in alloc; 0; 1024] {

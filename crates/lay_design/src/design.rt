@@ -52,9 +52,11 @@ impl Design {
         lambda: u32,
         tuples: Vec<u32>,
     ) -> Result<Design, DesignFault>
-        ensures design { IfOk result (λ design. design ≡ record { b = b; v = v; k = k; r = r; lambda = lambda; objects = tuples.items }) }
+        ensures design { IfOk result (λ design. design
+            ≡ record { b = b; v = v; k = k; r = r; lambda = lambda; objects = tuples.items }) }
         ensures ok { IfOk result (λ design. IsDesign design) }
-        ensures err { IfErr result (λ fault. IsFault (record { b = b; v = v; k = k; r = r; lambda = lambda; objects = tuples.items }) fault) }
+        ensures err { IfErr result (λ fault. IsFault (record
+            { b = b; v = v; k = k; r = r; lambda = lambda; objects = tuples.items }) fault) }
     {
         let numbers = Numbers {
             tuples: b,

@@ -21,7 +21,8 @@ fn push_moved(list: &mut Vec<u32>, v: u32, base: &[u32], by: u32) -> Result<(), 
 #[tactic(auto, using(crate::proofs::Flat::flat_more))]
 pub(crate) fn cyclic_tuples(alloc: Global, v: u32, base: &[u32]) -> Result<Vec<u32>, AllocError>
     requires { 0 < v }
-    ensures { IfOk result (λ list. list.items ≡ flat (map (moved v base.now) (range_with_len 0 v))) }
+    ensures { IfOk result
+        (λ list. list.items ≡ flat (map (moved v base.now) (range_with_len 0 v))) }
 {
     let mut list = Vec::new(alloc);
     for by in 0..v {

@@ -6,5 +6,6 @@ use crate::fault::DesignFault;
 
 /// A design has no fault but want of memory: so `check` refuses no other.
 pub fn designs_have_no_fault()
-    ensures { (d : Blocks) (fault : DesignFault) → IsDesign d → IsFault d fault → fault ≡ DesignFault.Memory }
+    ensures { (d : Blocks) (fault : DesignFault) → IsDesign d → IsFault d fault
+        → fault ≡ DesignFault.Memory }
 {}

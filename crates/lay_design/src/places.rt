@@ -46,7 +46,8 @@ fn repeated_in(objects: &[u32], width: u32) -> Option<u32>
 /// The first place that has no object below v.
 pub(crate) fn first_outside(tuples: Tuples, v: u32) -> Option<Spot>
     requires { length tuples.objects.now ≡ tuples.count * tuples.width }
-    ensures { IsFirstSpot (λ t. is_outside v (tuple tuples.entry.width tuples.entry.objects.now t)) tuples.entry.count tuples.entry.width result }
+    ensures { IsFirstSpot (λ t. is_outside v (tuple tuples.entry.width tuples.entry.objects.now t))
+        tuples.entry.count tuples.entry.width result }
 {
     for row in 0..tuples.count {
         if let Some(place) = outside_in(tuples.at(row), tuples.width, v) {
@@ -59,7 +60,8 @@ pub(crate) fn first_outside(tuples: Tuples, v: u32) -> Option<Spot>
 /// The first place that has the object of an earlier one of its tuple.
 pub(crate) fn first_repeated(tuples: Tuples) -> Option<Spot>
     requires { length tuples.objects.now ≡ tuples.count * tuples.width }
-    ensures { IsFirstSpot (λ t. is_repeated (tuple tuples.entry.width tuples.entry.objects.now t)) tuples.entry.count tuples.entry.width result }
+    ensures { IsFirstSpot (λ t. is_repeated (tuple tuples.entry.width tuples.entry.objects.now t))
+        tuples.entry.count tuples.entry.width result }
 {
     for row in 0..tuples.count {
         if let Some(place) = repeated_in(tuples.at(row), tuples.width) {

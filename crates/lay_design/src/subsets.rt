@@ -28,7 +28,13 @@ pub(crate) fn count_subsets(n: u32, k: u32) -> u32
 pub(crate) fn complete_numbers(v: u32, k: u32) -> Option<Numbers>
     requires v { 2 ≤ v }
     requires k { 2 ≤ k }
-    ensures some { IfSome result (λ numbers. numbers ≡ record { tuples = choose v k; objects = v; width = k; degree = choose (v - 1) (k - 1); together = choose (v - 2) (k - 2) }) }
+    ensures some { IfSome result (λ numbers. numbers ≡ record {
+      tuples = choose v k;
+      objects = v;
+      width = k;
+      degree = choose (v - 1) (k - 1);
+      together = choose (v - 2) (k - 2);
+    }) }
     ensures none { IsNone result → 4096 < choose v k }
 {
     let tuples = count_subsets(v, k);
@@ -53,7 +59,8 @@ fn push_subsets(
     k: u32,
 ) -> Result<(), AllocError>
     requires { first + n ≤ 32 }
-    ensures list { OnOk result (list.new.items ≡ list.old.items ++ flat (map (λ tuple. front.old.items ++ tuple) (subsets first n k))) }
+    ensures list { OnOk result (list.new.items ≡ list.old.items
+        ++ flat (map (λ tuple. front.old.items ++ tuple) (subsets first n k))) }
     ensures front { OnOk result (front.new.items ≡ front.old.items) }
 {
     if k == 0 {

@@ -36,10 +36,13 @@ impl Chain {
     /// - `Rows` where there are fewer than 2 rows, or an odd number, or they make more than 1,048,576
     ///   stripes.
     pub fn new(columns: u32, unit_sectors: u32, rows: u32) -> Result<Self, MakeFault>
-        ensures made { IfOk result (λ layout. ⟦<Chain as Layout>⟧.shape layout ≡ chained columns unit_sectors rows) }
+        ensures made { IfOk result
+            (λ layout. ⟦<Chain as Layout>⟧.shape layout ≡ chained columns unit_sectors rows) }
         ensures columns { IsErrOf result MakeFault.Columns ↔ IsOutside 2 32 columns }
-        ensures unit { IsErrOf result MakeFault.Unit ↔ (IsBetween 2 32 columns × IsOutside 1 128 unit_sectors) }
-        ensures rows { IsErrOf result MakeFault.Rows ↔ (IsBetween 2 32 columns × IsBetween 1 128 unit_sectors × AreNoRounds columns rows) }
+        ensures unit { IsErrOf result MakeFault.Unit ↔
+            (IsBetween 2 32 columns × IsOutside 1 128 unit_sectors) }
+        ensures rows { IsErrOf result MakeFault.Rows ↔
+            (IsBetween 2 32 columns × IsBetween 1 128 unit_sectors × AreNoRounds columns rows) }
     {
         if !(2..=limits::COLUMNS).contains(&columns) {
             return Err(MakeFault::Columns);

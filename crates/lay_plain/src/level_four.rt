@@ -33,10 +33,13 @@ impl Raid4 {
     /// - `Unit` where a unit isn't of 1 to 128 sectors;
     /// - `Rows` where there aren't 1 to 1,048,576 rows.
     pub fn new(columns: u32, unit_sectors: u32, rows: u32) -> Result<Self, MakeFault>
-        ensures made { IfOk result (λ layout. ⟦<Raid4 as Layout>⟧.shape layout ≡ last_checked columns unit_sectors rows) }
+        ensures made { IfOk result
+            (λ layout. ⟦<Raid4 as Layout>⟧.shape layout ≡ last_checked columns unit_sectors rows) }
         ensures columns { IsErrOf result MakeFault.Columns ↔ IsOutside 2 32 columns }
-        ensures unit { IsErrOf result MakeFault.Unit ↔ (IsBetween 2 32 columns × IsOutside 1 128 unit_sectors) }
-        ensures rows { IsErrOf result MakeFault.Rows ↔ (IsBetween 2 32 columns × IsBetween 1 128 unit_sectors × IsOutside 1 1048576 rows) }
+        ensures unit { IsErrOf result MakeFault.Unit ↔
+            (IsBetween 2 32 columns × IsOutside 1 128 unit_sectors) }
+        ensures rows { IsErrOf result MakeFault.Rows ↔
+            (IsBetween 2 32 columns × IsBetween 1 128 unit_sectors × IsOutside 1 1048576 rows) }
     {
         if !(2..=limits::COLUMNS).contains(&columns) {
             return Err(MakeFault::Columns);

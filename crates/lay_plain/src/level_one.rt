@@ -34,10 +34,13 @@ impl Raid1 {
     /// - `Unit` where a unit isn't of 1 to 128 sectors;
     /// - `Rows` where there are no rows, or they make more than 1,048,576 stripes.
     pub fn new(columns: u32, unit_sectors: u32, rows: u32) -> Result<Self, MakeFault>
-        ensures made { IfOk result (λ layout. ⟦<Raid1 as Layout>⟧.shape layout ≡ mirrored columns unit_sectors rows) }
+        ensures made { IfOk result
+            (λ layout. ⟦<Raid1 as Layout>⟧.shape layout ≡ mirrored columns unit_sectors rows) }
         ensures columns { IsErrOf result MakeFault.Columns ↔ AreNoPairs columns }
-        ensures unit { IsErrOf result MakeFault.Unit ↔ (ArePairs columns × IsOutside 1 128 unit_sectors) }
-        ensures rows { IsErrOf result MakeFault.Rows ↔ (ArePairs columns × IsBetween 1 128 unit_sectors × ((rows < 1) ⊎ (1048576 < columns / 2 * rows))) }
+        ensures unit { IsErrOf result MakeFault.Unit ↔
+            (ArePairs columns × IsOutside 1 128 unit_sectors) }
+        ensures rows { IsErrOf result MakeFault.Rows ↔ (ArePairs columns
+            × IsBetween 1 128 unit_sectors × ((rows < 1) ⊎ (1048576 < columns / 2 * rows))) }
     {
         if !(2..=limits::COLUMNS).contains(&columns) || columns % 2 == 1 {
             return Err(MakeFault::Columns);

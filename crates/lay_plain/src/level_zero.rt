@@ -32,10 +32,13 @@ impl Raid0 {
     /// - `Unit` where a unit isn't of 1 to 128 sectors;
     /// - `Rows` where there aren't 1 to 1,048,576 rows.
     pub fn new(columns: u32, unit_sectors: u32, rows: u32) -> Result<Self, MakeFault>
-        ensures made { IfOk result (λ layout. ⟦<Raid0 as Layout>⟧.shape layout ≡ striped columns unit_sectors rows) }
+        ensures made { IfOk result
+            (λ layout. ⟦<Raid0 as Layout>⟧.shape layout ≡ striped columns unit_sectors rows) }
         ensures columns { IsErrOf result MakeFault.Columns ↔ IsOutside 1 32 columns }
-        ensures unit { IsErrOf result MakeFault.Unit ↔ (IsBetween 1 32 columns × IsOutside 1 128 unit_sectors) }
-        ensures rows { IsErrOf result MakeFault.Rows ↔ (IsBetween 1 32 columns × IsBetween 1 128 unit_sectors × IsOutside 1 1048576 rows) }
+        ensures unit { IsErrOf result MakeFault.Unit ↔
+            (IsBetween 1 32 columns × IsOutside 1 128 unit_sectors) }
+        ensures rows { IsErrOf result MakeFault.Rows ↔
+            (IsBetween 1 32 columns × IsBetween 1 128 unit_sectors × IsOutside 1 1048576 rows) }
     {
         if !(1..=limits::COLUMNS).contains(&columns) {
             return Err(MakeFault::Columns);

@@ -66,9 +66,11 @@ impl<K: Sink> Lent<'_, K> {
     }
 
     fn put(&mut self, bytes: &[u8]) -> Result<(), Failed>
-        ensures output { K.tells → Puts (is_ok result) (K.output self.old.sink.now) bytes.now (K.output self.new.sink.now) }
+        ensures output { K.tells → Puts (is_ok result) (K.output self.old.sink.now) bytes.now
+            (K.output self.new.sink.now) }
         ensures later { K.faults self.old.sink.now ≤ K.faults self.new.sink.now }
-        ensures cause { OnErr result (Rose (K.faults self.old.sink.now) (K.faults self.new.sink.now)) }
+        ensures cause { OnErr result
+            (Rose (K.faults self.old.sink.now) (K.faults self.new.sink.now)) }
         ensures name { self.new.sink.ghost_name ≡ self.old.sink.ghost_name }
     {
         self.sink.put(bytes)
@@ -97,10 +99,13 @@ impl<'a, K: Sink, N: Start> Page<'a, K, N> {
     // Gives all that waits to the sink.
     fn give(&mut self) -> Result<(), Failed>
         requires { self.old.before ≡ None }
-        ensures output { K.tells → whole K.output self.new.lent.sink.now self.new.bytes.items self.new.before ≡ whole K.output self.old.lent.sink.now self.old.bytes.items self.old.before }
+        ensures output { K.tells
+            → whole K.output self.new.lent.sink.now self.new.bytes.items self.new.before
+            ≡ whole K.output self.old.lent.sink.now self.old.bytes.items self.old.before }
         ensures ok { OnOk result ((self.new.before ≡ None) × (self.new.bytes.items ≡ [])) }
         ensures later { K.faults self.old.lent.sink.now ≤ K.faults self.new.lent.sink.now }
-        ensures err { OnErr result (Rose (K.faults self.old.lent.sink.now) (K.faults self.new.lent.sink.now)) }
+        ensures err { OnErr result
+            (Rose (K.faults self.old.lent.sink.now) (K.faults self.new.lent.sink.now)) }
         ensures refused { self.new.refused ≡ self.old.refused }
     {
         let before = self.lent.seen();
@@ -118,10 +123,15 @@ impl<'a, K: Sink, N: Start> Page<'a, K, N> {
 
     // Where no room is left, gives all that waits to the sink. Where it is Ok there is room.
     fn make_room(&mut self) -> Result<(), Failed>
-        ensures output { K.tells → whole K.output self.new.lent.sink.now self.new.bytes.items self.new.before ≡ whole K.output self.old.lent.sink.now self.old.bytes.items self.old.before }
-        ensures ok { OnOk result ((self.new.before ≡ None) × (vec_len self.new.bytes < vec_capacity self.new.bytes)) }
-        ensures later { K.faults self.old.lent.sink.now + self.old.refused ≤ K.faults self.new.lent.sink.now + self.new.refused }
-        ensures err { OnErr result (Rose (K.faults self.old.lent.sink.now + self.old.refused) (K.faults self.new.lent.sink.now + self.new.refused)) }
+        ensures output { K.tells
+            → whole K.output self.new.lent.sink.now self.new.bytes.items self.new.before
+            ≡ whole K.output self.old.lent.sink.now self.old.bytes.items self.old.before }
+        ensures ok { OnOk result
+            ((self.new.before ≡ None) × (vec_len self.new.bytes < vec_capacity self.new.bytes)) }
+        ensures later { K.faults self.old.lent.sink.now + self.old.refused
+            ≤ K.faults self.new.lent.sink.now + self.new.refused }
+        ensures err { OnErr result (Rose (K.faults self.old.lent.sink.now + self.old.refused)
+            (K.faults self.new.lent.sink.now + self.new.refused)) }
     {
         if self.before.is_some() {
             self.refused = self.refused.saturating_add(1);
@@ -138,7 +148,9 @@ impl<'a, K: Sink, N: Start> Page<'a, K, N> {
         requires before { self.old.before ≡ None }
         requires room { vec_len self.old.bytes < vec_capacity self.old.bytes }
         requires some { 0 < length bytes.now }
-        ensures output { whole K.output self.new.lent.sink.now self.new.bytes.items self.new.before ≡ whole K.output self.old.lent.sink.now self.old.bytes.items self.old.before ++ take result bytes.now }
+        ensures output { whole K.output self.new.lent.sink.now self.new.bytes.items self.new.before
+            ≡ whole K.output self.old.lent.sink.now self.old.bytes.items self.old.before
+            ++ take result bytes.now }
         ensures some { 0 < result }
         ensures within { result ≤ length bytes.now }
         ensures faults { K.faults self.new.lent.sink.now ≡ K.faults self.old.lent.sink.now }
@@ -155,11 +167,15 @@ impl<'a, K: Sink, N: Start> Page<'a, K, N> {
     /// Gives what waits to the sink, after a printing with this end. Failed where the printing or this failed: the sink
     /// has a front of all that was put into the page, and its count of faults rose. Else it has all.
     pub fn finish(&mut self, printed: Result<(), Failed>) -> Result<(), Failed>
-        requires cause { OnErr printed (Rose N.faults (K.faults self.old.lent.sink.now + self.old.refused)) }
+        requires cause { OnErr printed
+            (Rose N.faults (K.faults self.old.lent.sink.now + self.old.refused)) }
         ensures name { self.new.lent.sink.ghost_name ≡ N.sink }
         ensures printed { OnOk result (is_ok printed ≡ true) }
-        ensures ok { K.tells → OnOk result (K.output self.new.lent.sink.now ≡ whole K.output self.old.lent.sink.now self.old.bytes.items self.old.before) }
-        ensures err { K.tells → OnErr result (IsFront N.output (whole K.output self.old.lent.sink.now self.old.bytes.items self.old.before) (K.output self.new.lent.sink.now)) }
+        ensures ok { K.tells → OnOk result (K.output self.new.lent.sink.now
+            ≡ whole K.output self.old.lent.sink.now self.old.bytes.items self.old.before) }
+        ensures err { K.tells
+            → OnErr result (IsFront N.output (whole K.output self.old.lent.sink.now
+            self.old.bytes.items self.old.before) (K.output self.new.lent.sink.now)) }
         ensures later { N.faults ≤ K.faults self.new.lent.sink.now }
         ensures cause { OnErr result (Rose N.faults (K.faults self.new.lent.sink.now)) }
     {

@@ -21,7 +21,8 @@ pub trait Prints {
     /// Puts the whole text. Failed, only where the sink's count of faults rose, has put a front of it.
     fn put_into<K: Sink>(&self, out: &mut K) -> Result<(), Failed>
         requires { ready self.now }
-        ensures output { K.tells → Puts (is_ok result) (K.output out.old) (text self.now) (K.output out.new) }
+        ensures output { K.tells
+            → Puts (is_ok result) (K.output out.old) (text self.now) (K.output out.new) }
         ensures later { K.faults out.old ≤ K.faults out.new }
         ensures cause { OnErr result (Rose (K.faults out.old) (K.faults out.new)) };
 }
@@ -36,7 +37,8 @@ fn put_paged<'a, P: Prints, K: Sink, N: Start>(
     requires name { lent.sink.ghost_name ≡ N.sink }
     requires start { K.output lent.sink.now ≡ N.output }
     requires faults { K.faults lent.sink.now ≡ N.faults }
-    ensures output { K.tells → Puts (is_ok result.0) N.output (P.text what.now) (K.output result.1.sink.now) }
+    ensures output { K.tells
+        → Puts (is_ok result.0) N.output (P.text what.now) (K.output result.1.sink.now) }
     ensures later { N.faults ≤ K.faults result.1.sink.now }
     ensures cause { OnErr result.0 (Rose N.faults (K.faults result.1.sink.now)) }
     ensures name { result.1.sink.ghost_name ≡ N.sink }
@@ -71,7 +73,8 @@ pub fn put_by_pages<P: Prints, K: Sink>(
     out: &mut K,
 ) -> Result<(), Failed>
     requires ready { P.ready what.now }
-    ensures output { K.tells → Puts (is_ok result) (K.output out.old) (P.text what.now) (K.output out.new) }
+    ensures output { K.tells
+        → Puts (is_ok result) (K.output out.old) (P.text what.now) (K.output out.new) }
     ensures later { K.faults out.old ≤ K.faults out.new }
     ensures cause { OnErr result (Rose (K.faults out.old) (K.faults out.new)) }
 {

@@ -106,7 +106,8 @@ impl Line {
     ///
     /// Failed, only where the sink's count of faults rose, has put a front of the line.
     pub fn put<K: Sink>(&self, out: &mut K) -> Result<(), Failed>
-        ensures output { K.tells → Puts (is_ok result) (K.output out.old) self.now (K.output out.new) }
+        ensures output { K.tells
+            → Puts (is_ok result) (K.output out.old) self.now (K.output out.new) }
         ensures later { K.faults out.old ≤ K.faults out.new }
         ensures cause { OnErr result (Rose (K.faults out.old) (K.faults out.new)) }
     {

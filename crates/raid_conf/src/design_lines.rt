@@ -19,7 +19,8 @@ use std::alloc::Global;
 // Passes v, which is the number of columns.
 #[tactic(auto, unfolding(crate::specs::Sections::after_objects))]
 fn pass_objects(columns: u32, words: &mut Words) -> Result<(), u8>
-    ensures { Gives (λ _. words_left words.new) result (after_objects columns (words_left words.old)) }
+    ensures { Gives (λ _. words_left words.new) result
+        (after_objects columns (words_left words.old)) }
 {
     pass_number(words, columns, COLUMNS)
 }
@@ -27,7 +28,9 @@ fn pass_objects(columns: u32, words: &mut Words) -> Result<(), u8>
 /// The numbers behind `design`.
 #[tactic(auto, unfolding(crate::specs::Sections::listed_of))]
 pub(crate) fn listed_line(columns: u32, words: &mut Words) -> Result<Counts, u8>
-    ensures { Gives (λ counts. record { b = counts.b; k = counts.k; r = counts.r; lambda = counts.lambda }) result (listed_of columns (words_left words.old)) }
+    ensures { Gives
+        (λ counts. record { b = counts.b; k = counts.k; r = counts.r; lambda = counts.lambda })
+        result (listed_of columns (words_left words.old)) }
 {
     let b = next_number(words)?;
     pass_objects(columns, words)?;
@@ -40,7 +43,8 @@ pub(crate) fn listed_line(columns: u32, words: &mut Words) -> Result<Counts, u8>
 
 #[tactic(auto, unfolding(crate::specs::Sections::with_number))]
 fn push_number(line: u32, word: &[u8], numbers: &mut Numbers) -> Result<(), ConfFault>
-    ensures { GivesIfRoom (λ _. numbers.new) result (at_line line (with_number numbers.old word.now)) }
+    ensures { GivesIfRoom (λ _. numbers.new) result
+        (at_line line (with_number numbers.old word.now)) }
 {
     let n = at_line(line, number_in(word))?;
     numbers.push(n)
@@ -53,7 +57,8 @@ fn push_tuple(
     words: &mut Words,
     tuples: &mut Numbers,
 ) -> Result<(), ConfFault>
-    ensures { GivesIfRoom (λ _. tuples.new) result (at_line line (tuple_behind count tuples.old (words_left words.old))) }
+    ensures { GivesIfRoom (λ _. tuples.new) result
+        (at_line line (tuple_behind count tuples.old (words_left words.old))) }
 {
     for i in 0..count {
         let Some(word) = words.next() else {
@@ -73,7 +78,8 @@ fn push_tuple(
 // The first word of a tuple's line, which begins no section.
 #[tactic(auto, unfolding(crate::specs::Sections::first_of))]
 fn first_in<'a>(words: &mut Words<'a>) -> Result<&'a [u8], u8>
-    ensures { Gives (λ word. (word.now, words_left words.new)) result (first_of (words_left words.old)) }
+    ensures { Gives (λ word. (word.now, words_left words.new)) result
+        (first_of (words_left words.old)) }
 {
     let word = next_word(words)?;
     if word == b"START".as_slice() {
@@ -91,7 +97,8 @@ fn tuple_from(
     words: &mut Words,
     tuples: &mut Numbers,
 ) -> Result<(), ConfFault>
-    ensures { GivesIfRoom (λ _. tuples.new) result (at_line line (tuple_behind k tuples.old (first.now ∷ words_left words.old))) }
+    ensures { GivesIfRoom (λ _. tuples.new) result
+        (at_line line (tuple_behind k tuples.old (first.now ∷ words_left words.old))) }
 {
     if k == 0 {
         return Err(ConfFault::At { line, code: TUPLES });
@@ -105,7 +112,8 @@ fn tuple_from(
 
 #[tactic(auto, unfolding(crate::specs::Sections::tuple_of))]
 fn tuple_line(line: u32, k: u32, words: &mut Words, tuples: &mut Numbers) -> Result<(), ConfFault>
-    ensures { GivesIfRoom (λ _. tuples.new) result (at_line line (tuple_of k tuples.old (words_left words.old))) }
+    ensures { GivesIfRoom (λ _. tuples.new) result
+        (at_line line (tuple_of k tuples.old (words_left words.old))) }
 {
     let first = at_line(line, first_in(words))?;
     tuple_from(line, k, first, words, tuples)
@@ -113,7 +121,8 @@ fn tuple_line(line: u32, k: u32, words: &mut Words, tuples: &mut Numbers) -> Res
 
 #[tactic(auto, unfolding(crate::specs::Format::next_tuple))]
 fn next_tuple(lines: &mut Lines, k: u32, tuples: &mut Numbers) -> Result<(), ConfFault>
-    ensures { GivesIfRoom (λ _. (tuples.new, rest_of lines.new)) result (next_tuple k tuples.old (rest_of lines.old)) }
+    ensures { GivesIfRoom (λ _. (tuples.new, rest_of lines.new)) result
+        (next_tuple k tuples.old (rest_of lines.old)) }
 {
     let mut line = next_line(lines, TUPLES)?;
     tuple_line(line.at, k, &mut line.words, tuples)
@@ -126,7 +135,8 @@ pub(crate) fn read_tuples(
     b: u32,
     k: u32,
 ) -> Result<Numbers, ConfFault>
-    ensures { GivesIfRoom (λ tuples. (tuples, rest_of lines.new)) result (tuples_in b k [] (rest_of lines.old)) }
+    ensures { GivesIfRoom (λ tuples. (tuples, rest_of lines.new)) result
+        (tuples_in b k [] (rest_of lines.old)) }
 {
     let mut tuples = Numbers::new(alloc);
     for i in 0..b {
@@ -140,7 +150,8 @@ pub(crate) fn read_tuples(
 
 // The numbers up to the line's end.
 fn read_numbers(alloc: Global, line: u32, words: &mut Words) -> Result<Numbers, ConfFault>
-    ensures { GivesIfRoom (λ numbers. numbers) result (at_line line (numbers_behind [] (words_left words.old))) }
+    ensures { GivesIfRoom (λ numbers. numbers) result
+        (at_line line (numbers_behind [] (words_left words.old))) }
 {
     let mut numbers = Numbers::new(alloc);
     while let Some(word) = words.next() {
@@ -160,7 +171,8 @@ pub(crate) fn cyclic_line(
     line: u32,
     words: &mut Words,
 ) -> Result<Given, ConfFault>
-    ensures { GivesIfRoom (λ given. given) result (at_line line (cyclic_of columns (words_left words.old))) }
+    ensures { GivesIfRoom (λ given. given) result
+        (at_line line (cyclic_of columns (words_left words.old))) }
 {
     at_line(line, pass_objects(columns, words))?;
     at_line(line, pass_word(words, b":", WORD))?;

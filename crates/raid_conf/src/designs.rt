@@ -18,7 +18,8 @@ use std::alloc::Global;
 pub(crate) fn design_of(alloc: Global, given: &Given) -> Result<Design, DesignFault>
     ensures design { IfOk result (λ design. design ≡ blocks_of given.now) }
     ensures ok { IfOk result (λ design. IsDesign design) }
-    ensures err { IfErr result (λ fault. (fault ≡ DesignFault.Memory) ⊎ IsFault (blocks_of given.now) fault) }
+    ensures err { IfErr result
+        (λ fault. (fault ≡ DesignFault.Memory) ⊎ IsFault (blocks_of given.now) fault) }
 {
     match given {
         Given::Listed {

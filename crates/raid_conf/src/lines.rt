@@ -17,10 +17,13 @@ pub(crate) struct Next<'a> {
 
 #[tactic(auto, unfolding(crate::specs::Steps::line_if_any, crate::specs::Steps::rest_of, crate::specs::Steps::words_in))]
 pub(crate) fn line_if_any<'a>(lines: &mut Lines<'a>) -> Result<Option<Next<'a>>, At>
-    ensures line { Gives (option_map (λ line. record { at = line.at; words = words_left line.words; rest = rest_of lines.new })) result (line_if_any (rest_of lines.old)) }
+    ensures line { Gives (option_map
+        (λ line. record { at = line.at; words = words_left line.words; rest = rest_of lines.new }))
+        result (line_if_any (rest_of lines.old)) }
 
     // Behind the last line all lines were passed.
-    ensures end { IfOk result (λ line. IfNone line (passed_count lines.new ≡ (rest_of lines.old).count)) }
+    ensures end { IfOk result
+        (λ line. IfNone line (passed_count lines.new ≡ (rest_of lines.old).count)) }
 {
     let Some(line) = lines.next() else {
         return Ok(None);
@@ -41,7 +44,9 @@ pub(crate) fn line_if_any<'a>(lines: &mut Lines<'a>) -> Result<Option<Next<'a>>,
 /// The next line; `code` where none is left, at the line behind the last.
 #[tactic(auto, unfolding(crate::specs::Steps::next_line, crate::specs::Steps::rest_of))]
 pub(crate) fn next_line<'a>(lines: &mut Lines<'a>, code: u8) -> Result<Next<'a>, At>
-    ensures { Gives (λ line. record { at = line.at; words = words_left line.words; rest = rest_of lines.new }) result (next_line code (rest_of lines.old)) }
+    ensures { Gives
+        (λ line. record { at = line.at; words = words_left line.words; rest = rest_of lines.new })
+        result (next_line code (rest_of lines.old)) }
 {
     match line_if_any(lines)? {
         Some(line) => Ok(line),

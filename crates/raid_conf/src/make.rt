@@ -107,8 +107,10 @@ fn make_given(
     unit: u32,
     rows: u32,
 ) -> Result<AnyLayout, AnyFault>
-    ensures made { IfOk result (λ layout. shape_in layout ≡ design_shape level (blocks_of given.now) unit rows) }
-    ensures err { IfErr result (λ fault. IsDesignFault level (blocks_of given.now) unit rows fault) }
+    ensures made { IfOk result
+        (λ layout. shape_in layout ≡ design_shape level (blocks_of given.now) unit rows) }
+    ensures err { IfErr result
+        (λ fault. IsDesignFault level (blocks_of given.now) unit rows fault) }
 {
     match design_of(alloc, given) {
         Ok(design) => make_tables(alloc, level, design, unit, rows),

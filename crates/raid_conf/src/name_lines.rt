@@ -88,7 +88,8 @@ pub(crate) fn name_line<'a>(
     names: &Names,
     words: &mut Words<'a>,
 ) -> Result<&'a str, u8>
-    ensures { Gives (λ name. name.now) result (name_of role (before.now ++ names.now) (words_left words.old)) }
+    ensures { Gives (λ name. name.now) result
+        (name_of role (before.now ++ names.now) (words_left words.old)) }
 {
     let word = next_word(words)?;
     if word == b"START".as_slice() {
@@ -107,7 +108,8 @@ fn next_name<'a>(
     before: &Names,
     names: &Names,
 ) -> Result<&'a str, At>
-    ensures { Gives (λ name. (name.now, rest_of lines.new)) result (next_name role (before.now ++ names.now) (rest_of lines.old)) }
+    ensures { Gives (λ name. (name.now, rest_of lines.new)) result
+        (next_name role (before.now ++ names.now) (rest_of lines.old)) }
 {
     let mut line = next_line(lines, count_code(role))?;
     at_line(line.at, name_line(role, before, names, &mut line.words))
@@ -123,7 +125,8 @@ fn push_name(
 ) -> Result<(), ConfFault>
     requires { length names.old < 32 }
     ensures count { IfOk result (λ _. length names.new ≡ length names.old + 1) }
-    ensures value { GivesIfRoom (λ _. (names.new, rest_of lines.new)) result (with_name role before.now names.old (rest_of lines.old)) }
+    ensures value { GivesIfRoom (λ _. (names.new, rest_of lines.new)) result
+        (with_name role before.now names.old (rest_of lines.old)) }
 {
     let name = next_name(lines, role, before, names)?;
     names.push(alloc, name)
@@ -138,7 +141,8 @@ pub(crate) fn read_names(
     before: &Names,
 ) -> Result<Names, ConfFault>
     requires { count ≤ 32 }
-    ensures { GivesIfRoom (λ names. (names, rest_of lines.new)) result (names_in role count before.now [] (rest_of lines.old)) }
+    ensures { GivesIfRoom (λ names. (names, rest_of lines.new)) result
+        (names_in role count before.now [] (rest_of lines.old)) }
 {
     let mut names = Names::new(alloc);
     for i in 0..count {

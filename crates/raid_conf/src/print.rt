@@ -56,7 +56,8 @@ fn push_start(text: &mut Vec<u8>, name: &[u8]) -> Result<(), Memory>
 }
 
 fn push_array(text: &mut Vec<u8>, columns: u32, spares: u32) -> Result<(), Memory>
-    ensures { OnOk result (text.new.items ≡ text.old.items ++ line_text (Number 1 ∷ Number columns ∷ Number spares ∷ [])) }
+    ensures { OnOk result (text.new.items ≡ text.old.items
+        ++ line_text (Number 1 ∷ Number columns ∷ Number spares ∷ [])) }
 {
     push_first(text, 1)?;
     push_number(text, columns)?;
@@ -84,7 +85,8 @@ fn push_name(text: &mut Vec<u8>, name: &str) -> Result<(), Memory>
 }
 
 fn push_names(text: &mut Vec<u8>, names: &Names) -> Result<(), Memory>
-    ensures { OnOk result (text.new.items ≡ text.old.items ++ lines_text (map name_places names.now)) }
+    ensures { OnOk result
+        (text.new.items ≡ text.old.items ++ lines_text (map name_places names.now)) }
 {
     for i in 0..names.len() {
         push_name(text, names.get(i))?;
@@ -94,7 +96,8 @@ fn push_names(text: &mut Vec<u8>, names: &Names) -> Result<(), Memory>
 
 // Appends the section of the spares, where there are any.
 fn push_spares(text: &mut Vec<u8>, names: &Names) -> Result<(), Memory>
-    ensures { OnOk result (text.new.items ≡ text.old.items ++ lines_text (spare_places (not (nat_eq (length names.now) 0)) names.now)) }
+    ensures { OnOk result (text.new.items ≡ text.old.items
+        ++ lines_text (spare_places (not (nat_eq (length names.now) 0)) names.now)) }
 {
     if names.len() == 0 {
         return Ok(());
@@ -104,7 +107,8 @@ fn push_spares(text: &mut Vec<u8>, names: &Names) -> Result<(), Memory>
 }
 
 fn push_layout(text: &mut Vec<u8>, unit: u32, level: u8) -> Result<(), Memory>
-    ensures { OnOk result (text.new.items ≡ text.old.items ++ line_text (layout_places unit level)) }
+    ensures { OnOk result
+        (text.new.items ≡ text.old.items ++ line_text (layout_places unit level)) }
 {
     push_first(text, unit)?;
     push_number(text, 1)?;
@@ -128,7 +132,8 @@ fn push_tuple(text: &mut Vec<u8>, tuple: &[u32]) -> Result<(), Memory>
 fn push_tuples(text: &mut Vec<u8>, b: u32, k: u32, tuples: &[u32]) -> Result<(), Memory>
     requires some { 0 < k }
     requires all { length tuples.now ≡ b * k }
-    ensures { OnOk result (text.new.items ≡ text.old.items ++ lines_text (tuple_places b k tuples.now)) }
+    ensures { OnOk result
+        (text.new.items ≡ text.old.items ++ lines_text (tuple_places b k tuples.now)) }
 {
     let mut rest = tuples;
     for _ in 0..b {
@@ -214,7 +219,8 @@ fn push_given(text: &mut Vec<u8>, given: &Given) -> Result<(), Memory>
 
 fn push_design(text: &mut Vec<u8>, design: &Option<Given>) -> Result<(), Memory>
     requires { ForSome design.now (λ given. IsPrintable given) }
-    ensures { OnOk result (text.new.items ≡ text.old.items ++ lines_text (design_places design.now)) }
+    ensures { OnOk result
+        (text.new.items ≡ text.old.items ++ lines_text (design_places design.now)) }
 {
     match design {
         Some(given) => push_given(text, given),

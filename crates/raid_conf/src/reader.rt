@@ -26,7 +26,8 @@ use std::alloc::Global;
 // Passes the line that begins this section; `code` where the next line begins none.
 #[tactic(auto, unfolding(crate::specs::Format::after_start))]
 fn pass_section(lines: &mut Lines, name: &[u8], code: u8) -> Result<(), At>
-    ensures { Gives (λ _. rest_of lines.new) result (after_start code name.now (rest_of lines.old)) }
+    ensures { Gives (λ _. rest_of lines.new) result
+        (after_start code name.now (rest_of lines.old)) }
 {
     let mut line = next_line(lines, SECTION)?;
     at_line(line.at, pass_start(&mut line.words, name, code))
@@ -35,7 +36,8 @@ fn pass_section(lines: &mut Lines, name: &[u8], code: u8) -> Result<(), At>
 // How many columns and spares there are.
 #[tactic(auto, unfolding(crate::specs::Format::array_in))]
 fn read_array(lines: &mut Lines) -> Result<Sizes, At>
-    ensures value { Gives (λ sizes. (sizes.columns, sizes.spares, rest_of lines.new)) result (array_in (rest_of lines.old)) }
+    ensures value { Gives (λ sizes. (sizes.columns, sizes.spares, rest_of lines.new)) result
+        (array_in (rest_of lines.old)) }
     ensures columns { IfOk result (λ sizes. sizes.columns ≤ 32) }
     ensures spares { IfOk result (λ sizes. sizes.spares ≤ 8) }
 {
@@ -47,7 +49,8 @@ fn read_array(lines: &mut Lines) -> Result<Sizes, At>
 #[tactic(auto, unfolding(crate::specs::Format::disks_in))]
 fn read_disks(alloc: Global, lines: &mut Lines, columns: u32) -> Result<Names, ConfFault>
     requires { columns ≤ 32 }
-    ensures { GivesIfRoom (λ names. (names, rest_of lines.new)) result (disks_in columns (rest_of lines.old)) }
+    ensures { GivesIfRoom (λ names. (names, rest_of lines.new)) result
+        (disks_in columns (rest_of lines.old)) }
 {
     pass_section(lines, b"disks", WORD)?;
     read_names(alloc, lines, Role::Disk, columns, &Names::new(alloc))
@@ -62,7 +65,8 @@ fn read_spare_lines(
     disks: &Names,
 ) -> Result<Names, ConfFault>
     requires { spares ≤ 8 }
-    ensures { GivesIfRoom (λ names. (names, rest_of lines.new)) result (spare_lines spares disks.now (rest_of lines.old)) }
+    ensures { GivesIfRoom (λ names. (names, rest_of lines.new)) result
+        (spare_lines spares disks.now (rest_of lines.old)) }
 {
     let names = read_names(alloc, lines, Role::Spare, spares, disks)?;
     pass_section(lines, b"layout", SPARES)?;
@@ -78,7 +82,8 @@ fn read_spares(
     disks: &Names,
 ) -> Result<Names, ConfFault>
     requires { spares ≤ 8 }
-    ensures { GivesIfRoom (λ names. (names, rest_of lines.new)) result (spares_in spares disks.now (rest_of lines.old)) }
+    ensures { GivesIfRoom (λ names. (names, rest_of lines.new)) result
+        (spares_in spares disks.now (rest_of lines.old)) }
 {
     let mut line = next_line(lines, SECTION)?;
     if at_line(line.at, spares_begin(spares, &mut line.words))? {
@@ -91,7 +96,8 @@ fn read_spares(
 // The sectors of a unit, and the level.
 #[tactic(auto, unfolding(crate::specs::Format::layout_in))]
 fn read_layout(lines: &mut Lines, columns: u32) -> Result<Kind, At>
-    ensures { Gives (λ kind. (kind.unit, kind.level, rest_of lines.new)) result (layout_in columns (rest_of lines.old)) }
+    ensures { Gives (λ kind. (kind.unit, kind.level, rest_of lines.new)) result
+        (layout_in columns (rest_of lines.old)) }
 {
     let mut line = next_line(lines, WORD)?;
     at_line(line.at, layout_line(columns, &mut line.words))
@@ -106,7 +112,8 @@ fn read_listed(
     at: u32,
     words: &mut Words,
 ) -> Result<Given, ConfFault>
-    ensures { GivesIfRoom (λ given. (given, rest_of lines.new)) result (listed_in columns at (words_left words.old) (rest_of lines.old)) }
+    ensures { GivesIfRoom (λ given. (given, rest_of lines.new)) result
+        (listed_in columns at (words_left words.old) (rest_of lines.old)) }
 {
     let counts = at_line(at, listed_line(columns, words))?;
     let tuples = read_tuples(alloc, lines, counts.b, counts.k)?;
@@ -129,7 +136,8 @@ fn read_kind(
     kind: &[u8],
     words: &mut Words,
 ) -> Result<Given, ConfFault>
-    ensures { GivesIfRoom (λ given. (given, rest_of lines.new)) result (kind_in kind.now columns at (words_left words.old) (rest_of lines.old)) }
+    ensures { GivesIfRoom (λ given. (given, rest_of lines.new)) result
+        (kind_in kind.now columns at (words_left words.old) (rest_of lines.old)) }
 {
     if kind == b"design".as_slice() {
         read_listed(alloc, lines, columns, at, words)
@@ -148,7 +156,8 @@ fn read_kind(
 
 #[tactic(auto, unfolding(crate::specs::Format::given_in))]
 fn read_given(alloc: Global, lines: &mut Lines, level: u8, columns: u32) -> Result<Given, ConfFault>
-    ensures { GivesIfRoom (λ given. (given, rest_of lines.new)) result (given_in level columns (rest_of lines.old)) }
+    ensures { GivesIfRoom (λ given. (given, rest_of lines.new)) result
+        (given_in level columns (rest_of lines.old)) }
 {
     let mut line = next_line(lines, TUPLES)?;
     let at = line.at;
@@ -171,7 +180,8 @@ fn read_design(
     level: u8,
     columns: u32,
 ) -> Result<Option<Given>, ConfFault>
-    ensures { GivesIfRoom (λ design. (design, rest_of lines.new)) result (design_in level columns (rest_of lines.old)) }
+    ensures { GivesIfRoom (λ design. (design, rest_of lines.new)) result
+        (design_in level columns (rest_of lines.old)) }
 {
     if has_design(level) {
         let given = read_given(alloc, lines, level, columns)?;

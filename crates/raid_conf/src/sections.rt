@@ -13,7 +13,8 @@ use raid_text::Words;
 // The name of the section that a line begins.
 #[tactic(auto, unfolding(crate::specs::Sections::start_of))]
 fn start_in<'a>(words: &mut Words<'a>, code: u8) -> Result<&'a [u8], u8>
-    ensures { Gives (λ name. (name.now, words_left words.new)) result (start_of code (words_left words.old)) }
+    ensures { Gives (λ name. (name.now, words_left words.new)) result
+        (start_of code (words_left words.old)) }
 {
     pass_word(words, b"START", code)?;
     next_word(words)
@@ -103,7 +104,8 @@ fn counts_in(first: u32, second: u32, words: &mut Words) -> Result<Sizes, u8>
     requires { first ≤ 32 }
     ensures columns { IfOk result (λ sizes. sizes.columns ≤ 32) }
     ensures spares { IfOk result (λ sizes. sizes.spares ≤ 8) }
-    ensures value { Gives (λ sizes. (sizes.columns, sizes.spares)) result (counts_of first second (words_left words.old)) }
+    ensures value { Gives (λ sizes. (sizes.columns, sizes.spares)) result
+        (counts_of first second (words_left words.old)) }
 {
     let Some(word) = words.next() else {
         if second > limits::SPARES {
@@ -133,7 +135,8 @@ fn counts_in(first: u32, second: u32, words: &mut Words) -> Result<Sizes, u8>
 pub(crate) fn array_line(words: &mut Words) -> Result<Sizes, u8>
     ensures columns { IfOk result (λ sizes. sizes.columns ≤ 32) }
     ensures spares { IfOk result (λ sizes. sizes.spares ≤ 8) }
-    ensures value { Gives (λ sizes. (sizes.columns, sizes.spares)) result (array_of (words_left words.old)) }
+    ensures value { Gives (λ sizes. (sizes.columns, sizes.spares)) result
+        (array_of (words_left words.old)) }
 {
     let first = next_number(words)?;
     if !may_be_columns(first) {
@@ -179,7 +182,8 @@ pub(crate) struct Kind {
 /// The layout's line, `sectPerSU 1 1 level`, in an array of so many columns.
 #[tactic(auto, unfolding(crate::specs::Sections::layout_of))]
 pub(crate) fn layout_line(columns: u32, words: &mut Words) -> Result<Kind, u8>
-    ensures { Gives (λ kind. (kind.unit, kind.level)) result (layout_of columns (words_left words.old)) }
+    ensures { Gives (λ kind. (kind.unit, kind.level)) result
+        (layout_of columns (words_left words.old)) }
 {
     let unit = next_number(words)?;
     if unit < 1 || limits::UNIT_SECTORS < unit {

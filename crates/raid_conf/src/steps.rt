@@ -12,7 +12,8 @@ use raid_text::{Words, number};
 
 #[tactic(auto, unfolding(crate::specs::Steps::next_word))]
 pub(crate) fn next_word<'a>(words: &mut Words<'a>) -> Result<&'a [u8], u8>
-    ensures value { Gives (λ word. (word.now, words_left words.new)) result (next_word (words_left words.old)) }
+    ensures value { Gives (λ word. (word.now, words_left words.new)) result
+        (next_word (words_left words.old)) }
     ensures word { IfOk result (λ word. IsTrue (is_word word.now)) }
 {
     match words.next() {
@@ -24,7 +25,8 @@ pub(crate) fn next_word<'a>(words: &mut Words<'a>) -> Result<&'a [u8], u8>
 /// Passes this word; `code` where another one comes.
 #[tactic(auto, unfolding(crate::specs::Steps::after_word))]
 pub(crate) fn pass_word(words: &mut Words, wanted: &[u8], code: u8) -> Result<(), u8>
-    ensures { Gives (λ _. words_left words.new) result (after_word wanted.now code (words_left words.old)) }
+    ensures { Gives (λ _. words_left words.new) result
+        (after_word wanted.now code (words_left words.old)) }
 {
     let Some(word) = words.next() else {
         return Err(WORD);
@@ -55,7 +57,8 @@ pub(crate) fn next_number(words: &mut Words) -> Result<u32, u8>
 /// Passes this number; `code` where another one comes.
 #[tactic(auto, unfolding(crate::specs::Steps::after_number))]
 pub(crate) fn pass_number(words: &mut Words, wanted: u32, code: u8) -> Result<(), u8>
-    ensures { Gives (λ _. words_left words.new) result (after_number wanted code (words_left words.old)) }
+    ensures { Gives (λ _. words_left words.new) result
+        (after_number wanted code (words_left words.old)) }
 {
     let n = next_number(words)?;
     if n == wanted { Ok(()) } else { Err(code) }

@@ -22,7 +22,8 @@ use crate::label::Label;
 pub fn judge(label: Option<&Label>, found_version: u32, wanted: &Label) -> Result<(), LabelFault>
     ensures { MatchResult result
         (λ _. fault_in (option_map (λ l. l.now) label.entry) found_version wanted.now ≡ None)
-        (λ fault. fault_in (option_map (λ l. l.now) label.entry) found_version wanted.now ≡ Some fault) }
+        (λ fault. fault_in (option_map (λ l. l.now) label.entry) found_version wanted.now
+        ≡ Some fault) }
 {
     let Some(label) = label else {
         return Err(fault_of_version(found_version));

@@ -70,7 +70,8 @@ fn one_if(marks: &[bool], region: usize) -> u8
 // Whether the sector begins as a map does.
 fn has_magic(sector: &[u8]) -> bool
     requires { length sector.now ≡ 512 }
-    ensures { MatchBool result (HasMagic (slice_index sector.now)) (HasMagic (slice_index sector.now) → ⊥) }
+    ensures { MatchBool result (HasMagic (slice_index sector.now))
+        (HasMagic (slice_index sector.now) → ⊥) }
 {
     for k in 0..8 {
         if sector[k] != MAGIC[k] {
@@ -102,7 +103,8 @@ fn bit(sector: &[u8], region: usize) -> bool
 
 fn marks_none(sector: &[u8], from: usize) -> bool
     requires { length sector.now ≡ 512 }
-    ensures { MatchBool result (NonePast from (slice_index sector.now)) (NonePast from (slice_index sector.now) → ⊥) }
+    ensures { MatchBool result (NonePast from (slice_index sector.now))
+        (NonePast from (slice_index sector.now) → ⊥) }
 {
     for region in from..3968 {
         if bit(sector, region) {
@@ -116,7 +118,8 @@ fn add_bits(marks: &mut [bool], sector: &[u8])
     requires long { length sector.now ≡ 512 }
     requires few { length marks.old ≤ 3968 }
     ensures count { length marks.new ≡ length marks.old }
-    ensures bits { (r : ℕ) → r < length marks.old → is_marked marks.new r ≡ (is_marked marks.old r || bit_at (slice_index sector.now) r) }
+    ensures bits { (r : ℕ) → r < length marks.old
+        → is_marked marks.new r ≡ (is_marked marks.old r || bit_at (slice_index sector.now) r) }
 {
     for region in 0..marks.len() {
         if bit(sector, region) {
@@ -174,7 +177,8 @@ impl Map {
     pub fn open(alloc: Global, stripes: u32, serial: u32) -> Result<Map, Memory>
         requires some { 1 ≤ stripes }
         requires few { stripes ≤ 1048576 }
-        ensures { IfOk result (λ map. map ≡ record { stripes = stripes; serial = serial; marks = replicate (regions_in stripes) false }) }
+        ensures { IfOk result (λ map. map ≡ record
+            { stripes = stripes; serial = serial; marks = replicate (regions_in stripes) false }) }
     {
         let regions = region_of(stripes, stripes - 1) as usize + 1;
         Ok(Map {
@@ -187,7 +191,8 @@ impl Map {
     /// Marks the region of a stripe.
     pub fn mark(&mut self, stripe: u32)
         requires { stripe < self.old.stripes }
-        ensures { self.new ≡ record self.old { marks = slice_set self.old.marks (region_of self.old.stripes stripe) true } }
+        ensures { self.new ≡ record self.old
+            { marks = slice_set self.old.marks (region_of self.old.stripes stripe) true } }
     {
         let region = region_of(self.stripes, stripe) as usize;
         self.marks[region] = true;
@@ -258,7 +263,8 @@ impl Map {
     /// changes then.
     pub fn add_from(&mut self, sector: &[u8]) -> bool
         requires { length sector.now ≡ 512 }
-        ensures is_map { MatchBool result (IsMapOf self.old sector.now) (IsMapOf self.old sector.now → ⊥) }
+        ensures is_map { MatchBool result (IsMapOf self.old sector.now)
+            (IsMapOf self.old sector.now → ⊥) }
         ensures added { result ≡ true → Adds self.old self.new sector.now }
         ensures same { result ≡ false → self.new ≡ self.old }
     {

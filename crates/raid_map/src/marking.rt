@@ -64,7 +64,8 @@ fn mark_column<D: StopDisk>(
 fn mark_each<D: StopDisk>(devices: &mut [Option<D>], columns: &mut [Column], sector: &[u8])
     requires long { length sector.now ≡ 512 }
     requires can { CanBeMarked D.Disk columns.old devices.old }
-    ensures marked { AreMarked D.Disk (length columns.old) sector.now columns.old columns.new devices.old devices.new }
+    ensures marked { AreMarked D.Disk (length columns.old) sector.now columns.old columns.new
+        devices.old devices.new }
     ensures count { length columns.new ≡ length columns.old }
 {
     for column in 0..columns.len() {
@@ -79,7 +80,8 @@ fn mark_each<D: StopDisk>(devices: &mut [Option<D>], columns: &mut [Column], sec
 /// makes its column dead. Then every device in use has the map, whatever a stop leaves of it.
 pub fn mark_all<D: StopDisk>(map: &Map, devices: &mut [Option<D>], columns: &mut [Column])
     requires { CanBeMarked D.Disk columns.old devices.old }
-    ensures marked { (bytes : List ℕ) × IsBytesOf map.now bytes × AreMarked D.Disk (length columns.old)
+    ensures marked { (bytes : List ℕ) × IsBytesOf map.now bytes
+        × AreMarked D.Disk (length columns.old)
         bytes columns.old columns.new devices.old devices.new }
     ensures images { D.tells → (c d : ℕ) → IsOn columns.new c d → (x : D)
         → device_at devices.new d ≡ Some x → (left : Left) → D.left x ≡ Some left

@@ -66,7 +66,8 @@ pub fn sweep_marked<L: Layout, D: StopDisk>(
         (marks_stripe map.now) columns.old devices.old (L.shape layout.now).stripes
         columns.new devices.new }
     ensures counted { (L.shape layout.now).checks ≡ 1 → IsCountedTo D.Disk (L.shape layout.now)
-        (marks_stripe map.now) columns.old devices.old (L.shape layout.now).stripes columns.new result }
+        (marks_stripe map.now) columns.old devices.old (L.shape layout.now).stripes columns.new
+        result }
     ensures in_sync { D.tells → UnsoundAreMarked D.Disk (L.shape layout.now) (marks_stripe map.now)
         columns.old devices.old → InSync (L.shape layout.now) (contents_of D.Disk devices.new)
         (states_of (L.shape layout.now) columns.new) }

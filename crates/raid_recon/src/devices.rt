@@ -21,7 +21,8 @@ pub(crate) fn read_at<D: Disk>(
     requires there { at.device < length devices.old }
     requires long { length into.old ≡ 512 * unit_sectors }
     requires some { 1 ≤ unit_sectors }
-    requires fits { 64 + at.row * unit_sectors + unit_sectors ≤ size_of D.Disk devices.old at.device }
+    requires fits { 64 + at.row * unit_sectors + unit_sectors
+        ≤ size_of D.Disk devices.old at.device }
     ensures { IsRead D.Disk at unit_sectors devices.old devices.new into.new (is_ok result) }
 {
     match &mut devices[at.device as usize] {
@@ -39,7 +40,8 @@ pub(crate) fn write_at<D: Disk>(
     requires there { at.device < length devices.old }
     requires long { length from.now ≡ 512 * unit_sectors }
     requires some { 1 ≤ unit_sectors }
-    requires fits { 64 + at.row * unit_sectors + unit_sectors ≤ size_of D.Disk devices.old at.device }
+    requires fits { 64 + at.row * unit_sectors + unit_sectors
+        ≤ size_of D.Disk devices.old at.device }
     ensures { IsWritten D.Disk at unit_sectors devices.old devices.new from.now (is_ok result) }
 {
     match &mut devices[at.device as usize] {

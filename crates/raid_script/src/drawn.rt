@@ -122,7 +122,8 @@ pub fn generate(
     ensures joins { IfOk result (λ s. s.joins ≡ []) }
 
     // Each client has so many items, each of 1 to 8 blocks of its own share.
-    ensures apart { IfOk result (λ s. AreApart (taken clients blocks) ops (share clients blocks) blocks s.clients) }
+    ensures apart { IfOk result
+        (λ s. AreApart (taken clients blocks) ops (share clients blocks) blocks s.clients) }
     ensures few { IfOk result (λ s. AreFew s.clients) }
 {
     let taken = u64::from(clients).min(blocks) as u32;

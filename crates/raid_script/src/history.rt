@@ -26,7 +26,8 @@ fn set_commit(line: &mut Line, id: OpId)
 
 // Prints what there is of an operation.
 fn put_commit<K: Sink>(id: OpId, line: &mut Line, out: &mut K) -> Result<(), Failed>
-    ensures output { K.tells → Puts (is_ok result) (K.output out.old) (commit_text id) (K.output out.new) }
+    ensures output { K.tells
+        → Puts (is_ok result) (K.output out.old) (commit_text id) (K.output out.new) }
     ensures later { K.faults out.old ≤ K.faults out.new }
     ensures cause { OnErr result (Rose (K.faults out.old) (K.faults out.new)) }
 {
@@ -43,7 +44,8 @@ fn put_commit<K: Sink>(id: OpId, line: &mut Line, out: &mut K) -> Result<(), Fai
 /// It puts one line a call, and takes no memory. Failed, only where the sink's count of faults
 /// rose, has put a front of the text.
 pub fn put_history<K: Sink>(history: &[OpId], out: &mut K) -> Result<(), Failed>
-    ensures output { K.tells → Puts (is_ok result) (K.output out.old) (history_text history.now) (K.output out.new) }
+    ensures output { K.tells
+        → Puts (is_ok result) (K.output out.old) (history_text history.now) (K.output out.new) }
     ensures later { K.faults out.old ≤ K.faults out.new }
     ensures cause { OnErr result (Rose (K.faults out.old) (K.faults out.new)) }
 {

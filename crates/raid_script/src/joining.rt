@@ -54,7 +54,8 @@ pub fn join_in(
     client: u32,
     words: &mut Words,
 ) -> Result<Entry, u8>
-    ensures value { Gives seen_entry result (join_of book.now joins line client (words_left words.old)) }
+    ensures value { Gives seen_entry result
+        (join_of book.now joins line client (words_left words.old)) }
     ensures client { IfOk result (λ e. e.client ≡ client) }
     ensures few { IfOk result (λ e. joins + length (joined_in e.join) ≤ 64) }
 {

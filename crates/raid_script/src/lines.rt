@@ -23,7 +23,8 @@ fn plain_in(
     kind: &[u8],
     words: &mut Words,
 ) -> Result<Entry, u8>
-    ensures value { Gives seen_entry result (plain_of book.now columns client kind.now (words_left words.old)) }
+    ensures value { Gives seen_entry result
+        (plain_of book.now columns client kind.now (words_left words.old)) }
     ensures client { IfOk result (λ e. e.client ≡ client) }
     ensures none { IfOk result (λ e. e.join ≡ None) }
 {
@@ -46,7 +47,8 @@ fn asked_in(
     words: &mut Words,
 ) -> Result<Entry, u8>
     requires { joins ≤ 64 }
-    ensures value { Gives seen_entry result (asked_of book.now columns joins line client kind.now (words_left words.old)) }
+    ensures value { Gives seen_entry result
+        (asked_of book.now columns joins line client kind.now (words_left words.old)) }
     ensures client { IfOk result (λ e. e.client ≡ client) }
     ensures joins { IfOk result (λ e. joins + length (joined_in e.join) ≤ 64) }
 {
@@ -66,7 +68,8 @@ fn entry_in(
     words: &mut Words,
 ) -> Result<Entry, u8>
     requires { joins ≤ 64 }
-    ensures value { Gives seen_entry result (request_of book.now columns joins line (words_left words.old)) }
+    ensures value { Gives seen_entry result
+        (request_of book.now columns joins line (words_left words.old)) }
     ensures client { IfOk result (λ e. e.client < 16) }
     ensures joins { IfOk result (λ e. joins + length (joined_in e.join) ≤ 64) }
 {
@@ -114,7 +117,8 @@ pub fn next_entry(
 ) -> Result<Entry, u8>
     requires sectors { sectors ≤ 262144 }
     requires joins { joins ≤ 64 }
-    ensures value { Gives seen_entry result (next_of book.now columns items sectors joins (seen_line line.now)) }
+    ensures value { Gives seen_entry result
+        (next_of book.now columns items sectors joins (seen_line line.now)) }
     ensures client { IfOk result (λ e. e.client < 16) }
     ensures joins { IfOk result (λ e. joins + length (joined_in e.join) ≤ 64) }
     ensures few { IfOk result (λ e. items < 65536) }

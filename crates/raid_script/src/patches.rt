@@ -15,7 +15,8 @@ use raid_text::Words;
 // FIRST, which is this word, COUNT and PATTERN.
 #[tactic(auto, unfolding(crate::specs::Format::next_patch))]
 fn patch_from(word: &[u8], words: &mut Words) -> Result<Patch, u8>
-    ensures value { Gives (λ p. (seen_patch p, words_left words.new)) result (next_patch (word.now ∷ words_left words.old)) }
+    ensures value { Gives (λ p. (seen_patch p, words_left words.new)) result
+        (next_patch (word.now ∷ words_left words.old)) }
     ensures some { IfOk result (λ p. 1 ≤ p.span.count) }
 {
     let span = span_from(word, words)?;
@@ -26,7 +27,8 @@ fn patch_from(word: &[u8], words: &mut Words) -> Result<Patch, u8>
 /// FIRST, COUNT and PATTERN.
 #[tactic(auto, unfolding(crate::specs::Format::next_patch, crate::specs::Format::next_span, graph_text::specs::FormatSteps::next_number))]
 pub fn next_patch(words: &mut Words) -> Result<Patch, u8>
-    ensures value { Gives (λ p. (seen_patch p, words_left words.new)) result (next_patch (words_left words.old)) }
+    ensures value { Gives (λ p. (seen_patch p, words_left words.new)) result
+        (next_patch (words_left words.old)) }
     ensures some { IfOk result (λ p. 1 ≤ p.span.count) }
 {
     match words.next() {
@@ -63,7 +65,8 @@ fn add_patches(words: &mut Words, patches: &mut Patches) -> Result<(), u8>
     requires few { patches.old.used ≤ 8 }
     requires some { All (λ p. 1 ≤ p.span.count) (used_of patches.old) }
     ensures value { Gives (λ _. seen_patches patches.new) result
-        (behind (seen_patches patches.old) (patches_of (8 - patches.old.used) (words_left words.old))) }
+        (behind (seen_patches patches.old)
+        (patches_of (8 - patches.old.used) (words_left words.old))) }
     ensures few { OnOk result (patches.new.used ≤ 8) }
     ensures some { OnOk result (All (λ p. 1 ≤ p.span.count) (used_of patches.new)) }
 {

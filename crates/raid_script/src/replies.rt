@@ -56,7 +56,8 @@ fn item_first(item: &Item) -> u64
 
 // Prints the runs behind `data`.
 fn put_data<K: Sink>(reply: Reply, first: u64, bytes: &[u8], out: &mut K) -> Result<(), Failed>
-    ensures output { K.tells → Puts (is_ok result) (K.output out.old) (data_text reply first bytes.now) (K.output out.new) }
+    ensures output { K.tells → Puts (is_ok result) (K.output out.old)
+        (data_text reply first bytes.now) (K.output out.new) }
     ensures later { K.faults out.old ≤ K.faults out.new }
     ensures cause { OnErr result (Rose (K.faults out.old) (K.faults out.new)) }
 {

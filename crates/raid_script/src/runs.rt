@@ -54,7 +54,8 @@ pub fn put_blocks<K: Sink>(first: u64, sectors: &[[u8; 512]], out: &mut K) -> Re
 
     // The runs of the text are the maximal ones, and no other list of runs is that.
     ensures maximal { AreRuns sectors.now (runs sectors.now) }
-    ensures only { (others : List SectorRun) → AreRuns sectors.now others → others ≡ runs sectors.now }
+    ensures only { (others : List SectorRun) → AreRuns sectors.now others
+        → others ≡ runs sectors.now }
 {
     let mut line = Line::new();
     // Of 128 bits, since the sum behind the last block may not fit in 64.

@@ -109,7 +109,8 @@ fn set_event(line: &mut Line, event: Traced)
 /// It puts one line a call, and takes no memory. Failed, only where the sink's count of faults
 /// rose, has put a front of the text.
 pub fn put_trace<K: Sink>(trace: &[Traced], out: &mut K) -> Result<(), Failed>
-    ensures output { K.tells → Puts (is_ok result) (K.output out.old) (trace_text trace.now) (K.output out.new) }
+    ensures output { K.tells
+        → Puts (is_ok result) (K.output out.old) (trace_text trace.now) (K.output out.new) }
     ensures later { K.faults out.old ≤ K.faults out.new }
     ensures cause { OnErr result (Rose (K.faults out.old) (K.faults out.new)) }
 {

@@ -16,7 +16,8 @@ use raid_text::{Words, number, pattern};
 /// The next word.
 #[tactic(auto, unfolding(graph_text::specs::FormatSteps::next_word))]
 pub fn next_word<'a>(words: &mut Words<'a>) -> Result<&'a [u8], u8>
-    ensures { Gives (λ word. (word.now, words_left words.new)) result (next_word (words_left words.old)) }
+    ensures { Gives (λ word. (word.now, words_left words.new)) result
+        (next_word (words_left words.old)) }
 {
     match words.next() {
         Some(word) => Ok(word),
@@ -60,7 +61,8 @@ pub fn pass_end(words: &mut Words) -> Result<(), u8>
 /// C, a client.
 #[tactic(auto, unfolding(crate::specs::Format::next_client))]
 pub fn next_client(words: &mut Words) -> Result<u32, u8>
-    ensures value { Gives (λ n. (n, words_left words.new)) result (next_client (words_left words.old)) }
+    ensures value { Gives (λ n. (n, words_left words.new)) result
+        (next_client (words_left words.old)) }
     ensures small { IfOk result (λ n. n < 16) }
 {
     let client = next_number(words)?;
@@ -74,7 +76,8 @@ pub fn next_client(words: &mut Words) -> Result<u32, u8>
 /// FIRST, which is this word, and COUNT, which isn't 0.
 #[tactic(auto, unfolding(crate::specs::Format::next_span, graph_text::specs::FormatSteps::next_number))]
 pub fn span_from(word: &[u8], words: &mut Words) -> Result<Span, u8>
-    ensures value { Gives (λ span. (span.first, span.count, words_left words.new)) result (next_span (word.now ∷ words_left words.old)) }
+    ensures value { Gives (λ span. (span.first, span.count, words_left words.new)) result
+        (next_span (word.now ∷ words_left words.old)) }
     ensures some { IfOk result (λ span. 1 ≤ span.count) }
 {
     let first = number_in(word)?;
@@ -91,7 +94,8 @@ pub fn span_from(word: &[u8], words: &mut Words) -> Result<Span, u8>
 /// FIRST and COUNT, which isn't 0.
 #[tactic(auto, unfolding(crate::specs::Format::next_span, graph_text::specs::FormatSteps::next_number))]
 pub fn next_span(words: &mut Words) -> Result<Span, u8>
-    ensures { Gives (λ span. (span.first, span.count, words_left words.new)) result (next_span (words_left words.old)) }
+    ensures { Gives (λ span. (span.first, span.count, words_left words.new)) result
+        (next_span (words_left words.old)) }
 {
     match words.next() {
         Some(word) => span_from(word, words),
@@ -102,7 +106,8 @@ pub fn next_span(words: &mut Words) -> Result<Span, u8>
 /// PATTERN.
 #[tactic(auto, unfolding(crate::specs::Format::next_pattern))]
 pub fn next_pattern(words: &mut Words) -> Result<Pattern, u8>
-    ensures { Gives (λ pattern. (pattern_bytes pattern, words_left words.new)) result (next_pattern (words_left words.old)) }
+    ensures { Gives (λ pattern. (pattern_bytes pattern, words_left words.new)) result
+        (next_pattern (words_left words.old)) }
 {
     let word = next_word(words)?;
     match pattern(word) {
@@ -114,7 +119,8 @@ pub fn next_pattern(words: &mut Words) -> Result<Pattern, u8>
 /// COLUMN, one of so many.
 #[tactic(auto, unfolding(crate::specs::Format::next_column))]
 pub fn next_column(columns: u32, words: &mut Words) -> Result<u32, u8>
-    ensures { Gives (λ n. (n, words_left words.new)) result (next_column columns (words_left words.old)) }
+    ensures { Gives (λ n. (n, words_left words.new)) result
+        (next_column columns (words_left words.old)) }
 {
     let column = next_number(words)?;
     if column < columns {
@@ -127,7 +133,8 @@ pub fn next_column(columns: u32, words: &mut Words) -> Result<u32, u8>
 /// NAME, as the number of the graph that has it.
 #[tactic(auto, unfolding(crate::specs::Format::next_graph, crate::specs::Format::graph_of))]
 pub fn next_graph(book: &Book, words: &mut Words) -> Result<u32, u8>
-    ensures { Gives (λ n. (n, words_left words.new)) result (next_graph book.now (words_left words.old)) }
+    ensures { Gives (λ n. (n, words_left words.new)) result
+        (next_graph book.now (words_left words.old)) }
 {
     let name = next_word(words)?;
     match book.find(name) {

@@ -41,13 +41,16 @@ where
     requires admitted { IsAdmitted B.D.Disk admitted }
     requires fronts { length admitted.fronts.items ≡ length admitted.devices.items }
     requires many { length admitted.devices.items ≡ length (names_for (asked_seen admitted.asked)) }
-    requires out { AreOut (B.is_out bay.old) (names_for (asked_seen admitted.asked)) admitted.devices.items }
+    requires out { AreOut (B.is_out bay.old) (names_for (asked_seen admitted.asked))
+        admitted.devices.items }
     ensures done { IfOk result (λ e. IsPerformed B.D.Disk B.tells (B.home bay.old) (B.home bay.new)
-        (names_for (asked_seen admitted.entry.asked)) (duty_seen (asked_seen admitted.entry.asked) admitted.entry.duty) admitted.entry.fronts.items
+        (names_for (asked_seen admitted.entry.asked)) (duty_seen (asked_seen admitted.entry.asked)
+        admitted.entry.duty) admitted.entry.fronts.items
         admitted.entry.devices.items (outcome_seen (action_seen e.action) e.conf e.came)) }
     ensures printed { IfOk result (λ e. CanBePrinted e.came) }
     ensures conf { IfOk result (λ e. IsConf e.conf) }
-    ensures memory { IfErr result (IsMemory (duty_seen (asked_seen admitted.entry.asked) admitted.entry.duty)) }
+    ensures memory { IfErr result
+        (IsMemory (duty_seen (asked_seen admitted.entry.asked) admitted.entry.duty)) }
     ensures same { OnErr result (B.tells → AreBack (B.home bay.old) (B.home bay.new)
         (names_for (asked_seen admitted.entry.asked)) admitted.entry.devices.items) }
     ensures faults { B.faults bay.new ≡ B.faults bay.old }

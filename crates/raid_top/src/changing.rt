@@ -27,7 +27,8 @@ pub(crate) fn change<D: Disk, P: Progress>(
     requires labels { CanBeLabelled D.Disk ready.opened.columns.items devices.items }
     requires judge { IsFor (shape_in ready.layout) ready.judge }
     requires room { 1024 * (shape_in ready.layout).unit_sectors ≤ ready.room }
-    requires may { MayDo D.Disk (shape_in ready.layout) ready.opened.columns.items order devices.items }
+    requires may { MayDo D.Disk (shape_in ready.layout) ready.opened.columns.items order
+        devices.items }
     ensures { ComesOfOrder D.Disk (shape_in ready.layout) ready.opened.columns.items
         devices.items result.1.items order result.0 }
 {

@@ -17,7 +17,8 @@ fn rewrite<L: Layout, D: Disk, P: Progress>(
     array: &mut Array<L, P>,
 ) -> Done
     requires sound { IsSoundArray L.Layout D.Disk array.old devices.old }
-    requires large { IsArray D.Disk (L.shape array.old.layout) array.old.ending.columns.items devices.old }
+    requires large { IsArray D.Disk (L.shape array.old.layout) array.old.ending.columns.items
+        devices.old }
     requires newest { IsNewest array.old.ending.columns.items newest }
     ensures { Renews D.Disk (L.shape array.old.layout) array.old.ending.columns.items devices.old
         devices.new result (ending_seen array.new.ending) kind newest }
@@ -39,7 +40,8 @@ pub(crate) fn alter<L: Layout, D: Disk, P: Progress>(
     array: &mut Array<L, P>,
 ) -> Done
     requires sound { IsSoundArray L.Layout D.Disk array.old devices.old }
-    requires may { MayDo D.Disk (L.shape array.old.layout) array.old.ending.columns.items order devices.old }
+    requires may { MayDo D.Disk (L.shape array.old.layout) array.old.ending.columns.items order
+        devices.old }
     ensures { DoesOrder D.Disk (L.shape array.old.layout) array.old.ending.columns.items devices.old
         devices.new result (ending_seen array.new.ending) order }
 {

@@ -44,9 +44,11 @@ pub(crate) fn status_finished(finished: &Finished<'_>) -> Status
 
 // Prints what a scan found, and the status.
 fn put_scanned<K: Sink>(scanned: &Scanned, status: &Status, out: &mut K) -> Result<(), Failed>
-    requires { IsComplete scanned.now.names.items scanned.now.fronts.items scanned.now.sets.sets scanned.now.sets.places }
+    requires { IsComplete scanned.now.names.items scanned.now.fronts.items scanned.now.sets.sets
+        scanned.now.sets.places }
     ensures output { K.tells → Puts (is_ok result) (K.output out.old)
-        (scan_text scanned.now.names.items scanned.now.fronts.items scanned.now.sets.sets scanned.now.sets.places
+        (scan_text scanned.now.names.items scanned.now.fronts.items scanned.now.sets.sets
+        scanned.now.sets.places
         ++ status_text status.now) (K.output out.new) }
     ensures later { K.faults out.old ≤ K.faults out.new }
     ensures cause { OnErr result (Rose (K.faults out.old) (K.faults out.new)) }
@@ -76,7 +78,8 @@ pub(crate) fn put_finished<K: Sink>(
 ) -> Result<(), Failed>
     requires told { CanBeTold finished.now }
     requires status { status.now ≡ status_finished finished.now }
-    ensures output { K.tells → Puts (is_ok result) (K.output out.old) (call_text (finished_seen finished.now)) (K.output out.new) }
+    ensures output { K.tells → Puts (is_ok result) (K.output out.old)
+        (call_text (finished_seen finished.now)) (K.output out.new) }
     ensures later { K.faults out.old ≤ K.faults out.new }
     ensures cause { OnErr result (Rose (K.faults out.old) (K.faults out.new)) }
 {

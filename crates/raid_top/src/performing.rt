@@ -51,9 +51,11 @@ fn run_array<'a, D: Disk + Drop + Send, R: Threads + Wait + Sync, P: Progress + 
     progress: &P,
 ) -> Performed<'a, D>
     requires within { IsWithinLimits (asked_seen asked) }
-    requires ready { (fronts : List Front) × IsPrepared (asked_seen asked) (sizes_of D.size devices.items) fronts ready }
+    requires ready { (fronts : List Front)
+        × IsPrepared (asked_seen asked) (sizes_of D.size devices.items) fronts ready }
     requires fit { IsFit D.Disk (asked_seen asked) (opened_seen ready.opened) devices.items }
-    requires start { IsStartIf D.Disk (asked_seen asked) (opened_seen ready.opened) devices.items ready.start }
+    requires start { IsStartIf D.Disk (asked_seen asked) (opened_seen ready.opened) devices.items
+        ready.start }
     requires many { length devices.items ≡ length (names_of asked.conf) }
     requires run { IsRun (action_seen asked.command.action) }
     ensures action { result.action ≡ asked.entry.command.action }
@@ -103,10 +105,12 @@ fn act_on_array<'a, D: Disk + Drop + Send, R: Threads + Wait + Sync, P: Progress
     progress: &P,
 ) -> Performed<'a, D>
     requires within { IsWithinLimits (asked_seen asked) }
-    requires ready { (fronts : List Front) × IsPrepared (asked_seen asked) (sizes_of D.size devices.items) fronts ready }
+    requires ready { (fronts : List Front)
+        × IsPrepared (asked_seen asked) (sizes_of D.size devices.items) fronts ready }
     requires kind { kind_of (action_seen asked.command.action) ≡ kind_of Init }
     requires fit { IsFit D.Disk (asked_seen asked) (opened_seen ready.opened) devices.items }
-    requires start { IsStartIf D.Disk (asked_seen asked) (opened_seen ready.opened) devices.items ready.start }
+    requires start { IsStartIf D.Disk (asked_seen asked) (opened_seen ready.opened) devices.items
+        ready.start }
     requires many { length devices.items ≡ length (names_of asked.conf) }
     ensures action { result.action ≡ asked.entry.command.action }
     ensures conf { result.conf ≡ asked.entry.conf }
@@ -185,19 +189,23 @@ pub(crate) fn perform<'a, D: Disk + Drop + Send, R: Threads + Wait + Sync, P: Pr
     progress: &P,
 ) -> Performed<'a, D>
     requires within { IsWithinLimits (asked_seen admitted.asked) }
-    requires duty { IsDutyOver (asked_seen admitted.asked) (sizes_of D.size admitted.devices.items) admitted.fronts.items admitted.duty }
-    requires fit { IsFitFor D.Disk (asked_seen admitted.asked) admitted.devices.items admitted.duty }
+    requires duty { IsDutyOver (asked_seen admitted.asked) (sizes_of D.size admitted.devices.items)
+        admitted.fronts.items admitted.duty }
+    requires fit { IsFitFor D.Disk (asked_seen admitted.asked) admitted.devices.items
+        admitted.duty }
     requires sizes { admitted.sizes.items ≡ sizes_of D.size admitted.devices.items }
     requires fronts { length admitted.fronts.items ≡ length admitted.devices.items }
     requires many { length admitted.devices.items ≡ length (names_for (asked_seen admitted.asked)) }
     ensures action { result.action ≡ admitted.entry.asked.command.action }
     ensures conf { result.conf ≡ admitted.entry.asked.conf }
     ensures does { IfOk result.served.came (λ came. Does D.Disk
-        (duty_seen (asked_seen admitted.entry.asked) admitted.entry.duty) admitted.entry.fronts.items
+        (duty_seen (asked_seen admitted.entry.asked) admitted.entry.duty)
+        admitted.entry.fronts.items
         admitted.entry.devices.items result.served.devices.items
         (outcome_seen (action_seen result.action) result.conf came)) }
     ensures printed { IfOk result.served.came CanBePrinted }
-    ensures memory { IfErr result.served.came (IsMemory (duty_seen (asked_seen admitted.entry.asked) admitted.entry.duty)) }
+    ensures memory { IfErr result.served.came
+        (IsMemory (duty_seen (asked_seen admitted.entry.asked) admitted.entry.duty)) }
     ensures same { OnErr result.served.came (result.served.devices ≡ admitted.entry.devices) }
 {
     let Admitted {

@@ -32,8 +32,10 @@ use top_words::{Action, Drawing};
 
 // Prints replies, history and trace.
 fn put_script<K: Sink>(service: &Service, out: &mut K) -> Result<(), Failed>
-    requires { StandFor service.now.clients.items service.now.replies.items service.now.sectors.items }
-    ensures output { K.tells → Puts (is_ok result) (K.output out.old) (script_text (service_seen service.now)) (K.output out.new) }
+    requires { StandFor service.now.clients.items service.now.replies.items
+        service.now.sectors.items }
+    ensures output { K.tells → Puts (is_ok result) (K.output out.old)
+        (script_text (service_seen service.now)) (K.output out.new) }
     ensures later { K.faults out.old ≤ K.faults out.new }
     ensures cause { OnErr result (Rose (K.faults out.old) (K.faults out.new)) }
 {
@@ -60,9 +62,11 @@ fn put_sweep<K: Sink>(service: &Service, out: &mut K) -> Result<(), Failed>
 
 // Prints what is told of a script, and of a rebuild, if there was one.
 fn put_clients<K: Sink>(service: &Service, out: &mut K) -> Result<(), Failed>
-    requires { StandFor service.now.clients.items service.now.replies.items service.now.sectors.items }
+    requires { StandFor service.now.clients.items service.now.replies.items
+        service.now.sectors.items }
     ensures output { K.tells → Puts (is_ok result) (K.output out.old)
-        (script_text (service_seen service.now) ++ rebuild_text service.now.line) (K.output out.new) }
+        (script_text (service_seen service.now) ++ rebuild_text service.now.line)
+        (K.output out.new) }
     ensures later { K.faults out.old ≤ K.faults out.new }
     ensures cause { OnErr result (Rose (K.faults out.old) (K.faults out.new)) }
 {
@@ -122,7 +126,8 @@ fn put_run<K: Sink>(
 // Prints the line of what was done, if it has one, the columns that are dead in the end, and the status.
 fn put_act<K: Sink>(act: &Done, ending: &Ending, status: &Status, out: &mut K) -> Result<(), Failed>
     requires status { status.now ≡ status_of_done act.now ending.now.lost }
-    ensures output { K.tells → Puts (is_ok result) (K.output out.old) (did_text act.now (ending_seen ending.now)) (K.output out.new) }
+    ensures output { K.tells → Puts (is_ok result) (K.output out.old)
+        (did_text act.now (ending_seen ending.now)) (K.output out.new) }
     ensures later { K.faults out.old ≤ K.faults out.new }
     ensures cause { OnErr result (Rose (K.faults out.old) (K.faults out.new)) }
 {
@@ -141,7 +146,8 @@ fn put_opened<K: Sink>(
 ) -> Result<(), Failed>
     requires conf { IsConf conf.now }
     ensures output { K.tells → Puts (is_ok result) (K.output out.old)
-        (show_text conf.now (opened_seen opened.now) sizes.now fronts.now ++ status_text status.now) (K.output out.new) }
+        (show_text conf.now (opened_seen opened.now) sizes.now fronts.now ++ status_text status.now)
+        (K.output out.new) }
     ensures later { K.faults out.old ≤ K.faults out.new }
     ensures cause { OnErr result (Rose (K.faults out.old) (K.faults out.new)) }
 {
@@ -150,7 +156,8 @@ fn put_opened<K: Sink>(
 }
 
 fn put_front<K: Sink>(front: &Front, status: &Status, out: &mut K) -> Result<(), Failed>
-    ensures output { K.tells → Puts (is_ok result) (K.output out.old) (label_text front.now ++ status_text status.now) (K.output out.new) }
+    ensures output { K.tells → Puts (is_ok result) (K.output out.old)
+        (label_text front.now ++ status_text status.now) (K.output out.new) }
     ensures later { K.faults out.old ≤ K.faults out.new }
     ensures cause { OnErr result (Rose (K.faults out.old) (K.faults out.new)) }
 {
@@ -159,7 +166,8 @@ fn put_front<K: Sink>(front: &Front, status: &Status, out: &mut K) -> Result<(),
 }
 
 fn put_text<K: Sink>(text: &[u8], status: &Status, out: &mut K) -> Result<(), Failed>
-    ensures output { K.tells → Puts (is_ok result) (K.output out.old) (text.now ++ status_text status.now) (K.output out.new) }
+    ensures output { K.tells → Puts (is_ok result) (K.output out.old)
+        (text.now ++ status_text status.now) (K.output out.new) }
     ensures later { K.faults out.old ≤ K.faults out.new }
     ensures cause { OnErr result (Rose (K.faults out.old) (K.faults out.new)) }
 {
@@ -206,7 +214,8 @@ pub(crate) fn put_ended<K: Sink>(
     requires printed { CanBePrinted ended.now.came }
     requires status { status.now ≡ status_came ended.now.came }
     ensures output { K.tells → Puts (is_ok result) (K.output out.old)
-        (outcome_text (outcome_seen (action_seen ended.now.action) ended.now.conf ended.now.came)) (K.output out.new) }
+        (outcome_text (outcome_seen (action_seen ended.now.action) ended.now.conf ended.now.came))
+        (K.output out.new) }
     ensures later { K.faults out.old ≤ K.faults out.new }
     ensures cause { OnErr result (Rose (K.faults out.old) (K.faults out.new)) }
 {

@@ -58,7 +58,8 @@ fn set_rebuilt(line: &mut Line, rebuild: Rebuild)
 
 /// Prints the line of a rebuild, if there was one, by one call of the sink.
 pub(crate) fn put_rebuilt<K: Sink>(rebuild: Option<Rebuild>, out: &mut K) -> Result<(), Failed>
-    ensures output { K.tells → Puts (is_ok result) (K.output out.old) (rebuild_text rebuild) (K.output out.new) }
+    ensures output { K.tells
+        → Puts (is_ok result) (K.output out.old) (rebuild_text rebuild) (K.output out.new) }
     ensures later { K.faults out.old ≤ K.faults out.new }
     ensures cause { OnErr result (Rose (K.faults out.old) (K.faults out.new)) }
 {

@@ -51,7 +51,8 @@ fn run_plain<
     ensures came { IfOk result.came (ComesPlain D.Disk (work_of L.Layout setup None)
         setup.devices.items result.devices.items) }
     ensures printed { IfOk result.came CanBePrinted }
-    ensures memory { IfErr result.came (λ r. r ≡ record { status = Status.Memory; dead = dead_columns setup.columns.items }) }
+    ensures memory { IfErr result.came
+        (λ r. r ≡ record { status = Status.Memory; dead = dead_columns setup.columns.items }) }
     ensures same { OnErr result.came (result.devices ≡ setup.devices) }
 {
     match run_clients(rt, alloc, setup, workers, progress) {
@@ -87,10 +88,12 @@ fn run_with_labels<
     requires label { MayLabel L.Layout D.Disk labelled.setup labelled.start labelled.label }
     requires judge { IsFor (shape_in L.Layout labelled.setup) labelled.judge }
     requires room { 1024 * (shape_in L.Layout labelled.setup).unit_sectors ≤ labelled.room }
-    ensures came { IfOk result.came (ComesLabelled D.Disk (work_of L.Layout labelled.setup labelled.start) labelled.label labelled.failed
+    ensures came { IfOk result.came (ComesLabelled D.Disk
+        (work_of L.Layout labelled.setup labelled.start) labelled.label labelled.failed
         labelled.setup.devices.items result.devices.items) }
     ensures printed { IfOk result.came CanBePrinted }
-    ensures memory { IfErr result.came (λ r. r ≡ record { status = Status.Memory; dead = dead_columns labelled.setup.columns.items }) }
+    ensures memory { IfErr result.came (λ r. r
+        ≡ record { status = Status.Memory; dead = dead_columns labelled.setup.columns.items }) }
     ensures same { OnErr result.came (result.devices ≡ labelled.setup.devices) }
 {
     match run_labelled(rt, alloc, labelled, workers, progress) {
@@ -119,10 +122,12 @@ pub(crate) fn serve<D: Disk + Drop + Send, R: Threads + Wait + Sync, P: Progress
     requires filling { AreUnfilledIf work.newest work.setup.columns.items }
     requires judge { IsFor (shape_in ⟦<AnyLayout as Layout>⟧ work.setup) work.judge }
     requires room { 1024 * (shape_in ⟦<AnyLayout as Layout>⟧ work.setup).unit_sectors ≤ work.room }
-    ensures came { IfOk result.came (CameOf D.Disk (work_of ⟦<AnyLayout as Layout>⟧ work.setup work.start) work.newest work.failed
+    ensures came { IfOk result.came (CameOf D.Disk
+        (work_of ⟦<AnyLayout as Layout>⟧ work.setup work.start) work.newest work.failed
         work.setup.devices.items result.devices.items) }
     ensures printed { IfOk result.came CanBePrinted }
-    ensures memory { IfErr result.came (λ r. r ≡ record { status = Status.Memory; dead = dead_columns work.setup.columns.items }) }
+    ensures memory { IfErr result.came
+        (λ r. r ≡ record { status = Status.Memory; dead = dead_columns work.setup.columns.items }) }
     ensures same { OnErr result.came (result.devices ≡ work.setup.devices) }
 {
     let Work {

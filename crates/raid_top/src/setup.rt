@@ -36,7 +36,8 @@ pub(crate) struct Unserved<D> {
 // The graphs that items name: those of the file, and behind them those that are joined; none where there is no memory for
 // the list.
 fn graphs_of(book: Book, joined: Vec<Graph>) -> Option<Vec<Graph>>
-    ensures { IfSome result (λ gs. views_of gs.items ≡ map (λ n. n.graph) book ++ views_of joined.items) }
+    ensures { IfSome result
+        (λ gs. views_of gs.items ≡ map (λ n. n.graph) book ++ views_of joined.items) }
 {
     let mut graphs = book.into_graphs();
     for graph in joined {
@@ -59,11 +60,15 @@ pub(crate) fn work_of<D>(
     ensures layout { IfOk result (λ w. w.setup.layout ≡ ready.layout) }
     ensures devices { IfOk result (λ w. w.setup.devices ≡ devices) }
     ensures columns { IfOk result (λ w. w.setup.columns ≡ ready.opened.columns) }
-    ensures clients { IfOk result (λ w. (blocks : ℕ) → items_seen ready.drawn.items ≡ drawn_by (action_seen action.entry) blocks →
-        items_seen w.setup.clients.items ≡ clients_by (action_seen action.entry) (items_seen clients.items) blocks) }
-    ensures graphs { IfOk result (λ w. views_of w.setup.graphs.items ≡ map (λ n. n.graph) book ++ views_of ready.joined.items) }
+    ensures clients { IfOk result (λ w. (blocks : ℕ)
+        → items_seen ready.drawn.items ≡ drawn_by (action_seen action.entry) blocks →
+        items_seen w.setup.clients.items
+        ≡ clients_by (action_seen action.entry) (items_seen clients.items) blocks) }
+    ensures graphs { IfOk result (λ w. views_of w.setup.graphs.items ≡ map (λ n. n.graph) book
+        ++ views_of ready.joined.items) }
     ensures trace { IfOk result (λ w. w.setup.trace ≡ traces (action_seen action.entry)) }
-    ensures parts { IfOk result (λ w. (w.newest ≡ ready.opened.newest) × (w.judge ≡ ready.judge) × (w.room ≡ ready.room)) }
+    ensures parts { IfOk result
+        (λ w. (w.newest ≡ ready.opened.newest) × (w.judge ≡ ready.judge) × (w.room ≡ ready.room)) }
     ensures start { IfOk result (λ w. w.start ≡ ready.start) }
     ensures failed { IfOk result (λ w. w.failed ≡ ready.failed) }
     ensures columns_left { IfErr result (λ u. u.columns ≡ ready.opened.columns) }

@@ -49,7 +49,8 @@ where
     ensures answer { Answers B.D.Disk (told_of B.Bay bay.old bay.new) words.now K.tells
         (Rose (K.faults out.old) (K.faults out.new)) result (K.output out.old) (K.output out.new) }
     ensures complete { B.tells → IsRight B.D.Disk (told_of B.Bay bay.old bay.new) words.now
-        → ¬ Rose (B.faults bay.old) (B.faults bay.new) → ¬ Rose (K.faults out.old) (K.faults out.new)
+        → ¬ Rose (B.faults bay.old) (B.faults bay.new)
+        → ¬ Rose (K.faults out.old) (K.faults out.new)
         → IsDone B.D.Disk (told_of B.Bay bay.old bay.new) words.now K.tells result
         (K.output out.old) (K.output out.new) }
     ensures bay_later { B.faults bay.old ≤ B.faults bay.new }

@@ -89,7 +89,8 @@ fn empty_rows(alloc: Global, count: usize) -> Result<Vec<Vec<[u8; SECTOR]>>, Mem
 
 fn put_row(rows: &mut Vec<Vec<[u8; SECTOR]>>, number: usize, row: Vec<[u8; SECTOR]>)
     requires { number < length rows.old.items }
-    ensures { map (λ row. row.items) rows.new.items ≡ slice_set (map (λ row. row.items) rows.old.items) number row.items }
+    ensures { map (λ row. row.items) rows.new.items
+        ≡ slice_set (map (λ row. row.items) rows.old.items) number row.items }
 {
     rows[number] = row;
 }
@@ -106,7 +107,8 @@ pub fn reply_all(
     requires known { AreKnown (length requests.now) services.now }
     requires apart { AreApart services.now }
     ensures long { IfOk result (λ replies. length replies ≡ length requests.now) }
-    ensures replies { IfOk result (λ replies. AreReplies sectors requests.now services.now replies) }
+    ensures replies { IfOk result
+        (λ replies. AreReplies sectors requests.now services.now replies) }
 {
     let mut disk = Blocks::zeroed(alloc, sectors)?;
     let mut rows = empty_rows(alloc, requests.len())?;

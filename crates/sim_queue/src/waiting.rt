@@ -51,7 +51,8 @@ fn arrive(
 ) -> Result<usize, Memory>
     requires asked { IsAsked requests.now }
     requires from { from ≤ length requests.now }
-    ensures { IfOk result (λ next. AddsArrived requests.now from next tick waiting.old waiting.new) }
+    ensures { IfOk result
+        (λ next. AddsArrived requests.now from next tick waiting.old waiting.new) }
 {
     for number in from..requests.len() {
         let request = nth_request(requests, number);
@@ -80,8 +81,10 @@ pub(crate) fn gather(
 ) -> Result<Gathered, Memory>
     requires asked { IsAsked requests.now }
     requires from { from ≤ length requests.now }
-    ensures arrived { IfOk result (λ r. AddsArrived requests.now from r.next r.start waiting.old waiting.new) }
-    ensures start { IfOk result (λ r. IsStart requests.now waiting.old from tick waiting.new r.start) }
+    ensures arrived { IfOk result
+        (λ r. AddsArrived requests.now from r.next r.start waiting.old waiting.new) }
+    ensures start { IfOk result
+        (λ r. IsStart requests.now waiting.old from tick waiting.new r.start) }
 {
     let next = arrive(waiting, requests, from, tick)?;
     if !waiting.is_empty() {

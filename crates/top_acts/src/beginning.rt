@@ -36,7 +36,8 @@ fn sweep_labelled<L: Layout, D: Disk, P: Progress>(
     requires room { 1024 * (L.shape layout.now).unit_sectors ≤ room.old }
     requires judge { IsFor (L.shape layout.now) judge.old }
     ensures swept { SweepsLabelled D.Disk (sweep_of kind) (L.shape layout.now) label.old label.new
-        ending.old.columns.items ending.new.columns.items devices.old devices.new ending.new.lost result }
+        ending.old.columns.items ending.new.columns.items devices.old devices.new ending.new.lost
+        result }
     ensures held { IsLabelFor ending.new.columns.items label.new }
     ensures lost { IsLossBy (L.shape layout.now) None
         (states_of (L.shape layout.now) ending.new.columns.items) ending.new.lost }
@@ -67,8 +68,10 @@ pub(crate) fn begin<L: Layout, D: Disk, P: Progress>(
     requires counter { label.old.counter + 66 < 2 ^ 32 }
     requires room { 1024 * (L.shape layout.now).unit_sectors ≤ room.old }
     requires judge { IsFor (L.shape layout.now) judge.old }
-    ensures begun { HasBegun D.Disk (option_map sweep_of sweep) (L.shape layout.now) label.old label.new
-        ending.old.columns.items ending.new.columns.items devices.old devices.new ending.new.lost result }
+    ensures begun { HasBegun D.Disk (option_map sweep_of sweep) (L.shape layout.now) label.old
+        label.new
+        ending.old.columns.items ending.new.columns.items devices.old devices.new ending.new.lost
+        result }
     ensures held { IsLabelFor ending.new.columns.items label.new }
     ensures lost { IsLossBy (L.shape layout.now) None
         (states_of (L.shape layout.now) ending.new.columns.items) ending.new.lost }
@@ -113,7 +116,8 @@ pub fn begin_labelled<L: Layout, D: Disk, P: Progress>(
     requires room { 1024 * (L.shape layout.now).unit_sectors ≤ room.old }
     requires judge { IsFor (L.shape layout.now) judge.old }
     ensures begun { HasBegun D.Disk (sweep_if dirty) (L.shape layout.now) label.old label.new
-        ending.old.columns.items ending.new.columns.items devices.old devices.new ending.new.lost result }
+        ending.old.columns.items ending.new.columns.items devices.old devices.new ending.new.lost
+        result }
     ensures lost { IsLossBy (L.shape layout.now) None
         (states_of (L.shape layout.now) ending.new.columns.items) ending.new.lost }
     ensures can { CanAct D.Disk (L.shape layout.now) ending.new.columns.items devices.new }

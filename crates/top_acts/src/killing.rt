@@ -35,7 +35,8 @@ pub fn settle_and_close<L: Layout, D: Disk>(
     requires held { IsLabelFor ending.old.columns.items label.old }
     requires counter { label.old.counter + 65 < 2 ^ 32 }
     requires judge { IsFor (L.shape layout.now) judge.old }
-    ensures ends { EndsAlive D.Disk (L.shape layout.now) label.old label.new ending.old.columns.items
+    ensures ends { EndsAlive D.Disk (L.shape layout.now) label.old label.new
+        ending.old.columns.items
         ending.new.columns.items devices.old devices.new ending.new.lost }
     ensures lost { IsLossBy (L.shape layout.now) None
         (states_of (L.shape layout.now) ending.new.columns.items) ending.new.lost }
@@ -70,7 +71,8 @@ pub fn kill<L: Layout, D: Disk>(
     requires held { IsLabelFor ending.old.columns.items label.old }
     requires counter { label.old.counter + 65 < 2 ^ 32 }
     requires judge { IsFor (L.shape layout.now) judge.old }
-    ensures killed { IsKilled D.Disk (L.shape layout.now) column label.old label.new ending.old.columns.items
+    ensures killed { IsKilled D.Disk (L.shape layout.now) column label.old label.new
+        ending.old.columns.items
         ending.new.columns.items devices.old devices.new ending.new.lost result }
     ensures judge { IsFor (L.shape layout.now) judge.new }
 {

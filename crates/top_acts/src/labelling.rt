@@ -55,7 +55,8 @@ pub fn label<L: Layout, D: Disk>(
     requires columns { IsSettable (L.shape layout.now) ending.old.columns.items }
     requires held { IsLabelFor ending.old.columns.items label.old }
     requires judge { IsFor (L.shape layout.now) judge.old }
-    ensures labelled { IsFirstLabelled D.Disk (L.shape layout.now) label.old label.new ending.old.columns.items
+    ensures labelled { IsFirstLabelled D.Disk (L.shape layout.now) label.old label.new
+        ending.old.columns.items
         ending.new.columns.items devices.old devices.new ending.new.lost result }
     ensures judge { IsFor (L.shape layout.now) judge.new }
 {

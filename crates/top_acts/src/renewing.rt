@@ -56,7 +56,8 @@ pub fn renew<L: Layout, D: Disk, P: Progress>(
     requires room { 1024 * (L.shape layout.now).unit_sectors ≤ room.old }
     requires judge { IsFor (L.shape layout.now) judge.old }
     ensures renewed { IsRenewed D.Disk kind (L.shape layout.now) label.old label.new
-        ending.old.columns.items ending.new.columns.items devices.old devices.new ending.new.lost result }
+        ending.old.columns.items ending.new.columns.items devices.old devices.new ending.new.lost
+        result }
     ensures room { room.new ≡ room.old }
     ensures judge { IsFor (L.shape layout.now) judge.new }
 {
@@ -89,7 +90,8 @@ pub fn renew_unlabelled<L: Layout, D: Disk, P: Progress>(
     requires room { 1024 * (L.shape layout.now).unit_sectors ≤ room.old }
     requires judge { IsFor (L.shape layout.now) judge.old }
     ensures renewed { IsRenewedPlain D.Disk kind (L.shape layout.now)
-        ending.old.columns.items ending.new.columns.items devices.old devices.new ending.new.lost result }
+        ending.old.columns.items ending.new.columns.items devices.old devices.new ending.new.lost
+        result }
     ensures room { room.new ≡ room.old }
     ensures judge { IsFor (L.shape layout.now) judge.new }
 {

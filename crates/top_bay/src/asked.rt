@@ -138,7 +138,8 @@ pub fn ask<'a, B: Bay>(
     ensures many { IfOk result (λ t. vec_len t.devices ≡ length (names_for (asked_seen t.asked))) }
     ensures lent { IfOk result (λ t. B.tells →
         IsLent (B.home bay.old) (B.home bay.new) (names_for (asked_seen t.asked)) t.devices.items) }
-    ensures out { IfOk result (λ t. AreOut (B.is_out bay.new) (names_for (asked_seen t.asked)) t.devices.items) }
+    ensures out { IfOk result
+        (λ t. AreOut (B.is_out bay.new) (names_for (asked_seen t.asked)) t.devices.items) }
     ensures same { OnErr result (B.tells → (n : List ℕ) → B.home bay.new n ≡ B.home bay.old n) }
     ensures kind { IfErr result IsEarly }
     ensures later { B.faults bay.old ≤ B.faults bay.new }

@@ -33,7 +33,8 @@ fn place_of(conf: &Conf, count: u32, name: &str) -> Option<u32>
 fn place(conf: &Conf, count: u32, name: &str) -> Result<Option<u32>, Status>
     requires conf { IsConf conf.now }
     requires within { count ≤ length (names_of conf.now) }
-    ensures answer { AnswersAs (λ comp. comp) result (component_in (take count (names_of conf.now)) name.now) }
+    ensures answer { AnswersAs (λ comp. comp) result
+        (component_in (take count (names_of conf.now)) name.now) }
     ensures kind { IfErr result IsUsage }
 {
     if name.is_empty() {

@@ -21,7 +21,8 @@ fn put_one<B: Bay>(bay: &mut B, name: &str, device: Option<B::D>)
     requires there { IsSome device → name.now ≡ [] → ⊥ }
     requires out { IsSome device → B.is_out bay.old name.now }
     ensures back { B.tells → IsSome device → B.home bay.new name.now ≡ device }
-    ensures homes { B.tells → (n : List ℕ) → (IsSome device → n ≡ name.now → ⊥) → B.home bay.new n ≡ B.home bay.old n }
+    ensures homes { B.tells → (n : List ℕ) → (IsSome device → n ≡ name.now → ⊥)
+        → B.home bay.new n ≡ B.home bay.old n }
     ensures out { (n : List ℕ) → (n ≡ name.now → ⊥) → B.is_out bay.old n → B.is_out bay.new n }
     ensures faults { B.faults bay.new ≡ B.faults bay.old }
 {
@@ -35,8 +36,10 @@ fn put_one<B: Bay>(bay: &mut B, name: &str, device: Option<B::D>)
 pub fn put_all<B: Bay>(bay: &mut B, conf: &Conf, action: Action<'_>, mut devices: Vec<Option<B::D>>)
     requires conf { IsConf conf.now }
     requires many { vec_len devices ≤ length (names_by conf.now (action_seen action)) }
-    requires out { AreOut (B.is_out bay.old) (names_by conf.now (action_seen action)) devices.items }
-    ensures back { B.tells → AreBack (B.home bay.old) (B.home bay.new) (names_by conf.now (action_seen action.entry)) devices.items }
+    requires out { AreOut (B.is_out bay.old) (names_by conf.now (action_seen action))
+        devices.items }
+    ensures back { B.tells → AreBack (B.home bay.old) (B.home bay.new)
+        (names_by conf.now (action_seen action.entry)) devices.items }
     ensures faults { B.faults bay.new ≡ B.faults bay.old }
 {
     while let Some(device) = devices.pop() {
@@ -82,10 +85,12 @@ fn take_one<B: Bay>(
     looks: bool,
 ) -> Result<Option<B::D>, Status>
     ensures answer { B.tells → AnswersAs (λ _. tt) result (device_in (B.home bay.old) name.now) }
-    ensures ok { IfOk result (λ device. B.tells → device ≡ at_home (B.home bay.old) (Some name.now)) }
+    ensures ok { IfOk result
+        (λ device. B.tells → device ≡ at_home (B.home bay.old) (Some name.now)) }
     ensures there { IfOk result (λ device. IsSome device ↔ (name.now ≡ [] → ⊥)) }
     ensures is_out { OnOk result ((name.now ≡ [] → ⊥) → B.is_out bay.new name.now) }
-    ensures homes { B.tells → (n : List ℕ) → (n ≢ name.now) ⊎ (n ≡ []) → B.home bay.new n ≡ B.home bay.old n }
+    ensures homes { B.tells → (n : List ℕ) → (n ≢ name.now) ⊎ (n ≡ [])
+        → B.home bay.new n ≡ B.home bay.old n }
     ensures same { OnErr result (B.tells → (n : List ℕ) → B.home bay.new n ≡ B.home bay.old n) }
     ensures kind { IfErr result IsEarly }
     ensures out { (n : List ℕ) → B.is_out bay.old n → B.is_out bay.new n }
@@ -110,10 +115,14 @@ pub(crate) fn take_all<B: Bay>(
     action: Action<'_>,
 ) -> Result<Vec<Option<B::D>>, Status>
     requires { IsConf conf.now }
-    ensures answer { B.tells → AnswersAs (λ _. tt) result (devices_in (B.home bay.old) (names_by conf.now (action_seen action.entry))) }
-    ensures many { IfOk result (λ v. vec_len v ≡ length (names_by conf.now (action_seen action.entry))) }
-    ensures lent { IfOk result (λ v. B.tells → IsLent (B.home bay.old) (B.home bay.new) (names_by conf.now (action_seen action.entry)) v.items) }
-    ensures out { IfOk result (λ v. AreOut (B.is_out bay.new) (names_by conf.now (action_seen action.entry)) v.items) }
+    ensures answer { B.tells → AnswersAs (λ _. tt) result
+        (devices_in (B.home bay.old) (names_by conf.now (action_seen action.entry))) }
+    ensures many { IfOk result
+        (λ v. vec_len v ≡ length (names_by conf.now (action_seen action.entry))) }
+    ensures lent { IfOk result (λ v. B.tells → IsLent (B.home bay.old) (B.home bay.new)
+        (names_by conf.now (action_seen action.entry)) v.items) }
+    ensures out { IfOk result
+        (λ v. AreOut (B.is_out bay.new) (names_by conf.now (action_seen action.entry)) v.items) }
     ensures same { OnErr result (B.tells → (n : List ℕ) → B.home bay.new n ≡ B.home bay.old n) }
     ensures kind { IfErr result IsEarly }
     ensures later { B.faults bay.old ≤ B.faults bay.new }

@@ -19,7 +19,8 @@ use top_status::Status;
 
 #[tactic(auto, unfolding(crate::specs::Asked::conf_in))]
 pub(crate) fn open_conf<B: Bay>(alloc: Global, name: &str, bay: &mut B) -> Result<Conf, Status>
-    ensures answer { B.tells → AnswersAs (λ conf. conf) result (conf_in (B.text_of bay.old) name.now) }
+    ensures answer { B.tells
+        → AnswersAs (λ conf. conf) result (conf_in (B.text_of bay.old) name.now) }
     ensures conf { IfOk result IsConf }
     ensures kind { IfErr result IsEarly }
     ensures cause { IsErrOf result Status.BayFault → Rose (B.faults bay.old) (B.faults bay.new) }
@@ -55,7 +56,8 @@ pub(crate) fn open_book<B: Bay>(
     name: Option<&str>,
     bay: &mut B,
 ) -> Result<Book, Status>
-    ensures answer { B.tells → AnswersAs (λ book. book) result (book_in (B.text_of bay.old) (text_of name.entry)) }
+    ensures answer { B.tells
+        → AnswersAs (λ book. book) result (book_in (B.text_of bay.old) (text_of name.entry)) }
     ensures graphs { IfOk result AreGraphs }
     ensures kind { IfErr result IsEarly }
     ensures cause { IsErrOf result Status.BayFault → Rose (B.faults bay.old) (B.faults bay.new) }

@@ -94,7 +94,8 @@ fn run_nodes<L: Layout>(
     span: Span,
     graph: Option<u32>,
 ) -> u64
-    ensures value { result ≡ run_nodes (L.shape layout.now) (graphs_in book.now joined.now) span graph }
+    ensures value { result
+        ≡ run_nodes (L.shape layout.now) (graphs_in book.now joined.now) span graph }
     ensures small { result ≤ 300000000000 }
 {
     match graph {
@@ -112,7 +113,8 @@ fn patches_nodes<L: Layout>(
 ) -> u64
     requires sound { AreSound patches.now }
     requires some { All (λ s. 1 ≤ s.count) (spans_of patches.now) }
-    ensures value { result ≡ patches_nodes (L.shape layout.now) (graphs_in book.now joined.now) (seen_patches patches.now) graph }
+    ensures value { result ≡ patches_nodes (L.shape layout.now) (graphs_in book.now joined.now)
+        (seen_patches patches.now) graph }
     ensures small { result ≤ 300000000000 }
 {
     match graph {
@@ -123,7 +125,8 @@ fn patches_nodes<L: Layout>(
 
 fn item_nodes<L: Layout>(layout: &L, book: &Book, joined: &[Graph], item: &Item) -> u64
     requires { MayBeAsked (seen item.now) }
-    ensures value { result ≡ item_nodes (L.shape layout.now) (graphs_in book.now joined.now) (seen item.now) }
+    ensures value { result
+        ≡ item_nodes (L.shape layout.now) (graphs_in book.now joined.now) (seen item.now) }
     ensures small { result ≤ 300000000000 }
 {
     match item {
@@ -156,7 +159,8 @@ fn row_sum<L: Layout>(
 ) -> u128
     requires devices { devices ≤ 40 }
     requires asked { All MayBeAsked (map seen items.now) }
-    ensures value { result ≡ row_sum (L.shape layout.now) (graphs_in book.now joined.now) devices (map seen items.now) }
+    ensures value { result ≡ row_sum (L.shape layout.now) (graphs_in book.now joined.now) devices
+        (map seen items.now) }
     ensures small { result ≤ 70368744177664 * length items.now }
 {
     let mut total: u128 = 0;
@@ -177,7 +181,8 @@ fn trace_sum<L: Layout>(
     requires few { length clients.now ≤ 17 }
     requires devices { devices ≤ 40 }
     requires asked { All (λ items. All MayBeAsked (map seen items.items)) clients.now }
-    ensures value { result ≡ trace_sum (L.shape layout.now) (graphs_in book.now joined.now) devices (map (λ items. map seen items.items) clients.now) }
+    ensures value { result ≡ trace_sum (L.shape layout.now) (graphs_in book.now joined.now) devices
+        (map (λ items. map seen items.items) clients.now) }
     ensures small { result ≤ 41538374868278621028243970633760768 }
 {
     let mut total: u128 = 0;
@@ -216,8 +221,10 @@ pub fn trace_fits<L: Layout>(
     requires few { length clients.now ≤ 17 }
     requires devices { devices ≤ 40 }
     requires asked { All (λ items. All MayBeAsked (map seen items.items)) clients.now }
-    ensures { result ≡ nat_le (trace_sum (L.shape layout.now) (graphs_in book.now joined.now) devices
-        (map (λ items. map seen items.items) clients.now) + rebuilds_sum (L.shape layout.now) devices rebuilds) 1048576 }
+    ensures { result
+        ≡ nat_le (trace_sum (L.shape layout.now) (graphs_in book.now joined.now) devices
+        (map (λ items. map seen items.items) clients.now)
+        + rebuilds_sum (L.shape layout.now) devices rebuilds) 1048576 }
 {
     let items = trace_sum(layout, book, joined, devices, clients);
     items + rebuilds_sum(layout, devices, rebuilds) <= EVENTS

@@ -55,11 +55,15 @@ fn judge<D: Disk>(
 ) -> Result<Judged, Refusal>
     requires asked { IsWithinLimits (asked_seen asked.now) }
     requires many { length devices.old ≡ length (names_for (asked_seen asked.now)) }
-    ensures read { IfOk result (λ j. Reads D.Disk (reads_fronts (action_seen asked.now.command.action)) devices.old devices.new j.fronts.items) }
+    ensures read { IfOk result
+        (λ j. Reads D.Disk (reads_fronts (action_seen asked.now.command.action)) devices.old
+        devices.new j.fronts.items) }
     ensures sizes { IfOk result (λ j. j.sizes.items ≡ sizes_of D.size devices.new) }
-    ensures duty { IfOk result (λ j. IsDutyOver (asked_seen asked.now) (sizes_of D.size devices.new) j.fronts.items j.duty) }
+    ensures duty { IfOk result (λ j.
+        IsDutyOver (asked_seen asked.now) (sizes_of D.size devices.new) j.fronts.items j.duty) }
     ensures fit { IfOk result (λ j. IsFitFor D.Disk (asked_seen asked.now) devices.new j.duty) }
-    ensures refused { IfErr result (RefusedOver D.Disk (asked_seen asked.now) devices.old devices.new) }
+    ensures refused { IfErr result
+        (RefusedOver D.Disk (asked_seen asked.now) devices.old devices.new) }
     ensures kind { IfErr result (λ r. IsRefusal ⊥ r.status) }
     ensures stays { Changes D.Disk (λ _ _. ⊥) devices.old devices.new }
 {
@@ -121,8 +125,10 @@ pub fn admit<'a, B: Bay>(
           home = B.home bay.old;
           after = B.home bay.new;
         }) (command_seen command.entry) r) }
-    ensures kind { IfErr result (λ r. IsRefusal (Rose (B.faults bay.old) (B.faults bay.new)) r.status) }
-    ensures same { OnErr result (B.tells → (n : List ℕ) → StaysIf B.D.Disk (λ _. ⊥) (B.home bay.old n) (B.home bay.new n)) }
+    ensures kind { IfErr result
+        (λ r. IsRefusal (Rose (B.faults bay.old) (B.faults bay.new)) r.status) }
+    ensures same { OnErr result
+        (B.tells → (n : List ℕ) → StaysIf B.D.Disk (λ _. ⊥) (B.home bay.old n) (B.home bay.new n)) }
     ensures later { B.faults bay.old ≤ B.faults bay.new }
 {
     let Taken { asked, mut devices } = match ask(alloc, command, bay) {

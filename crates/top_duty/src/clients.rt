@@ -39,9 +39,11 @@ pub(crate) fn draw(alloc: Global, action: Action<'_>, blocks: u64) -> Result<Vec
     requires range { AreNumbersInRange (action_seen action) }
     requires blocks { 0 < blocks }
     requires most { blocks ≤ 2 ^ 32 }
-    ensures asked { IfOk result (λ clients. (columns graphs : ℕ) → All (All (IsAsked columns graphs)) (items_seen clients.items)) }
+    ensures asked { IfOk result (λ clients. (columns graphs : ℕ)
+        → All (All (IsAsked columns graphs)) (items_seen clients.items)) }
     ensures few { IfOk result (λ clients. AreFew (items_seen clients.items)) }
-    ensures value { IfOk result (λ clients. items_seen clients.items ≡ drawn_by (action_seen action.entry) blocks) }
+    ensures value { IfOk result
+        (λ clients. items_seen clients.items ≡ drawn_by (action_seen action.entry) blocks) }
     ensures memory { IfErr result (λ status. status ≡ Status.Memory) }
 {
     draw_by(alloc, action.profile().drawn, blocks)
@@ -51,7 +53,8 @@ pub(crate) fn draw(alloc: Global, action: Action<'_>, blocks: u64) -> Result<Vec
 #[tactic(auto, unfolding(crate::specs::Duty::clients_by))]
 pub fn choose(action: Action<'_>, scripted: Vec<Vec<Item>>, drawn: Vec<Vec<Item>>) -> Vec<Vec<Item>>
     ensures { (blocks : ℕ) → items_seen drawn.items ≡ drawn_by (action_seen action.entry) blocks →
-        items_seen result.items ≡ clients_by (action_seen action.entry) (items_seen scripted.items) blocks }
+        items_seen result.items
+        ≡ clients_by (action_seen action.entry) (items_seen scripted.items) blocks }
 {
     match action.profile().drawn {
         Some(_) => drawn,

@@ -25,7 +25,8 @@ fn memory_of(fault: AnyFault) -> Status
 pub(crate) fn layout_of(alloc: Global, conf: &Conf, rows: u32) -> Result<AnyLayout, Status>
     requires conf { IsConf conf.now }
     requires rows { AreTableRows conf.now rows }
-    ensures shape { IfOk result (λ layout. ⟦<AnyLayout as Layout>⟧.shape layout ≡ shape_of conf.now rows) }
+    ensures shape { IfOk result
+        (λ layout. ⟦<AnyLayout as Layout>⟧.shape layout ≡ shape_of conf.now rows) }
     ensures memory { IfErr result (λ status. status ≡ Status.Memory) }
 {
     designs_have_no_fault();

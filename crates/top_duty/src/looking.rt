@@ -27,7 +27,8 @@ fn fronts_of<D: Disk>(
     action: Action<'_>,
     devices: &mut [Option<D>],
 ) -> Result<Vec<Front>, AllocError>
-    ensures read { IfOk result (λ fronts. Reads D.Disk (reads_fronts (action_seen action.entry)) devices.old devices.new fronts.items) }
+    ensures read { IfOk result (λ fronts. Reads D.Disk (reads_fronts (action_seen action.entry))
+        devices.old devices.new fronts.items) }
     ensures stays { Changes D.Disk (λ _ _. ⊥) devices.old devices.new }
     ensures same { OnErr result (devices.new ≡ devices.old) }
 {
@@ -45,7 +46,8 @@ pub(crate) fn look<D: Disk>(
     action: Action<'_>,
     devices: &mut [Option<D>],
 ) -> Result<Seen, AllocError>
-    ensures read { IfOk result (λ seen. Reads D.Disk (reads_fronts (action_seen action.entry)) devices.old devices.new seen.fronts.items) }
+    ensures read { IfOk result (λ seen. Reads D.Disk (reads_fronts (action_seen action.entry))
+        devices.old devices.new seen.fronts.items) }
     ensures sizes { IfOk result (λ seen. seen.sizes.items ≡ sizes_of D.size devices.new) }
     ensures stays { Changes D.Disk (λ _ _. ⊥) devices.old devices.new }
     ensures same { OnErr result (devices.new ≡ devices.old) }

@@ -70,13 +70,16 @@ fn make(
     requires columns { length opened.now.columns.items ≡ asked.now.conf.columns }
     requires filling { count_by is_set_filling opened.now.columns.items ≤ 1 }
     requires spread { count_by is_set_spread opened.now.columns.items ≤ 1 }
-    requires dead { ForSome (needs_of (asked_seen asked.now)).excused (λ c. c < asked.now.conf.columns) }
+    requires dead { ForSome (needs_of (asked_seen asked.now)).excused
+        (λ c. c < asked.now.conf.columns) }
     requires start { ForSome start (λ s. column_of s < asked.now.conf.columns) }
     requires named { ForSome start (IsNamedBy (needs_of (asked_seen asked.now)).excused) }
     ensures made { IfOk result (λ parts. IsMade (asked_seen asked.now) (opened_seen opened.now)
         parts.layout parts.drawn.items parts.judge parts.room) }
-    ensures may { IfOk result (λ parts. MayBeDone (admitted_with (asked_seen asked.now) (opened_seen opened.now) start (views_of parts.joined.items))) }
-    ensures refused { IfErr result (RefusedAfter (admitted_with (asked_seen asked.now) (opened_seen opened.now) start [])) }
+    ensures may { IfOk result (λ parts. MayBeDone (admitted_with (asked_seen asked.now)
+        (opened_seen opened.now) start (views_of parts.joined.items))) }
+    ensures refused { IfErr result
+        (RefusedAfter (admitted_with (asked_seen asked.now) (opened_seen opened.now) start [])) }
 {
     let layout = match layout_of(alloc, &asked.conf, opened.rows) {
         Ok(layout) => layout,
@@ -151,7 +154,8 @@ fn make_ready(
     requires asked { IsWithinLimits (asked_seen asked.now) }
     requires fronts { length fronts.now ≡ asked.now.conf.columns + asked.now.conf.spares }
     ensures prepared { IfOk result (IsPrepared (asked_seen asked.now) sizes.now fronts.now) }
-    ensures refused { IfErr result (RefusedHere (duty_for kind.Array (asked_seen asked.now) sizes.now fronts.now)) }
+    ensures refused { IfErr result
+        (RefusedHere (duty_for kind.Array (asked_seen asked.now) sizes.now fronts.now)) }
     ensures kind { IfErr result (λ r. IsRefusal ⊥ r.status) }
 {
     let opened = match open(alloc, asked, sizes, fronts) {
@@ -190,8 +194,10 @@ fn make_shown(
 ) -> Result<Opened, Refusal>
     requires asked { IsWithinLimits (asked_seen asked.now) }
     requires fronts { length fronts.now ≡ asked.now.conf.columns + asked.now.conf.spares }
-    ensures opened { IfOk result (λ opened. opened_by (asked_seen asked.now) sizes.now fronts.now ≡ Ok (opened_seen opened)) }
-    ensures refused { IfErr result (RefusedHere (duty_for kind.Shown (asked_seen asked.now) sizes.now fronts.now)) }
+    ensures opened { IfOk result (λ opened. opened_by (asked_seen asked.now) sizes.now fronts.now
+        ≡ Ok (opened_seen opened)) }
+    ensures refused { IfErr result
+        (RefusedHere (duty_for kind.Shown (asked_seen asked.now) sizes.now fronts.now)) }
     ensures kind { IfErr result (λ r. IsRefusal ⊥ r.status) }
 {
     match open(alloc, asked, sizes, fronts) {
@@ -216,7 +222,8 @@ pub(crate) fn prepare(
     requires asked { IsWithinLimits (asked_seen asked.now) }
     requires fronts { length fronts.now ≡ length (names_for (asked_seen asked.now)) }
     ensures duty { IfOk result (IsDutyOver (asked_seen asked.now) sizes.now fronts.now) }
-    ensures refused { IfErr result (RefusedHere (duty_by (asked_seen asked.now) sizes.now fronts.now)) }
+    ensures refused { IfErr result
+        (RefusedHere (duty_by (asked_seen asked.now) sizes.now fronts.now)) }
     ensures kind { IfErr result (λ r. IsRefusal ⊥ r.status) }
 {
     match kind_of(asked.command.action) {

@@ -79,7 +79,9 @@ fn rebuilds_by<L: Layout>(layout: &L, columns: &[Column], start: Option<Start>) 
 // Whether more events may come, by the graphs of the file and these joined ones, than a trace that is kept has room for.
 fn is_past<L: Layout>(layout: &L, asked: &Asked<'_>, joined: &[Graph], rebuilds: u32) -> bool
     requires { IsWithinLimits (asked_seen asked.now) }
-    ensures { result ≡ is_past (L.shape layout.now) (asked_seen asked.now) (graphs_with (asked_seen asked.now) (views_of joined.now)) (asked_seen asked.now).clients rebuilds }
+    ensures { result ≡ is_past (L.shape layout.now) (asked_seen asked.now)
+        (graphs_with (asked_seen asked.now) (views_of joined.now)) (asked_seen asked.now).clients
+        rebuilds }
 {
     if !traces(asked.command.action) {
         return false;
@@ -108,7 +110,8 @@ fn short_status(rebuild: Option<Rebuilding>) -> Status
 // The graphs of the join lines of the script.
 fn join<L: Layout>(alloc: Global, layout: &L, asked: &Asked<'_>) -> Result<Vec<Graph>, Status>
     requires { IsWithinLimits (asked_seen asked.now) }
-    ensures joined { IfOk result (λ gs. ComesOver (L.shape layout.now) (asked_seen asked.now) (Ok (views_of gs.items))) }
+    ensures joined { IfOk result
+        (λ gs. ComesOver (L.shape layout.now) (asked_seen asked.now) (Ok (views_of gs.items))) }
     ensures refused { IfErr result (RefusedJoins (L.shape layout.now) (asked_seen asked.now)) }
 {
     match join_all(alloc, layout, &asked.book, &asked.clients, &asked.joins) {
@@ -130,8 +133,12 @@ fn join_unlost<L: Layout>(
     requires columns { length columns.now ≡ (L.shape layout.now).columns }
     requires few { length columns.now ≤ 32 }
     requires start { ForSome start (λ s. column_of s < length columns.now) }
-    ensures goes { IfOk result (λ gs. GoesUnlost (L.shape layout.now) (asked_seen asked.now) (other_filling (asked_seen asked.now) columns.now) (rebuilds_by (L.shape layout.now) columns.now start) start (views_of gs.items)) }
-    ensures refused { IfErr result (RefusedUnlost (L.shape layout.now) (asked_seen asked.now) (other_filling (asked_seen asked.now) columns.now) (rebuilds_by (L.shape layout.now) columns.now start) start) }
+    ensures goes { IfOk result (λ gs. GoesUnlost (L.shape layout.now) (asked_seen asked.now)
+        (other_filling (asked_seen asked.now) columns.now)
+        (rebuilds_by (L.shape layout.now) columns.now start) start (views_of gs.items)) }
+    ensures refused { IfErr result (RefusedUnlost (L.shape layout.now)
+        (asked_seen asked.now) (other_filling (asked_seen asked.now) columns.now)
+        (rebuilds_by (L.shape layout.now) columns.now start) start) }
 {
     if let Some(column) = other_filling(asked, columns) {
         return Err(Status::Rebuilding(column));
@@ -171,8 +178,14 @@ pub(crate) fn join_unless_refused<L: Layout>(
     requires spread { count_by is_set_spread columns.now ≤ 1 }
     requires dead { ForSome dead (λ c. c < length columns.now) }
     requires start { ForSome start (λ s. column_of s < length columns.now) }
-    ensures goes { IfOk result (λ gs. GoesIf (L.shape layout.now) (asked_seen asked.now) (with_killed dead (states_of (L.shape layout.now) columns.now)) (other_filling (asked_seen asked.now) columns.now) (rebuilds_by (L.shape layout.now) columns.now start) start (views_of gs.items)) }
-    ensures refused { IfErr result (RefusedIf (L.shape layout.now) (asked_seen asked.now) (with_killed dead (states_of (L.shape layout.now) columns.now)) (other_filling (asked_seen asked.now) columns.now) (rebuilds_by (L.shape layout.now) columns.now start) start) }
+    ensures goes { IfOk result (λ gs. GoesIf (L.shape layout.now) (asked_seen asked.now)
+        (with_killed dead (states_of (L.shape layout.now) columns.now))
+        (other_filling (asked_seen asked.now) columns.now)
+        (rebuilds_by (L.shape layout.now) columns.now start) start (views_of gs.items)) }
+    ensures refused { IfErr result (RefusedIf (L.shape layout.now)
+        (asked_seen asked.now) (with_killed dead (states_of (L.shape layout.now) columns.now))
+        (other_filling (asked_seen asked.now) columns.now)
+        (rebuilds_by (L.shape layout.now) columns.now start) start) }
     ensures judge { IsFor (L.shape layout.now) judge.new }
 {
     match loss_of(judge, layout, columns, dead) {

@@ -119,7 +119,8 @@ fn elsewhere(
     comp: Option<u32>,
 ) -> Option<Start>
     requires { IsConf conf.now }
-    ensures { result ≡ rebuild_elsewhere limit conf.now (opened_seen opened.now) sizes.now fronts.now comp }
+    ensures { result
+        ≡ rebuild_elsewhere limit conf.now (opened_seen opened.now) sizes.now fronts.now comp }
 {
     let column = match comp {
         Some(column) => column,
@@ -197,7 +198,8 @@ pub(crate) fn start_in(
 ) -> Option<Start>
     requires conf { IsConf asked.now.conf }
     requires columns { length opened.now.columns.items ≤ 32 }
-    ensures { result ≡ start_in (asked_seen asked.now) (opened_seen opened.now) sizes.now fronts.now }
+    ensures { result
+        ≡ start_in (asked_seen asked.now) (opened_seen opened.now) sizes.now fronts.now }
 {
     let Profile { rebuild, limit, .. } = asked.command.action.profile();
     start_with(

@@ -52,7 +52,8 @@ fn join_over<L: Layout>(
     requires some { All (λ s. 1 ≤ s.count) (spans_of patches.now) }
     requires blank { out.old.drawn ≡ blank }
     requires rooms { IsRoomy out.old }
-    ensures { IsOver (L.shape layout.now) a.now.drawn b.now.drawn (Some (spans_of patches.now)) (outcome_of result out.new.drawn) }
+    ensures { IsOver (L.shape layout.now) a.now.drawn b.now.drawn (Some (spans_of patches.now))
+        (outcome_of result out.new.drawn) }
 {
     let used = &patches.list[..patches.used as usize];
     if used.len() != 2 {
@@ -80,8 +81,10 @@ fn join_one<L: Layout>(
 ) -> Result<Graph, JoinFault>
     requires join { IsJoinOf (length book.now) join }
     requires asked { All (λ items. All MayBeAsked (map seen items.items)) clients.now }
-    ensures joined { IfOk result (λ g. IsLine (L.shape layout.now) book.now (map (λ items. map seen items.items) clients.now) graph join (Ok g.drawn)) }
-    ensures refused { IfErr result (RefusesOne join.line (IsLine (L.shape layout.now) book.now (map (λ items. map seen items.items) clients.now) graph join)) }
+    ensures joined { IfOk result (λ g. IsLine (L.shape layout.now) book.now
+        (map (λ items. map seen items.items) clients.now) graph join (Ok g.drawn)) }
+    ensures refused { IfErr result (RefusesOne join.line (IsLine (L.shape layout.now) book.now
+        (map (λ items. map seen items.items) clients.now) graph join)) }
 {
     let mut out = Graph::with_room(alloc, limits::NODES, limits::BUFFERS, limits::EDGES)?;
     let Some(patches) = patches_in(clients, graph) else {
@@ -118,8 +121,11 @@ pub fn join_all<L: Layout>(
     requires few { length joins.now ≤ 64 }
     requires joins { All (IsJoinOf (length book.now)) joins.now }
     requires asked { All (λ items. All MayBeAsked (map seen items.items)) clients.now }
-    ensures joined { IfOk result (λ gs. AreJoined (L.shape layout.now) book.now (map (λ items. map seen items.items) clients.now) (length book.now) joins.now (Ok (map (λ g. g.drawn) gs.items))) }
-    ensures refused { IfErr result (RefusesAll (AreJoined (L.shape layout.now) book.now (map (λ items. map seen items.items) clients.now) (length book.now) joins.now)) }
+    ensures joined { IfOk result (λ gs.
+        AreJoined (L.shape layout.now) book.now (map (λ items. map seen items.items) clients.now)
+        (length book.now) joins.now (Ok (map (λ g. g.drawn) gs.items))) }
+    ensures refused { IfErr result (RefusesAll (AreJoined (L.shape layout.now) book.now
+        (map (λ items. map seen items.items) clients.now) (length book.now) joins.now)) }
 {
     let mut joined = Vec::with_capacity(alloc, joins.len())?;
     for j in 0..joins.len() {

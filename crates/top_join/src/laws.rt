@@ -18,15 +18,18 @@ ghost use Rattle.top_join.specs.Lines.{LinesHaveTheirItems};
 
 /// One thing alone comes of join lines: these graphs, or this refusal.
 pub fn joining_has_one_end()
-    ensures { (y : Shape) (book : List Named) (clients : List (List Asked)) (n : ℕ) (joins : List Join) (r other : Result (List View) At)
+    ensures { (y : Shape) (book : List Named) (clients : List (List Asked)) (n : ℕ)
+        (joins : List Join) (r other : Result (List View) At)
         → AreJoined y book clients n joins r → AreJoined y book clients n joins other → r ≡ other }
 {}
 
 /// There is a joined graph for each line, and it has no more buffers than the pool.
 pub fn joined_graphs_fit_the_pool()
-    ensures count { (y : Shape) (book : List Named) (clients : List (List Asked)) (n : ℕ) (joins : List Join) (views : List View)
+    ensures count { (y : Shape) (book : List Named) (clients : List (List Asked)) (n : ℕ)
+        (joins : List Join) (views : List View)
         → AreJoined y book clients n joins (Ok views) → length views ≡ length joins }
-    ensures small { (y : Shape) (book : List Named) (clients : List (List Asked)) (n : ℕ) (joins : List Join) (views : List View)
+    ensures small { (y : Shape) (book : List Named) (clients : List (List Asked)) (n : ℕ)
+        (joins : List Join) (views : List View)
         → AreJoined y book clients n joins (Ok views) → All IsSmall views }
 {}
 

@@ -11,7 +11,8 @@ use eng_world::Item;
 // The patches of a write that names a graph, if it is the one of this number.
 fn patches_if(patches: &Patches, named: Option<u32>, graph: u32) -> Option<Patches>
     requires { MayBeAsked (seen_op (Op.Writes patches.now) named) }
-    ensures spans { option_map spans_of result ≡ spans_by graph (seen_op (Op.Writes patches.now) named) }
+    ensures spans { option_map spans_of result
+        ≡ spans_by graph (seen_op (Op.Writes patches.now) named) }
     ensures sound { IfSome result AreSound }
     ensures some { IfSome result (λ p. All (λ s. 1 ≤ s.count) (spans_of p)) }
 {
@@ -54,7 +55,8 @@ fn patches_in_row(items: &[Item], graph: u32) -> Option<Patches>
 /// What the first item writes that does it by the graph of this number, if there is one.
 pub(crate) fn patches_in(clients: &[Vec<Item>], graph: u32) -> Option<Patches>
     requires { All (λ items. All MayBeAsked (map seen items.items)) clients.now }
-    ensures spans { option_map spans_of result ≡ spans_in graph (map (λ items. map seen items.items) clients.now) }
+    ensures spans { option_map spans_of result
+        ≡ spans_in graph (map (λ items. map seen items.items) clients.now) }
     ensures sound { IfSome result AreSound }
     ensures some { IfSome result (λ p. All (λ s. 1 ≤ s.count) (spans_of p)) }
 {

@@ -26,7 +26,8 @@ pub(crate) fn ended<L: Layout + Drop, D: Disk + Drop>(
     requires closed { MayClose L.Layout D.Disk closed label }
     requires judge { IsFor (L.shape closed.layout) judge }
     requires within { IsColumnWithin asked (length closed.columns.items) }
-    ensures { HasEnded L.Layout D.Disk closed label asked device (service_seen result.0) result.1.items }
+    ensures { HasEnded L.Layout D.Disk closed label asked device (service_seen result.0)
+        result.1.items }
 {
     let Closed {
         layout,

@@ -16,7 +16,8 @@ use blk_disk::Disk;
 /// blocks of the opening.
 pub fn a_sweep_comes_client_after_client<D: Disk>()
     ensures opening { (a : Work) (newest : Label) (taken back : List (Option D)) (s : Service)
-        (faulty : Bool) (r : RanLabelled D.Disk a newest taken s back faulty) (count ops wide blocks : ℕ)
+        (faulty : Bool) (r : RanLabelled D.Disk a newest taken s back faulty)
+        (count ops wide blocks : ℕ)
         → a.start ≡ None → AreApart count ops wide blocks a.clients → blocks ≤ blocks_in a.layout
         → s.ending.lost ≡ None
         → SweptInTurn D.Disk (opened_as a (without a.start r.begun) r.began)

@@ -89,8 +89,10 @@ pub(crate) fn opened<L: Layout, D: Disk, P: Progress>(
     requires counter { label.old.counter + 67 < 2 ^ 32 }
     requires room { 1024 * (L.shape layout.now).unit_sectors ≤ room.old }
     requires judge { IsFor (L.shape layout.now) judge.old }
-    ensures opened { HasOpened D.Disk (L.shape layout.now) asked.start asked.failed label.old label.new
-        ending.old.columns.items ending.new.columns.items devices.old devices.new ending.new.lost result }
+    ensures opened { HasOpened D.Disk (L.shape layout.now) asked.start asked.failed label.old
+        label.new
+        ending.old.columns.items ending.new.columns.items devices.old devices.new ending.new.lost
+        result }
     ensures can { CanAct D.Disk (L.shape layout.now) ending.new.columns.items devices.new }
     ensures held { IsLabelFor ending.new.columns.items label.new }
     ensures judge { IsFor (L.shape layout.now) judge.new }

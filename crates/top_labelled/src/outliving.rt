@@ -12,7 +12,8 @@ use blk_disk::Disk;
 /// columns be dead of which an item asks that they fail, that are rebuilt, or whose device's count of
 /// faults rose.
 pub fn what_is_outlived_is_not_lost<D: Disk>()
-    ensures ran { (a : Work) (newest : Label) (taken back : List (Option D)) (s : Service) (faulty : Bool)
+    ensures ran { (a : Work) (newest : Label) (taken back : List (Option D)) (s : Service)
+        (faulty : Bool)
         → RanLabelled D.Disk a newest taken s back faulty → OutlivesCall D.Disk a taken back
         → s.ending.lost ≡ None }
     ensures begun { (a : Work) (newest : Label) (taken back : List (Option D)) (e : Ending)
@@ -24,7 +25,8 @@ pub fn what_is_outlived_is_not_lost<D: Disk>()
 /// begun.
 pub fn what_is_not_lost_is_answered<D: Disk>()
     ensures { (a : Work) (newest : Label) (taken back : List (Option D)) (s : Service)
-        (faulty : Bool) (ran : RanLabelled D.Disk a newest taken s back faulty) → s.ending.lost ≡ None
+        (faulty : Bool) (ran : RanLabelled D.Disk a newest taken s back faulty)
+        → s.ending.lost ≡ None
         → AllAnswered D.Disk (opened_as a (without a.start ran.begun) ran.began)
         ran.opened back s ran.run }
 {}

@@ -55,7 +55,8 @@ fn spare_state(
     device: u32,
 ) -> &'static [u8]
     requires { unit ≤ 128 }
-    ensures text { result.now ≡ spare_state unit (opened_seen opened.now) sizes.now fronts.now device }
+    ensures text { result.now
+        ≡ spare_state unit (opened_seen opened.now) sizes.now fronts.now device }
     ensures short { length result.now ≤ 6 }
 {
     if is_used(&opened.seats, device) {

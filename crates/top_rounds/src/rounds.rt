@@ -93,7 +93,8 @@ fn rounds_of_kept<L: Layout, D: Disk>(
     requires columns { IsSettable (L.shape layout.now) columns.old }
     requires judge { IsFor (L.shape layout.now) judge.old }
     ensures label { label.new
-        ≡ with_round label.old label.new.counter (clean_in_end result label.old.clean) (seating_in label.new) }
+        ≡ with_round label.old label.new.counter (clean_in_end result label.old.clean)
+        (seating_in label.new) }
     ensures held { IsLabelFor columns.new label.new }
     ensures rounds { HaveRounds D.Disk result label.old label.new
         columns.old columns.new devices.old devices.new }

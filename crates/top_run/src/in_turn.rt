@@ -26,12 +26,14 @@ pub fn a_sweep_comes_client_after_client<D: Disk>()
         (r : RanPlain D.Disk a taken s back) (count ops wide blocks : ℕ)
         → AreApart count ops wide blocks a.clients → blocks ≤ blocks_in a.layout
         → s.ending.lost ≡ None
-        → SweptInTurn D.Disk a taken s back (decode a.layout (contents_of D.Disk taken) (states_in a)) }
+        → SweptInTurn D.Disk a taken s back
+        (decode a.layout (contents_of D.Disk taken) (states_in a)) }
 
     // Clients that are drawn from a number over the blocks of the array are such clients.
     ensures seeds { (a : Work) (taken back : List (Option D)) (s : Service)
         (r : RanPlain D.Disk a taken s back) (seed clients ops : ℕ)
         → 0 < clients → 0 < blocks_in a.layout
         → a.clients ≡ drawn seed clients ops (blocks_in a.layout) → s.ending.lost ≡ None
-        → SweptInTurn D.Disk a taken s back (decode a.layout (contents_of D.Disk taken) (states_in a)) }
+        → SweptInTurn D.Disk a taken s back
+        (decode a.layout (contents_of D.Disk taken) (states_in a)) }
 {}

@@ -9,7 +9,8 @@ use blk_disk::Disk;
 /// A run isn't lost where the array isn't, whichever columns be dead of which an item asks that they fail, or whose
 /// device's count of faults rose, or which is rebuilt.
 pub fn what_is_outlived_is_not_lost<D: Disk>()
-    ensures { (a : Work) (taken back : List (Option D)) (s : Service) → RanPlain D.Disk a taken s back
+    ensures { (a : Work) (taken back : List (Option D)) (s : Service)
+        → RanPlain D.Disk a taken s back
         → OutlivesCall D.Disk a taken back → s.ending.lost ≡ None }
 {}
 
@@ -18,6 +19,7 @@ pub fn what_is_outlived_is_not_lost<D: Disk>()
 /// undone by a device whose count of faults rose or whose column an item failed. An item that asks that a column fail is
 /// replied ok, and the column is dead in the end.
 pub fn what_is_not_lost_is_answered<D: Disk>()
-    ensures { (a : Work) (taken back : List (Option D)) (s : Service) → (ran : RanPlain D.Disk a taken s back)
+    ensures { (a : Work) (taken back : List (Option D)) (s : Service)
+        → (ran : RanPlain D.Disk a taken s back)
         → s.ending.lost ≡ None → AllAnswered D.Disk a taken back s ran.run }
 {}

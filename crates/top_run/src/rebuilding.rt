@@ -11,7 +11,8 @@ use blk_disk::Disk;
 /// Where a rebuild is done each of the column's stripes was rebuilt. Then, where all other units are available, every
 /// unit is; so in an array with a check unit the failure of any one more column loses nothing.
 pub fn what_is_rebuilt_stands<D: Disk>()
-    ensures { (a : Work) (taken back : List (Option D)) (s : Service) (ran : Ran D.Disk a taken s back)
+    ensures { (a : Work) (taken back : List (Option D)) (s : Service)
+        (ran : Ran D.Disk a taken s back)
         (how : Rebuild) → IsLayout a.layout → SparesLieByUnits a.layout
         → RebuildIsDone D.Disk a taken back s ran how → IsWorth D.Disk a taken back s ran how }
 {}

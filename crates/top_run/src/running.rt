@@ -52,8 +52,10 @@ pub fn run_clients<
     requires few { IsFew setup }
     requires trace { FitsTrace L.Layout setup }
     ensures kept { IfOk result (λ r. IsNotLost L.Layout setup) }
-    ensures ran { IfOk result (λ r. RanPlain D.Disk (work_of L.Layout setup None) setup.devices.items (service_seen r.0) r.1.items) }
-    ensures stands { IfOk result (λ r. StandFor r.0.clients.items r.0.replies.items r.0.sectors.items) }
+    ensures ran { IfOk result (λ r. RanPlain D.Disk (work_of L.Layout setup None)
+        setup.devices.items (service_seen r.0) r.1.items) }
+    ensures stands { IfOk result
+        (λ r. StandFor r.0.clients.items r.0.replies.items r.0.sectors.items) }
     ensures many { IfOk result (λ r. length r.1.items ≡ length setup.devices.items) }
     ensures fault { IfErr result (λ refused. IsServeRefusal L.Layout setup refused.fault) }
     ensures back { IfErr result (λ refused. refused.setup ≡ setup) }

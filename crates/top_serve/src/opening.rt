@@ -52,7 +52,9 @@ pub(crate) fn opened_in<L: Layout + Drop, D: Disk + Drop>(
     ensures steady { IfOk result (λ core. IsSteady L.Layout D.Disk core.array) }
     ensures home { IfOk result (λ core. NoneOut core.array.clients) }
     ensures long { IfOk result (λ core. SectorsAreLong D.Disk) }
-    ensures rebuilds { IfOk result (λ core. (cols : List ColumnState) (column asked : ℕ) → FitsRebuilding L.Layout setup cols column asked → FitsRebuild L.Layout core.array cols column asked) }
+    ensures rebuilds { IfOk result (λ core. (cols : List ColumnState) (column asked : ℕ)
+        → FitsRebuilding L.Layout setup cols column asked
+        → FitsRebuild L.Layout core.array cols column asked) }
     ensures loss { IfErr result (λ e. IsLostBy L.Layout setup e.0) }
     ensures back { IfErr result (λ e. e.1 ≡ setup) }
 {

@@ -120,7 +120,8 @@ fn served<
     requires steady { IsSteady L.Layout D.Disk core.array }
     requires home { NoneOut core.array.clients }
     requires can { CanBegin L.Layout D.Disk core.array start }
-    ensures { (setup : Setup L D) → IsSetup L.Layout D.Disk setup → MayStart L.Layout D.Disk setup start
+    ensures { (setup : Setup L D) → IsSetup L.Layout D.Disk setup
+        → MayStart L.Layout D.Disk setup start
         → IsOpened L.Layout D.Disk setup core.array → OpensWorlds L.Layout D.Disk core.array
         → SectorsAreLong D.Disk → IsServed L.Layout D.Disk setup start result }
 {

@@ -55,7 +55,8 @@ pub(crate) struct Workload {
 // The sectors of the disk, which the first line says.
 #[tactic(auto, unfolding(crate::specs::Format::disk_line, text_steps::specs::Steps::rest_of))]
 fn read_disk(lines: &mut Lines) -> Result<u32, At>
-    ensures value { Gives (λ sectors. (sectors, left lines.new)) result (disk_line (rest_of lines.old)) }
+    ensures value { Gives (λ sectors. (sectors, left lines.new)) result
+        (disk_line (rest_of lines.old)) }
     ensures most { IfOk result (λ sectors. sectors ≤ 262144) }
 {
     let mut line = next_line(lines, WORD)?;

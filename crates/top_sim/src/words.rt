@@ -51,7 +51,8 @@ pub(crate) fn disk_in(words: &mut Words) -> Result<u32, u8>
 // TICK, which isn't below that of the line before.
 #[tactic(auto, unfolding(crate::specs::Format::next_tick))]
 fn next_tick(low: u64, words: &mut Words) -> Result<u64, u8>
-    ensures value { Gives (λ tick. (tick, words_left words.new)) result (next_tick low (words_left words.old)) }
+    ensures value { Gives (λ tick. (tick, words_left words.new)) result
+        (next_tick low (words_left words.old)) }
     ensures order { IfOk result (λ tick. low ≤ tick) }
     ensures soon { IfOk result (λ tick. tick < 2 ^ 32) }
 {

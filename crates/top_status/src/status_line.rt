@@ -54,7 +54,8 @@ fn put_name<K: Sink>(front: &[u8], name: &str, out: &mut K) -> Result<(), Failed
 /// A line with a name, which may be long, is put in three calls, each other one in one. It takes no
 /// memory. Failed, only where the sink's count of faults rose, has put a front of the text.
 pub fn put_status<K: Sink>(status: &Status, out: &mut K) -> Result<(), Failed>
-    ensures output { K.tells → Puts (is_ok result) (K.output out.old) (status_text status.now) (K.output out.new) }
+    ensures output { K.tells
+        → Puts (is_ok result) (K.output out.old) (status_text status.now) (K.output out.new) }
     ensures later { K.faults out.old ≤ K.faults out.new }
     ensures cause { OnErr result (Rose (K.faults out.old) (K.faults out.new)) }
 {

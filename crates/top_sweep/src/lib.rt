@@ -36,7 +36,8 @@ pub fn reads_see_their_client()
 
 /// So two histories of the same clients leave the same blocks.
 pub fn every_order_leaves_the_same_blocks()
-    ensures { (w z : World) (start : Blocks) (own : ℕ → List Op) (owner : ℕ → ℕ) (ops others : List Op)
+    ensures { (w z : World) (start : Blocks) (own : ℕ → List Op) (owner : ℕ → ℕ)
+        (ops others : List Op)
         → IsApart w own owner → IsLegal w → AreOps w w.history ops
         → IsApart z own owner → IsLegal z → AreOps z z.history others
         → (b k : ℕ) → replay start ops b k ≡ replay start others b k }
@@ -46,7 +47,8 @@ pub fn every_order_leaves_the_same_blocks()
 /// operations, client after client, leave the same blocks; and each read hands out what those before
 /// it make.
 pub fn clients_may_come_one_after_another()
-    ensures leaves { (w : World) (start : Blocks) (own : ℕ → List Op) (owner : ℕ → ℕ) (ops : List Op) (n : ℕ)
+    ensures leaves { (w : World) (start : Blocks) (own : ℕ → List Op) (owner : ℕ → ℕ)
+        (ops : List Op) (n : ℕ)
         → IsApart w own owner → IsLegal w → AreOps w w.history ops → ((c : ℕ) → n ≤ c → own c ≡ [])
         → (b k : ℕ) → replay start ops b k ≡ replay start (in_turn own n) b k }
     ensures reads { (w : World) (start : Blocks) (own : ℕ → List Op) (owner : ℕ → ℕ) (n : ℕ)
@@ -55,7 +57,8 @@ pub fn clients_may_come_one_after_another()
         → ReplyOf w id Data → IsReadAt w id span at ops → id.client < n
         → (j k : ℕ) → j < span.count → k < 512
         → (w.clients id.client).handed id.index j k
-        ≡ replay start (take (length (in_turn own id.client) + id.index) (in_turn own n)) (span.first + j) k }
+        ≡ replay start (take (length (in_turn own id.client) + id.index) (in_turn own n))
+        (span.first + j) k }
 {}
 
 /// The spans that are drawn for a client lie in its share of the blocks: `wide` blocks from `client * wide` on.

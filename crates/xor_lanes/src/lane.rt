@@ -11,7 +11,8 @@ pub(crate) const LANE: usize = 32;
 pub(crate) fn xor_lane(to: &mut [u8], from: &[u8], at: usize)
     requires to_in { at + LANE ≤ length to.old }
     requires from_in { at + LANE ≤ length from.now }
-    ensures { to.new ≡ put_chunk at to.old (zip2 bit_xor (chunk at LANE to.old) (chunk at LANE from.now)) }
+    ensures { to.new
+        ≡ put_chunk at to.old (zip2 bit_xor (chunk at LANE to.old) (chunk at LANE from.now)) }
 {
     let sum = u8x32::from_slice(&to[at..]) ^ u8x32::from_slice(&from[at..]);
     sum.copy_to_slice(&mut to[at..]);

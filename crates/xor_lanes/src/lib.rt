@@ -19,7 +19,8 @@ pub fn xor_into(to: &mut [u8], from: &[u8])
     requires { length from.now ≡ length to.old }
 
     // Past its end a slice reads as 0 here.
-    ensures bytes { (k : ℕ) → slice_index to.new k ≡ bit_xor (slice_index to.old k) (slice_index from.now k) }
+    ensures bytes { (k : ℕ)
+        → slice_index to.new k ≡ bit_xor (slice_index to.old k) (slice_index from.now k) }
     ensures length { length to.new ≡ length to.old }
 {
     let summed = xor_lanes(to, from);

@@ -85,7 +85,10 @@ pub fn paused(
     let Ok(layout) = Raid5::new(2, 1, 64) else {
         return Err(Fail::from("no layout"));
     };
-    let columns = vec![in alloc; Column::Live { device: 0 }, Column::Filling { device: 1, done }]?;
+    let columns = vec![in alloc;
+        Column::Live { device: 0 },
+        Column::Filling { device: 1, done },
+    ]?;
     let _judge = judged(alloc, &layout, &columns)?;
     let devices = pair(alloc, first, second)?;
     Ok(Setup {

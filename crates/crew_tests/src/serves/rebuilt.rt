@@ -70,12 +70,7 @@ fn resumed<R: Threads + Wait + Sync>(
 }
 
 // All was served, so many stripes were rebuilt, and the second column is this.
-fn comes_to(
-    rt: &impl Abort,
-    closed: &Closed<Raid5, MemDisk>,
-    rebuilds: u32,
-    second: Column,
-) {
+fn comes_to(rt: &impl Abort, closed: &Closed<Raid5, MemDisk>, rebuilds: u32, second: Column) {
     all_replied(rt, closed);
     same(rt, closed.history.len(), 4 + rebuilds as usize);
     same(rt, closed.rebuilt, rebuilds);

@@ -146,8 +146,10 @@ fn are_slim(graphs: &[Graph]) -> bool
 // Whether a core may be opened over the setup.
 pub(super) fn is_setup<L: Layout, D: Disk>(setup: &Setup<L, D>) -> bool
     ensures setup { IsTrue result → IsSetup L.Layout D.Disk setup.now }
-    ensures scripts { IsTrue result → AreScripts (L.shape setup.now.layout) (length setup.now.graphs.items) setup.now.clients.items }
-    ensures own { IsTrue result → AreOwn D.Disk setup.now.devices.items (needed (L.shape setup.now.layout)) setup.now.columns.items }
+    ensures scripts { IsTrue result → AreScripts (L.shape setup.now.layout)
+        (length setup.now.graphs.items) setup.now.clients.items }
+    ensures own { IsTrue result → AreOwn D.Disk setup.now.devices.items
+        (needed (L.shape setup.now.layout)) setup.now.columns.items }
 {
     let layout = &setup.layout;
     let need = 64 + u64::from(layout.rows()) * u64::from(layout.unit_sectors());
@@ -171,8 +173,11 @@ pub(super) fn opened<L: Layout + Drop, D: Disk + Drop>(
     requires trace { FitsTrace L.Layout setup }
     ensures steady { IfOk result (λ core. IsSteady L.Layout D.Disk core.array) }
     ensures opened { IfOk result (λ core. IsOpened L.Layout D.Disk setup core.array) }
-    ensures room { IfOk result (λ core. (cols : List ColumnState) (column asked : ℕ) → FitsRebuilding L.Layout setup cols column asked → FitsRebuild L.Layout core.array cols column asked) }
-    ensures own { IfOk result (λ core. AreOwn D.Disk setup.devices.items (needed (L.shape setup.layout)) setup.columns.items) }
+    ensures room { IfOk result (λ core. (cols : List ColumnState) (column asked : ℕ)
+        → FitsRebuilding L.Layout setup cols column asked
+        → FitsRebuild L.Layout core.array cols column asked) }
+    ensures own { IfOk result (λ core.
+        AreOwn D.Disk setup.devices.items (needed (L.shape setup.layout)) setup.columns.items) }
 {
     if !is_setup(&setup) || setup.devices.len() > 64 {
         return Err(Fail::from("no setup"));

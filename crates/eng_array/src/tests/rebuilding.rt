@@ -56,7 +56,8 @@ pub(super) fn spreading<L: Layout + Drop, D: Disk + Drop>(
     column: u32,
 ) -> Result<Core<L, D>, Fail>
     requires untraced { setup.trace ≡ false }
-    requires spares { (s : ℕ) → s < (L.shape setup.layout).stripes → IsSome ((L.shape setup.layout).spare s) }
+    requires spares { (s : ℕ) → s < (L.shape setup.layout).stripes
+        → IsSome ((L.shape setup.layout).spare s) }
     ensures { IfOk result (λ core. IsSteady L.Layout D.Disk core.array) }
 {
     if !is_dead(&setup.columns, column) {

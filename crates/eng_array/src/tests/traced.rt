@@ -23,7 +23,8 @@ fn traced(
     items: Vec<Item>,
 ) -> Result<Setup<Raid5, MemDisk>, Fail>
     requires few { length fails.now ≤ 5 }
-    requires short { (n : ℕ) → row_events (⟦<Raid5 as Layout>⟧.shape layout) [] n items.items ≤ 72 + n * 70 }
+    requires short { (n : ℕ)
+        → row_events (⟦<Raid5 as Layout>⟧.shape layout) [] n items.items ≤ 72 + n * 70 }
     ensures { IfOk result (FitsTrace ⟦<Raid5 as Layout>⟧) }
 {
     Ok(Setup {

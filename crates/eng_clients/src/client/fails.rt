@@ -18,7 +18,8 @@ impl Client {
 
     /// Whether it runs an operation whose commit hasn't ended, and which isn't rolled back.
     pub fn is_before(&self) -> bool
-        ensures { IsTrue result ↔ ((self.now.stage ≡ Stage.Runs) × (self.now.run.phase ≡ Phase.Before)) }
+        ensures { IsTrue result ↔
+            ((self.now.stage ≡ Stage.Runs) × (self.now.run.phase ≡ Phase.Before)) }
     {
         match self.stage {
             Stage::Runs => self.run.phase() == Phase::Before,

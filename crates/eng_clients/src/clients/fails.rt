@@ -20,7 +20,8 @@ impl Clients {
     /// Whether the client runs an operation whose commit hasn't ended, and which isn't rolled back.
     pub fn is_before(&self, client: u32) -> bool
         requires { client < length self.now }
-        ensures { IsTrue result ↔ (((desk_at self.now client).stage ≡ Stage.Runs) × ((desk_at self.now client).run.phase ≡ Phase.Before)) }
+        ensures { IsTrue result ↔ (((desk_at self.now client).stage ≡ Stage.Runs)
+            × ((desk_at self.now client).run.phase ≡ Phase.Before)) }
     {
         self.list[client as usize].is_before()
     }
@@ -48,7 +49,8 @@ impl Clients {
         requires client { client < length self.old }
         requires before { (desk_at self.old client).run.phase ≡ Phase.Before }
         requires read { HasReadLeft (desk_at self.old client).run }
-        ensures { self.new ≡ slice_set self.old client (with_abandoned (desk_at self.old client) device) }
+        ensures { self.new
+            ≡ slice_set self.old client (with_abandoned (desk_at self.old client) device) }
     {
         self.list[client as usize].abandon(device);
     }
@@ -56,7 +58,8 @@ impl Clients {
     /// The item that the client serves now or next.
     pub fn next_item(&self, client: u32) -> &Item
         requires client { client < length self.now }
-        requires left { length (desk_at self.now client).replies < length (desk_at self.now client).items }
+        requires left { length (desk_at self.now client).replies
+            < length (desk_at self.now client).items }
         ensures { item_at (desk_at self.now client) ≡ Some result.now }
     {
         self.list[client as usize].next_item()

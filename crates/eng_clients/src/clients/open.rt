@@ -35,7 +35,8 @@ impl Clients {
     pub fn open(alloc: Global, clients: &[Vec<Item>]) -> Result<Clients, Memory>
         requires { (c : ℕ) → length (items_at clients.now c) ≤ 65536 }
         ensures count { IfOk result (λ opened. length opened ≡ 17) }
-        ensures each { IfOk result (λ opened. (c : ℕ) → c < 17 → desk_at opened c ≡ new_desk (items_at clients.now c)) }
+        ensures each { IfOk result
+            (λ opened. (c : ℕ) → c < 17 → desk_at opened c ≡ new_desk (items_at clients.now c)) }
     {
         let mut list = Vec::with_capacity(alloc, CLIENTS as usize)?;
         let mut busy = 0;

@@ -44,7 +44,8 @@ impl Regions {
     fn open(alloc: Global, items: &[Item], first: u32) -> Result<(Regions, u32), Memory>
         requires { first + below (sectors_at items.now) (length items.now) ≤ 262144 }
         ensures row { IfOk result (λ r. IsRow items.now first (length items.now) r.0) }
-        ensures next { IfOk result (λ r. r.1 ≡ first + below (sectors_at items.now) (length items.now)) }
+        ensures next { IfOk result
+            (λ r. r.1 ≡ first + below (sectors_at items.now) (length items.now)) }
     {
         let mut list = Vec::with_capacity(alloc, items.len())?;
         let mut next = first;

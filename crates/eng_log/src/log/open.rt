@@ -17,7 +17,15 @@ impl Log {
         history_room: u32,
         trace_room: u32,
     ) -> Result<Log, Memory>
-        ensures { IfOk result (λ log. log ≡ record { history = []; trace = []; keeps = keeps; rebuilt = 0; handed = handed; history_room = history_room; trace_room = trace_room }) }
+        ensures { IfOk result (λ log. log ≡ record {
+          history = [];
+          trace = [];
+          keeps = keeps;
+          rebuilt = 0;
+          handed = handed;
+          history_room = history_room;
+          trace_room = trace_room;
+        }) }
     {
         Ok(Log {
             history: Vec::with_capacity(alloc, history_room as usize)?,

@@ -66,7 +66,8 @@ impl<D: Drop> DeviceRoom<D> {
     /// These devices, all at home, of which none has failed.
     pub fn bring(self, devices: Vec<Option<D>>) -> Devices<D>
         requires { vec_len devices ≤ self }
-        ensures { result ≡ record { slots = map brought devices.items; failed = replicate (length devices.items) false } }
+        ensures { result ≡ record
+            { slots = map brought devices.items; failed = replicate (length devices.items) false } }
     {
         let DeviceRoom {
             mut slots,

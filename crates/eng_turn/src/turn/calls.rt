@@ -207,8 +207,10 @@ impl<R: TurnRule> Turn<R> {
         requires outside { IsOutside pass }
         ensures some { OnSome result (share_of pass ≡ SHARES) }
         ensures none { IfNone result (share_of pass < SHARES) }
-        ensures fits { IfSome result (λ value. R.fits (opening_of self) value (ticket_of pass ∷ [])) }
-        ensures after { IfSome result (λ value. ForSome (mark_of pass) (λ mark. R.after mark value)) }
+        ensures fits { IfSome result
+            (λ value. R.fits (opening_of self) value (ticket_of pass ∷ [])) }
+        ensures after { IfSome result
+            (λ value. ForSome (mark_of pass) (λ mark. R.after mark value)) }
     {
         let Pass { seat } = pass;
         let mut closed = self.table.close_with(seat);

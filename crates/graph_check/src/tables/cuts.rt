@@ -42,7 +42,8 @@ fn note_parts(task: &Task, cuts: &mut [bool])
     requires { length cuts.old ≡ 2048 }
     ensures { (s o : ℕ) → s < 16 → o < 128
         → slice_index_or cuts.new (cut_place s o) false
-        ≡ (list_any (part_cuts s o) task.now.parts || slice_index_or cuts.old (cut_place s o) false) }
+        ≡ (list_any (part_cuts s o) task.now.parts
+        || slice_index_or cuts.old (cut_place s o) false) }
 {
     for part in task.parts() {
         note_ends(part.stripe, part.from, part.count, cuts);
