@@ -16,6 +16,8 @@ mod join_lines;
 mod joined;
 mod letters;
 mod levels;
+mod ordered;
+mod parts;
 mod progress;
 mod rebuilds;
 mod refused;

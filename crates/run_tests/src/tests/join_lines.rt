@@ -11,7 +11,7 @@ const LONG: [(&str, u32, u16); 3] = [("odd", 0, 1023), ("long", 0, 1024), ("high
 const COUNTED: [(&str, u32, u16); 2] = [("even", 0, 1022), ("rest", 0, 978)];
 
 // A graph of a commit, so many sums of nothing into one buffer, and a terminator, each behind the one before.
-fn push_chain(
+pub(super) fn push_chain(
     alloc: Global,
     text: &mut String,
     name: &str,

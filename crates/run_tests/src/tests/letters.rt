@@ -273,7 +273,7 @@ fn labels_of_version_1_are_read(rt: HostRuntime) -> Result<(), Fail> {
 
 // A letter, what it prints, and the label of d0 then. The labels of before are of version 1, with counter 3. One that is only
 // read is written by no letter that looks, tests or is refused.
-const MIGRATED: [(&str, &str, u8, &str); 10] = [
+const MIGRATED: [(&str, &str, u8, &str); 11] = [
     (
         "r5 -s",
         "column 0 d0 optimal\ncolumn 1 d1 optimal\ncolumn 2 d2 optimal\nspare 0 s0 free\nparity clean\nstatus ok\n",
@@ -333,6 +333,12 @@ const MIGRATED: [(&str, &str, u8, &str); 10] = [
         "reconstruct column 1 device 1 done 64\nstatus ok\n",
         0,
         "label 2 7 5 0 3 1 64 53 1\nstatus ok\n",
+    ),
+    (
+        "r5 -I 9",
+        "labels written 3\nstatus ok\n",
+        0,
+        "label 2 9 1 0 3 1 64 53 0\nstatus ok\n",
     ),
 ];
 

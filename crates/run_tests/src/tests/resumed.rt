@@ -7,9 +7,9 @@ use crate::judging::{holds, same};
 // of which it is dead.
 pub(super) const LABELLED: Step = Step::Run("r5 -I 7", 0, "labels written 3\nstatus ok\n");
 
-const INITIALISED: Step = Step::Run("r5 -i", 0, "parity initialised 64\nstatus ok\n");
+pub(super) const INITIALISED: Step = Step::Run("r5 -i", 0, "parity initialised 64\nstatus ok\n");
 
-const PAUSED: Step = Step::Run(
+pub(super) const PAUSED: Step = Step::Run(
     "r5 -F d1 --limit 20 -w 0",
     0,
     "reconstruct column 1 device 3 paused 20\nstatus ok\n",
