@@ -3,6 +3,7 @@ ghost use Rattle.std.specs.Prelude.{ℕ, ◌≡◌, ◌≤◌, ◌*◌, ◌+◌,
 ghost use Rattle.blk_plain.specs.declared.op.Op.TheVariants as op;
 ghost use Rattle.blk_plain.specs.Plain.{spans_of, used_of};
 ghost use Rattle.eng_log.specs.Laid.{item_sectors};
+ghost use Rattle.eng_cols.specs.Cols.{ColumnState};
 ghost use Rattle.eng_world.specs.Step.{MayBeAsked};
 ghost use Rattle.eng_plan.specs.Asked.{HasBlocks};
 ghost use Rattle.eng_state.specs.Beginning.{IsAsked};

@@ -87,7 +87,7 @@ fn a_dead_column_is_rebuilt_onto_a_device(rt: HostRuntime) -> Result<(), Fail> {
     are(
         &rt,
         &closed,
-        Column::Filling { device: 4 },
+        Column::Filling { device: 4, done: 3 },
         Column::Live { device: 1 },
     );
     rebuilt(&rt, &closed, 3);

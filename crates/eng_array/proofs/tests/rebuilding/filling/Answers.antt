@@ -20,4 +20,4 @@ fill-requires-clause-can g c =
     can-fill g.L.Layout g.D.Disk setup c.in-Ok.core.array c.in-Ok.ensures.opened c.in-Ok.ensures.own c.args.column dead c.args.device behind there
 
 pub fill-requires-clause-room : goal.fill-requires-clause-room
-fill-requires-clause-room g c = c.in-Ok.ensures.room c.args.column (λ kept. absurd (let h : true ≡ false = sym kept ∙ c.requires in cc))
+fill-requires-clause-room g c = c.in-Ok.ensures.room _ c.args.column _ (λ kept. absurd (let h : true ≡ false = sym kept ∙ c.requires in cc))

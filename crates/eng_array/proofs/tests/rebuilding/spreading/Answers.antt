@@ -11,4 +11,4 @@ spread-requires-clause-can g c =
     can-spread g.L.Layout g.D.Disk c.args.setup c.in-Ok.core.array c.in-Ok.ensures.opened c.in-Ok.ensures.own c.args.column dead c.requires.spares
 
 pub spread-requires-clause-room : goal.spread-requires-clause-room
-spread-requires-clause-room g c = c.in-Ok.ensures.room c.args.column (λ kept. absurd (let h : true ≡ false = sym kept ∙ c.requires.untraced in cc))
+spread-requires-clause-room g c = c.in-Ok.ensures.room _ c.args.column _ (λ kept. absurd (let h : true ≡ false = sym kept ∙ c.requires.untraced in cc))
