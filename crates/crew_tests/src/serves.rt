@@ -15,7 +15,6 @@ use std::test::Fail;
 use top_serve::{ServeFault, serve};
 
 mod ready;
-mod rebuilt;
 
 use ready::{lost, ready};
 
