@@ -15,6 +15,7 @@ use std::test::Fail;
 use top_serve::{ServeFault, serve};
 
 mod ready;
+mod rebuilt;
 
 use ready::{lost, ready};
 
