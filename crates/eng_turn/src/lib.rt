@@ -9,10 +9,12 @@
 //! it back in another turn: in between, the rule knows of it by the pass's ticket.
 #![tactic(auto)]
 
+mod laws;
 mod rule;
 mod table_rule;
 mod turn;
 mod view;
 
+pub use laws::the_word_tells_where_the_value_is;
 pub use rule::TurnRule;
 pub use turn::{Memory, Pass, SHARES, Turn};
