@@ -1,15 +1,11 @@
 -- How far a rebuild of a device came: by as many of the column's stripes as it asked for.
-use Rattle.std.proofs.Common.{◌≡◌, ◌⊎◌, ◌<◌, ◌≤◌, ◌+◌, ◌++◌, inl, inr, ℕ, zero, suc, List, [], ◌∷◌, length, Bool, true, false, Option, Some, None, slice_get, slice_set, refl, sym, ap, ap₂, ◌∙◌, subst, arith}
-use Rattle.std.specs.Prelude.{Contains, ◌&&◌, ◌||◌, not, if◌then◌else◌, ◌==◌}
+use Rattle.std.proofs.Common.{◌≡◌, ◌⊎◌, ◌<◌, ◌≤◌, ◌+◌, ◌++◌, inl, inr, ℕ, zero, suc, List, [], ◌∷◌, length, Bool, true, false, Some, None, slice_get, slice_set, refl, sym, ap, ap₂, ◌∙◌, subst, arith}
+use Rattle.std.specs.Prelude.{Contains, ◌&&◌, ◌||◌, not, if◌then◌else◌}
 use Rattle.std.proofs.lemmas.Bool.{cases_eq}
 use Rattle.std.proofs.lemmas.Option.{slice_get-get_or, get_or_from_slice_get, slice_get_within}
-use Rattle.blk_plain.specs.declared.op.Op.{Op}
 use Rattle.blk_plain.specs.declared.op.Op.TheVariants as op
-use Rattle.blk_plain.specs.declared.op.OpId.{OpId}
 use Rattle.lay_core.specs.Layout.{Shape, IsLayout}
 use Rattle.eng_cols.specs.Cols.{ColumnState, Dead, Filling, is_done, is_done_on, is_spread, none_done, passes}
-use Rattle.eng_cols.specs.Changes.{begun_filling}
-use Rattle.eng_cols.specs.Seats.{IsStripeOf}
 use Rattle.eng_cols.specs.Stripes.{all_done_below, are_spread, count_below, is_led, is_stripe_of, leading}
 use Rattle.eng_cols.proofs.Counting.{leading-is, stripe-of, stripe-same}
 use Rattle.eng_cols.proofs.Lists.{get_set_same, get_set_other}
@@ -19,12 +15,11 @@ use Rattle.eng_world.specs.declared.item.Traced.{Traced}
 use Rattle.eng_world.specs.declared.item.Traced.TheVariants as event
 use Rattle.eng_world.specs.World.{World}
 use Rattle.eng_world.specs.Planning.{Graphs, Promises}
-use Rattle.eng_world.specs.Serving.{StartsRebuild, Fills, Resumes, columns_of}
+use Rattle.eng_world.specs.Serving.{StartsRebuild, Fills, Resumes}
 use Rattle.eng_world.specs.Step.{column_begun, StepIn, EventsLead, IsOpening}
 use Rattle.eng_world.specs.Rebuilding.{Rebuilds, GoesOnto, GoesOntoBy, IsFrontOn, SpreadAlike, OneRebuilds, AskedAreDone}
-use Rattle.eng_world.proofs.Shared.{no}
 use Rattle.eng_world.proofs.Carrying.{starts-none}
-use Rattle.eng_world.proofs.Caused.{empty-get, some-get, tail-has}
+use Rattle.eng_world.proofs.Caused.{some-get, tail-has}
 use Rattle.eng_world.proofs.Continuing.{run-continues}
 use Rattle.eng_world.proofs.Filled.{FillsSo, fills-so}
 use Rattle.eng_world.proofs.Front.{IsFront, front-grows}

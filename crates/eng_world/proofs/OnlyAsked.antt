@@ -1,10 +1,8 @@
 -- A stripe becomes done on a column by a rebuild of it alone.
-use Rattle.std.proofs.Common.{◌≡◌, ◌≢◌, ◌⊎◌, inl, inr, ℕ, zero, suc, List, [], ◌∷◌, Bool, true, false, Option, Some, None, slice_get, slice_set, length, refl, sym, ◌∙◌, ap, subst}
-use Rattle.std.specs.Prelude.{if◌then◌else◌}
+use Rattle.std.proofs.Common.{◌≡◌, ◌⊎◌, inl, inr, ℕ, zero, suc, List, [], ◌∷◌, Bool, true, false, Option, Some, None, slice_get, slice_set, length, refl, sym, ◌∙◌, ap, subst}
 use Rattle.std.proofs.lemmas.Bool.{cases_eq, cases_Bool, cond-true, cond-false}
 use Rattle.blk_plain.specs.declared.op.Op.{Op}
 use Rattle.blk_plain.specs.declared.op.Op.TheVariants as op
-use Rattle.blk_plain.specs.declared.op.OpId.{OpId}
 use Rattle.lay_core.specs.Layout.{Shape}
 use Rattle.eng_cols.specs.declared.spot.Loss.{Loss}
 use Rattle.eng_cols.specs.Cols.{ColumnState, Live, Dead, Filling, Spread, is_done, is_done_on, none_done}
@@ -15,11 +13,10 @@ use Rattle.eng_world.specs.declared.item.Item.{Item}
 use Rattle.eng_world.specs.declared.item.Item.TheVariants as item
 use Rattle.eng_world.specs.declared.item.Traced.{Traced}
 use Rattle.eng_world.specs.declared.item.Traced.TheVariants as event
-use Rattle.eng_world.specs.World.{Client, Running, World, item_now, op_now, op_of}
+use Rattle.eng_world.specs.World.{World, item_now, op_now, op_of}
 use Rattle.eng_world.specs.Planning.{Graphs}
 use Rattle.eng_world.specs.Nodes.{ColumnsAfter, Terminates}
 use Rattle.eng_world.specs.Step.{column_begun, Step, StepBy, StepIn, StepLost, EventsLead}
-use Rattle.eng_world.specs.Causes.{ItemAt}
 use Rattle.eng_world.specs.Continuing.{Continues}
 use Rattle.eng_world.specs.Rebuilding.{IsAskedFor, OnlyAskedAreDone}
 use Rattle.eng_world.proofs.Shared.{no}

@@ -15,6 +15,7 @@ use Rattle.eng_world.specs.declared.item.Traced.TheVariants as event
 use Rattle.eng_world.specs.Step.{EventsLead}
 use Rattle.eng_world.proofs.Caused.{head-has, tail-has}
 use Rattle.eng_world.proofs.Answered.{run-causes}
+use Rattle.eng_world.proofs.Losses.{loss-of}
 use Rattle.eng_parts.specs.declared.setup.Setup.{Setup}
 use Rattle.eng_parts.specs.declared.setup.Closed.{Closed}
 use Rattle.eng_state.specs.declared.array.Array.{Array}
@@ -35,7 +36,6 @@ use Rattle.top_serve.proofs.Hands.{closes, judged-now, now-many, were-now}
 use Rattle.top_serve.proofs.Closings.{Ends, ends-as, judged-count, not-whole, set-whole}
 use Rattle.top_serve.proofs.Alike.{bare, first-is, kind, kind-spread}
 use Rattle.top_serve.proofs.Pausing.{far, paused}
-use Rattle.top_serve.proofs.Losing.{lost-by}
 use Rattle.top_serve.proofs.Meaning.{keeps-all}
 use Rattle.top_serve.proofs.Starting.{first_of, run-append}
 use Rattle.top_serve.proofs.Stopping.{stopped}
@@ -156,12 +156,12 @@ module _ {L D : Type 0} (lay : LayoutGhosts L) (disk : DiskGhosts D) (setup : Se
 
   -- ## The loss
 
-  loss : IsLossIn (shape_in lay setup) p.now closed.lost
+  loss : IsLossIn (shape_in lay setup) (graphs_in setup) p.start (p.own ++ first_of how p.count) p.now closed.lost
   loss = by closed.lost (p.shows_now.lost ∙ sym p.between.closes.is_closed.lost)
     where
-      by : (o : Option Loss) → p.now.lost ≡ o → IsLossIn (shape_in lay setup) p.now o
+      by : (o : Option Loss) → p.now.lost ≡ o → IsLossIn (shape_in lay setup) (graphs_in setup) p.start (p.own ++ first_of how p.count) p.now o
       by None is = keeps-all (shape_in lay setup) (graphs_in setup) p.layout p.promises p.start p.opening (p.own ++ first_of how p.count) p.now p.run is
-      by (Some l) is = lost-by (shape_in lay setup) (graphs_in setup) p.start (p.own ++ first_of how p.count) p.now p.opening p.run l is
+      by (Some l) is = loss-of (shape_in lay setup) (graphs_in setup) p.start (p.own ++ first_of how p.count) p.now p.opening p.run l is
 
   pub causes : CoreCauses lay disk setup how closed p.start (p.own ++ first_of how p.count) p.now
   causes = record {

@@ -2,7 +2,6 @@ pub mod Columns
 pub mod Begun
 pub mod Died
 pub mod Meaning
-pub mod Losing
 pub mod BadNodes
 pub mod Devices
 pub mod Starting

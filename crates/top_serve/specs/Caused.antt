@@ -1,4 +1,4 @@
--- What the bad nodes of a run, and its loss, come from; and which columns a rebuild writes on.
+-- What the bad nodes of a run come from, and which columns a rebuild writes on.
 use Rattle.std.specs.Prelude.{◌≡◌, ◌<◌, ◌⊎◌, ◌++◌, ℕ, List, [], ◌∷◌, length, Some, slice_get}
 use Rattle.blk_plain.specs.declared.op.OpId.{OpId}
 use Rattle.lay_core.specs.declared.place.Place.{Place}
@@ -6,9 +6,7 @@ use Rattle.lay_core.specs.Layout.{Shape}
 use Rattle.graph_mean.specs.Graph.{kind_at}
 use Rattle.graph_mean.specs.Steps.{IsCall}
 use Rattle.eng_cols.specs.declared.spot.Spot.{Spot}
-use Rattle.eng_cols.specs.declared.spot.Loss.{Loss}
-use Rattle.eng_cols.specs.Cols.{ColumnState, Dead, HasDevice}
-use Rattle.eng_cols.specs.Lost.{IsLost}
+use Rattle.eng_cols.specs.Cols.{ColumnState, HasDevice}
 use Rattle.eng_world.specs.declared.item.Traced.{Traced}
 use Rattle.eng_world.specs.declared.item.Traced.TheVariants as event
 use Rattle.eng_world.specs.World.{Running, World, RunsAs}
@@ -30,13 +28,6 @@ pub record WentBadOn (y : Shape) (graphs : Graphs) (begun : List ColumnState) (o
   pub fired : was.fired_at node ≡ Some at
   pub device : at.device ≡ d
   pub column : HasDevice begun at.column d
-
--- The array was lost by these columns, of which each has stayed what it was, or is dead.
-pub record WasLostBy (y : Shape) (now : World) (loss : Loss) : Type 0 where
-  pub columns : List ColumnState
-  pub is_lost : IsLost y columns loss
-  pub count : length now.columns ≡ length columns
-  pub each : (c : ℕ) → (slice_get now.columns c ≡ slice_get columns c) ⊎ (slice_get now.columns c ≡ Some Dead)
 
 -- Column c has a unit in a stripe whose spare place is on column k.
 pub record HasSpareOn (y : Shape) (c k : ℕ) : Type 0 where

@@ -19,11 +19,12 @@ use Rattle.eng_world.specs.declared.item.Reply.TheVariants as reply
 use Rattle.eng_world.specs.declared.item.Traced.{Traced}
 use Rattle.eng_world.specs.declared.item.Traced.TheVariants as event
 use Rattle.eng_world.specs.World.{World}
+use Rattle.eng_world.specs.Planning.{Graphs}
 use Rattle.eng_world.specs.Plain.{replay}
 use Rattle.eng_world.specs.Step.{IsOpening, EventsLead}
 use Rattle.eng_world.specs.Legal.{AreOps, ReplyOf, RepliesFit}
 use Rattle.eng_world.specs.Invariant.{IsTold, AllReplied}
-use Rattle.eng_world.specs.Causes.{ItemAt, HaveCauses}
+use Rattle.eng_world.specs.Causes.{ItemAt, HaveCauses, IsLossOf}
 use Rattle.eng_world.specs.Rows.{IsInRows}
 use Rattle.eng_rest.specs.Left.{IsOwn}
 use Rattle.eng_parts.specs.declared.setup.Setup.{Setup}
@@ -42,7 +43,7 @@ use Rattle.eng_array.specs.Starts.{column_of, event_of, most_of}
 use Rattle.eng_array.specs.Tickets.{AllOf}
 use Rattle.top_close.specs.Closes.{ClosesAs}
 use Rattle.top_serve.specs.Setups.{shape_in, states_in, graphs_in, begun_for, begun_in, with_start, WasInSync}
-use Rattle.top_serve.specs.Caused.{WentBadOn, WasLostBy, RestsOn}
+use Rattle.top_serve.specs.Caused.{WentBadOn, RestsOn}
 
 -- the events of a run, the newest first, as a trace has them, if it is kept
 abbrev pub trace_of : Bool → List Traced → List Traced
@@ -55,10 +56,10 @@ pub record WasFailed (now : World) (c : ℕ) : Type 0 where
   pub asked : ItemAt now id (item.Fail c)
   pub replied : ReplyOf now id reply.Okay
 
--- not lost by the columns as they are now; or lost by columns that have only died since
-abbrev pub IsLossIn : Shape → World → Option Loss → Type 0
-IsLossIn y now None = NotLost y now.columns
-IsLossIn y now (Some loss) = WasLostBy y now loss
+-- not lost by the columns as they are now; or lost by those that one event left, which have only died since
+abbrev pub IsLossIn : Shape → Graphs → World → List Traced → World → Option Loss → Type 0
+IsLossIn y graphs start events now None = NotLost y now.columns
+IsLossIn y graphs start events now (Some loss) = IsLossOf y graphs start events now loss
 
 -- The events, the newest first, are the clients' own; where a rebuild starts, that comes before all of them, with the number of its rebuilds.
 abbrev pub BeginsBy : Option Start → ℕ → List Traced → Type 0
@@ -186,7 +187,7 @@ module _ {L D : Type 0} (lay : LayoutGhosts L) (disk : DiskGhosts D) (setup : Se
     IsStoppedBy now rebuild = ((loss : Loss) × (now.lost ≡ Some loss))
         ⊎ ((k : ℕ) × RestsOn (shape_in lay setup) rebuild k × ((slice_get (with_start how setup.columns.items) k ≡ Some column.Dead) ⊎ IsDeadBy now k))
 
-    -- Each reply has its cause. Each column is kept as what it was, the one that is rebuilt as what it was once that had begun; or it is dead for a cause, or as it was to be spread and isn't whole, which has its own. One that is filling in the end is so though all rebuilds that were asked of it were made; while the same columns are spread, and no client has a rebuild among its items, so many more of its stripes are done as were asked. Each failed device has failed by something; so has each device on which a node went bad; and the loss is that of the columns as it came.
+    -- Each reply has its cause. Each column is kept as what it was, the one that is rebuilt as what it was once that had begun; or it is dead for a cause, or as it was to be spread and isn't whole, which has its own. One that is filling in the end is so though all rebuilds that were asked of it were made; while the same columns are spread, and no client has a rebuild among its items, so many more of its stripes are done as were asked. Each failed device has failed by something; so has each device on which a node went bad; and the loss is that of the columns which one event left.
     pub record CoreCauses (start : World) (events : List Traced) (now : World) : Type 0 where
       pub replies : HaveCauses (shape_in lay setup) (graphs_in setup) start events now
       pub count : length closed.columns.items ≡ length setup.columns.items
@@ -196,7 +197,7 @@ module _ {L D : Type 0} (lay : LayoutGhosts L) (disk : DiskGhosts D) (setup : Se
       pub stopped : (rebuild : Start) → how ≡ Some rebuild → slice_get closed.columns.items (column_of rebuild) ≡ Some column.Dead → IsStoppedBy now rebuild
       pub failed : (d : ℕ) → now.failed d ≡ true → IsFailedBy now d
       pub bad : (later before : List Traced) (id : OpId) (node : ℕ) → events ≡ later ++ event.Bad id node ∷ before → (d : ℕ) × WentBadOn (shape_in lay setup) (graphs_in setup) (begun_in lay setup how) start before id node later now d × IsFailedBy now d
-      pub loss : IsLossIn (shape_in lay setup) now closed.lost
+      pub loss : IsLossIn (shape_in lay setup) (graphs_in setup) start events now closed.lost
 
     -- ## All of it
 
