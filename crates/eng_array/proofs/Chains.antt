@@ -1,5 +1,5 @@
 -- A chain of cores is a run of worlds, from whichever world the first core shows.
-use Rattle.std.proofs.Common.{◌≡◌, ◌≤◌, ℕ, List, [], ◌∷◌, ◌++◌, true, false, refl, sym, ◌∙◌, ap, subst}
+use Rattle.std.proofs.Common.{◌≡◌, ◌<◌, ◌≤◌, ℕ, List, [], ◌∷◌, ◌++◌, true, false, refl, sym, ◌∙◌, ap, subst}
 use Rattle.std.specs.Prelude.{reverse}
 use Rattle.std.proofs.lemmas.Grind.{reverse_onto}
 use Rattle.std.proofs.lemmas.List.{append_assoc, append-nil}
@@ -13,7 +13,7 @@ use Rattle.eng_world.specs.Planning.{Graphs}
 use Rattle.eng_world.specs.Step.{Step, EventsLead}
 use Rattle.eng_state.specs.declared.array.Array.{Array}
 use Rattle.eng_state.specs.Shows.{Shows}
-use Rattle.eng_array.specs.Tickets.{Goes, Same, keeps_trace, traced, shape_of, graphs_of, size_at, faults_at, devices_of, DevicesGoOn}
+use Rattle.eng_array.specs.Tickets.{Goes, Same, keeps_trace, traced, shape_of, graphs_of, items_of, size_at, faults_at, devices_of, DevicesGoOn}
 use Rattle.eng_array.proofs.DevicesOn.{devices-later}
 
 module _ {L D : Type 0} (lay : LayoutGhosts L) (disk : DiskGhosts D) where
@@ -39,6 +39,11 @@ module _ {L D : Type 0} (lay : LayoutGhosts L) (disk : DiskGhosts D) where
         slots = last.slots ∙ before.slots;
         regions = last.regions ∙ before.regions;
       }
+
+  -- each client that was handed in keeps its items
+  pub goes-items : (old new : Array L D) (events : List Traced) → Goes lay disk old events new → (c : ℕ) → c < 16 → items_of new c ≡ items_of old c
+  goes-items old new [] g c less = ap (λ (core : Array L D). items_of core c) g
+  goes-items old new (e ∷ events) g c less = g.2.others c less ∙ goes-items old g.0 events g.1 c less
 
   pub goes-leads : (old new : Array L D) (events : List Traced) → Goes lay disk old events new → (w : World) → Shows disk old w → (x : World) × Shows disk new x × EventsLead (shape_of lay disk old) (graphs_of old) w events x
   goes-leads old new [] g w f = (w, subst (λ (c : Array L D). Shows disk c w) (sym g) f, refl)

@@ -1,14 +1,19 @@
 -- A core that comes of an opening hands back what was handed in.
-use Rattle.std.proofs.Common.{◌≡◌, ◌≤◌, inl, inr, ℕ, zero, suc, List, [], ◌∷◌, length, map, Option, Some, None, refl, sym, ◌∙◌, ap, subst, arith}
-use Rattle.std.specs.Prelude.{slice_get, slice_index_or}
+use Rattle.std.proofs.Common.{◌≡◌, ◌<◌, ◌≤◌, inl, inr, ℕ, zero, suc, List, [], ◌∷◌, length, map, Option, Some, None, refl, sym, ◌∙◌, ap, subst, arith}
+use Rattle.std.specs.Prelude.{Vec, slice_get, slice_index_or}
 use Rattle.std.specs.Option.{option_map_or}
+use Rattle.std.specs.declared.alloc.Global.{Global}
 use Rattle.std.proofs.lemmas.Bool.{cases_lt}
 use Rattle.std.proofs.lemmas.List.{length-map}
+use Rattle.std.proofs.lemmas.Option.{slice_get_past}
 use Rattle.blk_disk.specs.Devices.{device_at, sector_of, RisesOn, StaysIf, Changes}
 use Rattle.blk_disk.specs.Disk.{Rose}
 use Rattle.blk_disk.specs.declared.disk.Disk.{Ghosts as DiskGhosts}
 use Rattle.lay_core.specs.declared.layout.Layout.{Ghosts as LayoutGhosts}
+use Rattle.eng_world.specs.declared.item.Item.{Item}
 use Rattle.eng_world.specs.declared.item.Traced.{Traced}
+use Rattle.eng_log.specs.Given.{items_in, items_at}
+use Rattle.eng_clients.specs.Desk.{Desk}
 use Rattle.eng_parts.specs.Brought.{brought}
 use Rattle.eng_parts.specs.Shelf.{Seen, Shelved, seen_at}
 use Rattle.eng_parts.specs.declared.setup.Closed.{Closed}
@@ -18,7 +23,7 @@ use Rattle.eng_events.specs.Closed.{IsClosed}
 use Rattle.eng_events.specs.Opened.{IsOpened}
 use Rattle.eng_array.specs.HandedBack.{HandsBack}
 use Rattle.eng_array.specs.Tickets.{Goes, Same, device_of, devices_of, DevicesGoOn, faults_in, faults_at}
-use Rattle.eng_array.proofs.Chains.{goes-same, goes-devices}
+use Rattle.eng_array.proofs.Chains.{goes-same, goes-devices, goes-items}
 use Rattle.eng_array.proofs.DevicesOn.{slot-device}
 
 module _ {D : Type 0} where
@@ -97,10 +102,24 @@ module _ {L D : Type 0} (lay : LayoutGhosts L) (disk : DiskGhosts D) (setup : Se
   as-many : length closed.devices.items ≡ length setup.devices.items
   as-many = c.count ∙ (same.slots ∙ (ap (λ (s : Shelved D). length s.slots) o.devices ∙ length-map setup.devices.items brought))
 
+  -- the items of a client that was handed in, and of one past them
+  items-back : (k : ℕ) → items_at closed.clients.items k ≡ items_at setup.clients.items k
+  items-back k = elim (cases_lt k last.spare) [
+    | inl below ↦ c.clients.items_each k below ∙ (goes-items lay disk first last events g k (few k below) ∙ ap (λ (d : Desk). d.items) (o.clients k (let f = few k below in omega (arith, f))))
+    | inr past ↦ items-past closed.clients.items k (let n = c.clients.items_count in omega (arith, n, past)) ∙ sym (items-past setup.clients.items k (let n : last.spare ≡ length setup.clients.items = same.spare ∙ o.spare in omega (arith, n, past)))
+  ]
+    where
+      few : (k : ℕ) → k < last.spare → k < 16
+      few k below = let n : last.spare ≡ length setup.clients.items = same.spare ∙ o.spare in let f = o.laid.few in omega (arith, n, f, below)
+
+      items-past : (given : List (Vec Item Global)) (k : ℕ) → length given ≤ k → items_at given k ≡ []
+      items-past given k past = ap items_in (slice_get_past given k past)
+
   pub handed-back : HandsBack disk setup closed
   handed-back = record {
     layout = c.layout ∙ (same.layout ∙ o.layout);
     clients = c.clients.items_count ∙ (same.spare ∙ o.spare);
+    items = items-back;
     replies = c.clients.replies_count ∙ (same.spare ∙ o.spare);
     devices = record {
       count = as-many;

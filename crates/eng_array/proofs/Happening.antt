@@ -41,6 +41,7 @@ module _ {L D : Type 0} (lay : LayoutGhosts L) (disk : DiskGhosts D) where
         regions = keeps.log.regions;
       };
       items = λ own c. keeps.items c;
+      others = λ c less. keeps.items c;
       told = λ on. keeps.log.trace ∙ ap (λ (b : Bool). if b then old.log.trace ++ e ∷ [] else old.log.trace) on;
       untold = λ off. keeps.log.trace ∙ ap (λ (b : Bool). if b then old.log.trace ++ e ∷ [] else old.log.trace) off;
       leads = follows;

@@ -1,5 +1,5 @@
 -- What the calls but the end of a job change of devices, and that each is one event.
-use Rattle.std.proofs.Common.{◌≡◌, inl, inr, ℕ, Bool, length, Option, Some, None, sym, ◌∙◌, ap, subst}
+use Rattle.std.proofs.Common.{◌≡◌, ◌<◌, inl, inr, ℕ, Bool, length, Option, Some, None, sym, ◌∙◌, ap, subst, arith}
 use Rattle.std.specs.Prelude.{◌++◌, ◌+◌, List, [], ◌∷◌, slice_set, if◌then◌else◌}
 use Rattle.lay_core.specs.declared.layout.Layout.{Ghosts as LayoutGhosts}
 use Rattle.blk_disk.specs.declared.disk.Disk.{Ghosts as DiskGhosts}
@@ -14,14 +14,15 @@ use Rattle.eng_clients.specs.declared.stage.Stage.TheVariants.{Nothing, Runs}
 use Rattle.eng_state.specs.declared.array.Array.{Array}
 use Rattle.eng_state.specs.Beginning.{CanBegin, BegunAs}
 use Rattle.eng_state.specs.Can.{CanFire, CanSkip, place_now}
-use Rattle.eng_clients.specs.Desk.{desk_at, with_skipped}
+use Rattle.eng_clients.specs.Desk.{Desk, desk_at, with_skipped}
 use Rattle.eng_state.specs.Failing.{FailedBy}
 use Rattle.eng_log.specs.Log.{noted}
 use Rattle.eng_state.specs.Moves.{Fired, id_of}
 use Rattle.eng_state.specs.Out.{IsOut}
-use Rattle.eng_starts.specs.Rebuilding.{CanRebuild, Started}
+use Rattle.eng_starts.specs.Rebuilding.{CanRebuild, Started, with_items}
 use Rattle.eng_state.specs.Serves.{CanTake, CanBack}
 use Rattle.eng_parts.specs.Shelf.{Shelved}
+use Rattle.eng_state.proofs.Shown.{desk-else}
 use Rattle.eng_array.specs.Steady.{IsSteady}
 use Rattle.eng_state.specs.Steps as steps
 use Rattle.eng_state.specs.Taken.{IsTaken, BackAs, IsBack}
@@ -145,6 +146,7 @@ module _ {L D : Type 0} (lay : LayoutGhosts L) (disk : DiskGhosts D) (old new : 
         regions = ap (λ (s : Array L D). s.log.handed.regions) f.is;
       };
       items = λ own. absurd (not_own own);
+      others = λ k less. ap (λ (s : Array L D). (desk_at s.clients k).items) f.is ∙ ap (λ (d : Desk). d.items) (desk-else old.clients 16 k (with_items (desk_at old.clients 16) f.items) (λ is. let z : k ≡ 16 = is in omega (arith, z, less)));
       told = λ on. ap (λ (s : Array L D). s.log.trace) f.is ∙ ap (λ (b : Bool). if b then old.log.trace ++ e ∷ [] else old.log.trace) on;
       untold = λ off. ap (λ (s : Array L D). s.log.trace) f.is ∙ ap (λ (b : Bool). if b then old.log.trace ++ e ∷ [] else old.log.trace) off;
       leads = follows;

@@ -20,6 +20,7 @@ module _ {L D : Type 0} (lay : LayoutGhosts L) (disk : DiskGhosts D) (old new : 
       sound = h.sound;
       same = record { layout = h.same.layout; shape = h.same.shape; graphs = h.same.graphs; keeps = h.same.keeps; spare = h.same.spare; slots = h.same.slots; regions = h.same.regions };
       items = h.items;
+      others = h.others;
       told = h.told;
       untold = h.untold;
       leads = λ w shows. h.leads w (shows-moved lay disk old next w shows);

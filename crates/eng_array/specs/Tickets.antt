@@ -1,5 +1,5 @@
 -- How a core and the tickets of all passes fit together, and what one turn may do. A ticket is the job of a node that is out, as it left.
-use Rattle.std.specs.Prelude.{◌≡◌, ◌+◌, ◌++◌, ◌&&◌, ◌==◌, if◌then◌else◌, ℕ, Bool, true, false, List, [], ◌∷◌, length, map, sum_by, Option, Some, None}
+use Rattle.std.specs.Prelude.{◌≡◌, ◌<◌, ◌+◌, ◌++◌, ◌&&◌, ◌==◌, if◌then◌else◌, ℕ, Bool, true, false, List, [], ◌∷◌, length, map, sum_by, Option, Some, None}
 use Rattle.blk_disk.specs.Devices.{Changes}
 use Rattle.blk_disk.specs.Disk.{Rose}
 use Rattle.blk_disk.specs.declared.disk.Disk.{Ghosts as DiskGhosts}
@@ -179,11 +179,12 @@ module _ {L D : Type 0} (lay : LayoutGhosts L) (disk : DiskGhosts D) where
     pub slots : length new.devices.slots ≡ length old.devices.slots
     pub regions : new.log.handed.regions ≡ old.log.handed.regions
 
-  -- What each call promises, which is one event, named before any world is: for every world that the core before shows there is one that the core after shows, one step of the event on. Each slot has a device where it had one; no device changes its size, no count of faults falls, and what a device tells of its calls goes on; and which a bad end marks as failed, that one's count rose in the call.
+  -- What each call promises, which is one event, named before any world is: for every world that the core before shows there is one that the core after shows, one step of the event on. Each slot has a device where it had one; no device changes its size, no count of faults falls, and what a device tells of its calls goes on; and which a bad end marks as failed, that one's count rose in the call. Only where a rebuild begins do the items of a client change, those of the array's own, 16.
   pub record Happens (e : Traced) (old new : Array L D) : Type 0 where
     pub sound : IsSteady lay disk new
     pub same : Same old new
     pub items : IsOwn e → (c : ℕ) → items_of new c ≡ items_of old c
+    pub others : (c : ℕ) → c < 16 → items_of new c ≡ items_of old c
     pub told : keeps_trace old ≡ true → traced new ≡ traced old ++ e ∷ []
     pub untold : keeps_trace old ≡ false → traced new ≡ traced old
     pub leads : steps.Follows lay disk old e new

@@ -63,7 +63,7 @@ pub fn chains_are_runs<L: Layout, D: Disk>()
         → DevicesGoOn D.Disk (devices_of old) (devices_of new) }
 {}
 
-/// A core that comes of an opening by a chain of events hands back the layout, as many clients and as many devices as were
+/// A core that comes of an opening by a chain of events hands back the layout, each client with its items and as many devices as were
 /// handed in, the same of them absent, each of which goes on. A device whose count of faults rose between the two cores is
 /// one whose count rose from the setup to what is handed back.
 pub fn what_was_handed_in_comes_back<L: Layout, D: Disk>()
