@@ -12,6 +12,8 @@ use Rattle.raid_text.specs.Pattern.{pattern_bytes}
 use Rattle.eng_world.specs.declared.item.Item.{Item}
 use Rattle.eng_world.specs.declared.item.Item.TheVariants.{Run, Fail}
 use Rattle.raid_script.specs.declared.entry.Entry.{Entry}
+use Rattle.raid_script.specs.declared.entry.Said.{Said}
+use Rattle.raid_script.specs.declared.entry.Said.TheVariants as said
 use Rattle.raid_script.specs.declared.join.Join.{Join}
 
 -- a span of blocks, and the bytes that are repeated in each of them
@@ -60,8 +62,16 @@ abbrev pub seen : Item → Asked
 seen (Run op graph) = seen_op op graph
 seen (Fail column) = Fails column
 
-abbrev pub seen_entry : Entry → Request
-seen_entry e = record { client = e.client; asked = seen e.item; joined = e.join }
+-- what a line says, where the patches of a write of several spans are these
+abbrev pub seen_said : Patches → Said → Asked
+seen_said patches (said.Write span pattern graph) = Writes span.first span.count (pattern_bytes pattern) graph
+seen_said patches (said.Writes graph) = if nat_le patches.used 8 then WritesAll (seen_patches patches) graph else Other
+seen_said patches (said.Read span graph) = Reads span.first span.count graph
+seen_said patches (said.Sync stripe) = Syncs stripe
+seen_said patches (said.Fail column) = Fails column
+
+abbrev pub seen_entry : Patches → Entry → Request
+seen_entry patches e = record { client = e.client; asked = seen_said patches e.said; joined = e.join }
 
 -- ---- by client
 

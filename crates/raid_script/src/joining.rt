@@ -7,12 +7,11 @@ ghost use Rattle.raid_script.specs.Asked.{joined_in, seen_entry};
 ghost use Rattle.raid_script.specs.Format.{halves_of, join_of};
 
 use crate::codes::{JOINED, SHARED};
-use crate::entry::Entry;
+use crate::entry::{Entry, Said};
 use crate::join::{JOINS, Join};
 use crate::patches::{next_patch, two_patches};
 use crate::words::{next_graph, pass_end};
-use blk_plain::{Op, Patch, are_apart};
-use eng_world::Item;
+use blk_plain::{Patch, Patches, are_apart};
 use graph_text::Book;
 use raid_text::Words;
 
@@ -45,7 +44,8 @@ fn halves_in(book: &Book, words: &mut Words) -> Result<Halves, u8>
     })
 }
 
-/// What stands behind `join` in this line, behind so many join lines.
+/// What stands behind `join` in this line, behind so many join lines. Its two patches are put into the
+/// room.
 #[tactic(auto, unfolding(crate::specs::Format::join_of))]
 pub fn join_in(
     book: &Book,
@@ -53,8 +53,9 @@ pub fn join_in(
     line: u32,
     client: u32,
     words: &mut Words,
+    room: &mut Patches,
 ) -> Result<Entry, u8>
-    ensures value { Gives seen_entry result
+    ensures value { Gives (seen_entry room.new) result
         (join_of book.now joins line client (words_left words.old)) }
     ensures client { IfOk result (λ e. e.client ≡ client) }
     ensures few { IfOk result (λ e. joins + length (joined_in e.join) ≤ 64) }
@@ -67,10 +68,10 @@ pub fn join_in(
     if joins >= JOINS {
         return Err(JOINED);
     }
+    *room = patches;
     Ok(Entry {
         client,
-        item: Item::Run {
-            op: Op::Writes { patches },
+        said: Said::Writes {
             graph: Some(book.count() + joins),
         },
         join: Some(Join {

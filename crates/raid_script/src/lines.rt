@@ -1,17 +1,17 @@
 //! The lines of a script.
 ghost use Rattle.std.specs.Prelude.{◌≡◌, ◌+◌, ◌<◌, ◌≤◌, ◌^◌, None, length, IfOk};
 ghost use Rattle.raid_text.specs.Seen.{seen as seen_line, words_left};
+ghost use Rattle.blk_plain.specs.declared.op.Patches.{Patches};
 ghost use Rattle.graph_text.specs.Answers.{Gives};
-ghost use Rattle.raid_script.specs.Asked.{joined_in, read_sectors, seen, seen_entry};
+ghost use Rattle.raid_script.specs.Asked.{joined_in, read_sectors, seen_entry, seen_said};
 ghost use Rattle.raid_script.specs.Format.{asked_of, line_of, next_of, plain_of, request_of};
 
 use crate::codes::{LIMIT, WORD};
-use crate::entry::Entry;
+use crate::entry::{Entry, Said};
 use crate::joining::join_in;
 use crate::kinds::item_in;
 use crate::words::{next_client, next_word};
-use blk_plain::{Op, limits};
-use eng_world::Item;
+use blk_plain::{Patches, limits};
 use graph_text::Book;
 use raid_text::{Line, Words};
 
@@ -22,16 +22,17 @@ fn plain_in(
     client: u32,
     kind: &[u8],
     words: &mut Words,
+    room: &mut Patches,
 ) -> Result<Entry, u8>
-    ensures value { Gives seen_entry result
+    ensures value { Gives (seen_entry room.new) result
         (plain_of book.now columns client kind.now (words_left words.old)) }
     ensures client { IfOk result (λ e. e.client ≡ client) }
     ensures none { IfOk result (λ e. e.join ≡ None) }
 {
-    let item = item_in(book, columns, kind, words)?;
+    let said = item_in(book, columns, kind, words, room)?;
     Ok(Entry {
         client,
-        item,
+        said,
         join: None,
     })
 }
@@ -45,17 +46,18 @@ fn asked_in(
     client: u32,
     kind: &[u8],
     words: &mut Words,
+    room: &mut Patches,
 ) -> Result<Entry, u8>
     requires { joins ≤ 64 }
-    ensures value { Gives seen_entry result
+    ensures value { Gives (seen_entry room.new) result
         (asked_of book.now columns joins line client kind.now (words_left words.old)) }
     ensures client { IfOk result (λ e. e.client ≡ client) }
     ensures joins { IfOk result (λ e. joins + length (joined_in e.join) ≤ 64) }
 {
     if kind == b"join".as_slice() {
-        join_in(book, joins, line, client, words)
+        join_in(book, joins, line, client, words, room)
     } else {
-        plain_in(book, columns, client, kind, words)
+        plain_in(book, columns, client, kind, words, room)
     }
 }
 
@@ -66,46 +68,52 @@ fn entry_in(
     joins: u32,
     line: u32,
     words: &mut Words,
+    room: &mut Patches,
 ) -> Result<Entry, u8>
     requires { joins ≤ 64 }
-    ensures value { Gives seen_entry result
+    ensures value { Gives (seen_entry room.new) result
         (request_of book.now columns joins line (words_left words.old)) }
     ensures client { IfOk result (λ e. e.client < 16) }
     ensures joins { IfOk result (λ e. joins + length (joined_in e.join) ≤ 64) }
 {
     let client = next_client(words)?;
     let kind = next_word(words)?;
-    asked_in(book, columns, joins, line, client, kind, words)
+    asked_in(book, columns, joins, line, client, kind, words, room)
 }
 
 #[tactic(auto, unfolding(crate::specs::Format::line_of))]
-fn read_line(book: &Book, columns: u32, joins: u32, line: &Line) -> Result<Entry, u8>
+fn read_line(
+    book: &Book,
+    columns: u32,
+    joins: u32,
+    line: &Line,
+    room: &mut Patches,
+) -> Result<Entry, u8>
     requires { joins ≤ 64 }
-    ensures value { Gives seen_entry result (line_of book.now columns joins (seen_line line.now)) }
+    ensures value { Gives (seen_entry room.new) result
+        (line_of book.now columns joins (seen_line line.now)) }
     ensures client { IfOk result (λ e. e.client < 16) }
     ensures joins { IfOk result (λ e. joins + length (joined_in e.join) ≤ 64) }
 {
     if !line.sound() {
         return Err(WORD);
     }
-    entry_in(book, columns, joins, line.at(), &mut line.words())
+    entry_in(book, columns, joins, line.at(), &mut line.words(), room)
 }
 
-/// How many sectors an item reads.
-pub fn read_sectors(item: &Item) -> u64
-    ensures value { result ≡ read_sectors (seen item.now) }
+/// How many sectors an item reads, whatever the room's patches.
+pub fn read_sectors(said: &Said) -> u64
+    ensures value { (p : Patches) → result ≡ read_sectors (seen_said p said.now) }
     ensures small { result < 2 ^ 32 }
 {
-    match item {
-        Item::Run {
-            op: Op::Read { span },
-            ..
-        } => u64::from(span.count),
-        Item::Run { .. } | Item::Fail { .. } => 0,
+    match said {
+        Said::Read { span, .. } => u64::from(span.count),
+        Said::Write { .. } | Said::Writes { .. } | Said::Sync { .. } | Said::Fail { .. } => 0,
     }
 }
 
 /// The item of a line, behind so many items whose reads have so many sectors, and so many join lines.
+/// Where it writes several spans, its patches are put into the room.
 #[tactic(auto, unfolding(crate::specs::Format::next_of))]
 pub fn next_entry(
     book: &Book,
@@ -114,19 +122,20 @@ pub fn next_entry(
     sectors: u64,
     joins: u32,
     line: &Line,
+    room: &mut Patches,
 ) -> Result<Entry, u8>
     requires sectors { sectors ≤ 262144 }
     requires joins { joins ≤ 64 }
-    ensures value { Gives seen_entry result
+    ensures value { Gives (seen_entry room.new) result
         (next_of book.now columns items sectors joins (seen_line line.now)) }
     ensures client { IfOk result (λ e. e.client < 16) }
     ensures joins { IfOk result (λ e. joins + length (joined_in e.join) ≤ 64) }
     ensures few { IfOk result (λ e. items < 65536) }
-    ensures bound { IfOk result (λ e. sectors + read_sectors (seen e.item) ≤ 262144) }
+    ensures bound { IfOk result (λ e. sectors + read_sectors (seen_said room.new e.said) ≤ 262144) }
 {
-    let entry = read_line(book, columns, joins, line)?;
+    let entry = read_line(book, columns, joins, line, room)?;
     if items < limits::ITEMS as usize
-        && sectors + read_sectors(&entry.item) <= limits::READ_SECTORS as u64
+        && sectors + read_sectors(&entry.said) <= limits::READ_SECTORS as u64
     {
         Ok(entry)
     } else {

@@ -4,6 +4,7 @@ ghost use Rattle.raid_script.specs.Answers.{GivesScript};
 ghost use Rattle.raid_script.specs.Asked.{AreFew, IsScript};
 ghost use Rattle.raid_script.specs.Format.{script_of};
 
+use crate::entry::patch_room;
 use crate::fault::ScriptFault;
 use crate::lines::{next_entry, read_sectors};
 use crate::script::Script;
@@ -34,14 +35,15 @@ pub fn read_script(
     let mut script = Script::empty(alloc)?;
     let mut items = 0;
     let mut sectors = 0;
+    let mut room = patch_room();
     let mut lines = Lines::new(text);
     while let Some(line) = lines.next() {
         let joins = script.joins().len() as u32;
-        match next_entry(book, columns, items, sectors, joins, &line) {
+        match next_entry(book, columns, items, sectors, joins, &line, &mut room) {
             Ok(entry) => {
                 items += 1;
-                sectors += read_sectors(&entry.item);
-                script.push(entry)?;
+                sectors += read_sectors(&entry.said);
+                script.push(entry, &room)?;
             }
             Err(code) => {
                 return Err(ScriptFault::At {

@@ -5,7 +5,7 @@ ghost use Rattle.raid_bay.specs.Sink.{Puts};
 ghost use Rattle.raid_script.specs.Replies.{op_sectors, item_sectors, row_sectors, op_first, item_first, data_text, item_text, row_text, replies_text, StandFor};
 
 use crate::causes::set_reply;
-use crate::runs::put_blocks;
+use crate::runs::put_runs;
 use blk_disk::Failed;
 use blk_plain::{Op, SECTOR};
 use eng_world::{Item, Reply};
@@ -55,14 +55,20 @@ fn item_first(item: &Item) -> u64
 }
 
 // Prints the runs behind `data`.
-fn put_data<K: Sink>(reply: Reply, first: u64, bytes: &[u8], out: &mut K) -> Result<(), Failed>
+fn put_data<K: Sink>(
+    reply: Reply,
+    first: u64,
+    bytes: &[u8],
+    line: &mut Line,
+    out: &mut K,
+) -> Result<(), Failed>
     ensures output { K.tells → Puts (is_ok result) (K.output out.old)
         (data_text reply first bytes.now) (K.output out.new) }
     ensures later { K.faults out.old ≤ K.faults out.new }
     ensures cause { OnErr result (Rose (K.faults out.old) (K.faults out.new)) }
 {
     match reply {
-        Reply::Data => put_blocks(first, bytes.as_chunks::<SECTOR>().0, out),
+        Reply::Data => put_runs(first, bytes.as_chunks::<SECTOR>().0, line, out),
         Reply::Done
         | Reply::Okay
         | Reply::Undone { .. }
@@ -80,6 +86,7 @@ fn put_item<K: Sink>(
     item: &Item,
     reply: Reply,
     bytes: &[u8],
+    line: &mut Line,
     out: &mut K,
 ) -> Result<(), Failed>
     ensures output { K.tells → Puts (is_ok result)
@@ -87,10 +94,9 @@ fn put_item<K: Sink>(
     ensures later { K.faults out.old ≤ K.faults out.new }
     ensures cause { OnErr result (Rose (K.faults out.old) (K.faults out.new)) }
 {
-    let mut line = Line::new();
-    set_reply(&mut line, client, index, reply);
+    set_reply(line, client, index, reply);
     line.put(out)?;
-    put_data(reply, item_first(item), bytes, out)
+    put_data(reply, item_first(item), bytes, line, out)
 }
 
 // Prints the replies to a client's items, whose sectors are the first of these bytes; and says how
@@ -100,6 +106,7 @@ fn put_row<K: Sink>(
     items: &[Item],
     replies: &[Reply],
     bytes: &[u8],
+    line: &mut Line,
     out: &mut K,
 ) -> Result<usize, Failed>
     requires answered { length replies.now ≡ length items.now }
@@ -113,7 +120,15 @@ fn put_row<K: Sink>(
     let mut at = 0;
     for (i, item) in items.iter().enumerate() {
         let size = SECTOR * item_sectors(item) as usize;
-        put_item(client, i, item, replies[i], &bytes[at..at + size], out)?;
+        put_item(
+            client,
+            i,
+            item,
+            replies[i],
+            &bytes[at..at + size],
+            line,
+            out,
+        )?;
         at += size;
     }
     Ok(at)
@@ -142,11 +157,12 @@ pub fn put_replies<K: Sink>(
     ensures later { K.faults out.old ≤ K.faults out.new }
     ensures cause { OnErr result (Rose (K.faults out.old) (K.faults out.new)) }
 {
+    let mut line = Line::new();
     let mut at = 0;
     for client in 0..clients.len().min(PRINTED) {
         let items = clients[client].as_slice();
         let told = replies[client].as_slice();
-        at += put_row(client, items, told, &sectors[at..], out)?;
+        at += put_row(client, items, told, &sectors[at..], &mut line, out)?;
     }
     Ok(())
 }

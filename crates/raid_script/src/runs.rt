@@ -1,5 +1,5 @@
 //! Runs of equal sectors.
-ghost use Rattle.std.specs.Prelude.{◌≡◌, ◌≢◌, ◌≤◌, ◌<◌, ℕ, List, length, slice_index_or, is_ok, OnErr};
+ghost use Rattle.std.specs.Prelude.{◌≡◌, ◌≢◌, ◌≤◌, ◌<◌, ◌↔◌, ℕ, List, length, slice_index_or, is_ok, IsTrue, OnErr};
 ghost use Rattle.blk_disk.specs.Disk.{Rose};
 ghost use Rattle.raid_bay.specs.Sink.{Puts};
 ghost use Rattle.raid_script.specs.Runs.{SectorRun, AreRuns, runs};
@@ -9,6 +9,17 @@ use crate::repetition::shortest_string;
 use blk_disk::Failed;
 use put_line::Line;
 use raid_bay::Sink;
+
+// Whether two sectors are equal. Each pair of bytes is looked at, so that the compiler takes many at once.
+fn are_equal(one: &[u8; 512], other: &[u8; 512]) -> bool
+    ensures { IsTrue result ↔ (one.now ≡ other.now) }
+{
+    let mut equal = true;
+    for k in 0..512 {
+        equal &= one[k] == other[k];
+    }
+    equal
+}
 
 /// How many sectors from the first on are equal to it, up to the first other one; 0 where there is none.
 pub fn run_length(sectors: &[[u8; 512]]) -> usize
@@ -20,7 +31,7 @@ pub fn run_length(sectors: &[[u8; 512]]) -> usize
         slice_index_or sectors.now result d ≢ slice_index_or sectors.now 0 d }
 {
     for (i, sector) in sectors.iter().enumerate() {
-        if *sector != sectors[0] {
+        if !are_equal(sector, &sectors[0]) {
             return i;
         }
     }
@@ -41,6 +52,31 @@ fn set_block(line: &mut Line, first: u128, count: usize, sector: &[u8; 512])
     line.push(b"\n");
 }
 
+/// Prints the runs of sectors as [`put_blocks`] does, each in this line, whatever stands in it.
+pub fn put_runs<K: Sink>(
+    first: u64,
+    sectors: &[[u8; 512]],
+    line: &mut Line,
+    out: &mut K,
+) -> Result<(), Failed>
+    ensures output { K.tells → Puts (is_ok result)
+        (K.output out.old) (blocks_text first sectors.now) (K.output out.new) }
+    ensures later { K.faults out.old ≤ K.faults out.new }
+    ensures cause { OnErr result (Rose (K.faults out.old) (K.faults out.new)) }
+{
+    // Of 128 bits, since the sum behind the last block may not fit in 64.
+    let mut block = u128::from(first);
+    let mut rest = sectors;
+    while !rest.is_empty() {
+        let count = run_length(rest);
+        set_block(line, block, count, &rest[0]);
+        line.put(out)?;
+        block += count as u128;
+        rest = rest.split_at(count).1;
+    }
+    Ok(())
+}
+
 /// Prints a line for each maximal run of equal sectors: `block FIRST COUNT HEX`, with the number
 /// of its first block, its sectors, and the shortest string of 1, 2, 4, .., 512 bytes whose
 /// repetition is the sector.
@@ -57,16 +93,5 @@ pub fn put_blocks<K: Sink>(first: u64, sectors: &[[u8; 512]], out: &mut K) -> Re
     ensures only { (others : List SectorRun) → AreRuns sectors.now others
         → others ≡ runs sectors.now }
 {
-    let mut line = Line::new();
-    // Of 128 bits, since the sum behind the last block may not fit in 64.
-    let mut block = u128::from(first);
-    let mut rest = sectors;
-    while !rest.is_empty() {
-        let count = run_length(rest);
-        set_block(&mut line, block, count, &rest[0]);
-        line.put(out)?;
-        block += count as u128;
-        rest = rest.split_at(count).1;
-    }
-    Ok(())
+    put_runs(first, sectors, &mut Line::new(), out)
 }

@@ -2,9 +2,9 @@
 ghost use Rattle.std.specs.Prelude.{◌≡◌, ◌<◌, ◌++◌, [], length, map, IfOk, OnOk};
 ghost use Rattle.raid_script.specs.Asked.{joined_in, scripted, seen, seen_entry, with_asked, with_request};
 
-use crate::entry::Entry;
+use crate::entry::{Entry, item_from};
 use crate::join::Join;
-use blk_plain::limits;
+use blk_plain::{Patches, limits};
 use eng_world::Item;
 use std::alloc::{AllocError, Global};
 use std::marker::Model;
@@ -71,12 +71,13 @@ impl Script {
         })
     }
 
-    /// Puts an item behind those of its client, and its join line, if it has one, behind the others.
-    pub(crate) fn push(&mut self, entry: Entry) -> Result<(), AllocError>
+    /// Puts an item behind those of its client, and its join line, if it has one, behind the others. The
+    /// room has its patches, where it writes several spans.
+    pub(crate) fn push(&mut self, entry: Entry, room: &Patches) -> Result<(), AllocError>
         requires { entry.client < length self.old.clients }
-        ensures { OnOk result (self.new ≡ with_request self.old (seen_entry entry)) }
+        ensures { OnOk result (self.new ≡ with_request self.old (seen_entry room.now entry)) }
     {
-        push_item(&mut self.clients, entry.client, entry.item)?;
+        push_item(&mut self.clients, entry.client, item_from(entry.said, room))?;
         push_join(&mut self.joins, entry.join)?;
         Ok(())
     }

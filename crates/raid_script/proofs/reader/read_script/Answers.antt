@@ -44,14 +44,14 @@ pub loop-line-preserved : goal.loop-line-preserved
 loop-line-preserved c =
     let line = seen_line c.in-Some.line in
     let so_far = subst (λ ls. HasRead c.args.book.now c.args.columns c.args.text.now c.loop-line.script c.loop-line.items c.loop-line.sectors ls) c.in-Some.ensures.some c.loop-line.invariant.read in
-    let told = subst (λ (js : List Join). next_of c.args.book.now c.args.columns c.loop-line.items c.loop-line.sectors (length js) line ≡ Ok (seen_entry c.in-Ok.entry)) c.joins.ensures c.in-Ok.ensures.value in
-    let more = one_read c.args.book.now c.args.columns c.args.text.now c.loop-line.script c.loop-line.items c.loop-line.sectors line (left c.next.new.self) (seen_entry c.in-Ok.entry) told so_far in
+    let told = subst (λ (js : List Join). next_of c.args.book.now c.args.columns c.loop-line.items c.loop-line.sectors (length js) line ≡ Ok (seen_entry c.next_entry.new.room c.in-Ok.entry)) c.joins.ensures c.in-Ok.ensures.value in
+    let more = one_read c.args.book.now c.args.columns c.args.text.now c.loop-line.script c.loop-line.items c.loop-line.sectors line (left c.next.new.self) (seen_entry c.next_entry.new.room c.in-Ok.entry) told so_far in
     let room = c.in-Ok.ensures.joins in
     let same : length c.joins.result.now ≡ length c.loop-line.script.joins = ap (λ (js : List Join). length js) c.joins.ensures in
     let longer = length-append c.loop-line.script.joins (joined_in c.in-Ok.entry.join) in
     record {
-      read = rw (c.in_ok-push-in-Ok.ensures, c.read_sectors-sectors.ensures.value) more;
-      bound = rw c.read_sectors-sectors.ensures.value c.in-Ok.ensures.bound;
+      read = rw (c.in_ok-push-in-Ok.ensures, c.read_sectors-sectors.ensures.value c.next_entry.new.room) more;
+      bound = rw (c.read_sectors-sectors.ensures.value c.next_entry.new.room) c.in-Ok.ensures.bound;
       joins = rw (c.in_ok-push-in-Ok.ensures) (omega (arith, room, same, longer));
     }
 

@@ -1,7 +1,7 @@
 use Rattle.std.proofs.Common.{◌+◌, ◌<◌, ◌≤◌, ◌^◌, List, ℕ, Bool, length}
 use Rattle.raid_bay.specs.Sink.{Puts}
 use Rattle.raid_script.specs.Blocks.{blocks_text}
-use Rattle.raid_script.proofs.runs.put_blocks.Given as goal
+use Rattle.raid_script.proofs.runs.put_runs.Given as goal
 
 -- whatever comes of the sectors that are left comes of all of them
 abbrev pub invariant-loop-rest : goal.invariant-loop-rest
