@@ -11,7 +11,7 @@ use Rattle.eng_world.specs.declared.item.Item.{Item}
 use Rattle.eng_world.specs.declared.item.Item.TheVariants as item
 use Rattle.eng_world.specs.declared.item.Traced.{Traced}
 use Rattle.eng_world.specs.declared.item.Traced.TheVariants as event
-use Rattle.eng_world.specs.World.{Running, Runs, World, op_of, RunsAs, Goes, IsRead}
+use Rattle.eng_world.specs.World.{Running, Runs, World, RunsAs, Goes}
 use Rattle.eng_world.specs.Planning.{Graphs}
 use Rattle.eng_world.specs.Failing.{FailsColumn, FailsIfAlive, Loses, Survives, device_on}
 use Rattle.eng_world.specs.Serving.{Begun, BackBy, Takes, Refuses}
@@ -21,19 +21,20 @@ use Rattle.eng_world.specs.Invariant.{Invariant}
 use Rattle.eng_world.proofs.Clients.{runs-same, nothing-runs, other-runs, still-runs}
 use Rattle.eng_world.proofs.Outs.{outlives-back}
 use Rattle.raid_map.specs.Regions.{region_of}
-use Rattle.raid_map.specs.Mapped.{Covers, IsAskedFor}
+use Rattle.raid_map.specs.Mapped.{Covers, AreAskedFor}
+use Rattle.raid_map.proofs.Chosen.{EachChosen, chosen-writes}
 
 -- ## While the array isn't lost
 
-asked-covers-in : (y : Shape) (in_sync : Type 0) (start : Blocks) (regions : ℕ → Bool) (w : World) → Invariant y in_sync start w → IsAskedFor y regions w
+asked-covers-in : (y : Shape) (graphs : Graphs) (in_sync : Type 0) (start : Blocks) (regions : ℕ → Bool) (w : World) → Invariant y in_sync start w → EachChosen graphs w → AreAskedFor y graphs regions w
     → (c n unit buf : ℕ) (r : Running) → n < length r.plan.graph.nodes → RunsAs w c r → kind_at r.plan.graph n ≡ Wr unit buf → regions (region_of y.stripes (r.plan.stripe (stripe_of r.plan.graph buf))) ≡ true
-asked-covers-in y in_sync start regions w inv asked c n unit buf r nw runs kind =
+asked-covers-in y graphs in_sync start regions w inv chosen asked c n unit buf r nw runs kind =
     let s = inv.control.served c r runs in
     let b = (s.accepted.2.write n unit buf nw kind).1 in
     let t = s.task.stripes _ b.stripe in
     let running : (w.clients c).current ≡ Runs r = runs in
-    asked.asked c (length (w.clients c).replies) s.op s.graph _ s.item
-    (λ read. asked.reads c n unit buf r runs (subst IsRead (sym (ap op_of s.item)) read) kind)
+    asked c (length (w.clients c).replies) s.op s.graph _ s.item
+    (chosen-writes graphs s.op s.graph r.plan n unit buf s.kind (chosen c s.op s.graph r runs s.item) kind)
     (inv.control.within c s.op s.graph (λ e. nothing-runs (sym e ∙ running)) s.item)
     t.0 t.1
 
@@ -129,8 +130,8 @@ module _ (y : Shape) (graphs : Graphs) where
 past-kind : {A : Type 0} (r : Running) (n unit buf : ℕ) → length r.plan.graph.nodes ≤ n → kind_at r.plan.graph n ≡ Wr unit buf → A
 past-kind r n unit buf far kind = absurd (let z : no_vertex.kind ≡ Wr unit buf = ap (λ (v : Vertex). v.kind) (sym (get_or_past r.plan.graph.nodes n no_vertex far)) ∙ kind in let u : ⊥ = cc in u)
 
-pub asked-covers : (y : Shape) (in_sync : Type 0) (start : Blocks) (regions : ℕ → Bool) (w : World) → Invariant y in_sync start w → IsAskedFor y regions w → Covers y regions w
-asked-covers y in_sync start regions w inv asked c n unit buf r runs kind = elim (cases_lt n (length r.plan.graph.nodes)) [
-  | inl lt ↦ asked-covers-in y in_sync start regions w inv asked c n unit buf r lt runs kind
+pub asked-covers : (y : Shape) (graphs : Graphs) (in_sync : Type 0) (start : Blocks) (regions : ℕ → Bool) (w : World) → Invariant y in_sync start w → EachChosen graphs w → AreAskedFor y graphs regions w → Covers y regions w
+asked-covers y graphs in_sync start regions w inv chosen asked c n unit buf r runs kind = elim (cases_lt n (length r.plan.graph.nodes)) [
+  | inl lt ↦ asked-covers-in y graphs in_sync start regions w inv chosen asked c n unit buf r lt runs kind
   | inr far ↦ past-kind r n unit buf far kind
 ]

@@ -13,6 +13,7 @@ use Rattle.eng_world.specs.World.{Plan, World, RunsAs}
 use Rattle.eng_world.proofs.Clients.{nothing-runs}
 use Rattle.raid_map.specs.Regions.{region_of}
 use Rattle.raid_map.proofs.Asked.{asked-covers, step-plans}
+use Rattle.raid_map.proofs.Chosen.{run-chosen}
 use Rattle.eng_world.specs.Planning.{Graphs, Promises}
 use Rattle.eng_world.specs.Step.{Step, EventsLead}
 use Rattle.eng_world.specs.Rows.{HasHad}
@@ -78,6 +79,17 @@ traced (Settle d ∷ events) = traced events
 traced (Happens e ∷ events) = e ∷ traced events
 traced (Clear d ∷ events) = traced events
 
+-- each of them is an event of the whole
+pub traced-has : (events : List Event) (e : Traced) → Contains (traced events) e → Contains events (Happens e)
+traced-has [] e has = in-none e has
+traced-has (Mark d marks ∷ events) e has = tail-has (Mark d marks) events (Happens e) (traced-has events e has)
+traced-has (Settle d ∷ events) e has = tail-has (Settle d) events (Happens e) (traced-has events e has)
+traced-has (Happens x ∷ events) e has = elim (cons-cases x (traced events) e has) [
+  | inl is ↦ subst (λ z. Contains (Happens x ∷ events) (Happens z)) is (head-has (Happens x) events)
+  | inr more ↦ tail-has (Happens x) events (Happens e) (traced-has events e more)
+]
+traced-has (Clear d ∷ events) e has = tail-has (Clear d) events (Happens e) (traced-has events e has)
+
 -- none of them clears a map
 abbrev pub Unclear : List Event → Type 0
 Unclear events = (d : ℕ) → Contains events (Clear d) → ⊥
@@ -110,7 +122,8 @@ module _ (y : Shape) (layout : IsLayout y) (graphs : Graphs) (promises : Promise
   covered (Happens e ∷ events) now h = go now.world.lost refl (covered events h.0 h.1)
     where
       go : (o : Option Loss) → now.world.lost ≡ o → Covers y regions h.0.world → Covers y regions now.world
-      go None kept was = asked-covers y sync start.world.blocks regions now.world (world-known (Happens e ∷ events) now h kept) h.2.2
+      go None kept was = asked-covers y graphs sync start.world.blocks regions now.world (world-known (Happens e ∷ events) now h kept)
+          (run-chosen y layout graphs promises start.world s.opening (e ∷ traced events) now.world (worlds (Happens e ∷ events) now h) kept) h.2.2
       go (Some loss) is was = λ c n unit buf r runs kind.
           let q = step-plans y graphs e h.0.world now.world loss is h.2.0 c r runs in
           ap (λ (p : Plan). regions (region_of y.stripes (p.stripe (stripe_of p.graph buf)))) q.2 ∙ was c n unit buf q.0 q.1 (sym (ap (λ (p : Plan). kind_at p.graph n) q.2) ∙ kind)

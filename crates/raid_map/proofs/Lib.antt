@@ -1,4 +1,5 @@
 pub mod Sited
+pub mod Chosen
 pub mod Asked
 pub mod Holding
 pub mod Safe
@@ -12,4 +13,10 @@ pub mod MapBytes
 pub mod MarkOne
 pub mod MarkLaws
 pub mod SweepOn
+pub mod SweepCalls
 pub mod Unions
+pub mod ReadOne
+pub mod ReadLaws
+pub mod Spans
+pub mod Script
+pub mod Readers

@@ -1,9 +1,10 @@
 -- Columns that are marked one after the other.
-use Rattle.std.proofs.Common.{◌≡◌, ◌≢◌, ◌∙◌, ℕ, zero, suc, ◌+◌, ◌<◌, ◌≤◌, Bool, true, false, List, [], ◌∷◌, length, Option, Some, None, refl, sym, ap, subst, inl, inr, arith}
-use Rattle.std.specs.Prelude.{Contains, set, slice_get, option_and_then, if◌then◌else◌}
-use Rattle.std.proofs.lemmas.Bool.{cases_lt}
+use Rattle.std.proofs.Common.{◌≡◌, ◌≢◌, ◌∙◌, ℕ, zero, suc, ◌+◌, ◌<◌, ◌≤◌, Bool, true, false, List, [], ◌∷◌, length, Option, Some, None, refl, sym, ap, subst, inl, inr, arith, append-nil}
+use Rattle.std.specs.Prelude.{Contains, is_some, set, slice_get, option_and_then, if◌then◌else◌}
+use Rattle.std.proofs.lemmas.Bool.{cases_eq, cases_lt}
 use Rattle.std.proofs.lemmas.List.{length-set}
 use Rattle.std.proofs.lemmas.Option.{slice_get_within}
+use Rattle.blk_disk.specs.declared.disk.Call.{Call}
 use Rattle.blk_disk.specs.declared.disk.Logged.{Logged}
 use Rattle.blk_disk.specs.declared.disk.Disk.{Ghosts}
 use Rattle.blk_disk.specs.Devices.{device_at, size_of, calls_of, Changes}
@@ -14,16 +15,16 @@ use Rattle.eng_cols.specs.declared.column.Column.TheVariants as column
 use Rattle.eng_cols.specs.Cols.{device_set}
 use Rattle.eng_cols.specs.Deaths.{Dies}
 use Rattle.eng_cols.proofs.DeathLaws.{dies-refl, dies-more, dies-then, dies-set}
-use Rattle.raid_map.specs.Marking.{IsOn, IsMapSector, MarksOn, CanBeMarked, LosesDevice, MarksColumn, AreMarked}
+use Rattle.raid_map.specs.Marking.{IsOn, has_device, IsMapSector, MarksOn, MarksAtMost, CanBeMarked, LosesDevice, MarksColumn, AreMarked}
 
 -- ## Lists of columns
 
-set_here : (xs : List Column) (i : ℕ) (x : Column) → i < length xs → slice_get (set xs i x) i ≡ Some x
+pub set_here : (xs : List Column) (i : ℕ) (x : Column) → i < length xs → slice_get (set xs i x) i ≡ Some x
 set_here [] i x h = absurd (omega (arith, h))
 set_here (y ∷ xs) zero x h = refl
 set_here (y ∷ xs) (suc i) x h = set_here xs i x (omega (arith, h))
 
-set_other : (xs : List Column) (i k : ℕ) (x : Column) → k ≢ i → slice_get (set xs i x) k ≡ slice_get xs k
+pub set_other : (xs : List Column) (i k : ℕ) (x : Column) → k ≢ i → slice_get (set xs i x) k ≡ slice_get xs k
 set_other [] i k x apart = refl
 set_other (y ∷ xs) zero zero x apart = absurd (apart refl)
 set_other (y ∷ xs) zero (suc k) x apart = refl
@@ -38,17 +39,33 @@ on_within columns c d h = go (slice_get columns c) refl h
     go None is h = absurd (let z : None ≡ Some d = h in let u : ⊥ = cc in u)
     go (Some x) is h = slice_get_within columns c x is
 
-if_other : (columns : List Column) (c k : ℕ) (good : Bool) → k ≢ c → slice_get (if good then columns else set columns c column.Dead) k ≡ slice_get columns k
+pub if_other : (columns : List Column) (c k : ℕ) (good : Bool) → k ≢ c → slice_get (if good then columns else set columns c column.Dead) k ≡ slice_get columns k
 if_other columns c k true apart = refl
 if_other columns c k false apart = set_other columns c k column.Dead apart
 
-if_on : (columns : List Column) (c d : ℕ) (good : Bool) → c < length columns → IsOn (if good then columns else set columns c column.Dead) c d → good ≡ true
+pub if_on : (columns : List Column) (c d : ℕ) (good : Bool) → c < length columns → IsOn (if good then columns else set columns c column.Dead) c d → good ≡ true
 if_on columns c d true within h = refl
 if_on columns c d false within h = absurd (let z : None ≡ Some d = ap device_set (sym (set_here columns c column.Dead within)) ∙ h in let u : ⊥ = cc in u)
 
-if_dies : (cause : ℕ → Type 0) (columns : List Column) (c : ℕ) (good : Bool) → c < length columns → (good ≡ false → cause c) → Dies cause columns (if good then columns else set columns c column.Dead)
+pub if_dies : (cause : ℕ → Type 0) (columns : List Column) (c : ℕ) (good : Bool) → c < length columns → (good ≡ false → cause c) → Dies cause columns (if good then columns else set columns c column.Dead)
 if_dies cause columns c true h why = dies-refl cause columns
 if_dies cause columns c false h why = dies-set cause columns c h (why refl)
+
+-- the column has its device still exactly where the mark went well
+pub if_has : (columns : List Column) (c d : ℕ) (good : Bool) → c < length columns → IsOn columns c d → has_device (slice_get (if good then columns else set columns c column.Dead) c) ≡ good
+if_has columns c d true within on = ap is_some on
+if_has columns c d false within on = ap has_device (set_here columns c column.Dead within)
+
+-- ## Calls
+
+none_marks : (a : Option (List Call)) → MarksAtMost a a
+none_marks None = tt
+none_marks (Some calls) = ([], inl refl, sym (append-nil calls))
+
+marks_most : (a b : Option (List Call)) (good : Bool) → MarksOn a b good → MarksAtMost a b
+marks_most a None good h = tt
+marks_most None (Some now) good h = absurd h
+marks_most (Some before) (Some now) good h = (h.0, inr (good, h.1), h.2)
 
 pub not_on : (o : Option ℕ) (d : ℕ) → o ≡ None → o ≡ Some d → ⊥
 not_on o d h k = let z : None ≡ Some d = sym h ∙ k in let u : ⊥ = cc in u
@@ -57,7 +74,7 @@ pub if_length : (columns : List Column) (c : ℕ) (good : Bool) → length (if g
 if_length columns c true = refl
 if_length columns c false = length-set columns c column.Dead
 
-one_device : {a b : ℕ} → Some a ≡ Some b → a ≡ b
+pub one_device : {a b : ℕ} → Some a ≡ Some b → a ≡ b
 one_device h = cc
 
 module _ {D : Type 0} (g : Ghosts D) (bytes : List ℕ) where
@@ -66,9 +83,10 @@ module _ {D : Type 0} (g : Ghosts D) (bytes : List ℕ) where
     frame = changes-refl g (IsMapSector columns) ds;
     dies = dies-refl (LosesDevice g columns ds ds) columns;
     safe = λ c d x below. absurd (omega (arith, below));
-    told = λ c d below. absurd (omega (arith, below));
+    once = λ c d below. absurd (omega (arith, below));
     others = λ d never. refl;
     kept = λ c h. refl;
+    told = λ d. none_marks (calls_of g ds d);
   }
 
   -- the next column has no device
@@ -80,12 +98,13 @@ module _ {D : Type 0} (g : Ghosts D) (bytes : List ℕ) where
       | inl lt ↦ was.safe c d x lt on there
       | inr le ↦ let e : c ≡ n = omega (arith, below, le) in absurd (not d (subst (λ z. IsOn after z d) e on))
     ];
-    told = λ c d below on. elim (cases_lt c n) [
-      | inl lt ↦ was.told c d lt on
+    once = λ c d below on. elim (cases_lt c n) [
+      | inl lt ↦ was.once c d lt on
       | inr le ↦ let e : c ≡ n = omega (arith, below, le) in absurd (not d (ap device_set (was.kept n (omega arith)) ∙ subst (λ z. IsOn columns z d) e on))
     ];
     others = λ d never. was.others d (λ c below. never c (omega (arith, below)));
     kept = λ c h. was.kept c (omega (arith, h));
+    told = was.told;
   }
 
   module _ (n : ℕ) (columns mid after : List Column) (old dev new : List (Option D)) (can : CanBeMarked g columns old) (was : AreMarked g n bytes columns mid old dev) (step : MarksColumn g n bytes mid after dev new) where
@@ -128,6 +147,13 @@ module _ {D : Type 0} (g : Ghosts D) (bytes : List ℕ) where
     apart-from : (c k : ℕ) → c < n → IsOn columns c k → k ≢ d
     apart-from c k below on e = let z = can.apart c n d (on ∙ ap Some e) here in omega (arith, below, z)
 
+    -- its calls
+    marks : MarksOn (calls_of g old d) (calls_of g new d) step.good
+    marks = subst (λ o. MarksOn o (calls_of g new d) step.good) (ap (λ o. option_and_then g.calls o) fresh) step.marking.told
+
+    good_is : has_device (slice_get after n) ≡ step.good
+    good_is = ap (λ (l : List Column). has_device (slice_get l n)) step.after_is ∙ if_has mid n d step.good within step.on
+
     pub marked-more : AreMarked g (n + 1) bytes columns after old new
     marked-more = record {
       frame = changes-then g (IsMapSector columns) old dev new was.frame moved;
@@ -143,20 +169,23 @@ module _ {D : Type 0} (g : Ghosts D) (bytes : List ℕ) where
             let same : d ≡ k = one_device (sym step.on ∙ ap (λ (l : List Column). device_set (slice_get l n)) (ap (λ b. if b then mid else set mid n column.Dead) (sym good) ∙ sym step.after_is) ∙ on-n) in
             step.marking.safe good x (ap (device_at new) same ∙ there)
       ];
-      told = λ c k below on. elim (cases_lt c n) [
+      once = λ c k below on. elim (cases_lt c n) [
         | inl lt ↦
-            let t = was.told c k lt on in
-            (t.0, subst (λ o. MarksOn (calls_of g old k) o t.0) (ap (λ o. option_and_then g.calls o) (sym (step.marking.others k (apart-from c k lt on)))) t.1, λ good. ap device_set (state c lt) ∙ t.2 good)
+            subst (λ o. MarksOn (calls_of g old k) o (has_device (slice_get after c))) (ap (λ o. option_and_then g.calls o) (sym (step.marking.others k (apart-from c k lt on))))
+            (subst (λ o. MarksOn (calls_of g old k) (calls_of g dev k) (has_device o)) (sym (state c lt)) (was.once c k lt on))
         | inr le ↦
             let e : n ≡ c = omega (arith, below, le) in
-            let same : d ≡ k = one_device (sym here ∙ subst (λ z. IsOn columns z k) (sym e) on) in (
-              step.good,
-              subst (λ j. MarksOn (calls_of g old j) (calls_of g new j) step.good) same (subst (λ o. MarksOn o (calls_of g new d) step.good) (ap (λ o. option_and_then g.calls o) fresh) step.marking.told),
-              λ good. subst (λ z. IsOn after z k) e (ap (λ (l : List Column). device_set (slice_get l n)) (step.after_is ∙ ap (λ b. if b then mid else set mid n column.Dead) good) ∙ step.on ∙ ap Some same),
-            )
+            let same : d ≡ k = one_device (sym here ∙ subst (λ z. IsOn columns z k) (sym e) on) in
+            subst (λ z. MarksOn (calls_of g old k) (calls_of g new k) (has_device (slice_get after z))) e
+            (subst (λ b. MarksOn (calls_of g old k) (calls_of g new k) b) (sym good_is)
+            (subst (λ j. MarksOn (calls_of g old j) (calls_of g new j) step.good) same marks))
       ];
       others = λ k never. step.marking.others k (λ e. never n (omega arith) (here ∙ ap Some (sym e))) ∙ was.others k (λ c below. never c (omega (arith, below)));
       kept = λ c h. ap (λ (l : List Column). slice_get l c) step.after_is ∙ (if_other mid n c step.good (λ e. omega (arith, h, e)) ∙ was.kept c (omega (arith, h)));
+      told = λ k. elim (cases_eq k d) [
+        | inl e ↦ subst (λ j. MarksAtMost (calls_of g old j) (calls_of g new j)) (sym e) (marks_most (calls_of g old d) (calls_of g new d) step.good marks)
+        | inr ne ↦ subst (MarksAtMost (calls_of g old k)) (ap (λ o. option_and_then g.calls o) (sym (step.marking.others k ne))) (was.told k)
+      ];
     }
 
   -- the device of the next column has its sectors

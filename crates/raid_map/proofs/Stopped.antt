@@ -23,7 +23,7 @@ use Rattle.raid_map.specs.Union.{UnionMarks, IsUnsound}
 use Rattle.raid_map.proofs.Holding.{Unclear, traced, worlds, covered, holds}
 use Rattle.raid_map.proofs.Safe.{maps, HasCome, some, none, has-come, safe-since, still-there}
 use Rattle.raid_map.proofs.Images.{byte-here}
-use Rattle.raid_map.proofs.Unsound.{outside, spared-sound, unsound-marked, map-may}
+use Rattle.raid_map.proofs.Unsound.{start-alone, outside, spared-sound, unsound-marked, map-may}
 use Rattle.raid_map.proofs.Columns.{TiedTo, tied-refl, step-tied}
 use Rattle.raid_map.proofs.Cleared.{HasCleared, cleared, unclear, has-cleared, rests, IsQuiet, is-quiet}
 
@@ -144,7 +144,9 @@ module _ (y : Shape) (layout : IsLayout y) (graphs : Graphs) (promises : Promise
     stopped-marked = by-clear (has-cleared events)
       where
         by-region : Unclear events → (e : Traced) → Contains events (Happens e) → (regions (region_of y.stripes t) ≡ true) ⊎ (regions (region_of y.stripes t) ≡ false) → UnionMarks y serial now.world.columns image (region_of y.stripes t)
-        by-region clear e has (inr not) = absurd (spared-sound y layout graphs promises serial regions start s events now run t any image left (was-unsound not) (outside y layout graphs promises serial regions start s events now run t u.stripe not))
+        by-region clear e has (inr not) =
+            let out = outside y layout graphs promises serial regions start s events now run start.world.columns (start-alone y layout graphs promises serial regions start s events now run) t u.stripe not in
+            absurd (spared-sound y layout graphs promises serial regions start s events now run start.world.columns any t image left (was-unsound not) out)
         by-region clear e has (inl is) =
             let both = one-used in
             let safe = safe-since y layout graphs promises serial regions start s events now run e has both.1 (both.0, both.3) in

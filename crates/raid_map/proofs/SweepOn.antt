@@ -10,7 +10,7 @@ use Rattle.blk_disk.proofs.DeviceLaws.{changes-refl, changes-more, changes-then,
 use Rattle.lay_core.specs.Layout.{Shape, IsLayout, data_units}
 use Rattle.eng_cols.specs.declared.column.Column.{Column}
 use Rattle.eng_cols.specs.declared.spot.Spot.{Spot}
-use Rattle.eng_cols.specs.Cols.{ColumnState, HasDevice, InOrder, state_set}
+use Rattle.eng_cols.specs.Cols.{ColumnState, Columns, IsFor, HasDevice, InOrder, state_set}
 use Rattle.eng_cols.specs.Seats.{is_available, seat}
 use Rattle.eng_cols.specs.Contents.{InSync}
 use Rattle.eng_cols.specs.Deaths.{Dies}
@@ -19,7 +19,7 @@ use Rattle.eng_cols.proofs.Spots.{available-seat, seat-device}
 use Rattle.eng_cols.proofs.Killing.{seat-apart}
 use Rattle.raid_recon.specs.declared.kind.Sweep.TheVariants.{Sync}
 use Rattle.eng_cols.specs.Stripes.{filled_in, states_of, count_below}
-use Rattle.raid_recon.specs.Array.{IsArray, IsComplete, IsCheckSector, Failed}
+use Rattle.raid_recon.specs.Array.{IsArray, IsJudge, IsComplete, IsCheckSector, Failed}
 use Rattle.raid_recon.specs.Sums.{sum_of, IsZero, IsNotZero}
 use Rattle.raid_recon.specs.Turns.{Turn, Left, Unread, Sound, Unsound, Written, Unwritten, does_count, does_write, failed_at, dead_at, IsTurn}
 use Rattle.raid_recon.specs.Units.{SweepsStripe}
@@ -85,6 +85,13 @@ module _ {D : Type 0} (g : Ghosts D) (y : Shape) (layout : IsLayout y) (one : y.
     most = λ p each. let m = was.most p (λ s below. each s (omega (arith, below))) in below-more p n counted m;
     least = λ p each. let l = was.least p (λ s below. each s (omega (arith, below))) in
         subst (λ z. z ≤ counted) (sym (below-none p n (λ h. no-bool (sym not ∙ (each n (omega arith) h).0)))) l;
+  }
+
+  -- the judge is set to the columns
+  pub judge-set : (was is : Columns) → IsFor y was → length columns ≡ y.columns → is ≡ record was { states = cols } → IsJudge y columns is
+  judge-set was is fit entries set = record {
+    fit = subst (IsFor y) (sym set) (record { columns = length-map columns (state_set y.stripes (filled_in y columns)) ∙ entries; stripes = fit.stripes });
+    states = ap (λ (v : Columns). v.states) set;
   }
 
   pub swept-none : Swept 0 columns old

@@ -1,5 +1,5 @@
 -- A map to which sectors were added.
-use Rattle.std.proofs.Common.{◌≡◌, ◌<◌, ◌-◌, ◌*◌, ℕ, List, Bool, true, false, refl, ◌∙◌, ap, arith, length}
+use Rattle.std.proofs.Common.{◌≡◌, ◌<◌, ◌≤◌, ◌-◌, ◌*◌, ℕ, List, Bool, true, false, refl, ◌∙◌, ap, arith, length}
 use Rattle.std.specs.Prelude.{◌||◌, ◌&&◌, slice_index}
 use Rattle.std.proofs.Math.Nat.{div-lt_iff_lt-mul}
 use Rattle.std.proofs.lemmas.Bool.{lt-ltb}
@@ -22,9 +22,15 @@ region-within stripes s h =
     let fits : s < 3968 * region_stripes stripes = omega (arith, h) in
     (omega (arith, a), (div-lt_iff_lt-mul {k = region_stripes stripes} {x = s} {y = 3968} each).1 fits)
 
-pub added-marks : (old new : Marks) (sector : List ℕ) (marks : ℕ → Bool) (r : ℕ) → Adds old new sector → IsMap old.serial old.stripes marks (slice_index sector) → length old.marks ≡ regions_in old.stripes → r < regions_in old.stripes → r < 3968 → marks r ≡ true → is_marked new.marks r ≡ true
-added-marks old new sector marks r adds map count within few h =
-    adds.marks r (omega (arith, count, within)) ∙ or-right (is_marked old.marks r) (bit_at (slice_index sector) r) (map.bits r few ∙ ap (λ b. b && marks r) (lt-ltb r (regions_in old.stripes) within) ∙ h)
+-- a map has bits enough
+pub regions-few : (stripes : ℕ) → 1 ≤ stripes → regions_in stripes ≤ 3968
+regions-few stripes some = let w = region-within stripes (stripes - 1) (omega (arith, some)) in let few = w.1 in omega (arith, few)
+
+pub added-marks : (old new : Marks) (sector : List ℕ) (marks : ℕ → Bool) (r : ℕ) → Adds old new sector → IsMap old.serial old.stripes marks (slice_index sector) → r < regions_in old.stripes → marks r ≡ true → is_marked new.marks r ≡ true
+added-marks old new sector marks r adds map within h =
+    let count = adds.whole in
+    let few = regions-few old.stripes adds.some in
+    adds.marks r (omega (arith, count, within)) ∙ or-right (is_marked old.marks r) (bit_at (slice_index sector) r) (map.bits r (omega (arith, few, within)) ∙ ap (λ b. b && marks r) (lt-ltb r (regions_in old.stripes) within) ∙ h)
 
 pub kept-marks : (old new : Marks) (sector : List ℕ) (r : ℕ) → Adds old new sector → r < length old.marks → is_marked old.marks r ≡ true → is_marked new.marks r ≡ true
 kept-marks old new sector r adds within h = adds.marks r within ∙ or-left (is_marked old.marks r) (bit_at (slice_index sector) r) h

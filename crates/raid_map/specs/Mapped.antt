@@ -5,14 +5,17 @@ use Rattle.blk_disk.specs.declared.disk.Call.{Call}
 use Rattle.lay_core.specs.Layout.{Shape}
 use Rattle.graph_mean.specs.declared.graph.Node.TheVariants.{Wr}
 use Rattle.graph_mean.specs.declared.step.Status.TheVariants.{Out}
-use Rattle.graph_mean.specs.Graph.{kind_at}
+use Rattle.graph_mean.specs.declared.task.Kind.TheVariants as kind
+use Rattle.graph_mean.specs.Graph.{View, kind_at}
+use Rattle.graph_mean.specs.Task.{Aim, Missing}
 use Rattle.graph_mean.specs.Steps.{stripe_of}
-use Rattle.eng_cols.specs.Cols.{HasDevice}
+use Rattle.eng_cols.specs.Cols.{ColumnState, Dead, HasDevice, InOrder}
 use Rattle.eng_cols.specs.declared.spot.Spot.{Spot}
 use Rattle.eng_cols.specs.Contents.{Contents, InSync}
 use Rattle.eng_world.specs.declared.item.Traced.{Traced}
+use Rattle.eng_world.specs.declared.item.Traced.TheVariants as event
 use Rattle.eng_world.specs.declared.item.Item.TheVariants as item
-use Rattle.eng_world.specs.World.{Running, World, RunsAs, IsRead, op_now}
+use Rattle.eng_world.specs.World.{Running, World, RunsAs, IsRead}
 use Rattle.eng_world.specs.Planning.{Graphs, InReach, Concerns}
 use Rattle.eng_world.specs.Nodes.{IsWrittenAt}
 use Rattle.eng_world.specs.Step.{IsOpening, Step}
@@ -99,10 +102,22 @@ pub record IsSettled (events : List Event) (d : ℕ) : Type 0 where
 abbrev pub Covers : Shape → (ℕ → Bool) → World → Type 0
 Covers y regions w = (c n unit buf : ℕ) (r : Running) → RunsAs w c r → kind_at r.plan.graph n ≡ Wr unit buf → regions (region_of y.stripes (r.plan.stripe (stripe_of r.plan.graph buf))) ≡ true
 
--- What the regions are to hold: the stripes that each operation in reach concerns which isn't a read, whoever asks it, client 16 among them. And no read's graph writes, as none of the library does.
-pub record IsAskedFor (y : Shape) (regions : ℕ → Bool) (w : World) : Type 0 where
-  pub asked : (c n : ℕ) (op : Op) (graph : Option ℕ) (s : ℕ) → slice_get (w.clients c).items n ≡ Some (item.Run op graph) → (IsRead (Some op) → ⊥) → InReach y op → s < y.stripes → Concerns y op s → regions (region_of y.stripes s) ≡ true
-  pub reads : (c n unit buf : ℕ) (r : Running) → RunsAs w c r → IsRead (op_now (w.clients c)) → kind_at r.plan.graph n ≡ Wr unit buf → ⊥
+-- the graph has a write
+abbrev pub HasWrite : View → Type 0
+HasWrite g = (n : ℕ) × (unit : ℕ) × (buf : ℕ) × (kind_at g n ≡ Wr unit buf)
+
+-- a graph by which a read is served has a write: the one of the file that it names, or one of the library's
+abbrev pub ReadWrites : Graphs → Option ℕ → Type 0
+ReadWrites graphs (Some n) = HasWrite (graphs.file n)
+ReadWrites graphs None = (t : Aim) × (missing : Missing) × (t.kind ≡ kind.Read) × HasWrite (graphs.library t missing)
+
+-- the operation may write: it is no read, or its graph has a write
+abbrev pub MayWrite : Graphs → Op → Option ℕ → Type 0
+MayWrite graphs op graph = (IsRead (Some op) → ⊥) ⊎ ReadWrites graphs graph
+
+-- What the regions are to hold: the stripes that each operation in reach concerns which may write, whoever asks it, client 16 among them.
+abbrev pub AreAskedFor : Shape → Graphs → (ℕ → Bool) → World → Type 0
+AreAskedFor y graphs regions w = (c n : ℕ) (op : Op) (graph : Option ℕ) (s : ℕ) → slice_get (w.clients c).items n ≡ Some (item.Run op graph) → MayWrite graphs op graph → InReach y op → s < y.stripes → Concerns y op s → regions (region_of y.stripes s) ≡ true
 
 -- no operation runs
 abbrev pub NoneRuns : World → Type 0
@@ -121,7 +136,7 @@ module _ (y : Shape) (graphs : Graphs) (serial : ℕ) (regions : ℕ → Bool) w
   Leads start (Happens e) earlier old new =
       Step y graphs e old.world new.world
       × ((d : ℕ) → Logs d old.world new.world (old.stored d) (new.stored d))
-      × IsAskedFor y regions new.world
+      × AreAskedFor y graphs regions new.world
       × ((d : ℕ) → IsUsed start.world d → IsUsed old.world d → IsSafe earlier d)
       × ((d : ℕ) → Contains earlier (Clear d) → ⊥)
   Leads start (Clear d) earlier old new =
@@ -161,3 +176,9 @@ IsLeft y m image = (d n : ℕ) → MayHold (m.stored d) n (image d n) ⊎ IsUnde
 -- in each image that a stop may leave the array is in sync
 abbrev pub InSyncAnyhow : Shape → Mapped → Type 0
 InSyncAnyhow y m = (image : ℕ → ℕ → ℕ → ℕ) → IsImage m.stored image → InSync y image m.world.columns
+
+-- Columns that the array had before it was opened, as its labels still say: since then each has stayed as it was or has died, and no device of theirs is given to another column.
+pub record IsEarlier (earlier opened : List ColumnState) (events : List Event) : Type 0 where
+  pub order : InOrder earlier
+  pub each : (c : ℕ) → (slice_get opened c ≡ slice_get earlier c) ⊎ (slice_get opened c ≡ Some Dead)
+  pub filled : (c k d count : ℕ) → HasDevice earlier c d → Contains events (Happens (event.Fill k d count)) → k ≡ c

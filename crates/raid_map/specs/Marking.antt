@@ -1,5 +1,5 @@
 -- What it is that the devices in use are marked.
-use Rattle.std.specs.Prelude.{◌≡◌, ◌≢◌, ◌<◌, ◌≤◌, ◌⊎◌, ℕ, List, [], ◌∷◌, ◌++◌, Bool, true, false, Option, Some, None, slice_get, slice_set, if◌then◌else◌}
+use Rattle.std.specs.Prelude.{◌≡◌, ◌≢◌, ◌<◌, ◌≤◌, ◌⊎◌, ℕ, List, [], ◌∷◌, ◌++◌, Bool, true, false, Option, Some, None, is_some, slice_get, slice_set, if◌then◌else◌}
 use Rattle.blk_disk.specs.declared.disk.Call.{Call}
 use Rattle.blk_disk.specs.declared.disk.Disk.{Ghosts}
 use Rattle.blk_disk.specs.Disk.{call_of}
@@ -13,6 +13,10 @@ use Rattle.eng_cols.specs.Deaths.{Dies}
 -- column c has device d
 abbrev pub IsOn : List Column → ℕ → ℕ → Type 0
 IsOn columns c d = device_set (slice_get columns c) ≡ Some d
+
+-- there is a column there, and it has a device
+abbrev pub has_device : Option Column → Bool
+has_device o = is_some (device_set o)
 
 -- sector 1 of a device in use
 pub record IsMapSector (columns : List Column) (d n : ℕ) : Type 0 where
@@ -30,6 +34,12 @@ abbrev pub MarksOn : Option (List Call) → Option (List Call) → Bool → Type
 MarksOn before None good = Unit {0}
 MarksOn None (Some now) good = ⊥
 MarksOn (Some before) (Some now) good = (more : List Call) × MarkCalls good more × (now ≡ before ++ more)
+
+-- where the calls are told now, they were told before; and those that came are of a mark, or there are none
+abbrev pub MarksAtMost : Option (List Call) → Option (List Call) → Type 0
+MarksAtMost before None = Unit {0}
+MarksAtMost None (Some now) = ⊥
+MarksAtMost (Some before) (Some now) = (more : List Call) × ((more ≡ []) ⊎ ((good : Bool) × MarkCalls good more)) × (now ≡ before ++ more)
 
 module _ {D : Type 0} (g : Ghosts D) where
   -- The device of each column is there with two sectors, and is no other's.
@@ -64,11 +74,12 @@ module _ {D : Type 0} (g : Ghosts D) where
     pub marking : IsMarking device bytes old new good
     pub after_is : after ≡ (if good then columns else slice_set columns c column.Dead)
 
-  -- The first n columns were marked. No sector has changed but sector 1 of devices in use; a column has died where its device failed, and no other died; each of the first n that has its device still is safe; its device had the calls of a mark; no other device was called.
+  -- The first n columns were marked. No sector has changed but sector 1 of devices in use; a column has died where its device failed, and no other died; each of the first n that has its device still is safe; the device of each of them that has one had the calls of a mark, which went well exactly where the column has it still; no other device was called.
   pub record AreMarked (n : ℕ) (bytes : List ℕ) (columns after : List Column) (old new : List (Option D)) : Type 0 where
     pub frame : Changes g (IsMapSector columns) old new
     pub dies : Dies (LosesDevice columns old new) columns after
     pub safe : (c d : ℕ) (x : D) → c < n → IsOn after c d → device_at new d ≡ Some x → IsSafeOn x bytes
-    pub told : (c d : ℕ) → c < n → IsOn columns c d → (good : Bool) × MarksOn (calls_of g old d) (calls_of g new d) good × (good ≡ true → IsOn after c d)
+    pub once : (c d : ℕ) → c < n → IsOn columns c d → MarksOn (calls_of g old d) (calls_of g new d) (has_device (slice_get after c))
     pub others : (d : ℕ) → ((c : ℕ) → c < n → IsOn columns c d → ⊥) → device_at new d ≡ device_at old d
     pub kept : (c : ℕ) → n ≤ c → slice_get after c ≡ slice_get columns c
+    pub told : (d : ℕ) → MarksAtMost (calls_of g old d) (calls_of g new d)

@@ -60,8 +60,10 @@ IsBytesOf m sector = IsMap m.serial m.stripes (is_marked m.marks) (slice_index s
 abbrev pub IsMapOf : Marks → List ℕ → Type 0
 IsMapOf m sector = (marks : ℕ → Bool) × IsMap m.serial m.stripes marks (slice_index sector)
 
--- the map, with the regions that the sector marks
+-- the map, which has a mark for each region, with the regions that the sector marks
 pub record Adds (old new : Marks) (sector : List ℕ) : Type 0 where
+  pub some : 1 ≤ old.stripes
+  pub whole : length old.marks ≡ regions_in old.stripes
   pub stripes : new.stripes ≡ old.stripes
   pub serial : new.serial ≡ old.serial
   pub count : length new.marks ≡ length old.marks

@@ -1,12 +1,15 @@
 -- What a sweep over the marked stripes does.
-use Rattle.std.specs.Prelude.{◌≡◌, ◌<◌, ◌≤◌, ℕ, List, Bool, true, Option}
+use Rattle.std.specs.Prelude.{◌≡◌, ◌<◌, ◌≤◌, ◌++◌, ℕ, List, All, Bool, true, Option, Some, None}
+use Rattle.blk_disk.specs.declared.disk.Call.{Call}
 use Rattle.blk_disk.specs.declared.disk.Disk.{Ghosts}
 use Rattle.blk_disk.specs.Devices.{Changes, contents_of}
 use Rattle.lay_core.specs.Layout.{Shape}
 use Rattle.eng_cols.specs.declared.column.Column.{Column}
+use Rattle.eng_cols.specs.Cols.{ColumnState}
 use Rattle.eng_cols.specs.Deaths.{Dies}
 use Rattle.eng_cols.specs.Stripes.{states_of, count_below}
 use Rattle.raid_recon.specs.Array.{IsComplete, IsCheckSector, Failed}
+use Rattle.raid_recon.specs.Ends.{AreGoodButLast, IsUnitCall}
 use Rattle.raid_recon.specs.Sums.{IsZero, IsNotZero}
 use Rattle.raid_map.specs.Regions.{Marks, region_of, is_marked}
 
@@ -38,3 +41,16 @@ module _ {D : Type 0} (g : Ghosts D) (y : Shape) (marks : ℕ → Bool) (columns
   pub record IsCountedTo (stripes : ℕ) (after : List Column) (n : ℕ) : Type 0 where
     pub most : (p : ℕ → Bool) → ((s : ℕ) → s < stripes → marks s ≡ true → IsComplete y (states_of y columns) s → (g.tells → IsNotZero y (contents_of g old) (states_of y columns) s) → p s ≡ true) → n ≤ count_below p stripes
     pub least : (p : ℕ → Bool) → ((s : ℕ) → s < stripes → p s ≡ true → (marks s ≡ true) × IsComplete y (states_of y after) s × (g.tells × IsNotZero y (contents_of g old) (states_of y columns) s)) → count_below p stripes ≤ n
+
+-- ## Calls
+
+-- a call on device d of a whole unit of a marked stripe
+pub record IsMarkedCall (y : Shape) (cols : List ColumnState) (marks : ℕ → Bool) (d : ℕ) (call : Call) : Type 0 where
+  pub unit : IsUnitCall y cols d call
+  pub marked : marks unit.stripe ≡ true
+
+-- Where the calls are told, those that came are of whole units of marked stripes, and none is behind one that failed.
+abbrev pub CallsMarked : Shape → List ColumnState → (ℕ → Bool) → ℕ → Option (List Call) → Option (List Call) → Type 0
+CallsMarked y cols marks d before None = Unit {0}
+CallsMarked y cols marks d None (Some now) = ⊥
+CallsMarked y cols marks d (Some before) (Some now) = (more : List Call) × (now ≡ before ++ more) × AreGoodButLast more × All (IsMarkedCall y cols marks d) more

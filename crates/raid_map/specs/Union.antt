@@ -16,6 +16,14 @@ pub record UnionMarks (y : Shape) (serial : ℕ) (cols : List ColumnState) (imag
   pub map : IsMap serial y.stripes marks (image device 1)
   pub marked : marks r ≡ true
 
+-- a device in use has a well-formed map
+pub record HasMap (y : Shape) (serial : ℕ) (cols : List ColumnState) (image : Contents) : Type 0 where
+  pub column : ℕ
+  pub device : ℕ
+  pub used : HasDevice cols column device
+  pub marks : ℕ → Bool
+  pub map : IsMap serial y.stripes marks (image device 1)
+
 -- no unit of the stripe is missing, and their sum isn't zero
 pub record IsUnsound (y : Shape) (cols : List ColumnState) (image : Contents) (s : ℕ) : Type 0 where
   pub stripe : s < y.stripes

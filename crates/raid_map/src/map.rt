@@ -191,8 +191,9 @@ impl Map {
     /// Marks the region of a stripe.
     pub fn mark(&mut self, stripe: u32)
         requires { stripe < self.old.stripes }
-        ensures { self.new ≡ record self.old
+        ensures value { self.new ≡ record self.old
             { marks = slice_set self.old.marks (region_of self.old.stripes stripe) true } }
+        ensures marked { is_marked self.new.marks (region_of self.old.stripes stripe) ≡ true }
     {
         let region = region_of(self.stripes, stripe) as usize;
         self.marks[region] = true;
@@ -204,6 +205,22 @@ impl Map {
         ensures { result ≡ is_marked self.now.marks (region_of self.now.stripes stripe) }
     {
         is_marked(&self.marks, region_of(self.stripes, stripe))
+    }
+
+    /// How many regions there are.
+    pub fn regions(&self) -> u32
+        ensures { result ≡ regions_in self.now.stripes }
+    {
+        let _few = self.serial;
+        self.marks.len() as u32
+    }
+
+    /// Takes all marks away.
+    pub fn clear(&mut self)
+        ensures { self.new ≡ record self.old
+            { marks = replicate (regions_in self.old.stripes) false } }
+    {
+        self.marks.fill(false);
     }
 
     /// How many regions are marked.

@@ -1,6 +1,6 @@
 //! The sweep over the marked stripes.
-ghost use Rattle.std.specs.Prelude.{◌≡◌, ◌<◌, ◌≤◌, ◌*◌, IfOk, true};
-ghost use Rattle.blk_disk.specs.Devices.{contents_of};
+ghost use Rattle.std.specs.Prelude.{◌≡◌, ◌<◌, ◌≤◌, ◌*◌, ℕ, IfOk, true};
+ghost use Rattle.blk_disk.specs.Devices.{contents_of, calls_of};
 ghost use Rattle.eng_cols.specs.Cols.{IsFor};
 ghost use Rattle.eng_cols.specs.Contents.{InSync};
 ghost use Rattle.eng_cols.specs.Settable.{IsSettable};
@@ -8,7 +8,7 @@ ghost use Rattle.eng_cols.specs.Stripes.{states_of};
 ghost use Rattle.raid_recon.specs.Array.{IsArray};
 ghost use Rattle.raid_recon.specs.Units.{SweepsStripe};
 ghost use Rattle.raid_recon.specs.declared.kind.Sweep.TheVariants as sweep;
-ghost use Rattle.raid_map.specs.Sweeping.{marks_stripe, UnsoundAreMarked, IsSweptTo, IsCountedTo};
+ghost use Rattle.raid_map.specs.Sweeping.{marks_stripe, UnsoundAreMarked, IsSweptTo, IsCountedTo, CallsMarked};
 
 use crate::map::Map;
 use crate::memory::Memory;
@@ -71,6 +71,9 @@ pub fn sweep_marked<L: Layout, D: StopDisk>(
     ensures in_sync { D.tells → UnsoundAreMarked D.Disk (L.shape layout.now) (marks_stripe map.now)
         columns.old devices.old → InSync (L.shape layout.now) (contents_of D.Disk devices.new)
         (states_of (L.shape layout.now) columns.new) }
+    ensures calls { (d : ℕ) → CallsMarked (L.shape layout.now)
+        (states_of (L.shape layout.now) columns.old) (marks_stripe map.now) d
+        (calls_of D.Disk devices.old d) (calls_of D.Disk devices.new d) }
     ensures none { (L.shape layout.now).checks ≡ 0 →
         (result ≡ 0) × ((columns.new ≡ columns.old) × (devices.new ≡ devices.old)) }
     ensures room { room.new ≡ room.old }

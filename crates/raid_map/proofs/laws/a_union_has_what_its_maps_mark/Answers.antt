@@ -4,6 +4,6 @@ use Rattle.raid_map.proofs.laws.a_union_has_what_its_maps_mark.Goals as goal
 pub returns : goal.returns
 returns c = record {
   region = λ stripes s h. region-within stripes s h;
-  added = λ old new sector marks r adds map count within few h. added-marks old new sector marks r adds map count within few h;
+  added = λ old new sector marks r adds map within h. added-marks old new sector marks r adds map within h;
   kept = λ old new sector r adds within h. kept-marks old new sector r adds within h;
 }
