@@ -14,7 +14,7 @@ use raid_label::Label;
 use std::alloc::Global;
 use std::process::Abort;
 use std::test::Fail;
-use top_close::Ending;
+use top_close::{Ending, Hand};
 use top_rounds::{round, seats};
 
 // The label that was written last to three columns of level 5.
@@ -111,10 +111,11 @@ fn written(
         return Err("no array".into());
     }
     *label = LAST;
-    let mut judge = Cols::with_room(alloc, 3, 1)?;
-    let mut ending = Ending { columns, lost };
-    round(&layout, devices, &mut ending, label, &mut judge);
-    Ok(ending)
+    let judge = Cols::with_room(alloc, 3, 1)?;
+    let ending = Ending { columns, lost };
+    let mut hand = Hand { ending, judge };
+    round(&layout, devices, &mut hand, label);
+    Ok(hand.ending)
 }
 
 // Of a label on a device: counter, column, clean field, and the first three seats.

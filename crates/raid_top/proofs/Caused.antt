@@ -29,7 +29,8 @@ use Rattle.top_labelled.specs.Ran.{IsLostBefore, RanLabelled}
 use Rattle.top_labelled.proofs.Without.{without-dies}
 use Rattle.top_open.specs.declared.fronts.Front.{Front}
 use Rattle.top_close.specs.Settled.{LosesDevice}
-use Rattle.top_rounds.specs.Rounds.{DiesIn, HaveRounds, IsGivenUp, IsGivenUpIn, in_end}
+use Rattle.top_close.specs.Stage.{DiesIn, IsGivenUp, IsGivenUpIn}
+use Rattle.top_rounds.specs.Rounds.{HaveRounds, in_end}
 use Rattle.top_rounds.proofs.RoundLaws.{given_after, none_given_in}
 use Rattle.top_run.specs.Ran.{IsDeadBy, Ran as Run, RanPlain, RisesAt, WasFailed, begun_for}
 use Rattle.top_run.specs.Told.{IsToldFailed, IsToldUnbuilt}

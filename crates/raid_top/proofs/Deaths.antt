@@ -22,8 +22,10 @@ use Rattle.top_acts.specs.Labelled.{IsFirstLabelled}
 use Rattle.top_acts.proofs.Having.{has_live}
 use Rattle.top_acts.proofs.Kills.{alive_died}
 use Rattle.top_rounds.specs.Labels.{given_up}
-use Rattle.top_rounds.specs.Rounds.{DiesIn, HaveRounds, IsGivenUp, in_end}
-use Rattle.top_rounds.proofs.RoundLaws.{given_before, gives_up}
+use Rattle.top_close.specs.Stage.{DiesIn, IsGivenUp}
+use Rattle.top_rounds.specs.Rounds.{HaveRounds, in_end}
+use Rattle.top_close.proofs.StageLaws.{given_before}
+use Rattle.top_rounds.proofs.RoundLaws.{gives_up}
 use Rattle.top_run.specs.Work.{Ending}
 use Rattle.top_serve.specs.Served.{IsKeptAs}
 use Rattle.raid_top.specs.Arrays.{Renews}
@@ -98,7 +100,7 @@ module _ {D : Type 0} (g : Ghosts D) (y : Shape) (columns : List Column) (old ba
 
     pub renewed_dies : (kind : Renewal) (newest : Option Label) → Renews g y columns old back act e kind newest → Dies may columns e.columns
     renewed_dies kind None h = dies-more _ may columns e.columns loses h.dies
-    renewed_dies kind (Some l) h = losing e.lost gives e.columns h.1.named.dies
+    renewed_dies kind (Some l) h = losing e.lost gives e.columns h.1.stage.dies
 
     pub labelled_dies : (l next : Label) → IsFirstLabelled g y l next columns e.columns old back e.lost act → Dies may columns e.columns
     labelled_dies l next h = rounds_die e.lost gives _ next e.columns h.rounds

@@ -41,7 +41,7 @@ module _ {D : Type 0} (g : Ghosts D) where
 
     renewal_moves : (kind : Renewal) (newest : Option Label) → Renews g y columns old back act e kind newest → Moves old back
     renewal_moves kind None h = moved _ old back h.frame
-    renewal_moves kind (Some l) h = moved _ old back (h.1).frame
+    renewal_moves kind (Some l) h = moved _ old back (h.1).stage.frame
 
     pub order_moves : (o : Order) → DoesOrder g y columns old back act e o → Moves old back
     order_moves order.Check h = moved _ old back h.frame

@@ -25,3 +25,8 @@ mod Caused
 mod Acting
 mod Refusing
 mod Following
+mod Lawful
+mod Lossless
+mod LostRefused
+mod DeadOpened
+mod DeadActed

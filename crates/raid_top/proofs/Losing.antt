@@ -7,7 +7,9 @@ use Rattle.eng_cols.specs.declared.column.Column.{Column}
 use Rattle.eng_cols.specs.declared.column.Column.TheVariants as column
 use Rattle.eng_cols.specs.declared.spot.Loss.{Loss}
 use Rattle.eng_cols.specs.Deaths.{Dies}
+use Rattle.eng_world.specs.declared.item.Traced.{Traced}
 use Rattle.eng_world.specs.World.{World}
+use Rattle.eng_world.specs.Planning.{Graphs}
 use Rattle.raid_label.specs.declared.label.Label.{Label}
 use Rattle.top_acts.specs.declared.done.Done.{Done}
 use Rattle.top_acts.specs.declared.sweeping.Renewal.{Renewal}
@@ -39,12 +41,12 @@ only_dies cause old new dies c = elim (dies.each c) [ inl same ↦ inl same | in
 
 -- ## Runs
 
-module _ (y : Shape) (now : World) (kept last : List Column) (closes : ClosesAs y now.columns kept) (cause : ℕ → Type 0) (dies : Dies cause kept last) where
-  run_loss : (lost : Option Loss) (loss : Loss) → lost ≡ Some loss → IsLossAtEnd y now (states_of y last) lost → AreGone y last loss
+module _ (y : Shape) (graphs : Graphs) (start : World) (events : List Traced) (now : World) (kept last : List Column) (closes : ClosesAs y now.columns kept) (cause : ℕ → Type 0) (dies : Dies cause kept last) where
+  run_loss : (lost : Option Loss) (loss : Loss) → lost ≡ Some loss → IsLossAtEnd y graphs start events now (states_of y last) lost → AreGone y last loss
   run_loss None loss e is = absurd (let z : ⊥ = cc e in z)
   run_loss (Some other) loss e (inl in_run) =
       let same : other ≡ loss = cc e in
-      subst (λ (l : Loss). AreGone y last l) same (run_are_gone y in_run.1.columns now.columns kept last other in_run.1.is_lost closes in_run.1.each (only_dies cause kept last dies))
+      subst (λ (l : Loss). AreGone y last l) same (run_are_gone y in_run.1.after.columns now.columns kept last other in_run.1.is_lost closes in_run.1.each (only_dies cause kept last dies))
   run_loss (Some other) loss e (inr in_end) =
       let same : other ≡ loss = cc e in
       subst (λ (l : Loss). AreGone y last l) same (set_are_gone y last other in_end.1)
@@ -74,11 +76,11 @@ module _ {D : Type 0} (g : Ghosts D) where
     run_gone : (newest : Option Label) (o : Outcome) → DoesRun g a failed old back newest o → LossIsOfGone (layout_of a) o
     run_gone None (Ran action s) h loss is =
         let r = h.1.ran.run in
-        run_loss (layout_of a) r.now r.ends.kept s.ending.columns r.ends.closes _ r.ends.dies s.ending.lost loss is r.ends.lost
+        run_loss (layout_of a) r.graphs r.start r.events r.now r.ends.kept s.ending.columns r.ends.closes _ r.ends.dies s.ending.lost loss is r.ends.lost
     run_gone None (Did act e) h loss is = absurd h
     run_gone (Some newest) (Ran action s) h loss is =
         let r = h.1.ran.run in
-        run_loss (layout_of a) r.now r.ends.kept s.ending.columns r.ends.closes _ r.ends.dies s.ending.lost loss is r.ends.lost
+        run_loss (layout_of a) r.graphs r.start r.events r.now r.ends.kept s.ending.columns r.ends.closes _ r.ends.dies s.ending.lost loss is r.ends.lost
     run_gone (Some newest) (Did act e) h loss is =
         let b = h.1 in
         let same : b.loss ≡ loss = (let z : Some b.loss ≡ Some loss = sym b.lost ∙ is in cc z) in

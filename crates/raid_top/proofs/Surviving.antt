@@ -21,7 +21,7 @@ use Rattle.top_acts.specs.Done.{unless_lost}
 use Rattle.top_acts.specs.Killed.{EndsAlive, IsKilled}
 use Rattle.top_acts.specs.Labelled.{IsFirstLabelled}
 use Rattle.top_acts.proofs.Kills.{alive_died, alive_given}
-use Rattle.top_rounds.specs.Rounds.{DiesIn, IsGivenUp}
+use Rattle.top_close.specs.Stage.{DiesIn, IsGivenUp}
 use Rattle.top_status.specs.declared.status.Status.{Status}
 use Rattle.top_status.specs.declared.status.Status.TheVariants as status
 use Rattle.top_words.specs.Asked.{Command, Check}

@@ -37,9 +37,9 @@ IsNewest columns (Some l) = HasRounds columns l
 
 -- Its columns have devices of their own, on which a label has place; at most one is filling, and at most one is spread; and what is held beside them is as large as it has to be.
 pub record IsSoundArray {L D P : Type 0} (lay : LayoutGhosts L) (g : Ghosts D) (a : Array L P) (devices : List (Option D)) : Type 0 where
-  pub columns : IsSettable (lay.shape a.layout) a.ending.columns.items
-  pub labels : CanBeLabelled g a.ending.columns.items devices
-  pub judge : IsFor (lay.shape a.layout) a.judge
+  pub columns : IsSettable (lay.shape a.layout) a.hand.ending.columns.items
+  pub labels : CanBeLabelled g a.hand.ending.columns.items devices
+  pub judge : IsFor (lay.shape a.layout) a.hand.judge
   pub room : 1024 * (lay.shape a.layout).unit_sectors ≤ a.room
 
 module _ {D : Type 0} (g : Ghosts D) (y : Shape) (columns : List Column) where

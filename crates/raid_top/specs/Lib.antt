@@ -13,4 +13,5 @@ pub mod Calls
 pub mod Finished
 pub mod Refused
 pub mod Ends
+pub mod Opened
 pub mod Laws

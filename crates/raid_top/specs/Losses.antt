@@ -11,7 +11,7 @@ use Rattle.eng_cols.specs.Cols.{ColumnState, HasDevice}
 use Rattle.top_duty.specs.Duty.{Admitted, Duty, OnArray, Shows, OneLabel, PrintConf, columns_of, layout_of, states_in}
 use Rattle.top_duty.specs.Opening.{needs_of}
 use Rattle.top_labelled.specs.Begun.{IsAnew}
-use Rattle.top_rounds.specs.Rounds.{IsGivenUp, IsGivenUpIn}
+use Rattle.top_close.specs.Stage.{IsGivenUp, IsGivenUpIn}
 use Rattle.top_run.specs.Ran.{begun_in}
 use Rattle.top_run.specs.Told.{IsToldFailed, IsToldUnbuilt}
 use Rattle.top_serve.specs.Served.{IsKeptAs}

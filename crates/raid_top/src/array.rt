@@ -1,17 +1,15 @@
 //! An array that something is done to without a core.
-use eng_cols::Cols;
 use raid_label::Label;
 use raid_recon::SweepRoom;
 use top_acts::Renewal;
-use top_close::Ending;
+use top_close::Hand;
 
 /// An array, with all the memory that something takes which is done to it without a core: its columns as they are opened;
 /// columns to judge by, as many as its layout has; and room to sum up a stripe's units, with who is told how far a sweep is.
 #[derive(Drop)]
 pub(crate) struct Array<L, P> {
     pub layout: L,
-    pub ending: Ending,
-    pub judge: Cols,
+    pub hand: Hand,
     pub room: SweepRoom<P>,
 }
 

@@ -13,7 +13,7 @@ use crate::doing::alter;
 use blk_disk::Disk;
 use raid_progress::Progress;
 use raid_recon::SweepRoom;
-use top_close::Ending;
+use top_close::{Ending, Hand};
 use top_duty::Ready;
 
 /// Does something to the array, and says what came of it, with its devices. No memory is taken.
@@ -45,10 +45,10 @@ pub(crate) fn change<D: Disk, P: Progress>(
     };
     let mut array = Array {
         layout,
-        ending,
-        judge,
+        hand: Hand { ending, judge },
         room: SweepRoom::new(room, progress),
     };
     let act = alter(order, devices.as_mut_slice(), &mut array);
-    (Came::Did(act, array.ending), devices)
+    let Array { hand, .. } = array;
+    (Came::Did(act, hand.ending), devices)
 }

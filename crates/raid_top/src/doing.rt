@@ -17,19 +17,18 @@ fn rewrite<L: Layout, D: Disk, P: Progress>(
     array: &mut Array<L, P>,
 ) -> Done
     requires sound { IsSoundArray L.Layout D.Disk array.old devices.old }
-    requires large { IsArray D.Disk (L.shape array.old.layout) array.old.ending.columns.items
+    requires large { IsArray D.Disk (L.shape array.old.layout) array.old.hand.ending.columns.items
         devices.old }
-    requires newest { IsNewest array.old.ending.columns.items newest }
-    ensures { Renews D.Disk (L.shape array.old.layout) array.old.ending.columns.items devices.old
-        devices.new result (ending_seen array.new.ending) kind newest }
+    requires newest { IsNewest array.old.hand.ending.columns.items newest }
+    ensures { Renews D.Disk (L.shape array.old.layout) array.old.hand.ending.columns.items
+        devices.old devices.new result (ending_seen array.new.hand.ending) kind newest }
 {
     let layout = &array.layout;
-    let ending = &mut array.ending;
+    let hand = &mut array.hand;
     let room = &mut array.room;
-    let judge = &mut array.judge;
     match newest {
-        Some(mut label) => renew(kind, layout, devices, ending, &mut label, room, judge),
-        None => renew_unlabelled(kind, layout, devices, ending, room, judge),
+        Some(mut label) => renew(kind, layout, devices, hand, &mut label, room),
+        None => renew_unlabelled(kind, layout, devices, hand, room),
     }
 }
 
@@ -40,24 +39,21 @@ pub(crate) fn alter<L: Layout, D: Disk, P: Progress>(
     array: &mut Array<L, P>,
 ) -> Done
     requires sound { IsSoundArray L.Layout D.Disk array.old devices.old }
-    requires may { MayDo D.Disk (L.shape array.old.layout) array.old.ending.columns.items order
+    requires may { MayDo D.Disk (L.shape array.old.layout) array.old.hand.ending.columns.items order
         devices.old }
-    ensures { DoesOrder D.Disk (L.shape array.old.layout) array.old.ending.columns.items devices.old
-        devices.new result (ending_seen array.new.ending) order }
+    ensures { DoesOrder D.Disk (L.shape array.old.layout) array.old.hand.ending.columns.items
+        devices.old devices.new result (ending_seen array.new.hand.ending) order }
 {
     if let Order::Renew(kind, newest) = order {
         return rewrite(kind, newest, devices, array);
     }
     let layout = &array.layout;
-    let ending = &mut array.ending;
+    let hand = &mut array.hand;
     let room = &mut array.room;
-    let judge = &mut array.judge;
     match order {
-        Order::Check => check(layout, devices, ending, room, judge),
-        Order::Kill(column, mut newest) => {
-            kill(layout, devices, ending, column, &mut newest, judge)
-        }
-        Order::Label(mut first) => label(layout, devices, ending, &mut first, judge),
+        Order::Check => check(layout, devices, hand, room),
+        Order::Kill(column, mut newest) => kill(layout, devices, hand, column, &mut newest),
+        Order::Label(mut first) => label(layout, devices, hand, &mut first),
         Order::Renew(_, _) => unreachable!(),
     }
 }

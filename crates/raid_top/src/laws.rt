@@ -1,10 +1,14 @@
 //! What follows from how a call answers. These functions do nothing: what they ensure is so of every
 //! call of [`crate::run`], by its clause `answer`, or of all devices.
-ghost use Rattle.std.specs.Prelude.{ℕ, List, Option};
+ghost use Rattle.std.specs.Prelude.{◌≡◌, ℕ, List, Option, Ok};
 ghost use Rattle.blk_disk.specs.Disk.{Rose};
+ghost use Rattle.top_bay.specs.Asked.{Asked};
+ghost use Rattle.top_duty.specs.Opening.{opened_by};
 ghost use Rattle.top_open.specs.declared.fronts.Front.{Front};
+ghost use Rattle.top_open.specs.Opening.{Opened};
 ghost use Rattle.top_status.specs.declared.status.Status.{Status};
-ghost use Rattle.raid_top.specs.Laws.{FailsLateIsRead, RefusedChangesNothing, RightIsAnswered};
+ghost use Rattle.raid_top.specs.Laws.{DeadAsOpened, FailsLateIsRead, RefusedChangesNothing, RefusedLossLacksUnits, RightIsAnswered};
+ghost use Rattle.raid_top.specs.Opened.{DeadHaveCauses};
 ghost use Rattle.raid_top.specs.Bays.{told_of};
 
 use blk_disk::Disk;
@@ -35,4 +39,24 @@ pub fn what_is_right_is_answered<B: Bay, K: Sink>()
 pub fn a_device_that_fails_late_was_read<D: Disk>()
     ensures { (taken back : List (Option D)) (fronts : List Front)
         → FailsLateIsRead D.Disk taken back fronts }
+{}
+
+/// Each column that is dead as an array is opened is so for a cause that was read: its disk is
+/// absent or couldn't be read; by the newest label it has no device, or one without a label of its
+/// own that is as new; it was being filled and the label isn't clean, or as many of its stripes are
+/// done as it has; or the action names it and its device is too small. So it is with the array of
+/// each action that was done.
+pub fn a_column_dead_as_opened_has_a_cause<B: Bay>()
+    ensures opened { (k : Asked) (sizes : List ℕ) (fronts : List Front) (o : Opened)
+        → opened_by k sizes fronts ≡ Ok o → DeadHaveCauses k sizes fronts o }
+    ensures acted { (old new : B) → DeadAsOpened B.D.Disk (told_of B.Bay old new) }
+{}
+
+/// Where an action is refused since its array is lost, the stripe that the status names lacks a unit
+/// on both columns that it names, by the columns as the action makes them.
+pub fn a_refused_loss_lacks_two_units<B: Bay, K: Sink>()
+    ensures { (old new : B) (out_old out_new : K) (words : List (List ℕ)) (answer : Status)
+        → RefusedLossLacksUnits B.D.Disk (told_of B.Bay old new)
+        words K.tells (Rose (K.faults out_old) (K.faults out_new))
+        answer (K.output out_old) (K.output out_new) }
 {}

@@ -27,7 +27,8 @@ mod setup;
 mod top;
 
 pub use laws::{
-    a_device_that_fails_late_was_read, what_is_refused_changes_nothing, what_is_right_is_answered,
+    a_column_dead_as_opened_has_a_cause, a_device_that_fails_late_was_read,
+    a_refused_loss_lacks_two_units, what_is_refused_changes_nothing, what_is_right_is_answered,
 };
 pub use top::run;
 pub use top_status::Status;

@@ -11,6 +11,7 @@ use crate::came::Came;
 use crate::setup::Work;
 use blk_disk::Disk;
 use eng_array::Setup;
+use eng_cols::Cols;
 use lay_core::Layout;
 use raid_conf::AnyLayout;
 use raid_progress::Progress;
@@ -44,9 +45,10 @@ fn run_plain<
     D: Disk + Drop + Send,
     R: Threads + Wait + Sync,
     P: Progress + Sync,
->(rt: &R, alloc: Global, setup: Setup<L, D>, workers: u32, progress: &P) -> Served<D>
+>(rt: &R, alloc: Global, setup: Setup<L, D>, judge: Cols, workers: u32, progress: &P) -> Served<D>
     requires workers { workers ≤ 16 }
     requires may { MayServe L.Layout D.Disk setup }
+    requires judge { IsFor (shape_in L.Layout setup) judge }
     requires filling { count_by is_set_filling setup.columns.items ≡ 0 }
     ensures came { IfOk result.came (ComesPlain D.Disk (work_of L.Layout setup None)
         setup.devices.items result.devices.items) }
@@ -55,7 +57,7 @@ fn run_plain<
         (λ r. r ≡ record { status = Status.Memory; dead = dead_columns setup.columns.items }) }
     ensures same { OnErr result.came (result.devices ≡ setup.devices) }
 {
-    match run_clients(rt, alloc, setup, workers, progress) {
+    match run_clients(rt, alloc, setup, judge, workers, progress) {
         Ok((service, devices)) => Served {
             came: Ok(Came::Ran(service)),
             devices,
@@ -139,7 +141,7 @@ pub(crate) fn serve<D: Disk + Drop + Send, R: Threads + Wait + Sync, P: Progress
         failed,
     } = work;
     match newest {
-        None => run_plain(rt, alloc, setup, workers, progress),
+        None => run_plain(rt, alloc, setup, judge, workers, progress),
         Some(label) => {
             let labelled = Labelled {
                 setup,

@@ -1,5 +1,5 @@
 -- The end of an array that is lost, and of one that is settled first.
-use Rattle.std.proofs.Common.{◌≡◌, ◌∙◌, ℕ, ◌≤◌, Bool, List, true, false, length, Option, Some, None, refl, sym, ap, subst, inl, inr, arith}
+use Rattle.std.proofs.Common.{◌≡◌, ◌∙◌, ℕ, ◌≤◌, Bool, List, true, false, length, Option, Some, None, refl, sym, ap, subst, inl, inr}
 use Rattle.std.specs.Prelude.{count_by, is_some}
 use Rattle.blk_disk.specs.declared.disk.Disk.{Ghosts}
 use Rattle.blk_disk.specs.Devices.{RisesOn, sector_of}
@@ -14,18 +14,18 @@ use Rattle.eng_cols.specs.Fewer.{DieApart}
 use Rattle.eng_cols.specs.Stripes.{states_of}
 use Rattle.eng_cols.proofs.Lists.{count_at_most}
 use Rattle.top_close.specs.Ended.{IsLossBy}
-use Rattle.top_close.specs.Settled.{AreSettled, HasDeviceOn, LosesDevice}
+use Rattle.top_close.specs.Settled.{AreSettled, HasDeviceOn}
 use Rattle.top_close.proofs.DyingLaws.{columns_die, lost_no_less}
 use Rattle.top_rounds.specs.Labels.{seating_in, with_round}
 use Rattle.top_rounds.specs.Passes.{IsFirstInUse}
-use Rattle.top_rounds.specs.Rounds.{AreRounds, DiesIn, HaveRounds, HoldsTried, IsGivenUp, clean_in_end}
-use Rattle.top_rounds.proofs.RoundLaws.{given_kept}
+use Rattle.top_close.specs.Stage.{DiesIn, IsGivenUp}
+use Rattle.top_rounds.specs.Rounds.{AreRounds, HaveRounds, HoldsTried, clean_in_end}
+use Rattle.top_rounds.proofs.RoundLaws.{counts-none, counts-then, given_kept}
 use Rattle.top_acts.specs.Closed.{AreCounted, CallInTurn, ClosesLabelled}
-use Rattle.top_acts.proofs.Closes.{behind, counted-none}
 use Rattle.top_acts.proofs.Counted.{counted-then, counted_rounds}
 use Rattle.top_acts.proofs.InTurn.{AreApart, in_turn-then, in_turn-writes}
 use Rattle.top_acts.proofs.Seated.{seats-then, seats_of_rounds}
-use Rattle.top_acts.proofs.Settled.{settled}
+use Rattle.top_acts.proofs.Settled.{settled, unsettled}
 use Rattle.top_acts.proofs.Tried.{not_lost}
 
 pub no_loss : {A : Type 0} → false ≡ true → A
@@ -60,7 +60,7 @@ module _ {D : Type 0} (g : Ghosts D) where
   -- what the device holds of a column that is given up, where no label was written before the rounds of a lost array
   given_settled : (label next : Label) (columns mid round after : List Column) (old dev new : List (Option D)) (loss : Loss) → AreCounted g None 0 label label columns mid old dev → ((c d : ℕ) → HasDeviceOn mid c d → g.tells → sector_of g dev d 0 ≡ sector_of g old d 0)
       → AreRounds g (Some loss) label next mid round after dev new → (c d : ℕ) → IsGivenUp (Some loss) columns c → HasDeviceOn columns c d → (RisesOn g old new d → ⊥) → HoldsTried g label next.counter old new c d
-  given_settled label next columns mid round after old dev new loss was still rounds c d gave live quiet tells = elim (was.dies.each c) [
+  given_settled label next columns mid round after old dev new loss was still rounds c d gave live quiet tells = elim (was.stage.dies.each c) [
     | inr dead ↦ elim dead.1 [
       | inr never ↦ absurd never
       | inl loses ↦
@@ -69,7 +69,7 @@ module _ {D : Type 0} (g : Ghosts D) where
     ]
     | inl kept ↦
         let here : HasDeviceOn mid c d = ap device_set kept ∙ live in
-        elim (rounds.given c d (given_kept (Some loss) columns mid c kept gave) here (λ rose. quiet (rises-wider g (IsFirstInUse columns) (IsFirstInUse mid) old dev new new d was.frame rose (changes-refl g (IsFirstInUse mid) new))) tells) [
+        elim (rounds.given c d (given_kept (Some loss) columns mid c kept gave) here (λ rose. quiet (rises-wider g (IsFirstInUse columns) (IsFirstInUse mid) old dev new new d was.stage.frame rose (changes-refl g (IsFirstInUse mid) new))) tells) [
           | inl held ↦ inl (held ∙ still c d here tells)
           | inr t ↦ inr t
         ]
@@ -82,19 +82,21 @@ module _ {D : Type 0} (g : Ghosts D) where
       let rounds = h.1 in
       let last = counted_rounds g (Some loss) label next mid h.0 after dev new rounds in
       record {
-        counted = counted-then g (Some loss) 0 label label next columns mid after old dev new was (behind g (Some loss) 1 label next mid after dev new last) 1 (omega (arith, was.least, rounds.least)) (omega (arith, was.most, rounds.most));
+        counted = counted-then g (Some loss) 0 label label next columns mid after old dev new was last.stage last.others 1 (counts-then 0 1 label label next was.stage.rises rounds.rises was.counter last.counter);
         label_is = is;
-        seated = seats-then g columns mid old dev new (IsFirstInUse columns) (IsFirstInUse mid) was.frame rounds.frame (Some loss) next after was.dies (seats_of_rounds g (Some loss) label next mid h.0 after dev new rounds);
+        seated = seats-then g columns mid old dev new (IsFirstInUse columns) (IsFirstInUse mid) was.stage.frame rounds.frame (Some loss) next after was.stage.dies (seats_of_rounds g (Some loss) label next mid h.0 after dev new rounds);
         seating = λ e. let z : Some loss ≡ None = e in absurd (let u : ⊥ = cc in u);
         given_up = rounds.given_up;
         held = rounds.held;
         settled = λ e. let z : Some loss ≡ None = e in absurd (let u : ⊥ = cc in u);
         given = given_settled label next columns mid h.0 after old dev new loss was still rounds;
-        each = in_turn-then g (Some loss) (DiesIn g None columns old dev) (DiesIn g (Some loss) mid dev new) a b false columns mid after old dev new apart was.dies last.dies turns rounds.others (in_turn-writes g (Some loss) b mid after dev new rounds.each);
+        each = in_turn-then g (Some loss) (DiesIn g None columns old dev) (DiesIn g (Some loss) mid dev new) a b false columns mid after old dev new apart was.stage.dies last.stage.dies turns rounds.others (in_turn-writes g (Some loss) b mid after dev new rounds.each);
       }
 
   -- devices were settled, and no round was written
-  pub counted_settled : (label : Label) (columns after : List Column) (old new : List (Option D)) → AreSettled g (length columns) columns after old new → AreCounted g None 0 label label columns after old new
-  counted_settled label columns after old new s =
-      let quiet = settled g None (length columns) columns after old new s refl in
-      counted-then g None 0 label label label columns columns after old old new (counted-none g label columns old) quiet 0 (omega arith) (omega arith)
+  abbrev pub counted_settled : (label : Label) (columns after : List Column) (old new : List (Option D)) → AreSettled g (length columns) columns after old new → AreCounted g None 0 label label columns after old new
+  counted_settled label columns after old new s = record {
+    stage = settled g None columns after old new s;
+    counter = counts-none label label refl;
+    others = unsettled g columns after old new s;
+  }

@@ -1,5 +1,5 @@
 -- Label writes and settles in turn, stage behind stage.
-use Rattle.std.proofs.Common.{◌≡◌, ◌⊎◌, ◌∙◌, ℕ, Bool, true, false, List, [], ◌∷◌, ◌++◌, Option, Some, None, refl, sym, ap, subst, inl, inr, append-nil, append_assoc}
+use Rattle.std.proofs.Common.{◌≡◌, ◌⊎◌, ◌∙◌, ℕ, Bool, true, false, List, [], ◌∷◌, ◌++◌, Option, Some, None, refl, sym, ap, subst, inl, inr, append_assoc}
 use Rattle.std.specs.Prelude.{All, is_some, option_and_then, slice_get}
 use Rattle.std.proofs.lemmas.List.Elements.{All-head, All-tail}
 use Rattle.blk_disk.specs.declared.disk.Call.{Call}
@@ -12,10 +12,11 @@ use Rattle.eng_cols.specs.Deaths.{Dies}
 use Rattle.eng_cols.specs.declared.spot.Loss.{Loss}
 use Rattle.eng_cols.specs.Cols.{device_set}
 use Rattle.top_close.specs.Settled.{HasDeviceOn, has_device}
-use Rattle.top_rounds.specs.Calls.{IsLabelled, WritesTo, WritesWell}
-use Rattle.top_rounds.specs.Rounds.{AreWritten, IsGivenUp, IsUncalled}
-use Rattle.top_rounds.proofs.PassLaws.{live_before}
-use Rattle.top_rounds.proofs.RoundLaws.{given_before}
+use Rattle.top_close.proofs.CallLaws.{more-none, more-one, more-then, more_as}
+use Rattle.top_rounds.specs.Calls.{EndsBy, IsLabelled, WritesTo, WritesWell}
+use Rattle.top_close.specs.Stage.{IsGivenUp, IsUncalled}
+use Rattle.top_rounds.specs.Rounds.{AreWritten}
+use Rattle.top_close.proofs.StageLaws.{live_before, given_before}
 use Rattle.top_acts.specs.Closed.{CallInTurn}
 use Rattle.top_acts.specs.Stages.{AreInTurn, EndInTurn, FailInTurn, InTurnOn}
 
@@ -57,21 +58,13 @@ settle-end false = ([], call_of 2 0 0 false, false, refl, refl, inr (refl, refl)
 -- ## Calls that are told
 
 on-none : (a : Bool) (o : Option (List Call)) → InTurnOn true a o o a
-on-none a None = tt
-on-none a (Some cs) = ([], sym (append-nil cs), refl)
+on-none a o = more-none (λ more. EndInTurn true a more a) o refl
 
 on-then : (stays a b e : Bool) (x y z : Option (List Call)) → InTurnOn true a x y b → InTurnOn stays b y z e → InTurnOn stays a x z e
-on-then stays a b e x y None one two = tt
-on-then stays a b e None None (Some cs) one two = absurd two
-on-then stays a b e None (Some bs) (Some cs) one two = absurd one
-on-then stays a b e (Some xs) None (Some cs) one two = absurd two
-on-then stays a b e (Some xs) (Some bs) (Some cs) one two =
-    (one.0 ++ two.0, two.1 ∙ (ap (λ (l : List Call). l ++ two.0) one.1 ∙ append_assoc xs one.0 two.0), end-then stays a b e one.0 two.0 one.2 two.2)
+on-then stays a b e x y z one two = more-then (λ more. EndInTurn true a more b) (λ more. EndInTurn stays b more e) (λ more. EndInTurn stays a more e) x y z (end-then stays a b e) one two
 
 on-writes : (stays a : Bool) (x y : Option (List Call)) → WritesTo stays x y → InTurnOn stays a x y false
-on-writes stays a x None h = tt
-on-writes stays a None (Some bs) h = absurd h
-on-writes stays a (Some xs) (Some bs) h = (h.0 ++ call_of 1 0 512 stays ∷ [], h.1, writes-end stays a h.0 h.2)
+on-writes stays a x y h = more_as (EndsBy stays) (λ more. EndInTurn stays a more false) x y (λ calls by. subst (λ l. EndInTurn stays a l false) (sym by.1) (writes-end stays a by.0 by.2)) h
 
 -- writes that all went well, or none
 on-well : (a : Bool) (x y : Option (List Call)) → WritesWell x y → (is : Bool) × InTurnOn true a x y is
@@ -80,15 +73,11 @@ on-well a None (Some bs) h = absurd h
 on-well a (Some xs) (Some bs) h = let w = writes-are a h.0 h.2 in (w.0, (h.0, h.1, w.1))
 
 on-settle : (stays : Bool) (x y : Option (List Call)) → Tells x y (call_of 2 0 0 stays) → InTurnOn stays false x y true
-on-settle stays x None h = tt
-on-settle stays None (Some bs) h = absurd h
-on-settle stays (Some xs) (Some bs) h = (call_of 2 0 0 stays ∷ [], h, settle-end stays)
+on-settle stays x y h = more-one (λ more. EndInTurn stays false more true) (call_of 2 0 0 stays) x y (settle-end stays) h
 
 -- a device that fails ends whatever was to come
 on-failed : (a b e : Bool) (x y : Option (List Call)) → InTurnOn false a x y b → InTurnOn false a x y e
-on-failed a b e x None h = tt
-on-failed a b e None (Some bs) h = h
-on-failed a b e (Some xs) (Some bs) h = h
+on-failed a b e x y h = h
 
 -- ## All devices in use
 

@@ -1,6 +1,6 @@
 -- An array whose devices were settled, and which was then closed, or left since it was lost.
 use Rattle.std.proofs.Common.{◌≡◌, ◌≤◌, List, Option, Some, None, length, true, false, refl, subst, sym, inl, inr}
-use Rattle.std.specs.Prelude.{count_by, is_some}
+use Rattle.std.specs.Prelude.{All, count_by, is_some}
 use Rattle.blk_disk.specs.declared.disk.Disk.{Ghosts}
 use Rattle.blk_disk.specs.Devices.{Changes}
 use Rattle.blk_disk.proofs.DeviceLaws.{changes-more, changes-then}
@@ -14,17 +14,17 @@ use Rattle.eng_cols.proofs.DeathLaws.{dies-more, dies-refl, dies-then}
 use Rattle.raid_label.specs.declared.label.Label.{Label}
 use Rattle.top_close.specs.Dying.{AnyCause}
 use Rattle.top_close.specs.Ended.{IsLossBy}
-use Rattle.top_close.specs.Settled.{AreSettled, LosesDevice}
+use Rattle.top_close.specs.Settled.{AreSettled}
 use Rattle.top_acts.specs.Closed.{ClosesLabelled}
 use Rattle.top_rounds.specs.Labels.{given_up}
 use Rattle.top_rounds.specs.Passes.{IsFirstInUse}
-use Rattle.top_rounds.specs.Rounds.{DiesIn, IsGivenUp, IsGivenUpIn, in_end}
-use Rattle.top_rounds.proofs.PassLaws.{live_before}
-use Rattle.top_rounds.proofs.RoundLaws.{given_before, gives_up, none_given}
+use Rattle.top_close.specs.Stage.{DiesIn, IsGivenUp, IsGivenUpIn, IsStage}
+use Rattle.top_rounds.specs.Rounds.{in_end}
+use Rattle.top_close.proofs.StageLaws.{live_before, given_before, dies_over}
+use Rattle.top_rounds.proofs.RoundLaws.{gives_up, none_given}
 use Rattle.top_acts.specs.Killed.{ClosesUnless, EndsAlive}
-use Rattle.top_acts.proofs.Counted.{Behind}
+use Rattle.top_acts.specs.Stages.{IsClosing}
 use Rattle.top_acts.proofs.Ended.{no_loss, still_lost}
-use Rattle.top_acts.proofs.Named.{dies_over}
 use Rattle.top_acts.proofs.Settled.{settled}
 
 -- what is given up as an array is lost
@@ -59,8 +59,8 @@ module _ {D : Type 0} (g : Ghosts D) (y : Shape) where
 
   -- columns have died whose devices failed, or of a lost array one that was filling, and no sector has changed but first ones of devices in use
   module _ (label next : Label) (columns after : List Column) (old new : List (Option D)) (lost : Option Loss) (e : EndsAlive g y label next columns after old new lost) where
-    settles : Behind g None columns e.mid old e.dev
-    settles = settled g None (length columns) columns e.mid old e.dev e.settles refl
+    settles : IsStage g (IsFirstInUse columns) (λ d. All IsClosing) None columns e.mid old e.dev
+    settles = settled g None columns e.mid old e.dev e.settles
 
     left_died : is_some lost ≡ true → Dies (DiesIn g lost columns old e.dev) columns (given_up e.mid)
     left_died some = dies-then (DiesIn g lost columns old e.dev) columns e.mid (given_up e.mid)
@@ -71,7 +71,7 @@ module _ {D : Type 0} (g : Ghosts D) (y : Shape) where
     alive_died = by e.before e.ends
       where
         by : (before : Option Loss) → ClosesUnless g before label next e.mid after e.dev new lost → Dies (DiesIn g lost columns old new) columns after
-        by None closes = dies_over g lost columns e.mid after old e.dev new (IsFirstInUse columns) (IsFirstInUse e.mid) settles.frame closes.counted.frame settles.dies closes.counted.dies
+        by None closes = dies_over g lost columns e.mid after old e.dev new (IsFirstInUse columns) (IsFirstInUse e.mid) settles.frame closes.counted.stage.frame settles.dies closes.counted.stage.dies
         by (Some loss) left =
             subst (λ (l : List (Option D)). Dies (DiesIn g lost columns old l) columns after) (sym left.0.devices_are)
             (subst (λ (l : List Column). Dies (DiesIn g lost columns old e.dev) columns l) (sym left.0.columns_are) (left_died left.1))
@@ -88,5 +88,5 @@ module _ {D : Type 0} (g : Ghosts D) (y : Shape) where
       where
         by : (before : Option Loss) → ClosesUnless g before label next e.mid after e.dev new lost → Changes g (IsFirstInUse columns) old new
         by None closes = changes-then g (IsFirstInUse columns) old e.dev new settles.frame
-            (changes-more g (IsFirstInUse e.mid) (IsFirstInUse columns) e.dev new (λ d m h. record { col = h.col; live = live_before (DiesIn g None columns old e.dev) columns e.mid h.col d settles.dies h.live; first = h.first }) closes.counted.frame)
+            (changes-more g (IsFirstInUse e.mid) (IsFirstInUse columns) e.dev new (λ d m h. record { col = h.col; live = live_before (DiesIn g None columns old e.dev) columns e.mid h.col d settles.dies h.live; first = h.first }) closes.counted.stage.frame)
         by (Some loss) left = subst (λ (l : List (Option D)). Changes g (IsFirstInUse columns) old l) (sym left.0.devices_are) settles.frame

@@ -8,11 +8,12 @@ use Rattle.eng_cols.specs.declared.spot.Loss.{Loss}
 use Rattle.eng_cols.specs.Deaths.{Dies}
 use Rattle.eng_cols.proofs.DeathLaws.{dies-more, dies-then}
 use Rattle.raid_label.specs.declared.label.Label.{Label}
-use Rattle.top_rounds.specs.Rounds.{AreRounds, DiesIn}
+use Rattle.top_close.specs.Stage.{DiesIn}
+use Rattle.top_rounds.specs.Rounds.{AreRounds}
 use Rattle.top_close.specs.Settled.{LosesDevice}
-use Rattle.top_rounds.proofs.PassLaws.{live_before}
+use Rattle.top_close.proofs.StageLaws.{live_before, dies_over}
 use Rattle.top_acts.specs.Begun.{HasSeats}
-use Rattle.top_acts.proofs.Named.{dies_over, only_lose}
+use Rattle.top_acts.proofs.Named.{only_lose}
 
 module _ {D : Type 0} (g : Ghosts D) where
   -- of rounds

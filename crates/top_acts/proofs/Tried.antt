@@ -1,6 +1,6 @@
 -- An array that is closed, or whose device failed as it was settled.
 use Rattle.std.proofs.Common.{◌≡◌, ◌≢◌, ◌∙◌, ℕ, zero, suc, ◌≤◌, Bool, true, false, cond, List, [], ◌∷◌, length, Option, Some, None, refl, sym, ap, subst, inl, inr, arith}
-use Rattle.std.specs.Prelude.{◌+◌, is_some, slice_get}
+use Rattle.std.specs.Prelude.{◌+◌, is_some, slice_get, All}
 use Rattle.std.proofs.lemmas.List.Elements.{All-cons, All-nil}
 use Rattle.std.proofs.lemmas.List.Sums.{sum_by-cons}
 use Rattle.blk_disk.specs.declared.disk.Disk.{Ghosts}
@@ -22,16 +22,19 @@ use Rattle.top_close.specs.Settled.{AreSettled, LosesDevice, HaveDevices, HasDev
 use Rattle.top_close.proofs.SettledLaws.{device_within}
 use Rattle.top_rounds.specs.Labels.{seating_in, seating_of, with_round}
 use Rattle.top_rounds.specs.Passes.{IsFirstInUse}
-use Rattle.top_rounds.specs.Rounds.{AreRounds, DiesIn, HoldsTried, IsGivenUp, IsGivenUpIn, IsInUse, clean_in_end, device_count}
-use Rattle.top_rounds.proofs.PassLaws.{live_before}
-use Rattle.top_rounds.proofs.RoundLaws.{any_death, live_less}
+use Rattle.top_close.specs.Stage.{DiesIn, IsGivenUp, IsGivenUpIn, IsInUse, device_count, IsStage}
+use Rattle.top_rounds.specs.Rounds.{AreRounds, HoldsTried, clean_in_end}
+use Rattle.top_close.proofs.StageLaws.{live_before, live_less}
+use Rattle.top_rounds.proofs.RoundLaws.{any_death, counts-none, counts-then}
 use Rattle.top_acts.specs.Begun.{HasSeats}
 use Rattle.top_acts.specs.Closed.{CallInTurn, IsBroken, ClosesLabelled, TriesToClose, settled_in_end}
-use Rattle.top_acts.proofs.Counted.{Behind, counted-then, counted_rounds}
+use Rattle.top_acts.proofs.Counted.{counted-then, counted_rounds}
 use Rattle.top_acts.proofs.InTurn.{AreApart, in_turn-settles, in_turn-then, in_turn-writes}
 use Rattle.top_acts.proofs.Named.{only_lose}
 use Rattle.top_acts.proofs.Seated.{seats-kept, seats_of_rounds}
-use Rattle.top_acts.proofs.Settled.{Death, death_of, settled}
+use Rattle.top_acts.proofs.Settled.{Death, death_of, settled, unsettled}
+use Rattle.top_acts.specs.Stages.{IsClosing}
+use Rattle.std.proofs.lemmas.List.{length-append}
 
 -- ## Lost or not
 
@@ -75,27 +78,28 @@ module _ {D : Type 0} (g : Ghosts D) (y : Shape) (label next : Label) (columns m
     (rounds : AreRounds g None label next columns mid mid old dev) (label_is : next ≡ with_round label next.counter label.clean (seating_in next)) (have : HaveDevices mid dev) (kept : NotLost y (states_of y mid)) (lost_is : IsLossBy y None (states_of y after) lost)
     (apart : AreApart columns) (s : AreSettled g (length mid) mid after dev new) (last : (c d : ℕ) → HasDeviceOn after c d → EndsSettled (calls_of g new d)) where
   died : Dies (DiesIn g None columns old dev) columns mid
-  died = (counted_rounds g None label next columns mid mid old dev rounds).dies
+  died = (counted_rounds g None label next columns mid mid old dev rounds).stage.dies
 
   -- labels, and then a settle
   turns : CallInTurn g None true true columns after old new
   turns =
-      let quiet = settled g None (length mid) mid after dev new s refl in
-      in_turn-then g None (DiesIn g None columns old dev) (DiesIn g None mid dev new) true false true columns mid after old dev new apart died quiet.dies (in_turn-writes g None true columns mid old dev rounds.each) quiet.others
+      let quiet = settled g None mid after dev new s in
+      in_turn-then g None (DiesIn g None columns old dev) (DiesIn g None mid dev new) true false true columns mid after old dev new apart died quiet.dies (in_turn-writes g None true columns mid old dev rounds.each) (unsettled g mid after dev new s)
       (in_turn-settles g mid after dev new (λ c d live. s.once c d (device_within mid c d live) live))
 
   -- the round that was whole says what the columns were
   seats : HasSeats g None next columns after old new
   seats =
-      let quiet = settled g None (length mid) mid after dev new s refl in
+      let quiet = settled g None mid after dev new s in
       seats-kept g columns mid old dev new (IsFirstInUse columns) (λ _ _. ⊥) rounds.frame s.frame next after died (seats_of_rounds g None label next columns mid mid old dev rounds) (only_lose g mid after dev new quiet.dies)
 
   closed : after ≡ mid → ClosesLabelled g true label next columns after old new lost
   closed same =
       let none = not_lost y (states_of y after) lost lost_is (subst (λ l. NotLost y (states_of y l)) (sym same) kept) in
-      let quiet = settled g lost (length mid) mid after dev new s refl in
+      let quiet = settled g lost mid after dev new s in
       record {
-        counted = counted-then g lost 1 label next next columns mid after old dev new (counted_rounds g None label next columns mid mid old dev rounds) quiet 1 rounds.least (omega (arith, rounds.most));
+        counted = counted-then g lost 1 label next next columns mid after old dev new (counted_rounds g None label next columns mid mid old dev rounds) quiet (unsettled g mid after dev new s) 1
+            (counts-then 1 0 label next next rounds.rises [] (record { least = rounds.least; most = rounds.most }) (counts-none next next refl));
         label_is = label_is ∙ ap (λ k. with_round label next.counter k (seating_in next)) (sym (ap (λ o. clean_in_end o label.clean) none));
         seated = subst (λ o. HasSeats g o next columns after old new) (sym none) seats;
         seating = λ _. rounds.seating ∙ ap seating_of (sym same);
@@ -115,20 +119,21 @@ module _ {D : Type 0} (g : Ghosts D) (y : Shape) (label next : Label) (columns m
       let same : c ≡ death.col = have.apart c death.col d (live_before (LosesDevice g mid dev new) mid after c d s.dies live) death.why.had in
       let z : Some d ≡ None = sym live ∙ ap device_set (ap (slice_get after) same ∙ death.dead) in absurd (let u : ⊥ = cc in u)
 
-  abbrev broke : Death (LosesDevice g mid dev new) after → Behind g None mid after dev new
+  -- the stage in which the device of the column is listed
+  abbrev broke : Death (LosesDevice g mid dev new) after → IsStage g (IsFirstInUse mid) (λ d. All IsClosing) None mid after dev new
   broke death =
       let d = death.why.device in
-      let quiet = settled g None (length mid) mid after dev new s refl in
+      let quiet = settled g None mid after dev new s in
       record {
+        frame = quiet.frame;
+        told = quiet.told;
+        uncalled = quiet.uncalled;
+        dies = quiet.dies;
         rises = d ∷ [];
         failed = record { apart = λ i j z before within. absurd (omega (arith, before, within)); rose = All-cons (RisesOn g dev new) d [] death.why.rose (All-nil (RisesOn g dev new)) };
         had = All-cons (IsInUse mid) d [] (record { col = death.col; live = death.why.had }) (All-nil (IsInUse mid));
         gone = All-cons (λ (k : ℕ). (c : ℕ) → HasDeviceOn after c k → ⊥) d [] (gone death) (All-nil (λ (k : ℕ). (c : ℕ) → HasDeviceOn after c k → ⊥));
         fewer = omega (arith, fewer death);
-        frame = quiet.frame;
-        others = quiet.others;
-        dies = quiet.dies;
-        told = quiet.told;
       }
 
   -- the label of the round that was whole
@@ -143,7 +148,8 @@ module _ {D : Type 0} (g : Ghosts D) (y : Shape) (label next : Label) (columns m
 
   broken : Death (LosesDevice g mid dev new) after → IsBroken g label next columns after old new
   broken death = record {
-    counted = counted-then g None 1 label next next columns mid after old dev new (counted_rounds g None label next columns mid mid old dev rounds) (broke death) 0 (omega (arith, rounds.least)) (omega (arith, rounds.most));
+    counted = counted-then g None 1 label next next columns mid after old dev new (counted_rounds g None label next columns mid mid old dev rounds) (broke death) (unsettled g mid after dev new s) 0
+        (record { least = omega (arith, rounds.least); most = omega (arith, rounds.most, length-append rounds.rises (death.why.device ∷ [])) });
     label_is = label_is;
     fewer = omega (arith, fewer death, rounds.fewer);
     each = turns;

@@ -2,7 +2,7 @@
 use Rattle.std.specs.Prelude.{◌≡◌, ◌⊎◌, ◌≤◌, ◌+◌, ℕ, List, [], length, Bool, true, false, Option, Some, None, All, is_some}
 use Rattle.blk_disk.specs.declared.disk.Call.{Call}
 use Rattle.blk_disk.specs.declared.disk.Disk.{Ghosts}
-use Rattle.blk_disk.specs.Devices.{Changes, calls_of, contents_of}
+use Rattle.blk_disk.specs.Devices.{contents_of}
 use Rattle.lay_core.specs.Layout.{Shape}
 use Rattle.eng_cols.specs.declared.column.Column.{Column}
 use Rattle.eng_cols.specs.declared.spot.Loss.{Loss}
@@ -18,9 +18,10 @@ use Rattle.top_close.specs.Settled.{HasDeviceOn, LosesDevice}
 use Rattle.top_rounds.specs.Calls.{IsLabelWrite}
 use Rattle.top_rounds.specs.Labels.{seating_in, seating_of, with_round}
 use Rattle.top_rounds.specs.Passes.{CanBeLabelled, HoldsLabel, IsFirstInUse}
-use Rattle.top_rounds.specs.Rounds.{DiesIn, HaveFailed, HaveRounds, IsGivenUpIn, IsInUse, IsUncalled, device_count}
+use Rattle.top_close.specs.Stage.{DiesIn, IsGivenUpIn, IsUncalled, IsStage, ToldNothing}
+use Rattle.top_rounds.specs.Rounds.{HaveRounds, CountsRounds}
 use Rattle.eng_cols.specs.Settable.{IsSettable}
-use Rattle.top_acts.specs.Stages.{NoCalls, StagesOn}
+use Rattle.top_acts.specs.Stages.{AreStaged}
 
 -- the sweep of an array whose labels say that it isn't clean
 abbrev pub sweep_if : Bool → Option Sweep
@@ -33,17 +34,6 @@ AreLast None calls = calls ≡ []
 AreLast (Some loss) calls = All IsLabelWrite calls
 
 module _ {D : Type 0} (g : Ghosts D) where
-  -- Labels were written in rounds, so many, and at most one more for each of some devices that were in use, that failed, and that no column has now. A column has died where its device failed, or where it was filling and the array is lost, and no other died.
-  pub record CountsRounds (lost : Option Loss) (rounds : ℕ) (label next : Label) (columns after : List Column) (old new : List (Option D)) : Type 0 where
-    pub rises : List ℕ
-    pub failed : HaveFailed g old new rises
-    pub had : All (IsInUse columns) rises
-    pub gone : All (λ d. (c : ℕ) → HasDeviceOn after c d → ⊥) rises
-    pub fewer : device_count after + length rises ≤ device_count columns
-    pub least : label.counter + rounds ≤ next.counter
-    pub most : next.counter ≤ label.counter + rounds + length rises
-    pub dies : Dies (DiesIn g lost columns old new) columns after
-
   -- The label says what the columns were with which the last round began: since `columns` some had died, or were given up where the array is lost, and some may have died since whose devices failed.
   pub record HasSeats (lost : Option Loss) (next : Label) (columns after : List Column) (old new : List (Option D)) : Type 0 where
     pub round : List Column
@@ -71,26 +61,20 @@ module _ {D : Type 0} (g : Ghosts D) where
   abbrev pub MayBegin : Option Sweep → Shape → List Column → List (Option D) → ℕ → ℕ → Type 0
   MayBegin sweep y columns old d n = IsFirstInUse columns d n ⊎ MaySweep sweep y columns old d n
 
-  -- a device that no column has wasn't called, as far as calls are told
-  abbrev pub ToldNothing : List Column → List (Option D) → List (Option D) → Type 0
-  ToldNothing columns old new = (d : ℕ) → ((c : ℕ) → HasDeviceOn columns c d → ⊥) → NoCalls (calls_of g old d) (calls_of g new d)
-
   -- The opening round was written, whose labels aren't clean; then, where that didn't lose the array, it was swept; and where the array is lost by that, the one round of a lost array was written. Each device in use in the end has the label of the last round, which says what the columns were then. `left`, `dev`, `first` and `opened` are the columns, the devices, the label and the loss that the opening round left: what was lost then stays lost by that, and no device that it left out of use was called behind it. All else is said by the columns and devices as they were before the opening round; n is what the sweep counted.
   pub record HasBegun (sweep : Option Sweep) (y : Shape) (label next : Label) (columns after : List Column) (old new : List (Option D)) (lost : Option Loss) (n : ℕ) : Type 0 where
     pub rounds : ℕ
     pub some : 1 ≤ rounds
     pub few : rounds ≤ 2
     pub one : lost ≡ None → rounds ≡ 1
-    pub named : CountsRounds lost rounds label next columns after old new
+    pub stage : IsStage g (MayBegin sweep y columns old) (λ d. AreStaged (All IsLabelWrite) (AreLast lost) sweep y (states_of y columns) d) lost columns after old new
+    pub counter : CountsRounds rounds label next (length stage.rises)
     pub bounded : next.counter ≤ label.counter + 34
     pub label_is : next ≡ with_round label next.counter 0 (seating_in next)
     pub seated : HasSeats lost next columns after old new
     pub given_up : IsGivenUpIn lost after
     pub held : (c d : ℕ) → HasDeviceOn after c d → HoldsLabel g new next c d
-    pub frame : Changes g (MayBegin sweep y columns old) old new
     pub others : sweep ≡ None → IsUncalled columns old new
-    pub told : (d : ℕ) → StagesOn (All IsLabelWrite) (AreLast lost) sweep y (states_of y columns) d (calls_of g old d) (calls_of g new d)
-    pub uncalled : ToldNothing columns old new
     pub swept : lost ≡ None → SweepHas sweep y columns after old new n
     pub still : g.tells → InSync y (contents_of g old) (states_of y columns) → InSync y (contents_of g new) (states_of y after)
     pub left : List Column
@@ -99,7 +83,7 @@ module _ {D : Type 0} (g : Ghosts D) where
     pub opened : Option Loss
     pub opens : HaveRounds g opened (record label { clean = 0 }) first columns left old dev
     pub stays : is_some opened ≡ true → lost ≡ opened
-    pub behind : ToldNothing left dev new
+    pub behind : ToldNothing g left dev new
 
   -- what can be acted on: its columns are as many as the layout's, and their devices are there, large enough, and can be labelled
   pub record CanAct (y : Shape) (columns : List Column) (devices : List (Option D)) : Type 0 where

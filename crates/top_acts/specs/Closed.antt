@@ -1,18 +1,18 @@
 -- The labels of an array's end.
 use Rattle.std.specs.Prelude.{◌≡◌, ◌⊎◌, ◌≤◌, ◌+◌, ℕ, suc, List, length, Bool, true, false, Option, Some, None, All, slice_get}
 use Rattle.blk_disk.specs.declared.disk.Disk.{Ghosts}
-use Rattle.blk_disk.specs.Devices.{Changes, RisesOn, calls_of}
+use Rattle.blk_disk.specs.Devices.{RisesOn, calls_of}
 use Rattle.eng_cols.specs.declared.column.Column.{Column}
 use Rattle.eng_cols.specs.declared.spot.Loss.{Loss}
-use Rattle.eng_cols.specs.Deaths.{Dies}
 use Rattle.raid_label.specs.declared.label.Label.{Label}
 use Rattle.top_close.specs.Calls.{EndsSettled}
-use Rattle.top_close.specs.Settled.{AreSettled, HasDeviceOn, has_device, LosesDevice}
+use Rattle.top_close.specs.Settled.{AreSettled, HasDeviceOn, has_device}
 use Rattle.top_rounds.specs.Labels.{seating_in, seating_of, with_round}
 use Rattle.top_rounds.specs.Passes.{HoldsLabel, IsFirstInUse}
-use Rattle.top_rounds.specs.Rounds.{DiesIn, HaveFailed, HoldsTried, IsGivenUp, IsGivenUpIn, IsInUse, IsUncalled, clean_in_end, device_count}
+use Rattle.top_close.specs.Stage.{IsGivenUp, IsGivenUpIn, IsUncalled, device_count, IsStage}
+use Rattle.top_rounds.specs.Rounds.{HoldsTried, clean_in_end, CountsRounds}
 use Rattle.top_acts.specs.Begun.{HasSeats}
-use Rattle.top_acts.specs.Stages.{ClosesOn, InTurnOn}
+use Rattle.top_acts.specs.Stages.{InTurnOn, IsClosing}
 
 -- where the array isn't lost the last call of a device in use is a settle, else a label write
 abbrev pub settled_in_end : Option Loss → Bool
@@ -25,19 +25,11 @@ module _ {D : Type 0} (g : Ghosts D) where
   CallInTurn lost was is columns after old new = (c d : ℕ) → HasDeviceOn columns c d → InTurnOn (has_device (slice_get after c)) was (calls_of g old d) (calls_of g new d) is
       ⊎ (IsGivenUp lost columns c × ((settled : Bool) × InTurnOn true was (calls_of g old d) (calls_of g new d) settled))
 
-  -- Labels were written in rounds: so many, and at most one more for each of some devices that were in use, that failed, and that no column has now. No sector has changed but sector 0 of devices that were in use; a column has died where its device failed, or where it was filling and the array is lost, and no other died; the calls are label writes and settles alone, and no other device was called.
+  -- Labels were written in rounds: so many, and at most one more for each of the devices that are listed. No sector has changed but that of the label on devices that were in use; the calls are label writes and settles alone, and no other device was called.
   pub record AreCounted (lost : Option Loss) (rounds : ℕ) (label next : Label) (columns after : List Column) (old new : List (Option D)) : Type 0 where
-    pub rises : List ℕ
-    pub failed : HaveFailed g old new rises
-    pub had : All (IsInUse columns) rises
-    pub gone : All (λ d. (c : ℕ) → HasDeviceOn after c d → ⊥) rises
-    pub fewer : device_count after + length rises ≤ device_count columns
-    pub least : label.counter + rounds ≤ next.counter
-    pub most : next.counter ≤ label.counter + rounds + length rises
-    pub frame : Changes g (IsFirstInUse columns) old new
+    pub stage : IsStage g (IsFirstInUse columns) (λ d. All IsClosing) lost columns after old new
+    pub counter : CountsRounds rounds label next (length stage.rises)
     pub others : IsUncalled columns old new
-    pub dies : Dies (DiesIn g lost columns old new) columns after
-    pub told : (d : ℕ) → ClosesOn (calls_of g old d) (calls_of g new d)
 
   -- One round is named. Each device in use in the end has its label, which isn't clean where the array is lost, and says what the columns of the last round were, which are those in the end unless the array is lost; of a lost one no column is filling any more, and the device of one that was, if its count of faults didn't rise, has what it had, or the label of a round before the last. Each device in use was called in turn: label writes, and settles none of which comes right behind another, none behind a call that failed; `was` says whether its call before was a settle. Its last is a settle, or a label write where the array is lost.
   pub record ClosesLabelled (was : Bool) (label next : Label) (columns after : List Column) (old new : List (Option D)) (lost : Option Loss) : Type 0 where

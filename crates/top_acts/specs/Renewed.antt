@@ -16,16 +16,17 @@ use Rattle.top_close.specs.Settled.{AreSettled, HasDeviceOn, LosesDevice}
 use Rattle.top_rounds.specs.Calls.{IsLabelWrite}
 use Rattle.top_rounds.specs.Labels.{seating_in, seating_of, with_round}
 use Rattle.top_rounds.specs.Passes.{HoldsLabel}
-use Rattle.top_rounds.specs.Rounds.{IsGivenUpIn, clean_in_end}
+use Rattle.top_close.specs.Stage.{IsGivenUpIn, ToldNothing, IsStage}
+use Rattle.top_rounds.specs.Rounds.{CountsRounds, clean_in_end}
 use Rattle.top_acts.specs.declared.done.Done.{Done}
 use Rattle.top_acts.specs.declared.done.Done.TheVariants as done
 use Rattle.top_acts.specs.declared.sweeping.Renewal.{Renewal}
 use Rattle.top_acts.specs.declared.sweeping.Renewal.TheVariants as renewal
-use Rattle.top_acts.specs.Begun.{CountsRounds, HasBegun, HasSwept, MayBegin, MaySweep, ToldNothing}
+use Rattle.top_acts.specs.Begun.{HasBegun, HasSwept, MayBegin, MaySweep}
 use Rattle.top_acts.specs.Closed.{ClosesSettled}
 use Rattle.top_acts.specs.Done.{unless_lost}
 use Rattle.top_acts.specs.Failed.{StaysBegun}
-use Rattle.top_acts.specs.Stages.{IsClosing, SettlesFirst, StagesOn}
+use Rattle.top_acts.specs.Stages.{IsClosing, SettlesFirst, StagesOn, AreStaged}
 use Rattle.top_acts.specs.Sweeping.{DoesSweep}
 
 -- the sweep by which that is done
@@ -53,16 +54,14 @@ module _ {D : Type 0} (g : Ghosts D) where
     pub some : 1 ≤ rounds
     pub few : rounds ≤ 2
     pub two : lost ≡ None → rounds ≡ 2
-    pub named : CountsRounds g lost rounds label next columns after old new
+    pub stage : IsStage g (MayBegin g (Some (sweep_of kind)) y columns old) (λ d. AreStaged (All IsLabelWrite) (All IsClosing) (Some (sweep_of kind)) y (states_of y columns) d) lost columns after old new
+    pub counter : CountsRounds rounds label next (length stage.rises)
     pub label_is : next ≡ with_round label next.counter (clean_in_end lost 1) (seating_in next)
     pub seating : lost ≡ None → seating_in next ≡ seating_of after
     pub given_up : IsGivenUpIn lost after
     pub held : (c d : ℕ) → HasDeviceOn after c d → HoldsLabel g new next c d
     pub settled : lost ≡ None → (c d : ℕ) → HasDeviceOn after c d → EndsSettled (calls_of g new d)
     pub ordered : lost ≡ None → (c d : ℕ) → HasDeviceOn after c d → StagesOn (All IsLabelWrite) SettlesFirst (Some (sweep_of kind)) y (states_of y columns) d (calls_of g old d) (calls_of g new d)
-    pub frame : Changes g (MayBegin g (Some (sweep_of kind)) y columns old) old new
-    pub calls : (d : ℕ) → StagesOn (All IsLabelWrite) (All IsClosing) (Some (sweep_of kind)) y (states_of y columns) d (calls_of g old d) (calls_of g new d)
-    pub uncalled : ToldNothing g columns old new
     pub lost_is : IsLossBy y None (states_of y after) lost
     pub mid : List Column
     pub dev : List (Option D)

@@ -6,18 +6,16 @@ use Rattle.lay_core.specs.Layout.{Shape}
 use Rattle.eng_cols.specs.Cols.{ColumnState}
 use Rattle.raid_recon.specs.declared.kind.Sweep.{Sweep}
 use Rattle.raid_recon.specs.Ends.{AreGoodButLast, IsUnitCall}
-use Rattle.top_close.specs.Calls.{IsSettle}
+use Rattle.top_close.specs.Calls.{IsSettle, MoreOn}
 use Rattle.top_rounds.specs.Calls.{IsLabelWrite}
 
 -- a write of a label, or a settle
 abbrev pub IsClosing : Call → Type 0
 IsClosing call = IsLabelWrite call ⊎ IsSettle call
 
--- Where the calls are told now, they were told before, and those that came are label writes and settles alone.
+-- those that came are such calls alone
 abbrev pub ClosesOn : Option (List Call) → Option (List Call) → Type 0
-ClosesOn before None = Unit {0}
-ClosesOn None (Some now) = ⊥
-ClosesOn (Some before) (Some now) = (more : List Call) × (now ≡ before ++ more) × All IsClosing more
+ClosesOn before now = MoreOn (All IsClosing) before now
 
 -- Label writes and settles that all went well, no settle right behind another: `was` and `is` say whether the call before them, and the last of them, is a settle.
 abbrev pub AreInTurn : (was : Bool) → List Call → (is : Bool) → Type 0
@@ -33,45 +31,33 @@ abbrev pub EndInTurn : (stays was : Bool) → List Call → (is : Bool) → Type
 EndInTurn true was calls is = AreInTurn was calls is
 EndInTurn false was calls is = FailInTurn was calls
 
--- Where the calls are told now, they were told before, and those that came are such.
+-- those that came are such
 abbrev pub InTurnOn : (stays was : Bool) → Option (List Call) → Option (List Call) → (is : Bool) → Type 0
-InTurnOn stays was before None is = Unit {0}
-InTurnOn stays was None (Some now) is = ⊥
-InTurnOn stays was (Some before) (Some now) is = (more : List Call) × (now ≡ before ++ more) × EndInTurn stays was more is
+InTurnOn stays was before now is = MoreOn (λ more. EndInTurn stays was more is) before now
 
 -- a settle, and label writes and settles behind it
 abbrev pub SettlesFirst : List Call → Type 0
 SettlesFirst calls = (good : Bool) × (more : List Call) × (calls ≡ call_of 2 0 0 good ∷ more) × All IsClosing more
 
--- Where the calls are told now, they were told before, and those that came are such.
+-- those that came are such
 abbrev pub SettlesFirstOn : Option (List Call) → Option (List Call) → Type 0
-SettlesFirstOn before None = Unit {0}
-SettlesFirstOn None (Some now) = ⊥
-SettlesFirstOn (Some before) (Some now) = (more : List Call) × (now ≡ before ++ more) × SettlesFirst more
+SettlesFirstOn before now = MoreOn SettlesFirst before now
 
 -- the calls of a sweep on device d: reads of whole units that stand there, and writes of whole check units, none behind one that failed; none where nothing is swept
 abbrev pub AreSweep : Option Sweep → Shape → List ColumnState → ℕ → List Call → Type 0
 AreSweep None y cols d calls = calls ≡ []
 AreSweep (Some kind) y cols d calls = AreGoodButLast calls × All (IsUnitCall y cols d) calls
 
--- Where the calls are told now, they were told before, and none came.
-abbrev pub NoCalls : Option (List Call) → Option (List Call) → Type 0
-NoCalls before None = Unit {0}
-NoCalls None (Some now) = ⊥
-NoCalls (Some before) (Some now) = now ≡ before
-
--- Of device d's calls those that came are such ones at first, then those of the sweep, then such ones.
-pub record AreStaged (first last : List Call → Type 0) (sweep : Option Sweep) (y : Shape) (cols : List ColumnState) (d : ℕ) (before now : List Call) : Type 0 where
+-- Calls of device d: such ones at first, then those of the sweep, then such ones.
+pub record AreStaged (first last : List Call → Type 0) (sweep : Option Sweep) (y : Shape) (cols : List ColumnState) (d : ℕ) (calls : List Call) : Type 0 where
   pub front : List Call
   pub swept : List Call
   pub back : List Call
-  pub all : now ≡ before ++ (front ++ (swept ++ back))
+  pub all : calls ≡ front ++ (swept ++ back)
   pub at_first : first front
   pub sweeps : AreSweep sweep y cols d swept
   pub at_last : last back
 
--- the same where the calls are told now; then they were told before
+-- those that came are such
 abbrev pub StagesOn : (first last : List Call → Type 0) (sweep : Option Sweep) (y : Shape) (cols : List ColumnState) (d : ℕ) → Option (List Call) → Option (List Call) → Type 0
-StagesOn first last sweep y cols d before None = Unit {0}
-StagesOn first last sweep y cols d None (Some now) = ⊥
-StagesOn first last sweep y cols d (Some before) (Some now) = AreStaged first last sweep y cols d before now
+StagesOn first last sweep y cols d before now = MoreOn (AreStaged first last sweep y cols d) before now

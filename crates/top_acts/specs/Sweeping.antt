@@ -1,5 +1,5 @@
 -- A sweep of a whole array, as what it did is said by the columns and contents just before it.
-use Rattle.std.specs.Prelude.{◌≡◌, ◌⊎◌, ◌≤◌, ℕ, List, [], Option, Some, None}
+use Rattle.std.specs.Prelude.{◌≡◌, ◌⊎◌, ◌≤◌, ℕ, List, [], Option, Some, None, length}
 use Rattle.blk_disk.specs.declared.disk.Disk.{Ghosts}
 use Rattle.blk_disk.specs.Devices.{Changes, calls_of, contents_of}
 use Rattle.lay_core.specs.Layout.{Shape}
@@ -15,9 +15,10 @@ use Rattle.raid_recon.specs.Ends.{MayRewrite, ChecksHold, IsCounted, CallsUnits}
 use Rattle.top_close.specs.Settled.{HasDeviceOn}
 use Rattle.top_rounds.specs.Labels.{seating_in, with_round}
 use Rattle.top_rounds.specs.Passes.{HoldsLabel}
-use Rattle.top_rounds.specs.Rounds.{IsGivenUpIn, clean_in_end}
-use Rattle.top_acts.specs.Begun.{AreLast, CountsRounds, HasSeats, HasSwept, MayBegin, ToldNothing}
-use Rattle.top_acts.specs.Stages.{StagesOn}
+use Rattle.top_close.specs.Stage.{IsGivenUpIn, IsStage}
+use Rattle.top_rounds.specs.Rounds.{CountsRounds, clean_in_end}
+use Rattle.top_acts.specs.Begun.{AreLast, HasSeats, HasSwept, MayBegin}
+use Rattle.top_acts.specs.Stages.{AreStaged}
 
 module _ {D : Type 0} (g : Ghosts D) (kind : Sweep) (y : Shape) where
   -- One sweep: which sectors may have changed, whose columns died, what it left, counted and called.
@@ -35,12 +36,10 @@ module _ {D : Type 0} (g : Ghosts D) (kind : Sweep) (y : Shape) where
     pub rounds : ℕ
     pub few : rounds ≤ 1
     pub none : lost ≡ None → rounds ≡ 0
-    pub named : CountsRounds g lost rounds label next columns after old new
+    pub stage : IsStage g (MayBegin g (Some kind) y columns old) (λ d. AreStaged (λ calls. calls ≡ []) (AreLast lost) (Some kind) y (states_of y columns) d) lost columns after old new
+    pub counter : CountsRounds rounds label next (length stage.rises)
     pub label_is : next ≡ with_round label next.counter (clean_in_end lost label.clean) (seating_in next)
     pub seated : ((lost ≡ None) × (seating_in next ≡ seating_in label)) ⊎ HasSeats g lost next columns after old new
     pub given_up : IsGivenUpIn lost after
     pub held : (c d : ℕ) → HasDeviceOn after c d → HoldsLabel g old label c d → HoldsLabel g new next c d
-    pub frame : Changes g (MayBegin g (Some kind) y columns old) old new
-    pub told : (d : ℕ) → StagesOn (λ calls. calls ≡ []) (AreLast lost) (Some kind) y (states_of y columns) d (calls_of g old d) (calls_of g new d)
-    pub uncalled : ToldNothing g columns old new
     pub swept : HasSwept g kind y columns after old new n

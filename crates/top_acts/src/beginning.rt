@@ -12,12 +12,11 @@ ghost use Rattle.top_rounds.specs.Labels.{IsLabelFor};
 use crate::ending::write_lost;
 use crate::sweeping::{Renewal, sweep_and_judge};
 use blk_disk::Disk;
-use eng_cols::Cols;
 use lay_core::Layout;
 use raid_label::Label;
 use raid_progress::Progress;
 use raid_recon::SweepRoom;
-use top_close::{Ending, deaths_bring_no_unit_back};
+use top_close::{Hand, deaths_bring_no_unit_back};
 use top_rounds::round;
 
 // The sweep behind the opening round, and the one round of an array that is lost by it.
@@ -25,29 +24,28 @@ fn sweep_labelled<L: Layout, D: Disk, P: Progress>(
     kind: Renewal,
     layout: &L,
     devices: &mut [Option<D>],
-    ending: &mut Ending,
+    hand: &mut Hand,
     label: &mut Label,
     room: &mut SweepRoom<P>,
-    judge: &mut Cols,
 ) -> u64
-    requires can { CanAct D.Disk (L.shape layout.now) ending.old.columns.items devices.old }
-    requires held { IsLabelFor ending.old.columns.items label.old }
+    requires can { CanAct D.Disk (L.shape layout.now) hand.old.ending.columns.items devices.old }
+    requires held { IsLabelFor hand.old.ending.columns.items label.old }
     requires counter { label.old.counter + 33 < 2 ^ 32 }
     requires room { 1024 * (L.shape layout.now).unit_sectors ≤ room.old }
-    requires judge { IsFor (L.shape layout.now) judge.old }
+    requires judge { IsFor (L.shape layout.now) hand.old.judge }
     ensures swept { SweepsLabelled D.Disk (sweep_of kind) (L.shape layout.now) label.old label.new
-        ending.old.columns.items ending.new.columns.items devices.old devices.new ending.new.lost
-        result }
-    ensures held { IsLabelFor ending.new.columns.items label.new }
+        hand.old.ending.columns.items hand.new.ending.columns.items
+        devices.old devices.new hand.new.ending.lost result }
+    ensures held { IsLabelFor hand.new.ending.columns.items label.new }
     ensures lost { IsLossBy (L.shape layout.now) None
-        (states_of (L.shape layout.now) ending.new.columns.items) ending.new.lost }
+        (states_of (L.shape layout.now) hand.new.ending.columns.items) hand.new.ending.lost }
     ensures room { room.new ≡ room.old }
-    ensures judge { IsFor (L.shape layout.now) judge.new }
+    ensures judge { IsFor (L.shape layout.now) hand.new.judge }
 {
     deaths_bring_no_unit_back();
-    let count = sweep_and_judge(kind, layout, devices, ending, room, judge);
-    if ending.lost.is_some() {
-        write_lost(layout, devices, ending, label, judge);
+    let count = sweep_and_judge(kind, layout, devices, hand, room);
+    if hand.ending.lost.is_some() {
+        write_lost(layout, devices, hand, label);
     }
     count
 }
@@ -58,35 +56,34 @@ pub(crate) fn begin<L: Layout, D: Disk, P: Progress>(
     sweep: Option<Renewal>,
     layout: &L,
     devices: &mut [Option<D>],
-    ending: &mut Ending,
+    hand: &mut Hand,
     label: &mut Label,
     room: &mut SweepRoom<P>,
-    judge: &mut Cols,
 ) -> u64
-    requires can { CanAct D.Disk (L.shape layout.now) ending.old.columns.items devices.old }
-    requires held { IsLabelFor ending.old.columns.items label.old }
+    requires can { CanAct D.Disk (L.shape layout.now) hand.old.ending.columns.items devices.old }
+    requires held { IsLabelFor hand.old.ending.columns.items label.old }
     requires counter { label.old.counter + 66 < 2 ^ 32 }
     requires room { 1024 * (L.shape layout.now).unit_sectors ≤ room.old }
-    requires judge { IsFor (L.shape layout.now) judge.old }
+    requires judge { IsFor (L.shape layout.now) hand.old.judge }
     ensures begun { HasBegun D.Disk (option_map sweep_of sweep) (L.shape layout.now) label.old
         label.new
-        ending.old.columns.items ending.new.columns.items devices.old devices.new ending.new.lost
-        result }
-    ensures held { IsLabelFor ending.new.columns.items label.new }
+        hand.old.ending.columns.items hand.new.ending.columns.items
+        devices.old devices.new hand.new.ending.lost result }
+    ensures held { IsLabelFor hand.new.ending.columns.items label.new }
     ensures lost { IsLossBy (L.shape layout.now) None
-        (states_of (L.shape layout.now) ending.new.columns.items) ending.new.lost }
+        (states_of (L.shape layout.now) hand.new.ending.columns.items) hand.new.ending.lost }
     ensures room { room.new ≡ room.old }
-    ensures judge { IsFor (L.shape layout.now) judge.new }
+    ensures judge { IsFor (L.shape layout.now) hand.new.judge }
 {
     deaths_bring_no_unit_back();
-    ending.lost = None;
+    hand.ending.lost = None;
     label.clean = 0;
-    round(layout, devices, ending, label, judge);
-    if ending.lost.is_some() {
+    round(layout, devices, hand, label);
+    if hand.ending.lost.is_some() {
         return 0;
     }
     match sweep {
-        Some(kind) => sweep_labelled(kind, layout, devices, ending, label, room, judge),
+        Some(kind) => sweep_labelled(kind, layout, devices, hand, label, room),
         None => 0,
     }
 }
@@ -98,45 +95,35 @@ pub(crate) fn begin<L: Layout, D: Disk, P: Progress>(
 /// swept; where it is lost by the sweep, that one round is written behind it. Says how many check
 /// units were rewritten.
 ///
-/// `label` is the newest's, and in the end the label of the last round. The array isn't lost as it is
-/// opened. `room` has 1,024 bytes for each sector of a unit, and `judge` may hold any columns, as
-/// many as the layout has. No memory is taken.
+/// `label` is the newest's, and in the end the label of the last round. The array isn't lost as it
+/// is opened. `room` has 1,024 bytes for each sector of a unit. No memory is taken.
 pub fn begin_labelled<L: Layout, D: Disk, P: Progress>(
     layout: &L,
     devices: &mut [Option<D>],
-    ending: &mut Ending,
+    hand: &mut Hand,
     label: &mut Label,
     dirty: bool,
     room: &mut SweepRoom<P>,
-    judge: &mut Cols,
 ) -> u64
-    requires can { CanAct D.Disk (L.shape layout.now) ending.old.columns.items devices.old }
-    requires held { IsLabelFor ending.old.columns.items label.old }
+    requires can { CanAct D.Disk (L.shape layout.now) hand.old.ending.columns.items devices.old }
+    requires held { IsLabelFor hand.old.ending.columns.items label.old }
     requires counter { label.old.counter + 66 < 2 ^ 32 }
     requires room { 1024 * (L.shape layout.now).unit_sectors ≤ room.old }
-    requires judge { IsFor (L.shape layout.now) judge.old }
+    requires judge { IsFor (L.shape layout.now) hand.old.judge }
     ensures begun { HasBegun D.Disk (sweep_if dirty) (L.shape layout.now) label.old label.new
-        ending.old.columns.items ending.new.columns.items devices.old devices.new ending.new.lost
-        result }
+        hand.old.ending.columns.items hand.new.ending.columns.items
+        devices.old devices.new hand.new.ending.lost result }
     ensures lost { IsLossBy (L.shape layout.now) None
-        (states_of (L.shape layout.now) ending.new.columns.items) ending.new.lost }
-    ensures can { CanAct D.Disk (L.shape layout.now) ending.new.columns.items devices.new }
-    ensures held { IsLabelFor ending.new.columns.items label.new }
+        (states_of (L.shape layout.now) hand.new.ending.columns.items) hand.new.ending.lost }
+    ensures can { CanAct D.Disk (L.shape layout.now) hand.new.ending.columns.items devices.new }
+    ensures held { IsLabelFor hand.new.ending.columns.items label.new }
     ensures room { room.new ≡ room.old }
-    ensures judge { IsFor (L.shape layout.now) judge.new }
+    ensures judge { IsFor (L.shape layout.now) hand.new.judge }
 {
     deaths_bring_no_unit_back();
     if dirty {
-        begin(
-            Some(Renewal::Rewrite),
-            layout,
-            devices,
-            ending,
-            label,
-            room,
-            judge,
-        )
+        begin(Some(Renewal::Rewrite), layout, devices, hand, label, room)
     } else {
-        begin(None, layout, devices, ending, label, room, judge)
+        begin(None, layout, devices, hand, label, room)
     }
 }

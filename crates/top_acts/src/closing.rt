@@ -8,13 +8,13 @@ ghost use Rattle.top_close.specs.Ended.{IsLossBy};
 ghost use Rattle.std.specs.Prelude.{true, None};
 ghost use Rattle.top_rounds.specs.Labels.{IsLabelFor};
 ghost use Rattle.top_rounds.specs.Passes.{CanBeLabelled};
-ghost use Rattle.top_rounds.specs.Rounds.{device_count};
+ghost use Rattle.top_close.specs.Stage.{device_count};
 
 use blk_disk::Disk;
-use eng_cols::{Cols, Column};
+use eng_cols::Column;
 use lay_core::Layout;
 use raid_label::Label;
-use top_close::{Ending, deaths_bring_no_unit_back, end_unlabelled};
+use top_close::{Hand, deaths_bring_no_unit_back, settle};
 use top_rounds::round;
 
 fn count_devices(columns: &[Column]) -> u32
@@ -35,31 +35,30 @@ fn count_devices(columns: &[Column]) -> u32
 fn try_close<L: Layout, D: Disk>(
     layout: &L,
     devices: &mut [Option<D>],
-    ending: &mut Ending,
+    hand: &mut Hand,
     label: &mut Label,
-    judge: &mut Cols,
 ) -> bool
-    requires array { CanBeLabelled D.Disk ending.old.columns.items devices.old }
-    requires columns { IsSettable (L.shape layout.now) ending.old.columns.items }
-    requires held { IsLabelFor ending.old.columns.items label.old }
+    requires array { CanBeLabelled D.Disk hand.old.ending.columns.items devices.old }
+    requires columns { IsSettable (L.shape layout.now) hand.old.ending.columns.items }
+    requires held { IsLabelFor hand.old.ending.columns.items label.old }
     requires counter { label.old.counter + 33 < 2 ^ 32 }
-    requires judge { IsFor (L.shape layout.now) judge.old }
-    ensures held { IsLabelFor ending.new.columns.items label.new }
-    ensures tried { TriesToClose D.Disk label.old label.new ending.old.columns.items
-        ending.new.columns.items devices.old devices.new ending.new.lost result }
+    requires judge { IsFor (L.shape layout.now) hand.old.judge }
+    ensures held { IsLabelFor hand.new.ending.columns.items label.new }
+    ensures tried { TriesToClose D.Disk label.old label.new hand.old.ending.columns.items
+        hand.new.ending.columns.items devices.old devices.new hand.new.ending.lost result }
     ensures lost { IsLossBy (L.shape layout.now) None
-        (states_of (L.shape layout.now) ending.new.columns.items) ending.new.lost }
-    ensures judge { IsFor (L.shape layout.now) judge.new }
+        (states_of (L.shape layout.now) hand.new.ending.columns.items) hand.new.ending.lost }
+    ensures judge { IsFor (L.shape layout.now) hand.new.judge }
 {
     deaths_bring_no_unit_back();
-    ending.lost = None;
-    round(layout, devices, ending, label, judge);
-    if ending.lost.is_some() {
+    hand.ending.lost = None;
+    round(layout, devices, hand, label);
+    if hand.ending.lost.is_some() {
         return true;
     }
-    let had = count_devices(&ending.columns);
-    end_unlabelled(layout, devices, ending, judge);
-    count_devices(&ending.columns) == had
+    let had = count_devices(&hand.ending.columns);
+    settle(layout, devices, hand);
+    count_devices(&hand.ending.columns) == had
 }
 
 /// Ends what is done to a labelled array: rounds of labels are written, and then each device in use
@@ -68,26 +67,25 @@ fn try_close<L: Layout, D: Disk>(
 /// written, which isn't clean.
 ///
 /// `label` is the label that was written last, or that the newest device had, with the clean field
-/// that the labels are to have. Before this the caller settles each device in use. `judge` may hold
-/// any columns, as many as the layout has. No memory is taken.
+/// that the labels are to have. Before this the caller settles each device in use. No memory is
+/// taken.
 pub fn close<L: Layout, D: Disk>(
     layout: &L,
     devices: &mut [Option<D>],
-    ending: &mut Ending,
+    hand: &mut Hand,
     label: &mut Label,
-    judge: &mut Cols,
 )
-    requires array { CanBeLabelled D.Disk ending.old.columns.items devices.old }
-    requires columns { IsSettable (L.shape layout.now) ending.old.columns.items }
-    requires held { IsLabelFor ending.old.columns.items label.old }
+    requires array { CanBeLabelled D.Disk hand.old.ending.columns.items devices.old }
+    requires columns { IsSettable (L.shape layout.now) hand.old.ending.columns.items }
+    requires held { IsLabelFor hand.old.ending.columns.items label.old }
     requires counter { label.old.counter + 65 < 2 ^ 32 }
-    requires judge { IsFor (L.shape layout.now) judge.old }
-    ensures closed { ClosesLabelled D.Disk true label.old label.new ending.old.columns.items
-        ending.new.columns.items devices.old devices.new ending.new.lost }
+    requires judge { IsFor (L.shape layout.now) hand.old.judge }
+    ensures closed { ClosesLabelled D.Disk true label.old label.new hand.old.ending.columns.items
+        hand.new.ending.columns.items devices.old devices.new hand.new.ending.lost }
     ensures lost { IsLossBy (L.shape layout.now) None
-        (states_of (L.shape layout.now) ending.new.columns.items) ending.new.lost }
-    ensures judge { IsFor (L.shape layout.now) judge.new }
+        (states_of (L.shape layout.now) hand.new.ending.columns.items) hand.new.ending.lost }
+    ensures judge { IsFor (L.shape layout.now) hand.new.judge }
 {
     deaths_bring_no_unit_back();
-    while !try_close(layout, devices, ending, label, judge) {}
+    while !try_close(layout, devices, hand, label) {}
 }

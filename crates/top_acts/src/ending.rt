@@ -11,10 +11,9 @@ ghost use Rattle.top_rounds.specs.Rounds.{HaveRounds};
 
 use crate::closing::close;
 use blk_disk::Disk;
-use eng_cols::Cols;
 use lay_core::Layout;
 use raid_label::Label;
-use top_close::{Ending, deaths_bring_no_unit_back, end_unlabelled};
+use top_close::{Hand, deaths_bring_no_unit_back, settle};
 use top_rounds::round;
 
 /// The one round of an array that is lost by its columns: it isn't clean, and failed writes are
@@ -22,30 +21,29 @@ use top_rounds::round;
 pub(crate) fn write_lost<L: Layout, D: Disk>(
     layout: &L,
     devices: &mut [Option<D>],
-    ending: &mut Ending,
+    hand: &mut Hand,
     label: &mut Label,
-    judge: &mut Cols,
 )
-    requires array { CanBeLabelled D.Disk ending.old.columns.items devices.old }
-    requires columns { IsSettable (L.shape layout.now) ending.old.columns.items }
-    requires held { IsLabelFor ending.old.columns.items label.old }
+    requires array { CanBeLabelled D.Disk hand.old.ending.columns.items devices.old }
+    requires columns { IsSettable (L.shape layout.now) hand.old.ending.columns.items }
+    requires held { IsLabelFor hand.old.ending.columns.items label.old }
     requires counter { label.old.counter + 33 < 2 ^ 32 }
-    requires lost { is_some ending.old.lost ≡ true }
+    requires lost { is_some hand.old.ending.lost ≡ true }
     requires by { IsLossBy (L.shape layout.now) None
-        (states_of (L.shape layout.now) ending.old.columns.items) ending.old.lost }
-    requires judge { IsFor (L.shape layout.now) judge.old }
+        (states_of (L.shape layout.now) hand.old.ending.columns.items) hand.old.ending.lost }
+    requires judge { IsFor (L.shape layout.now) hand.old.judge }
     ensures label { label.new ≡ with_round label.old label.new.counter 0 (seating_in label.new) }
-    ensures held { IsLabelFor ending.new.columns.items label.new }
-    ensures rounds { HaveRounds D.Disk ending.new.lost label.old label.new
-        ending.old.columns.items ending.new.columns.items devices.old devices.new }
-    ensures lost { is_some ending.new.lost ≡ true }
+    ensures held { IsLabelFor hand.new.ending.columns.items label.new }
+    ensures rounds { HaveRounds D.Disk hand.new.ending.lost label.old label.new
+        hand.old.ending.columns.items hand.new.ending.columns.items devices.old devices.new }
+    ensures lost { is_some hand.new.ending.lost ≡ true }
     ensures by { IsLossBy (L.shape layout.now) None
-        (states_of (L.shape layout.now) ending.new.columns.items) ending.new.lost }
-    ensures judge { IsFor (L.shape layout.now) judge.new }
+        (states_of (L.shape layout.now) hand.new.ending.columns.items) hand.new.ending.lost }
+    ensures judge { IsFor (L.shape layout.now) hand.new.judge }
 {
     deaths_bring_no_unit_back();
-    ending.lost = None;
-    round(layout, devices, ending, label, judge);
+    hand.ending.lost = None;
+    round(layout, devices, hand, label);
 }
 
 // Settles each device in use, and then closes the array, or, where that lost it, writes its one
@@ -53,30 +51,29 @@ pub(crate) fn write_lost<L: Layout, D: Disk>(
 fn settle_and_end<L: Layout, D: Disk>(
     layout: &L,
     devices: &mut [Option<D>],
-    ending: &mut Ending,
+    hand: &mut Hand,
     label: &mut Label,
-    judge: &mut Cols,
 )
-    requires array { CanBeLabelled D.Disk ending.old.columns.items devices.old }
-    requires columns { IsSettable (L.shape layout.now) ending.old.columns.items }
-    requires held { IsLabelFor ending.old.columns.items label.old }
+    requires array { CanBeLabelled D.Disk hand.old.ending.columns.items devices.old }
+    requires columns { IsSettable (L.shape layout.now) hand.old.ending.columns.items }
+    requires held { IsLabelFor hand.old.ending.columns.items label.old }
     requires counter { label.old.counter + 65 < 2 ^ 32 }
-    requires judge { IsFor (L.shape layout.now) judge.old }
-    ensures closed { ClosesLabelled D.Disk false label.old label.new ending.old.columns.items
-        ending.new.columns.items devices.old devices.new ending.new.lost }
-    ensures first { ClosesSettled D.Disk label.old label.new ending.old.columns.items
-        ending.new.columns.items devices.old devices.new ending.new.lost }
+    requires judge { IsFor (L.shape layout.now) hand.old.judge }
+    ensures closed { ClosesLabelled D.Disk false label.old label.new hand.old.ending.columns.items
+        hand.new.ending.columns.items devices.old devices.new hand.new.ending.lost }
+    ensures first { ClosesSettled D.Disk label.old label.new hand.old.ending.columns.items
+        hand.new.ending.columns.items devices.old devices.new hand.new.ending.lost }
     ensures lost { IsLossBy (L.shape layout.now) None
-        (states_of (L.shape layout.now) ending.new.columns.items) ending.new.lost }
-    ensures judge { IsFor (L.shape layout.now) judge.new }
+        (states_of (L.shape layout.now) hand.new.ending.columns.items) hand.new.ending.lost }
+    ensures judge { IsFor (L.shape layout.now) hand.new.judge }
 {
     deaths_bring_no_unit_back();
-    ending.lost = None;
-    end_unlabelled(layout, devices, ending, judge);
-    if ending.lost.is_some() {
-        write_lost(layout, devices, ending, label, judge);
+    hand.ending.lost = None;
+    settle(layout, devices, hand);
+    if hand.ending.lost.is_some() {
+        write_lost(layout, devices, hand, label);
     } else {
-        close(layout, devices, ending, label, judge);
+        close(layout, devices, hand, label);
     }
 }
 
@@ -86,33 +83,31 @@ fn settle_and_end<L: Layout, D: Disk>(
 /// failed writes are passed over, and nothing is settled behind it.
 ///
 /// `label` is the label that was written last, with the clean field that the closing round is to
-/// have. An array that was lost before stays lost by what it was lost; else it is lost, if it is, by
-/// the columns in the end. `judge` may hold any columns, as many as the layout has. No memory is
-/// taken.
+/// have. An array that was lost before stays lost by what it was lost; else it is lost, if it is,
+/// by the columns in the end. No memory is taken.
 pub fn end_labelled<L: Layout, D: Disk>(
     layout: &L,
     devices: &mut [Option<D>],
-    ending: &mut Ending,
+    hand: &mut Hand,
     label: &mut Label,
-    judge: &mut Cols,
 )
-    requires array { CanBeLabelled D.Disk ending.old.columns.items devices.old }
-    requires columns { IsSettable (L.shape layout.now) ending.old.columns.items }
-    requires held { IsLabelFor ending.old.columns.items label.old }
+    requires array { CanBeLabelled D.Disk hand.old.ending.columns.items devices.old }
+    requires columns { IsSettable (L.shape layout.now) hand.old.ending.columns.items }
+    requires held { IsLabelFor hand.old.ending.columns.items label.old }
     requires counter { label.old.counter + 65 < 2 ^ 32 }
-    requires judge { IsFor (L.shape layout.now) judge.old }
-    ensures closed { ClosesLabelled D.Disk false label.old label.new ending.old.columns.items
-        ending.new.columns.items devices.old devices.new ending.new.lost }
-    ensures first { ending.old.lost ≡ None →
-        ClosesSettled D.Disk label.old label.new ending.old.columns.items
-        ending.new.columns.items devices.old devices.new ending.new.lost }
-    ensures lost { IsLossBy (L.shape layout.now) ending.old.lost
-        (states_of (L.shape layout.now) ending.new.columns.items) ending.new.lost }
-    ensures judge { IsFor (L.shape layout.now) judge.new }
+    requires judge { IsFor (L.shape layout.now) hand.old.judge }
+    ensures closed { ClosesLabelled D.Disk false label.old label.new hand.old.ending.columns.items
+        hand.new.ending.columns.items devices.old devices.new hand.new.ending.lost }
+    ensures first { hand.old.ending.lost ≡ None →
+        ClosesSettled D.Disk label.old label.new hand.old.ending.columns.items
+        hand.new.ending.columns.items devices.old devices.new hand.new.ending.lost }
+    ensures lost { IsLossBy (L.shape layout.now) hand.old.ending.lost
+        (states_of (L.shape layout.now) hand.new.ending.columns.items) hand.new.ending.lost }
+    ensures judge { IsFor (L.shape layout.now) hand.new.judge }
 {
-    if ending.lost.is_some() {
-        round(layout, devices, ending, label, judge);
+    if hand.ending.lost.is_some() {
+        round(layout, devices, hand, label);
     } else {
-        settle_and_end(layout, devices, ending, label, judge);
+        settle_and_end(layout, devices, hand, label);
     }
 }

@@ -10,20 +10,8 @@ ghost use Rattle.top_rounds.specs.Rounds.{in_end};
 
 use eng_cols::{Cols, Column, Loss};
 use lay_core::Layout;
-use top_close::{Ending, deaths_bring_no_unit_back};
+use top_close::{Hand, deaths_bring_no_unit_back, loss_of};
 use top_rounds::give_up;
-
-/// By what an array is lost that has these columns.
-pub(crate) fn loss_of<L: Layout>(layout: &L, columns: &[Column], judge: &mut Cols) -> Option<Loss>
-    requires columns { IsSettable (L.shape layout.now) columns.now }
-    requires judge { IsFor (L.shape layout.now) judge.old }
-    ensures lost { IsLossBy (L.shape layout.now) None
-        (states_of (L.shape layout.now) columns.now) result }
-    ensures judge { IsFor (L.shape layout.now) judge.new }
-{
-    judge.set(layout, columns);
-    judge.lost(layout)
-}
 
 // By what an array is lost that has these columns. Where it is, a column that was filling is dead.
 fn end_of<L: Layout>(layout: &L, columns: &mut [Column], judge: &mut Cols) -> Option<Loss>
@@ -43,15 +31,16 @@ fn end_of<L: Layout>(layout: &L, columns: &mut [Column], judge: &mut Cols) -> Op
 }
 
 /// By what an array is lost in the end. Where it is, a column that was filling is dead.
-pub(crate) fn judge_end<L: Layout>(layout: &L, ending: &mut Ending, judge: &mut Cols)
-    requires columns { IsSettable (L.shape layout.now) ending.old.columns.items }
-    requires judge { IsFor (L.shape layout.now) judge.old }
-    ensures columns { ending.new.columns.items ≡ in_end ending.new.lost ending.old.columns.items }
+pub(crate) fn judge_end<L: Layout>(layout: &L, hand: &mut Hand)
+    requires columns { IsSettable (L.shape layout.now) hand.old.ending.columns.items }
+    requires judge { IsFor (L.shape layout.now) hand.old.judge }
+    ensures columns { hand.new.ending.columns.items
+        ≡ in_end hand.new.ending.lost hand.old.ending.columns.items }
     ensures lost { IsLossBy (L.shape layout.now) None
-        (states_of (L.shape layout.now) ending.new.columns.items) ending.new.lost }
-    ensures judge { IsFor (L.shape layout.now) judge.new }
+        (states_of (L.shape layout.now) hand.new.ending.columns.items) hand.new.ending.lost }
+    ensures judge { IsFor (L.shape layout.now) hand.new.judge }
 {
-    ending.lost = end_of(layout, ending.columns.as_mut_slice(), judge);
+    hand.ending.lost = end_of(layout, hand.ending.columns.as_mut_slice(), &mut hand.judge);
 }
 
 // The column as it is kept: one that is filling and whole is live.
@@ -91,14 +80,19 @@ fn lose_in<L: Layout>(layout: &L, columns: &mut [Column], column: u32, judge: &m
 /// One column is dead. One that is filling has then those stripes done that are so with all of its
 /// stripes before them, or is live where it is whole: where the dead one was spread, it has fewer
 /// stripes.
-pub(crate) fn lose_column<L: Layout>(layout: &L, ending: &mut Ending, column: u32, judge: &mut Cols)
-    requires within { column < length ending.old.columns.items }
-    requires columns { IsSettable (L.shape layout.now) ending.old.columns.items }
-    requires judge { IsFor (L.shape layout.now) judge.old }
+pub(crate) fn lose_column<L: Layout>(layout: &L, hand: &mut Hand, column: u32)
+    requires within { column < length hand.old.ending.columns.items }
+    requires columns { IsSettable (L.shape layout.now) hand.old.ending.columns.items }
+    requires judge { IsFor (L.shape layout.now) hand.old.judge }
     ensures without { IsWithout (L.shape layout.now) column
-        ending.old.columns.items ending.new.columns.items }
-    ensures lost { ending.new.lost ≡ ending.old.lost }
-    ensures judge { IsFor (L.shape layout.now) judge.new }
+        hand.old.ending.columns.items hand.new.ending.columns.items }
+    ensures lost { hand.new.ending.lost ≡ hand.old.ending.lost }
+    ensures judge { IsFor (L.shape layout.now) hand.new.judge }
 {
-    lose_in(layout, ending.columns.as_mut_slice(), column, judge);
+    lose_in(
+        layout,
+        hand.ending.columns.as_mut_slice(),
+        column,
+        &mut hand.judge,
+    );
 }

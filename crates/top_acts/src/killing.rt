@@ -14,10 +14,9 @@ use crate::closing::close;
 use crate::done::Done;
 use crate::judging::{judge_end, lose_column};
 use blk_disk::Disk;
-use eng_cols::Cols;
 use lay_core::Layout;
 use raid_label::Label;
-use top_close::{Ending, deaths_bring_no_unit_back, end_unlabelled};
+use top_close::{Hand, deaths_bring_no_unit_back, settle};
 
 /// Settles each device in use, and then closes a labelled array, or leaves it as it is where that
 /// lost it: no label is written then, and a column that was filling is dead.
@@ -26,29 +25,28 @@ use top_close::{Ending, deaths_bring_no_unit_back, end_unlabelled};
 pub fn settle_and_close<L: Layout, D: Disk>(
     layout: &L,
     devices: &mut [Option<D>],
-    ending: &mut Ending,
+    hand: &mut Hand,
     label: &mut Label,
-    judge: &mut Cols,
 )
-    requires array { CanBeLabelled D.Disk ending.old.columns.items devices.old }
-    requires columns { IsSettable (L.shape layout.now) ending.old.columns.items }
-    requires held { IsLabelFor ending.old.columns.items label.old }
+    requires array { CanBeLabelled D.Disk hand.old.ending.columns.items devices.old }
+    requires columns { IsSettable (L.shape layout.now) hand.old.ending.columns.items }
+    requires held { IsLabelFor hand.old.ending.columns.items label.old }
     requires counter { label.old.counter + 65 < 2 ^ 32 }
-    requires judge { IsFor (L.shape layout.now) judge.old }
+    requires judge { IsFor (L.shape layout.now) hand.old.judge }
     ensures ends { EndsAlive D.Disk (L.shape layout.now) label.old label.new
-        ending.old.columns.items
-        ending.new.columns.items devices.old devices.new ending.new.lost }
+        hand.old.ending.columns.items
+        hand.new.ending.columns.items devices.old devices.new hand.new.ending.lost }
     ensures lost { IsLossBy (L.shape layout.now) None
-        (states_of (L.shape layout.now) ending.new.columns.items) ending.new.lost }
-    ensures judge { IsFor (L.shape layout.now) judge.new }
+        (states_of (L.shape layout.now) hand.new.ending.columns.items) hand.new.ending.lost }
+    ensures judge { IsFor (L.shape layout.now) hand.new.judge }
 {
     deaths_bring_no_unit_back();
-    ending.lost = None;
-    end_unlabelled(layout, devices, ending, judge);
-    if ending.lost.is_some() {
-        judge_end(layout, ending, judge);
+    hand.ending.lost = None;
+    settle(layout, devices, hand);
+    if hand.ending.lost.is_some() {
+        judge_end(layout, hand);
     } else {
-        close(layout, devices, ending, label, judge);
+        close(layout, devices, hand, label);
     }
 }
 
@@ -60,26 +58,25 @@ pub fn settle_and_close<L: Layout, D: Disk>(
 pub fn kill<L: Layout, D: Disk>(
     layout: &L,
     devices: &mut [Option<D>],
-    ending: &mut Ending,
+    hand: &mut Hand,
     column: u32,
     label: &mut Label,
-    judge: &mut Cols,
 ) -> Done
-    requires within { column < length ending.old.columns.items }
-    requires array { CanBeLabelled D.Disk ending.old.columns.items devices.old }
-    requires columns { IsSettable (L.shape layout.now) ending.old.columns.items }
-    requires held { IsLabelFor ending.old.columns.items label.old }
+    requires within { column < length hand.old.ending.columns.items }
+    requires array { CanBeLabelled D.Disk hand.old.ending.columns.items devices.old }
+    requires columns { IsSettable (L.shape layout.now) hand.old.ending.columns.items }
+    requires held { IsLabelFor hand.old.ending.columns.items label.old }
     requires counter { label.old.counter + 65 < 2 ^ 32 }
-    requires judge { IsFor (L.shape layout.now) judge.old }
+    requires judge { IsFor (L.shape layout.now) hand.old.judge }
     ensures killed { IsKilled D.Disk (L.shape layout.now) column label.old label.new
-        ending.old.columns.items
-        ending.new.columns.items devices.old devices.new ending.new.lost result }
-    ensures judge { IsFor (L.shape layout.now) judge.new }
+        hand.old.ending.columns.items
+        hand.new.ending.columns.items devices.old devices.new hand.new.ending.lost result }
+    ensures judge { IsFor (L.shape layout.now) hand.new.judge }
 {
     deaths_bring_no_unit_back();
-    lose_column(layout, ending, column, judge);
-    settle_and_close(layout, devices, ending, label, judge);
-    match ending.lost {
+    lose_column(layout, hand, column);
+    settle_and_close(layout, devices, hand, label);
+    match hand.ending.lost {
         Some(_) => Done::Nothing,
         None => Done::Killed(column),
     }

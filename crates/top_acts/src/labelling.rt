@@ -8,10 +8,10 @@ ghost use Rattle.top_rounds.specs.Passes.{CanBeLabelled};
 
 use crate::done::Done;
 use blk_disk::Disk;
-use eng_cols::{Cols, Column};
+use eng_cols::Column;
 use lay_core::Layout;
 use raid_label::Label;
-use top_close::Ending;
+use top_close::Hand;
 use top_rounds::round;
 
 fn is_alive(column: Column) -> bool
@@ -42,30 +42,28 @@ fn count_alive(columns: &[Column]) -> u32
 /// begins, with a greater counter. Tells how many columns aren't dead in the end.
 ///
 /// `label` is what the labels have besides, and in the end the label of the last round. Nothing is
-/// settled. The array isn't lost as it is opened. `judge` may hold any columns, as many as the
-/// layout has. No memory is taken.
+/// settled. The array isn't lost as it is opened. No memory is taken.
 pub fn label<L: Layout, D: Disk>(
     layout: &L,
     devices: &mut [Option<D>],
-    ending: &mut Ending,
+    hand: &mut Hand,
     label: &mut Label,
-    judge: &mut Cols,
 ) -> Done
-    requires array { CanBeLabelled D.Disk ending.old.columns.items devices.old }
-    requires columns { IsSettable (L.shape layout.now) ending.old.columns.items }
-    requires held { IsLabelFor ending.old.columns.items label.old }
-    requires judge { IsFor (L.shape layout.now) judge.old }
+    requires array { CanBeLabelled D.Disk hand.old.ending.columns.items devices.old }
+    requires columns { IsSettable (L.shape layout.now) hand.old.ending.columns.items }
+    requires held { IsLabelFor hand.old.ending.columns.items label.old }
+    requires judge { IsFor (L.shape layout.now) hand.old.judge }
     ensures labelled { IsFirstLabelled D.Disk (L.shape layout.now) label.old label.new
-        ending.old.columns.items
-        ending.new.columns.items devices.old devices.new ending.new.lost result }
-    ensures judge { IsFor (L.shape layout.now) judge.new }
+        hand.old.ending.columns.items
+        hand.new.ending.columns.items devices.old devices.new hand.new.ending.lost result }
+    ensures judge { IsFor (L.shape layout.now) hand.new.judge }
 {
-    ending.lost = None;
+    hand.ending.lost = None;
     label.counter = 0;
     label.clean = 0;
-    round(layout, devices, ending, label, judge);
-    match ending.lost {
+    round(layout, devices, hand, label);
+    match hand.ending.lost {
         Some(_) => Done::Nothing,
-        None => Done::Labelled(count_alive(&ending.columns)),
+        None => Done::Labelled(count_alive(&hand.ending.columns)),
     }
 }

@@ -13,12 +13,12 @@ use crate::done::Done;
 use crate::ending::end_labelled;
 use crate::sweeping::{Renewal, sweep_and_judge};
 use blk_disk::Disk;
-use eng_cols::{Cols, Loss};
+use eng_cols::Loss;
 use lay_core::Layout;
 use raid_label::Label;
 use raid_progress::Progress;
 use raid_recon::SweepRoom;
-use top_close::{Ending, deaths_bring_no_unit_back, end_unlabelled};
+use top_close::{Hand, deaths_bring_no_unit_back, settle};
 
 // What was done, of so many check units.
 fn done(kind: Renewal, count: u64, lost: Option<Loss>) -> Done
@@ -45,59 +45,57 @@ pub fn renew<L: Layout, D: Disk, P: Progress>(
     kind: Renewal,
     layout: &L,
     devices: &mut [Option<D>],
-    ending: &mut Ending,
+    hand: &mut Hand,
     label: &mut Label,
     room: &mut SweepRoom<P>,
-    judge: &mut Cols,
 ) -> Done
-    requires can { CanAct D.Disk (L.shape layout.now) ending.old.columns.items devices.old }
-    requires held { IsLabelFor ending.old.columns.items label.old }
+    requires can { CanAct D.Disk (L.shape layout.now) hand.old.ending.columns.items devices.old }
+    requires held { IsLabelFor hand.old.ending.columns.items label.old }
     requires counter { label.old.counter + 99 < 2 ^ 32 }
     requires room { 1024 * (L.shape layout.now).unit_sectors ≤ room.old }
-    requires judge { IsFor (L.shape layout.now) judge.old }
+    requires judge { IsFor (L.shape layout.now) hand.old.judge }
     ensures renewed { IsRenewed D.Disk kind (L.shape layout.now) label.old label.new
-        ending.old.columns.items ending.new.columns.items devices.old devices.new ending.new.lost
-        result }
+        hand.old.ending.columns.items hand.new.ending.columns.items
+        devices.old devices.new hand.new.ending.lost result }
     ensures room { room.new ≡ room.old }
-    ensures judge { IsFor (L.shape layout.now) judge.new }
+    ensures judge { IsFor (L.shape layout.now) hand.new.judge }
 {
     deaths_bring_no_unit_back();
-    let count = begin(Some(kind), layout, devices, ending, label, room, judge);
-    if ending.lost.is_some() {
+    let count = begin(Some(kind), layout, devices, hand, label, room);
+    if hand.ending.lost.is_some() {
         return Done::Nothing;
     }
     label.clean = 1;
-    end_labelled(layout, devices, ending, label, judge);
-    done(kind, count, ending.lost)
+    end_labelled(layout, devices, hand, label);
+    done(kind, count, hand.ending.lost)
 }
 
 /// Renews the check units of an array without labels: the stripes are swept, and then each device in
 /// use is settled, whether the array is lost or not. A column is dead whose device fails. Tells how
 /// many check units were written.
 ///
-/// The array isn't lost as it is opened. `room` has 1,024 bytes for each sector of a unit, and
-/// `judge` may hold any columns, as many as the layout has. No memory is taken.
+/// The array isn't lost as it is opened. `room` has 1,024 bytes for each sector of a unit. No
+/// memory is taken.
 pub fn renew_unlabelled<L: Layout, D: Disk, P: Progress>(
     kind: Renewal,
     layout: &L,
     devices: &mut [Option<D>],
-    ending: &mut Ending,
+    hand: &mut Hand,
     room: &mut SweepRoom<P>,
-    judge: &mut Cols,
 ) -> Done
-    requires array { IsArray D.Disk (L.shape layout.now) ending.old.columns.items devices.old }
-    requires columns { IsSettable (L.shape layout.now) ending.old.columns.items }
+    requires array { IsArray D.Disk (L.shape layout.now) hand.old.ending.columns.items devices.old }
+    requires columns { IsSettable (L.shape layout.now) hand.old.ending.columns.items }
     requires room { 1024 * (L.shape layout.now).unit_sectors ≤ room.old }
-    requires judge { IsFor (L.shape layout.now) judge.old }
+    requires judge { IsFor (L.shape layout.now) hand.old.judge }
     ensures renewed { IsRenewedPlain D.Disk kind (L.shape layout.now)
-        ending.old.columns.items ending.new.columns.items devices.old devices.new ending.new.lost
-        result }
+        hand.old.ending.columns.items hand.new.ending.columns.items
+        devices.old devices.new hand.new.ending.lost result }
     ensures room { room.new ≡ room.old }
-    ensures judge { IsFor (L.shape layout.now) judge.new }
+    ensures judge { IsFor (L.shape layout.now) hand.new.judge }
 {
     deaths_bring_no_unit_back();
-    let count = sweep_and_judge(kind, layout, devices, ending, room, judge);
-    ending.lost = None;
-    end_unlabelled(layout, devices, ending, judge);
-    done(kind, count, ending.lost)
+    let count = sweep_and_judge(kind, layout, devices, hand, room);
+    hand.ending.lost = None;
+    settle(layout, devices, hand);
+    done(kind, count, hand.ending.lost)
 }

@@ -8,13 +8,12 @@ ghost use Rattle.top_acts.specs.Sweeping.{DoesSweep};
 ghost use Rattle.eng_cols.specs.Stripes.{states_of};
 ghost use Rattle.top_close.specs.Ended.{IsLossBy};
 
-use crate::judging::loss_of;
 use blk_disk::Disk;
 use eng_cols::{Cols, Column};
 use lay_core::Layout;
 use raid_progress::Progress;
 use raid_recon::{SweepRoom, sweep_init, sweep_sync};
-use top_close::{Ending, deaths_bring_no_unit_back};
+use top_close::{Hand, deaths_bring_no_unit_back, loss_of};
 
 /// Which check units are written, of the stripes that lack no unit.
 #[derive(Clone, Copy, Debug, PartialEq, Eq)]
@@ -54,24 +53,23 @@ pub(crate) fn sweep_and_judge<L: Layout, D: Disk, P: Progress>(
     kind: Renewal,
     layout: &L,
     devices: &mut [Option<D>],
-    ending: &mut Ending,
+    hand: &mut Hand,
     room: &mut SweepRoom<P>,
-    judge: &mut Cols,
 ) -> u64
-    requires array { IsArray D.Disk (L.shape layout.now) ending.old.columns.items devices.old }
-    requires columns { IsSettable (L.shape layout.now) ending.old.columns.items }
+    requires array { IsArray D.Disk (L.shape layout.now) hand.old.ending.columns.items devices.old }
+    requires columns { IsSettable (L.shape layout.now) hand.old.ending.columns.items }
     requires room { 1024 * (L.shape layout.now).unit_sectors ≤ room.old }
-    requires judge { IsFor (L.shape layout.now) judge.old }
+    requires judge { IsFor (L.shape layout.now) hand.old.judge }
     ensures swept { DoesSweep D.Disk (sweep_of kind) (L.shape layout.now)
-        ending.old.columns.items ending.new.columns.items devices.old devices.new result }
+        hand.old.ending.columns.items hand.new.ending.columns.items devices.old devices.new result }
     ensures lost { IsLossBy (L.shape layout.now) None
-        (states_of (L.shape layout.now) ending.new.columns.items) ending.new.lost }
+        (states_of (L.shape layout.now) hand.new.ending.columns.items) hand.new.ending.lost }
     ensures room { room.new ≡ room.old }
-    ensures judge { IsFor (L.shape layout.now) judge.new }
+    ensures judge { IsFor (L.shape layout.now) hand.new.judge }
 {
     deaths_bring_no_unit_back();
-    let columns = ending.columns.as_mut_slice();
-    let count = sweep(kind, layout, devices, columns, room, judge);
-    ending.lost = loss_of(layout, columns, judge);
+    let columns = hand.ending.columns.as_mut_slice();
+    let count = sweep(kind, layout, devices, columns, room, &mut hand.judge);
+    hand.ending.lost = loss_of(layout, columns, &mut hand.judge);
     count
 }

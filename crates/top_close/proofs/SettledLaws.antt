@@ -1,9 +1,8 @@
 -- Columns that are settled one after the other.
-use Rattle.std.proofs.Common.{◌≡◌, ◌≢◌, ◌∙◌, ℕ, zero, suc, ◌+◌, ◌<◌, Bool, true, false, List, [], ◌∷◌, ◌++◌, length, Option, Some, None, refl, sym, ap, subst, inl, inr, arith, rules, append_assoc}
-use Rattle.std.specs.Prelude.{set, slice_get, All, IsSome, is_some, option_and_then, if◌then◌else◌}
+use Rattle.std.proofs.Common.{◌≡◌, ◌≢◌, ◌∙◌, ℕ, zero, suc, ◌+◌, ◌<◌, Bool, true, false, List, [], ◌∷◌, length, Option, Some, None, refl, sym, ap, subst, inl, inr, arith}
+use Rattle.std.specs.Prelude.{set, slice_get, IsSome, is_some, option_and_then, if◌then◌else◌}
 use Rattle.std.proofs.lemmas.Bool.{cases_order, cases_lt}
 use Rattle.std.proofs.lemmas.Option.{slice_get_within}
-use Rattle.std.proofs.lemmas.List.Elements.{All-append, All-cons}
 use Rattle.blk_disk.specs.declared.disk.Call.{Call}
 use Rattle.blk_disk.specs.declared.disk.Disk.{Ghosts}
 use Rattle.blk_disk.specs.Disk.{Tells, call_of}
@@ -14,30 +13,12 @@ use Rattle.eng_cols.specs.declared.column.Column.TheVariants as column
 use Rattle.eng_cols.specs.Cols.{device_set}
 use Rattle.eng_cols.specs.Deaths.{Dies}
 use Rattle.eng_cols.proofs.DeathLaws.{dies-refl, dies-more, dies-then, dies-set}
+use Rattle.eng_cols.proofs.Lists.{get_set_other}
 use Rattle.top_close.specs.Calls.{IsSettle, SettlesOn, EndsSettled}
 use Rattle.top_close.specs.Settled.{HasDeviceOn, has_device, HaveDevices, LosesDevice, SettlesColumn, AreSettled}
+use Rattle.top_close.proofs.CallLaws.{more_all-none, more_all-one, more_all-then}
 
 -- ## Calls
-
-no_call : All IsSettle []
-no_call k d h = absurd (omega (arith, h))
-
-settles_on-refl : (a : Option (List Call)) → SettlesOn a a
-settles_on-refl None = tt
-settles_on-refl (Some cs) = ([], search rules, no_call)
-
-settles_on-then : (a b c : Option (List Call)) → SettlesOn a b → SettlesOn b c → SettlesOn a c
-settles_on-then a b None one two = tt
-settles_on-then None None (Some cs) one two = absurd two
-settles_on-then None (Some bs) (Some cs) one two = absurd one
-settles_on-then (Some xs) None (Some cs) one two = absurd two
-settles_on-then (Some xs) (Some bs) (Some cs) one two =
-    (one.0 ++ two.0, two.1 ∙ (ap (λ (l : List Call). l ++ two.0) one.1 ∙ append_assoc xs one.0 two.0), All-append IsSettle one.0 two.0 one.2 two.2)
-
-settles_on-one : (a b : Option (List Call)) (good : Bool) → Tells a b (call_of 2 0 0 good) → SettlesOn a b
-settles_on-one a None good h = tt
-settles_on-one None (Some bs) good h = absurd h
-settles_on-one (Some xs) (Some bs) good h = (call_of 2 0 0 good ∷ [], h, All-cons IsSettle (call_of 2 0 0 good) [] (good, refl) no_call)
 
 ends_settled-one : (a b : Option (List Call)) → Tells a b (call_of 2 0 0 true) → EndsSettled b
 ends_settled-one a None h = tt
@@ -54,27 +35,20 @@ device_within columns c d h = go (slice_get columns c) refl h
     go None e on = let z : None ≡ Some d = on in absurd (let u : ⊥ = cc in u)
     go (Some x) e on = slice_get_within columns c x e
 
-set_here : (xs : List Column) (i : ℕ) (x : Column) → i < length xs → slice_get (set xs i x) i ≡ Some x
+pub set_here : (xs : List Column) (i : ℕ) (x : Column) → i < length xs → slice_get (set xs i x) i ≡ Some x
 set_here [] i x h = absurd (omega arith)
 set_here (y ∷ xs) zero x h = refl
 set_here (y ∷ xs) (suc i) x h = set_here xs i x (omega arith)
 
-set_other : (xs : List Column) (i k : ℕ) (x : Column) → k ≢ i → slice_get (set xs i x) k ≡ slice_get xs k
-set_other [] i k x apart = refl
-set_other (y ∷ xs) zero zero x apart = absurd (apart refl)
-set_other (y ∷ xs) zero (suc k) x apart = refl
-set_other (y ∷ xs) (suc i) zero x apart = refl
-set_other (y ∷ xs) (suc i) (suc k) x apart = set_other xs i k x (λ e. apart (omega (arith, e)))
-
-if_live : (columns : List Column) (c d : ℕ) (good : Bool) → HasDeviceOn columns c d → has_device (slice_get (if good then columns else set columns c column.Dead) c) ≡ good
+pub if_live : (columns : List Column) (c d : ℕ) (good : Bool) → HasDeviceOn columns c d → has_device (slice_get (if good then columns else set columns c column.Dead) c) ≡ good
 if_live columns c d true h = ap is_some h
 if_live columns c d false h = ap has_device (set_here columns c column.Dead (device_within columns c d h))
 
-if_other : (columns : List Column) (c k : ℕ) (good : Bool) → k ≢ c → slice_get (if good then columns else set columns c column.Dead) k ≡ slice_get columns k
+pub if_other : (columns : List Column) (c k : ℕ) (good : Bool) → k ≢ c → slice_get (if good then columns else set columns c column.Dead) k ≡ slice_get columns k
 if_other columns c k true apart = refl
-if_other columns c k false apart = set_other columns c k column.Dead apart
+if_other columns c k false apart = get_set_other columns c k column.Dead apart
 
-if_dies : (cause : ℕ → Type 0) (columns : List Column) (c d : ℕ) (good : Bool) → HasDeviceOn columns c d → (good ≡ false → cause c) → Dies cause columns (if good then columns else set columns c column.Dead)
+pub if_dies : (cause : ℕ → Type 0) (columns : List Column) (c d : ℕ) (good : Bool) → HasDeviceOn columns c d → (good ≡ false → cause c) → Dies cause columns (if good then columns else set columns c column.Dead)
 if_dies cause columns c d true h why = dies-refl cause columns
 if_dies cause columns c d false h why = dies-set cause columns c (device_within columns c d h) (why refl)
 
@@ -88,7 +62,7 @@ module _ {D : Type 0} (g : Ghosts D) where
     once = λ c d below. absurd (omega (arith, below));
     others = λ d none. refl;
     left = λ c h. refl;
-    told = λ d. settles_on-refl (calls_of g ds d);
+    told = λ d. more_all-none IsSettle (calls_of g ds d);
   }
 
   -- the next column isn't live
@@ -153,10 +127,10 @@ module _ {D : Type 0} (g : Ghosts D) where
     told : (k : ℕ) → SettlesOn (calls_of g dev k) (calls_of g new k)
     unfolding d
     told k = elim (cases_order k d) [
-      | inl e ↦ subst (λ j. SettlesOn (calls_of g dev j) (calls_of g new j)) (sym e) (settles_on-one _ _ step.good step.settling.told)
+      | inl e ↦ subst (λ j. SettlesOn (calls_of g dev j) (calls_of g new j)) (sym e) (more_all-one IsSettle (call_of 2 0 0 step.good) (calls_of g dev d) (calls_of g new d) (step.good, refl) step.settling.told)
       | inr order ↦
           let apart : k ≢ d = λ e. elim order [ inl lt ↦ omega (arith, e, lt) | inr gt ↦ omega (arith, e, gt) ] in
-          subst (λ o. SettlesOn (calls_of g dev k) o) (ap (λ o. option_and_then g.calls o) (sym (step.settling.others k apart))) (settles_on-refl (calls_of g dev k))
+          subst (λ o. SettlesOn (calls_of g dev k) o) (ap (λ o. option_and_then g.calls o) (sym (step.settling.others k apart))) (more_all-none IsSettle (calls_of g dev k))
     ]
 
     pub settled-more : AreSettled g (n + 1) columns after old new
@@ -170,7 +144,7 @@ module _ {D : Type 0} (g : Ghosts D) where
       ];
       others = λ k none. step.settling.others k (λ e. none n (omega arith) (live ∙ ap (λ j. Some j) (sym e))) ∙ was.others k (λ c below. none c (omega (arith, below)));
       left = λ c h. ap (λ (l : List Column). slice_get l c) step.after_is ∙ (if_other mid n c step.good (λ e. omega (arith, h, e)) ∙ was.left c (omega (arith, h)));
-      told = λ k. settles_on-then (calls_of g old k) (calls_of g dev k) (calls_of g new k) (was.told k) (told k);
+      told = λ k. more_all-then IsSettle (calls_of g old k) (calls_of g dev k) (calls_of g new k) (was.told k) (told k);
     }
 
   -- a device still in use has settled last

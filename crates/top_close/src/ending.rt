@@ -1,14 +1,15 @@
 //! The end of a run.
-ghost use Rattle.std.specs.Prelude.{◌≡◌, ◌≤◌, ℕ, length, count_by};
-ghost use Rattle.blk_disk.specs.Devices.{Changes, calls_of};
-ghost use Rattle.eng_cols.specs.Cols.{IsFor, IsKept, is_set_filling, is_set_spread};
-ghost use Rattle.eng_cols.specs.Deaths.{Dies};
-ghost use Rattle.top_close.specs.Calls.{EndsSettled, SettlesOn};
-ghost use Rattle.top_close.specs.Settled.{HasDeviceOn, HaveDevices, LosesDevice, AreSettled};
+ghost use Rattle.std.specs.Prelude.{ℕ, length};
+ghost use Rattle.blk_disk.specs.Devices.{calls_of};
+ghost use Rattle.eng_cols.specs.Cols.{IsFor};
+ghost use Rattle.eng_cols.specs.Settable.{IsSettable};
+ghost use Rattle.top_close.specs.Calls.{EndsSettled};
+ghost use Rattle.top_close.specs.Settled.{HasDeviceOn, HaveDevices, AreSettled};
 ghost use Rattle.eng_cols.specs.Stripes.{states_of};
 ghost use Rattle.top_close.specs.Ended.{IsLossBy};
 
-use crate::settle::settle_all;
+use crate::judging::loss_of;
+use crate::settling::settle_all;
 use blk_disk::Disk;
 use eng_cols::{Cols, Column, Loss};
 use lay_core::Layout;
@@ -22,54 +23,35 @@ pub struct Ending {
     pub lost: Option<Loss>,
 }
 
-// By what the array is lost in the end, which was lost by `before` or wasn't.
-fn loss_of<L: Layout>(
-    layout: &L,
-    columns: &[Column],
-    before: Option<Loss>,
-    judge: &mut Cols,
-) -> Option<Loss>
-    requires columns { length columns.now ≡ (L.shape layout.now).columns }
-    requires filling { count_by is_set_filling columns.now ≤ 1 }
-    requires spread { count_by is_set_spread columns.now ≤ 1 }
-    requires judge { IsFor (L.shape layout.now) judge.old }
-    ensures lost { IsLossBy (L.shape layout.now) before
-        (states_of (L.shape layout.now) columns.now) result }
-    ensures judge { IsFor (L.shape layout.now) judge.new }
-{
-    if let Some(loss) = before {
-        return Some(loss);
-    }
-    judge.set(layout, columns);
-    judge.lost(layout)
+/// What work on an array changes beside its devices: its columns as they are by now, by what it is
+/// lost, if it is, and room to judge that.
+#[derive(Drop)]
+pub struct Hand {
+    pub ending: Ending,
+    /// It may hold any columns, as many as the layout has.
+    pub judge: Cols,
 }
 
-/// Ends the run of an array without labels. Each device in use is settled, last of all its calls,
-/// one after the other; a column whose device fails that is dead. Then the array is lost by what it
-/// was lost by before, or else by the columns as they are in the end.
+/// Settles each device in use, last of all its calls, one after the other; a column whose device
+/// fails that is dead. Then the array is lost by what it was lost by before, or else by the columns
+/// as they are in the end.
 ///
-/// `judge` may hold any columns, as many as the layout has. No sector changes, and no memory is
-/// taken.
-pub fn end_unlabelled<L: Layout, D: Disk>(
-    layout: &L,
-    devices: &mut [Option<D>],
-    ending: &mut Ending,
-    judge: &mut Cols,
-)
-    requires devices { HaveDevices ending.old.columns.items devices.old }
-    requires columns { length ending.old.columns.items ≡ (L.shape layout.now).columns }
-    requires filling { count_by is_set_filling ending.old.columns.items ≤ 1 }
-    requires spread { count_by is_set_spread ending.old.columns.items ≤ 1 }
-    requires judge { IsFor (L.shape layout.now) judge.old }
-    ensures settled { AreSettled D.Disk (length ending.old.columns.items)
-        ending.old.columns.items ending.new.columns.items devices.old devices.new }
-    ensures last { (c d : ℕ) → HasDeviceOn ending.new.columns.items c d →
+/// So ends a run over an array without labels. No sector changes, and no memory is taken.
+pub fn settle<L: Layout, D: Disk>(layout: &L, devices: &mut [Option<D>], hand: &mut Hand)
+    requires devices { HaveDevices hand.old.ending.columns.items devices.old }
+    requires columns { IsSettable (L.shape layout.now) hand.old.ending.columns.items }
+    requires judge { IsFor (L.shape layout.now) hand.old.judge }
+    ensures settled { AreSettled D.Disk (length hand.old.ending.columns.items)
+        hand.old.ending.columns.items hand.new.ending.columns.items devices.old devices.new }
+    ensures last { (c d : ℕ) → HasDeviceOn hand.new.ending.columns.items c d →
         EndsSettled (calls_of D.Disk devices.new d) }
-    ensures lost { IsLossBy (L.shape layout.now) ending.old.lost
-        (states_of (L.shape layout.now) ending.new.columns.items) ending.new.lost }
-    ensures judge { IsFor (L.shape layout.now) judge.new }
+    ensures lost { IsLossBy (L.shape layout.now) hand.old.ending.lost
+        (states_of (L.shape layout.now) hand.new.ending.columns.items) hand.new.ending.lost }
+    ensures judge { IsFor (L.shape layout.now) hand.new.judge }
 {
-    let columns = ending.columns.as_mut_slice();
+    let columns = hand.ending.columns.as_mut_slice();
     settle_all(devices, columns);
-    ending.lost = loss_of(layout, columns, ending.lost, judge);
+    if hand.ending.lost.is_none() {
+        hand.ending.lost = loss_of(layout, columns, &mut hand.judge);
+    }
 }

@@ -6,10 +6,12 @@
 #![tactic(auto)]
 
 mod ending;
+mod judging;
 mod laws;
-mod settle;
+mod settling;
 
-pub use ending::{Ending, end_unlabelled};
+pub use ending::{Ending, Hand, settle};
+pub use judging::loss_of;
 pub use laws::{
     agreement_goes_by_the_devices_in_use, both_columns_of_a_loss_lack_a_unit,
     columns_close_without_harm, deaths_bring_no_unit_back,

@@ -13,7 +13,7 @@ use Rattle.eng_cols.specs.Stripes.{filled_in, states_of}
 use Rattle.eng_cols.proofs.Lists.{get_set_other, get_set_same}
 use Rattle.top_acts.specs.Killed.{IsWithout}
 use Rattle.top_close.specs.Closes.{FillingEnds, SpreadEnds}
-use Rattle.top_rounds.proofs.PassLaws.{set_here}
+use Rattle.top_close.proofs.SettledLaws.{set_here}
 use Rattle.top_labelled.proofs.Lists.{same-list}
 
 pub done-all : (n s : ℕ) → s < n → is_done (all_done n) s ≡ true

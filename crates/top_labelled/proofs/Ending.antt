@@ -1,5 +1,5 @@
 -- How each column of an array ends that was begun, served and closed.
-use Rattle.std.proofs.Common.{◌≡◌, ◌⊎◌, inl, inr, ℕ, ◌<◌, List, Bool, true, length, Option, Some, None, refl, sym, ◌∙◌, ap, subst}
+use Rattle.std.proofs.Common.{◌≡◌, ◌⊎◌, inl, inr, ℕ, ◌<◌, List, true, length, Option, Some, None, refl, sym, ◌∙◌, ap, subst}
 use Rattle.std.specs.Prelude.{slice_get}
 use Rattle.blk_disk.specs.declared.disk.Disk.{Ghosts}
 use Rattle.blk_disk.specs.Devices.{RisesOn}
@@ -18,8 +18,9 @@ use Rattle.top_acts.proofs.Having.{has_live}
 use Rattle.top_acts.proofs.Named.{live_of}
 use Rattle.top_close.specs.Settled.{HasDeviceOn}
 use Rattle.top_close.specs.Settled.{LosesDevice}
-use Rattle.top_rounds.specs.Rounds.{IsGivenUp}
-use Rattle.top_rounds.proofs.PassLaws.{live_before, set_here}
+use Rattle.top_close.specs.Stage.{IsGivenUp}
+use Rattle.top_close.proofs.SettledLaws.{set_here}
+use Rattle.top_close.proofs.StageLaws.{live_before}
 use Rattle.top_serve.specs.Served as served
 use Rattle.top_serve.specs.Served.{IsKeptAs}
 use Rattle.top_serve.specs.Setups.{with_start}

@@ -26,7 +26,6 @@ use Rattle.top_acts.proofs.Named.{apart_in, only_lose}
 use Rattle.top_close.proofs.Counts.{deaths_pass_less}
 use Rattle.top_close.specs.Dying.{OnlyDie}
 use Rattle.top_close.proofs.DyingLaws.{columns_die, still_agrees}
-use Rattle.top_rounds.specs.Rounds.{DiesIn}
 use Rattle.top_close.specs.Settled.{LosesDevice}
 use Rattle.top_run.specs.Work.{Work}
 use Rattle.top_run.specs.Ran.{Opens, states_in}
@@ -61,10 +60,10 @@ module _ {D : Type 0} (g : Ghosts D) (a : Work) (layout : IsLayout a.layout) (ne
   -- ## Deaths
 
   loses : Dies (LosesDevice g a.columns taken opened) a.columns begun
-  loses = only_lose g a.columns begun taken opened begins.has.named.dies
+  loses = only_lose g a.columns begun taken opened begins.has.stage.dies
 
   apart : DieApart a.columns begun
-  apart = apart_in g None a.columns begun taken opened begins.has.named.dies
+  apart = apart_in g None a.columns begun taken opened begins.has.stage.dies
 
   one : AtMostOne is_set_filling a.columns
   one = count_at_most is_set_filling a.columns settable.filling
@@ -119,10 +118,10 @@ module _ {D : Type 0} (g : Ghosts D) (a : Work) (layout : IsLayout a.layout) (ne
 
   block-of : (dirty : Bool) → (newest.clean == 0) ≡ dirty → HasBegunIf dirty → g.tells → WasSound g a newest taken → (b : ℕ) → b < blocks_in y → IsBlockOf g a newest taken opened begun start.blocks b
   block-of false is has tells sound b bl =
-      inl (λ k kl. start-is tells (in-sync false is has tells sound) b k bl kl ∙ same-blocks g y layout a.columns begun taken opened array die alive tells has.frame (was-in-sync is sound) b k bl kl)
+      inl (λ k kl. start-is tells (in-sync false is has tells sound) b k bl kl ∙ same-blocks g y layout a.columns begun taken opened array die alive tells has.stage.frame (was-in-sync is sound) b k bl kl)
   block-of true is has tells sound b bl =
       let sync = in-sync true is has tells sound in
-      elim (swept-block g y layout a.columns begun taken opened array die alive tells has.frame (λ one. (has.swept refl).checks one tells) b bl) [
+      elim (swept-block g y layout a.columns begun taken opened array die alive tells has.stage.frame (λ one. (has.swept refl).checks one tells) b bl) [
         | inl same ↦ inl (λ k kl. start-is tells sync b k bl kl ∙ same k kl)
         | inr made ↦
             let lost = unmade y a.columns begun (LosesDevice g a.columns taken opened) loses apart one (stripe_of y b) (unit_of y b) made.0 made.1 in

@@ -18,7 +18,8 @@ use Rattle.top_acts.specs.Closed.{ClosesLabelled}
 use Rattle.top_close.specs.Settled.{HasDeviceOn, LosesDevice}
 use Rattle.top_rounds.specs.Labels.{for_column, seating_in, with_round}
 use Rattle.top_rounds.specs.Passes.{IsFirstInUse}
-use Rattle.top_rounds.specs.Rounds.{DiesIn, HaveFailed, IsGivenUp, IsInUse, IsTriedOn, clean_in_end}
+use Rattle.top_close.specs.Stage.{DiesIn, HaveFailed, IsGivenUp, IsInUse}
+use Rattle.top_rounds.specs.Rounds.{IsTriedOn, clean_in_end}
 use Rattle.top_run.specs.Work.{Service, Work}
 use Rattle.top_labelled.specs.Begun.{BeginsLabelled, sweep_in}
 use Rattle.top_labelled.specs.Between.{closing_label}
@@ -42,35 +43,35 @@ module _ {D : Type 0} (g : Ghosts D) (a : Work) (newest : Label) (taken opened s
   rises-begun : (d : ℕ) → RisesOn g taken opened d → RisesOn g taken back d
   rises-begun d h =
       let served_more = rises-wider g (λ _ _. ⊥) may taken taken opened served d (changes-refl g (λ _ _. ⊥) taken) h run in
-      rises-wider g (λ _ _. ⊥) (IsFirstInUse kept) taken taken served back d (changes-refl g (λ _ _. ⊥) taken) served_more closes.counted.frame
+      rises-wider g (λ _ _. ⊥) (IsFirstInUse kept) taken taken served back d (changes-refl g (λ _ _. ⊥) taken) served_more closes.counted.stage.frame
 
   rises-closed : (d : ℕ) → RisesOn g served back d → RisesOn g taken back d
   rises-closed d h =
       let before = rises-wider g may (λ _ _. ⊥) opened served back back d run h (changes-refl g (λ _ _. ⊥) back) in
-      rises-wider g Begun (λ _ _. ⊥) taken opened back back d begins.has.frame before (changes-refl g (λ _ _. ⊥) back)
+      rises-wider g Begun (λ _ _. ⊥) taken opened back back d begins.has.stage.frame before (changes-refl g (λ _ _. ⊥) back)
 
   abbrev early : List ℕ
-  early = begins.has.named.rises
+  early = begins.has.stage.rises
 
   abbrev late : List ℕ
-  late = closes.counted.rises
+  late = closes.counted.stage.rises
 
   -- a device that failed as the array was begun is none of the run's
   across : (i j : ℕ) (z : ℕ) → i < length early → j < length late → get_or early i z ≢ get_or late j z
   across i j z il jl same =
-      let gone = All-get_or (λ (d : ℕ). (c : ℕ) → HasDeviceOn columns c d → ⊥) early i z il begins.has.named.gone in
-      let was = All-get_or (IsInUse a.columns) early i z il begins.has.named.had in
-      let had = All-get_or (IsInUse kept) late j z jl closes.counted.had in
+      let gone = All-get_or (λ (d : ℕ). (c : ℕ) → HasDeviceOn columns c d → ⊥) early i z il begins.has.stage.gone in
+      let was = All-get_or (IsInUse a.columns) early i z il begins.has.stage.had in
+      let had = All-get_or (IsInUse kept) late j z jl closes.counted.stage.had in
       let live = stays had.col (get_or late j z) had.live (subst (λ (d : ℕ). IsInUse a.columns d) same was) in
       gone live.0 (subst (λ (d : ℕ). HasDeviceOn columns live.0 d) (sym same) live.1)
 
   failed : HaveFailed g taken back (early ++ late)
   failed = record {
-    apart = pairs-append (λ d e. d ≢ e) early late begins.has.named.failed.apart closes.counted.failed.apart across;
+    apart = pairs-append (λ d e. d ≢ e) early late begins.has.stage.failed.apart closes.counted.stage.failed.apart across;
     rose =
         All-append (RisesOn g taken back) early late
-        (All-weaker (RisesOn g taken opened) (RisesOn g taken back) rises-begun early begins.has.named.failed.rose)
-        (All-weaker (RisesOn g served back) (RisesOn g taken back) rises-closed late closes.counted.failed.rose);
+        (All-weaker (RisesOn g taken opened) (RisesOn g taken back) rises-begun early begins.has.stage.failed.rose)
+        (All-weaker (RisesOn g served back) (RisesOn g taken back) rises-closed late closes.counted.stage.failed.rose);
   }
 
   -- ## The last label
@@ -80,16 +81,16 @@ module _ {D : Type 0} (g : Ghosts D) (a : Work) (newest : Label) (taken opened s
 
   two-rounds : newest.counter + 2 ≤ last.counter
   two-rounds =
-      let one = begins.has.named.least in
+      let one = begins.has.counter.least in
       let some = begins.has.some in
-      let two : first.counter + 1 ≤ last.counter = closes.counted.least in
+      let two : first.counter + 1 ≤ last.counter = closes.counted.counter.least in
       omega (arith, one, some, two)
 
   at-most : last.counter ≤ newest.counter + 2 + length (early ++ late)
   at-most =
-      let one = begins.has.named.most in
+      let one = begins.has.counter.most in
       let rounds = begins.has.one refl in
-      let two : last.counter ≤ first.counter + 1 + length late = closes.counted.most in
+      let two : last.counter ≤ first.counter + 1 + length late = closes.counted.counter.most in
       let long = length-append early late in
       omega (arith, one, rounds, two, long)
 
@@ -97,7 +98,7 @@ module _ {D : Type 0} (g : Ghosts D) (a : Work) (newest : Label) (taken opened s
 
   -- a column that had a device whose count didn't rise has it
   live-begun : (d : ℕ) → (RisesOn g taken back d → ⊥) → (c : ℕ) → HasDeviceOn a.columns c d → HasDeviceOn columns c d
-  live-begun d quiet c live = elim (begins.has.named.dies.each c) [
+  live-begun d quiet c live = elim (begins.has.stage.dies.each c) [
     | inl same ↦ ap device_set same ∙ live
     | inr dead ↦ elim dead.1 [
       | inr given ↦ absurd given
@@ -113,7 +114,7 @@ module _ {D : Type 0} (g : Ghosts D) (a : Work) (newest : Label) (taken opened s
   swept-away (Some kind) d h = let e = h.1.sector.sector in omega (arith, e)
 
   untouched : g.tells → (d : ℕ) → ((c : ℕ) → HasDeviceOn a.columns c d → ⊥) → sector_of g opened d 0 ≡ sector_of g taken d 0
-  untouched tells d none = changes_sector g Begun taken opened d 0 begins.has.frame tells (λ h. elim h [
+  untouched tells d none = changes_sector g Begun taken opened d 0 begins.has.stage.frame tells (λ h. elim h [
     | inl on ↦ none on.col on.live
     | inr swept ↦ swept-away (sweep_in newest) d swept
   ])
@@ -121,7 +122,7 @@ module _ {D : Type 0} (g : Ghosts D) (a : Work) (newest : Label) (taken opened s
   -- the run writes no first sector
   as-served : g.tells → (d : ℕ) → 1 ≤ size_of g taken d → sector_of g served d 0 ≡ sector_of g opened d 0
   as-served tells d sized =
-      let size = changes_size g Begun taken opened d begins.has.frame in
+      let size = changes_size g Begun taken opened d begins.has.stage.frame in
       changes_sector g may opened served d 0 run tells (away d (omega (arith, size, sized)))
 
   -- one that isn't in use as the array is closed has what it had as it was begun
@@ -142,7 +143,7 @@ module _ {D : Type 0} (g : Ghosts D) (a : Work) (newest : Label) (taken opened s
 
   rest : g.tells → (d : ℕ) → 1 ≤ size_of g taken d → ((c : ℕ) → HasDeviceOn s.ending.columns c d → ⊥) → (RisesOn g taken back d → ⊥) → Holds d
   rest tells d sized free quiet = elim (in-use-or-not kept d) [
-    | inl live ↦ elim (closes.counted.dies.each live.0) [
+    | inl live ↦ elim (closes.counted.stage.dies.each live.0) [
       | inl same ↦ absurd (free live.0 (ap device_set same ∙ live.1))
       | inr dead ↦ elim dead.1 [
         | inl loses ↦
@@ -171,7 +172,7 @@ module _ {D : Type 0} (g : Ghosts D) (a : Work) (newest : Label) (taken opened s
     failed = failed;
     least = two-rounds;
     most = at-most;
-    later = closes.counted.least;
+    later = closes.counted.counter.least;
     label_is = label-is;
     seating = closes.seating;
     seated = record {

@@ -1,5 +1,5 @@
 -- What an array that was begun, served and closed leaves on its devices.
-use Rattle.std.proofs.Common.{◌≡◌, ◌≢◌, ◌⊎◌, inl, inr, ℕ, suc, ◌<◌, ◌≤◌, ◌*◌, List, ◌∷◌, ◌++◌, Bool, true, false, length, Option, Some, None, refl, sym, ◌∙◌, ap, subst, arith}
+use Rattle.std.proofs.Common.{◌≡◌, ◌≢◌, ◌⊎◌, inl, inr, ℕ, suc, ◌≤◌, ◌*◌, List, ◌∷◌, ◌++◌, Bool, true, false, Option, Some, None, sym, ◌∙◌, ap, subst, arith}
 use Rattle.std.specs.Prelude.{Vec, option_and_then, slice_get, slice_index}
 use Rattle.std.specs.declared.alloc.Global.{Global}
 use Rattle.std.proofs.Math.Nat.{mul-le-mul_right}
@@ -18,7 +18,6 @@ use Rattle.eng_cols.proofs.DeathLaws.{dies-more}
 use Rattle.eng_cols.proofs.Spots.{seat-device, seat-within}
 use Rattle.eng_array.specs.declared.start.Start.{Start}
 use Rattle.eng_array.specs.declared.start.Start.TheVariants as start
-use Rattle.eng_world.specs.World.{World}
 use Rattle.eng_world.specs.Rows.{IsInRows}
 use Rattle.eng_state.specs.Shows.{AreTold}
 use Rattle.eng_parts.specs.declared.setup.Setup.{Setup}
@@ -36,8 +35,8 @@ use Rattle.top_acts.proofs.Staged.{settles-first}
 use Rattle.top_close.specs.Settled.{HasDeviceOn, LosesDevice, has_device}
 use Rattle.top_close.proofs.SettledLaws.{device_within}
 use Rattle.top_rounds.specs.Passes.{IsFirstInUse}
-use Rattle.top_rounds.specs.Rounds.{DiesIn, IsGivenUp, IsInUse}
-use Rattle.top_rounds.proofs.PassLaws.{live_before}
+use Rattle.top_close.specs.Stage.{DiesIn, IsGivenUp, IsInUse}
+use Rattle.top_close.proofs.StageLaws.{live_before}
 use Rattle.top_serve.specs.Served as served
 use Rattle.top_serve.specs.Setups.{begun_in, with_start}
 use Rattle.top_serve.proofs.Deaths.{later}
@@ -75,10 +74,10 @@ none-behind g (Some before) calls told are is = let z : Some before ≡ Some tol
 pub ends-so : {L D : Type 0} (lay : LayoutGhosts L) (disk : DiskGhosts D) (closed : Closed L D) (label : Label) (asked : Option Start) (device : Option ℕ) (v : Service) (back : List (Option D)) → HasEnded lay disk closed label asked device v back → EndsSo lay closed disk v back
 ends-so lay disk closed label asked device v back e = record {
   told = e.told;
-  frame = changes-more disk (IsFirstInUse closed.columns.items) (λ d n. n ≡ 0) closed.devices.items back (λ d n first. first.first) e.closes.counted.frame;
+  frame = changes-more disk (IsFirstInUse closed.columns.items) (λ d n. n ≡ 0) closed.devices.items back (λ d n first. first.first) e.closes.counted.stage.frame;
   dies =
       dies-more (DiesIn disk v.ending.lost closed.columns.items closed.devices.items back) (λ c. LosesDevice disk closed.columns.items closed.devices.items back c ⊎ IsGivenUp v.ending.lost closed.columns.items c) closed.columns.items v.ending.columns
-      (λ c why. elim why [ inl lost ↦ inl (record { device = lost.device; had = lost.had; rose = lost.rose }) | inr gave ↦ inr gave ]) e.closes.counted.dies;
+      (λ c why. elim why [ inl lost ↦ inl (record { device = lost.device; had = lost.had; rose = lost.rose }) | inr gave ↦ inr gave ]) e.closes.counted.stage.dies;
   given_up = e.closes.given_up;
   lost = e.lost;
 }
@@ -126,7 +125,7 @@ module _ {L D : Type 0} (lay : LayoutGhosts L) (disk : DiskGhosts D) (old : Setu
   -- ## Devices of columns
 
   pub loses : Dies (LosesDevice disk old.columns.items taken opened) old.columns.items begun
-  loses = only_lose disk old.columns.items begun taken opened begins.has.named.dies
+  loses = only_lose disk old.columns.items begun taken opened begins.has.stage.dies
 
   pub named-dies : Dies (IsAnew asked) begun columns.items
   named-dies = subst (λ (cs : List Column). Dies (IsAnew asked) begun cs) (sym named) (without-dies asked begun)
@@ -176,7 +175,7 @@ module _ {L D : Type 0} (lay : LayoutGhosts L) (disk : DiskGhosts D) (old : Setu
     | inl was ↦ inl (inl (rows.0.0, was), inr rows.1)
     | inr is ↦ inl (inr (rows.0.0, is.0, is.1), inr rows.1)
   ]
-  served-may d n (inr past) = let size = changes_size disk Begun taken opened d begins.has.frame in inr (omega (arith, size, past))
+  served-may d n (inr past) = let size = changes_size disk Begun taken opened d begins.has.stage.frame in inr (omega (arith, size, past))
 
   closed-may : (d n : ℕ) → IsFirstInUse closed.columns.items d n → May d n
   closed-may d n on = elim (live-kept on.col d on.live) [
@@ -188,15 +187,15 @@ module _ {L D : Type 0} (lay : LayoutGhosts L) (disk : DiskGhosts D) (old : Setu
   since =
       changes-then disk May opened closed.devices.items back
       (changes-more disk (served.CoreMayChange lay disk setup began closed) May opened closed.devices.items served-may s.leaves.frame)
-      (changes-more disk (IsFirstInUse closed.columns.items) May closed.devices.items back closed-may e.closes.counted.frame)
+      (changes-more disk (IsFirstInUse closed.columns.items) May closed.devices.items back closed-may e.closes.counted.stage.frame)
 
   pub frame : Changes disk May taken back
-  frame = changes-then disk May taken opened back (changes-more disk Begun May taken opened begun-may begins.has.frame) since
+  frame = changes-then disk May taken opened back (changes-more disk Begun May taken opened begun-may begins.has.stage.frame) since
 
   -- no sector changes at the end but the first
   same-contents : disk.tells → (d n k : ℕ) → n ≢ 0 → contents_of disk back d n k ≡ contents_of disk closed.devices.items d n k
   same-contents tells d n k other =
-      ap (λ (l : List ℕ). slice_index l k) (changes_sector disk (IsFirstInUse closed.columns.items) closed.devices.items back d n e.closes.counted.frame tells (λ on. other on.first))
+      ap (λ (l : List ℕ). slice_index l k) (changes_sector disk (IsFirstInUse closed.columns.items) closed.devices.items back d n e.closes.counted.stage.frame tells (λ on. other on.first))
 
   abbrev InTurn : ℕ → List Call → Type 0
   InTurn c closing = EndInTurn (has_device (slice_get v.ending.columns c)) false closing (settled_in_end v.ending.lost) ⊎ (IsGivenUp v.ending.lost closed.columns.items c × ((settled : Bool) × AreInTurn false closing settled))
@@ -218,7 +217,7 @@ module _ {L D : Type 0} (lay : LayoutGhosts L) (disk : DiskGhosts D) (old : Setu
   first-settled none c d told live is =
       let f = e.first (s.tells.lost ∙ none) in
       settle-behind disk (calls_of disk closed.devices.items d) (s.now.calls d) told (s.leaves.calls d) (subst (λ o. SettlesFirstOn (calls_of disk closed.devices.items d) o) is
-      (settles-first (has_device (slice_get f.mid c)) (calls_of disk closed.devices.items d) (calls_of disk f.dev d) (calls_of disk back d) (f.settles.once c d (device_within closed.columns.items c d live) live) (f.closes.counted.told d)))
+      (settles-first (has_device (slice_get f.mid c)) (calls_of disk closed.devices.items d) (calls_of disk f.dev d) (calls_of disk back d) (f.settles.once c d (device_within closed.columns.items c d live) live) (f.closes.counted.stage.told d)))
 
   others : (d : ℕ) (told : List Call) → ((c : ℕ) → HasDeviceOn closed.columns.items c d → ⊥) → calls_of disk back d ≡ Some told → told ≡ s.now.calls d
   others d told free is = none-behind disk (calls_of disk closed.devices.items d) (s.now.calls d) told (s.leaves.calls d) (ap (λ o. option_and_then disk.calls o) (sym (e.closes.counted.others d free)) ∙ is)
@@ -236,7 +235,7 @@ module _ {L D : Type 0} (lay : LayoutGhosts L) (disk : DiskGhosts D) (old : Setu
   -- ## Counts of faults
 
   pub rises-behind : (d : ℕ) → RisesOn disk opened back d → RisesOn disk taken back d
-  rises-behind d h = rises-wider disk Begun (λ _ _. ⊥) taken opened back back d begins.has.frame h (changes-refl disk (λ _ _. ⊥) back)
+  rises-behind d h = rises-wider disk Begun (λ _ _. ⊥) taken opened back back d begins.has.stage.frame h (changes-refl disk (λ _ _. ⊥) back)
 
   pub rises-before : (d : ℕ) → RisesOn disk taken opened d → RisesOn disk taken back d
   rises-before d h = rises-wider disk (λ _ _. ⊥) May taken taken opened back d (changes-refl disk (λ _ _. ⊥) taken) h since

@@ -1,5 +1,5 @@
 -- An array that was begun, up to the death of the column that is to be rebuilt anew.
-use Rattle.std.proofs.Common.{◌≡◌, ◌⊎◌, inl, inr, ℕ, ◌≤◌, List, Bool, length, Option, Some, None, slice_get, refl, sym, ◌∙◌, subst}
+use Rattle.std.proofs.Common.{◌≡◌, ◌⊎◌, inl, inr, ℕ, List, Bool, length, Option, Some, None, slice_get, refl, sym, ◌∙◌, subst}
 use Rattle.blk_disk.specs.declared.disk.Disk.{Ghosts}
 use Rattle.blk_disk.specs.Devices.{Changes}
 use Rattle.blk_disk.proofs.DeviceLaws.{changes-more, changes-refl, changes-then, rises-wider}
@@ -19,11 +19,11 @@ use Rattle.top_acts.proofs.Counted.{counted_rounds}
 use Rattle.top_acts.proofs.Named.{apart_in}
 use Rattle.top_close.specs.Dying.{AnyCause}
 use Rattle.top_close.specs.Ended.{IsLossBy}
-use Rattle.top_close.specs.Settled.{HasDeviceOn, LosesDevice}
+use Rattle.top_close.specs.Settled.{HasDeviceOn}
 use Rattle.top_rounds.specs.Passes.{IsFirstInUse}
-use Rattle.top_rounds.specs.Rounds.{DiesIn, IsGivenUp, IsGivenUpIn}
-use Rattle.top_rounds.proofs.PassLaws.{live_before}
-use Rattle.top_rounds.proofs.RoundLaws.{given_after, given_before}
+use Rattle.top_close.specs.Stage.{DiesIn, IsGivenUp, IsGivenUpIn}
+use Rattle.top_close.proofs.StageLaws.{live_before, given_before}
+use Rattle.top_rounds.proofs.RoundLaws.{given_after}
 use Rattle.top_run.specs.Work.{Work}
 use Rattle.top_labelled.specs.Begun.{IsAlone, IsAnew, IsColumnWithin, sweep_in, without}
 use Rattle.top_labelled.specs.Between.{HasOpened}
@@ -47,13 +47,13 @@ module _ {D : Type 0} (g : Ghosts D) (label next : Label) (columns after : List 
 
   pub fails-dies : (before lost : Option Loss) → EndsFailed g before lost label next columns after old new → Dies (DiesIn g lost columns old new) columns after
   fails-dies None None h = stays-dies None h
-  fails-dies None (Some loss) h = (counted_rounds g (Some loss) label next columns h.rounds.0 after old new h.rounds.1).dies
+  fails-dies None (Some loss) h = (counted_rounds g (Some loss) label next columns h.rounds.0 after old new h.rounds.1).stage.dies
   fails-dies (Some before) None h = absurd h
   fails-dies (Some before) (Some loss) h = stays-dies (Some loss) h
 
   pub fails-moved : (before lost : Option Loss) → EndsFailed g before lost label next columns after old new → Changes g (IsFirstInUse columns) old new
   fails-moved None None h = stays-moved h
-  fails-moved None (Some loss) h = (counted_rounds g (Some loss) label next columns h.rounds.0 after old new h.rounds.1).frame
+  fails-moved None (Some loss) h = (counted_rounds g (Some loss) label next columns h.rounds.0 after old new h.rounds.1).stage.frame
   fails-moved (Some before) None h = absurd h
   fails-moved (Some before) (Some loss) h = stays-moved h
 
@@ -82,7 +82,7 @@ module _ {D : Type 0} (g : Ghosts D) (label next : Label) (columns after : List 
 module _ {D : Type 0} (g : Ghosts D) (y : Shape) (asked : Option Start) (faulty : Bool) (newest next : Label) (columns after : List Column) (old new : List (Option D)) (lost : Option Loss) (began : Option Start)
     (within : IsColumnWithin asked (length columns)) (h : HasOpened g y asked faulty newest next columns after old new lost began) where
   pub within-begun : IsColumnWithin asked (length h.begun)
-  within-begun = subst (λ n. IsColumnWithin asked n) (sym h.has.named.dies.count) within
+  within-begun = subst (λ n. IsColumnWithin asked n) (sym h.has.stage.dies.count) within
 
   abbrev Begun : ℕ → ℕ → Type 0
   Begun = MayBegin g (sweep_in newest) y columns old
@@ -95,7 +95,7 @@ module _ {D : Type 0} (g : Ghosts D) (y : Shape) (asked : Option Start) (faulty 
   had-begun c d on = live_before (IsAnew asked) h.begun (without asked h.begun) c d (without-dies asked h.begun) on
 
   had-first : (c d : ℕ) → HasDeviceOn h.begun c d → HasDeviceOn columns c d
-  had-first c d on = live_before (DiesIn g h.before columns old h.opened) columns h.begun c d h.has.named.dies on
+  had-first c d on = live_before (DiesIn g h.before columns old h.opened) columns h.begun c d h.has.stage.dies on
 
   -- a device that is in use behind the death was in use
   was-first : (d n : ℕ) → IsFirstInUse (without asked h.begun) d n → Begun d n
@@ -105,7 +105,7 @@ module _ {D : Type 0} (g : Ghosts D) (y : Shape) (asked : Option Start) (faulty 
   moved-since = changes-more g (IsFirstInUse (without asked h.begun)) Begun h.opened new was-first (fails-moved g h.first next (without asked h.begun) after h.opened new h.before lost h.fails)
 
   pub opened-moved : Changes g Begun old new
-  opened-moved = changes-then g Begun old h.opened new h.has.frame moved-since
+  opened-moved = changes-then g Begun old h.opened new h.has.stage.frame moved-since
 
   abbrev Why : ℕ → Type 0
   Why c = IsAnew asked c ⊎ DiesIn g lost columns old new c
@@ -120,13 +120,13 @@ module _ {D : Type 0} (g : Ghosts D) (y : Shape) (asked : Option Start) (faulty 
       (record {
         device = why.device;
         had = had-first c why.device (had-begun c why.device why.had);
-        rose = rises-wider g Begun (λ _ _. ⊥) old h.opened new new why.device h.has.frame why.rose (changes-refl g (λ _ _. ⊥) new);
+        rose = rises-wider g Begun (λ _ _. ⊥) old h.opened new new why.device h.has.stage.frame why.rose (changes-refl g (λ _ _. ⊥) new);
       }))
-  lost-then c (inr gave) = inr (inr (given_before (DiesIn g h.before columns old h.opened) lost columns h.begun c h.has.named.dies (given_before (IsAnew asked) lost h.begun (without asked h.begun) c (without-dies asked h.begun) gave)))
+  lost-then c (inr gave) = inr (inr (given_before (DiesIn g h.before columns old h.opened) lost columns h.begun c h.has.stage.dies (given_before (IsAnew asked) lost h.begun (without asked h.begun) c (without-dies asked h.begun) gave)))
 
   pub opened-dies : Dies Why columns after
   opened-dies =
-      dies-then Why columns h.begun after (dies-more (DiesIn g h.before columns old h.opened) Why columns h.begun lost-first h.has.named.dies)
+      dies-then Why columns h.begun after (dies-more (DiesIn g h.before columns old h.opened) Why columns h.begun lost-first h.has.stage.dies)
       (dies-then Why h.begun (without asked h.begun) after (dies-more (IsAnew asked) Why h.begun (without asked h.begun) (λ c of. inl of) (without-dies asked h.begun))
       (dies-more (DiesIn g lost (without asked h.begun) h.opened new) Why (without asked h.begun) after lost-then since))
 
@@ -135,9 +135,9 @@ module _ {D : Type 0} (g : Ghosts D) (y : Shape) (asked : Option Start) (faulty 
 
   pub opened-apart : IsAlone asked columns → DieApart columns after
   opened-apart alone =
-      apart-then columns h.begun after (apart_in g h.before columns h.begun old h.opened h.has.named.dies)
+      apart-then columns h.begun after (apart_in g h.before columns h.begun old h.opened h.has.stage.dies)
       (apart-then h.begun (without asked h.begun) after
-      (without-apart asked h.begun within-begun (alone-later asked (DiesIn g h.before columns old h.opened) columns h.begun h.has.named.dies alone))
+      (without-apart asked h.begun within-begun (alone-later asked (DiesIn g h.before columns old h.opened) columns h.begun h.has.stage.dies alone))
       (apart_in g lost (without asked h.begun) after h.opened new since))
 
   pub opened-dead : (c : ℕ) → IsAnew asked c → slice_get after c ≡ Some column.Dead

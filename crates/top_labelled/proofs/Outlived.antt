@@ -20,8 +20,8 @@ use Rattle.top_acts.specs.Begun.{MayBegin}
 use Rattle.top_acts.proofs.Having.{has_live}
 use Rattle.top_acts.proofs.Named.{live_of, only_lose}
 use Rattle.top_close.specs.Settled.{HasDeviceOn, LosesDevice}
-use Rattle.top_rounds.specs.Rounds.{DiesIn}
-use Rattle.top_rounds.proofs.PassLaws.{live_before}
+use Rattle.top_close.specs.Stage.{DiesIn}
+use Rattle.top_close.proofs.StageLaws.{live_before}
 use Rattle.top_run.specs.Work.{Ending, Service, Work}
 use Rattle.top_run.specs.Outliving.{IsRebuiltIn, MayDie, OutlivesCall}
 use Rattle.top_run.specs.InTurn.{SweptInTurn}
@@ -80,7 +80,7 @@ module _ {D : Type 0} (g : Ghosts D) (a : Work) (newest : Label) (taken : List (
     wider d rose = rises-wider g (λ _ _. ⊥) (MayChangeLabelled g a newest taken s back r.began) taken taken r.opened back d (changes-refl g (λ _ _. ⊥) taken) rose r.since
 
     loses : Dies (LosesDevice g a.columns taken r.opened) a.columns r.begun
-    loses = only_lose g a.columns r.begun taken r.opened r.begins.has.named.dies
+    loses = only_lose g a.columns r.begun taken r.opened r.begins.has.stage.dies
 
     named : Dies (IsAnew a.start) r.begun mid
     named = without-dies a.start r.begun
@@ -106,5 +106,5 @@ module _ {D : Type 0} (g : Ghosts D) (a : Work) (newest : Label) (taken : List (
             inr (inr (inr (
               rose.0,
               has_live a.layout a.columns c rose.0 had,
-              rises-wider g Begun (λ _ _. ⊥) taken r.opened back back rose.0 r.begins.has.frame rose.2 (changes-refl g (λ _ _. ⊥) back),
+              rises-wider g Begun (λ _ _. ⊥) taken r.opened back back rose.0 r.begins.has.stage.frame rose.2 (changes-refl g (λ _ _. ⊥) back),
             )))

@@ -18,7 +18,7 @@ use Rattle.eng_cols.specs.Fewer.{DieApart}
 use Rattle.eng_cols.specs.Seats.{is_place_on, is_unit_of}
 use Rattle.eng_cols.specs.Stripes.{filled_in, states_of}
 use Rattle.eng_cols.proofs.Fewer.{states-die, states-same}
-use Rattle.eng_cols.proofs.Lists.{count_at_most, get_set_either, get_set_other}
+use Rattle.eng_cols.proofs.Lists.{count_at_most, get_set_other}
 use Rattle.eng_world.specs.Serving.{IsLeft}
 use Rattle.eng_rest.specs.Left.{alive}
 use Rattle.eng_rest.proofs.Summing.{below-le}
@@ -30,9 +30,9 @@ use Rattle.eng_log.specs.Given.{items_at}
 use Rattle.eng_parts.specs.declared.setup.Setup.{Setup}
 use Rattle.top_close.specs.Dying.{AnyCause}
 use Rattle.top_close.specs.Settled.{HasDeviceOn}
-use Rattle.top_close.proofs.Counts.{deaths_pass_less}
 use Rattle.top_close.proofs.DyingLaws.{dies_unfilled}
-use Rattle.top_rounds.proofs.PassLaws.{live_before, set_here}
+use Rattle.top_close.proofs.SettledLaws.{set_here}
+use Rattle.top_close.proofs.StageLaws.{live_before}
 use Rattle.top_serve.specs.Setups.{IsFreeDevice, IsUnfilled, HasSparePlaces, MayRebuild, MayStart}
 use Rattle.top_serve.proofs.Deaths.{alive-less, events-less, get-device, later, row-less, there-later}
 use Rattle.top_labelled.specs.Begun.{IsAlone, IsSeated, IsSeatedIf, IsColumnWithin, began_of, without}

@@ -1,5 +1,5 @@
 -- What is asked of an array at each step of a run over it, and what comes of the steps.
-use Rattle.std.proofs.Common.{◌≡◌, ◌⊎◌, inl, inr, ℕ, ◌≤◌, List, length, true, false, Option, Some, None, refl, sym, ◌∙◌, ap, subst, arith}
+use Rattle.std.proofs.Common.{◌≡◌, ◌⊎◌, inl, inr, ℕ, List, length, true, false, Option, Some, None, refl, sym, ◌∙◌, ap, subst, arith}
 use Rattle.std.specs.Prelude.{Vec, is_some, slice_get}
 use Rattle.std.specs.declared.alloc.Global.{Global}
 use Rattle.blk_disk.specs.declared.disk.Disk.{Ghosts as DiskGhosts}
@@ -27,8 +27,7 @@ use Rattle.eng_cols.specs.Stripes.{states_of}
 use Rattle.top_close.specs.Ended.{IsLossBy}
 use Rattle.top_acts.proofs.Named.{apart_in}
 use Rattle.top_rounds.specs.Labels.{IsLabelFor}
-use Rattle.top_rounds.specs.Rounds.{DiesIn}
-use Rattle.top_close.specs.Settled.{LosesDevice}
+use Rattle.top_close.specs.Stage.{DiesIn}
 use Rattle.eng_array.specs.Fitting.{FitsTrace}
 use Rattle.eng_array.specs.declared.start.Start.{Start}
 use Rattle.eng_events.specs.Opened.{IsSetup}
@@ -140,10 +139,10 @@ module _ {L D : Type 0} (lay : LayoutGhosts L) (disk : DiskGhosts D) where
       quiet = fails-kept disk opens.first b.label (without l.start opens.begun) b.setup.columns.items opens.opened b.setup.devices.items opens.before b.lost none opens.fails
 
       begun-any : Dies AnyCause l.setup.columns.items opens.begun
-      begun-any = dies-more (DiesIn disk opens.before l.setup.columns.items l.setup.devices.items opens.opened) AnyCause l.setup.columns.items opens.begun (λ c why. tt) opens.has.named.dies
+      begun-any = dies-more (DiesIn disk opens.before l.setup.columns.items l.setup.devices.items opens.opened) AnyCause l.setup.columns.items opens.begun (λ c why. tt) opens.has.stage.dies
 
       begun-apart : DieApart l.setup.columns.items opens.begun
-      begun-apart = apart_in disk opens.before l.setup.columns.items opens.begun l.setup.devices.items opens.opened opens.has.named.dies
+      begun-apart = apart_in disk opens.before l.setup.columns.items opens.begun l.setup.devices.items opens.opened opens.has.stage.dies
 
       may-start : MayStart lay disk next b.began
       may-start = start-later lay disk l.setup b.setup.devices b.setup.columns opens.begun begun-any begun-apart one _ moved l.failed l.start b.began can.rebuilds quiet.1.columns_are opens.began_is

@@ -1,5 +1,5 @@
 -- The columns once that is dead which is to be rebuilt anew, and what begins of a rebuild.
-use Rattle.std.proofs.Common.{◌≡◌, ◌⊎◌, inl, inr, ℕ, ◌<◌, List, Bool, true, false, length, Option, Some, None, slice_get, refl, sym, ◌∙◌, ap, subst, rules, arith}
+use Rattle.std.proofs.Common.{◌≡◌, ◌⊎◌, inl, inr, ℕ, ◌<◌, List, Bool, true, false, length, Option, Some, None, slice_get, refl, sym, ◌∙◌, ap, subst, rules}
 use Rattle.std.specs.Prelude.{◌==◌, ◌&&◌, ◌||◌, not, count_by, slice_set}
 use Rattle.std.proofs.lemmas.Bool.{cases_Bool, cases_eq, cond-true, cond-false, or_parts}
 use Rattle.std.proofs.lemmas.List.{length-set}
@@ -18,7 +18,7 @@ use Rattle.eng_cols.proofs.DeathLaws.{dies-refl}
 use Rattle.eng_cols.proofs.Lists.{get_set_either, get_set_other}
 use Rattle.top_close.specs.Dying.{AnyCause}
 use Rattle.top_close.specs.Settled.{HasDeviceOn, LosesDevice}
-use Rattle.top_rounds.proofs.PassLaws.{set_here}
+use Rattle.top_close.proofs.SettledLaws.{set_here}
 use Rattle.top_labelled.specs.Begun.{IsAlone, IsAnew, IsColumnWithin, anew_of, began_of, is_in_place, lives_on, without}
 use Rattle.top_labelled.specs.Ran.{onto}
 use Rattle.top_labelled.proofs.Lists.{none-passing}

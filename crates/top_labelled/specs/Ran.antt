@@ -1,5 +1,5 @@
 -- What a run of clients over an array with labels is, and what it leaves.
-use Rattle.std.specs.Prelude.{◌≡◌, ◌≢◌, ◌⊎◌, ◌<◌, ◌≤◌, ◌+◌, ℕ, List, ◌∷◌, ◌++◌, length, Bool, true, false, Option, Some, None, slice_get}
+use Rattle.std.specs.Prelude.{◌≡◌, ◌⊎◌, ◌<◌, ◌≤◌, ◌+◌, ℕ, List, ◌∷◌, ◌++◌, length, Bool, true, false, Option, Some, None, slice_get}
 use Rattle.blk_disk.specs.declared.disk.Call.{Call}
 use Rattle.blk_disk.specs.declared.disk.Disk.{Ghosts}
 use Rattle.blk_disk.specs.Disk.{call_of}
@@ -24,10 +24,12 @@ use Rattle.top_acts.specs.Closed.{settled_in_end}
 use Rattle.top_acts.specs.Failed.{EndsFailed}
 use Rattle.top_acts.specs.Stages.{AreInTurn, EndInTurn}
 use Rattle.top_close.specs.Calls.{EndsSettled}
-use Rattle.top_close.specs.Settled.{HasDeviceOn, has_device, LosesDevice}
+use Rattle.top_close.specs.Reserved.{IsReserved}
+use Rattle.top_close.specs.Settled.{HasDeviceOn, has_device}
 use Rattle.top_rounds.specs.Labels.{for_column, seating_in, seating_of, with_round}
 use Rattle.top_rounds.specs.Passes.{HoldsLabel}
-use Rattle.top_rounds.specs.Rounds.{DiesIn, HaveFailed, IsGivenUp, IsGivenUpIn, IsTriedOn, clean_in_end}
+use Rattle.top_close.specs.Stage.{DiesIn, HaveFailed, IsGivenUp, IsGivenUpIn}
+use Rattle.top_rounds.specs.Rounds.{IsTriedOn, clean_in_end}
 use Rattle.top_run.specs.Work.{Work, Ending, Service}
 use Rattle.top_run.specs.declared.service.Line.{Line}
 use Rattle.top_run.specs.declared.service.Told.{Told}
@@ -86,11 +88,11 @@ module _ {D : Type 0} (g : Ghosts D) (a : Work) (newest : Label) (taken : List (
   module _ (s : Service) (back : List (Option D)) where
     -- the sector may have changed: it is the label's or one of the array's rows, on a device that was in a column, or onto which the rebuild goes that began; or the device has no such sector
     abbrev pub MayChangeLabelled : Option Start → ℕ → ℕ → Type 0
-    MayChangeLabelled began d n = ((((c : ℕ) × HasDevice (states_in a) c d) ⊎ GoesOnto began d) × ((n ≡ 0) ⊎ IsInRows a.layout n)) ⊎ (size_of g taken d ≤ n)
+    MayChangeLabelled began d n = ((((c : ℕ) × HasDevice (states_in a) c d) ⊎ GoesOnto began d) × (IsReserved false n ⊎ IsInRows a.layout n)) ⊎ (size_of g taken d ≤ n)
 
     -- Devices hold what they do at the run's end, but for labels, and have changed nowhere else since they were taken. `kept` are the columns as the core was closed. Behind the run the device of each that had one was called in turn: label writes, and settles none of which comes right behind another, all of which went well, but that the last failed where the column hasn't it in the end; of a column that was filling on a lost array all may have gone well. Where the array wasn't lost in the run the first is a settle; where it isn't lost in the end the last of a device in use is one. No other device was called.
     pub record LeavesLabelled (began : Option Start) (kept : List Column) (now : World) : Type 0 where
-      pub contents : g.tells → (d n k : ℕ) → n ≢ 0 → k < 512 → contents_of g back d n k ≡ now.contents d n k
+      pub contents : g.tells → (d n k : ℕ) → (IsReserved false n → ⊥) → k < 512 → contents_of g back d n k ≡ now.contents d n k
       pub calls : (c d : ℕ) (told : List Call) → HasDeviceOn kept c d → calls_of g back d ≡ Some told → (closing : List Call) × (told ≡ now.calls d ++ closing)
           × (EndInTurn (has_device (slice_get s.ending.columns c)) false closing (settled_in_end s.ending.lost) ⊎ (IsGivenUp s.ending.lost kept c × ((settled : Bool) × AreInTurn false closing settled)))
       pub first : now.lost ≡ None → (c d : ℕ) (told : List Call) → HasDeviceOn kept c d → calls_of g back d ≡ Some told → (good : Bool) × (more : List Call) × (told ≡ now.calls d ++ call_of 2 0 0 good ∷ more)

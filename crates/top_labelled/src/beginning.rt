@@ -12,7 +12,7 @@ use lay_core::Layout;
 use raid_label::Label;
 use raid_progress::Progress;
 use raid_recon::SweepRoom;
-use top_close::Ending;
+use top_close::{Ending, Hand};
 
 /// An array that was begun: what is to be served over it, the label that was written last, what its
 /// end wants, by what it is lost, if it is, what was to be rebuilt, onto which device, and what of that
@@ -40,7 +40,7 @@ pub(crate) fn begun<L: Layout + Drop, D: Disk + Drop, P: Progress>(
     let Labelled {
         setup,
         mut label,
-        mut judge,
+        judge,
         room,
         start,
         failed,
@@ -54,20 +54,23 @@ pub(crate) fn begun<L: Layout + Drop, D: Disk + Drop, P: Progress>(
         trace,
     } = setup;
     let device = onto(start, &columns);
-    let mut ending = Ending {
-        columns,
-        lost: None,
+    let mut hand = Hand {
+        ending: Ending {
+            columns,
+            lost: None,
+        },
+        judge,
     };
     let mut room = SweepRoom::new(room, progress);
     let began = opened(
         AskedRebuild { start, failed },
         &layout,
         devices.as_mut_slice(),
-        &mut ending,
+        &mut hand,
         &mut label,
         &mut room,
-        &mut judge,
     );
+    let Hand { ending, judge } = hand;
     let Ending { columns, lost } = ending;
     let setup = Setup {
         layout,

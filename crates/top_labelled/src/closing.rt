@@ -12,14 +12,14 @@ use eng_cols::Cols;
 use lay_core::Layout;
 use raid_label::Label;
 use top_acts::end_labelled;
-use top_close::Ending;
+use top_close::{Ending, Hand};
 use top_run::Service;
 
 /// Closes the array, and tells of the run with its end, and of the rebuild that was asked.
 pub(crate) fn ended<L: Layout + Drop, D: Disk + Drop>(
     closed: Closed<L, D>,
     mut label: Label,
-    mut judge: Cols,
+    judge: Cols,
     asked: Option<Start>,
     device: Option<u32>,
 ) -> (Service, Vec<Option<D>>)
@@ -42,15 +42,13 @@ pub(crate) fn ended<L: Layout + Drop, D: Disk + Drop>(
         ..
     } = closed;
     let line = line_kept(&layout, asked, device, &columns);
-    let mut ending = Ending { columns, lost };
+    let mut hand = Hand {
+        ending: Ending { columns, lost },
+        judge,
+    };
     label.clean = 1;
-    end_labelled(
-        &layout,
-        devices.as_mut_slice(),
-        &mut ending,
-        &mut label,
-        &mut judge,
-    );
+    end_labelled(&layout, devices.as_mut_slice(), &mut hand, &mut label);
+    let ending = hand.ending;
     let line = line_at_end(ending.lost, line);
     let service = Service {
         clients,

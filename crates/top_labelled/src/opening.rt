@@ -12,13 +12,12 @@ ghost use Rattle.top_labelled.specs.Between.{HasOpened};
 use crate::in_place::{is_in_place, unless_failed};
 use blk_disk::Disk;
 use eng_array::Start;
-use eng_cols::Cols;
 use lay_core::Layout;
 use raid_label::Label;
 use raid_progress::Progress;
 use raid_recon::SweepRoom;
 use top_acts::{begin_labelled, fail_column};
-use top_close::Ending;
+use top_close::Hand;
 
 /// What is asked of a rebuild.
 #[derive(Clone, Copy)]
@@ -44,28 +43,28 @@ fn fail_asked<L: Layout, D: Disk>(
     start: Option<Start>,
     layout: &L,
     devices: &mut [Option<D>],
-    ending: &mut Ending,
+    hand: &mut Hand,
     label: &mut Label,
-    judge: &mut Cols,
 )
-    requires within { IsColumnWithin start (length ending.old.columns.items) }
-    requires alone { IsAlone start ending.old.columns.items }
-    requires can { CanAct D.Disk (L.shape layout.now) ending.old.columns.items devices.old }
-    requires held { IsLabelFor ending.old.columns.items label.old }
+    requires within { IsColumnWithin start (length hand.old.ending.columns.items) }
+    requires alone { IsAlone start hand.old.ending.columns.items }
+    requires can { CanAct D.Disk (L.shape layout.now) hand.old.ending.columns.items devices.old }
+    requires held { IsLabelFor hand.old.ending.columns.items label.old }
     requires counter { label.old.counter + 33 < 2 ^ 32 }
     requires by { IsLossBy (L.shape layout.now) None
-        (states_of (L.shape layout.now) ending.old.columns.items) ending.old.lost }
-    requires judge { IsFor (L.shape layout.now) judge.old }
-    ensures ends { EndsFailed D.Disk ending.old.lost ending.new.lost label.old label.new
-        (without start ending.old.columns.items) ending.new.columns.items devices.old devices.new }
+        (states_of (L.shape layout.now) hand.old.ending.columns.items) hand.old.ending.lost }
+    requires judge { IsFor (L.shape layout.now) hand.old.judge }
+    ensures ends { EndsFailed D.Disk hand.old.ending.lost hand.new.ending.lost label.old label.new
+        (without start hand.old.ending.columns.items) hand.new.ending.columns.items
+        devices.old devices.new }
     ensures lost { IsLossBy (L.shape layout.now) None
-        (states_of (L.shape layout.now) ending.new.columns.items) ending.new.lost }
-    ensures can { CanAct D.Disk (L.shape layout.now) ending.new.columns.items devices.new }
-    ensures held { IsLabelFor ending.new.columns.items label.new }
-    ensures judge { IsFor (L.shape layout.now) judge.new }
+        (states_of (L.shape layout.now) hand.new.ending.columns.items) hand.new.ending.lost }
+    ensures can { CanAct D.Disk (L.shape layout.now) hand.new.ending.columns.items devices.new }
+    ensures held { IsLabelFor hand.new.ending.columns.items label.new }
+    ensures judge { IsFor (L.shape layout.now) hand.new.judge }
 {
     match anew(start) {
-        Some(column) => fail_column(layout, devices, ending, column, label, judge),
+        Some(column) => fail_column(layout, devices, hand, column, label),
         None => {}
     }
 }
@@ -77,31 +76,30 @@ pub(crate) fn opened<L: Layout, D: Disk, P: Progress>(
     asked: AskedRebuild,
     layout: &L,
     devices: &mut [Option<D>],
-    ending: &mut Ending,
+    hand: &mut Hand,
     label: &mut Label,
     room: &mut SweepRoom<P>,
-    judge: &mut Cols,
 ) -> Option<Start>
-    requires within { IsColumnWithin asked.start (length ending.old.columns.items) }
-    requires alone { IsAlone asked.start ending.old.columns.items }
-    requires can { CanAct D.Disk (L.shape layout.now) ending.old.columns.items devices.old }
-    requires held { IsLabelFor ending.old.columns.items label.old }
+    requires within { IsColumnWithin asked.start (length hand.old.ending.columns.items) }
+    requires alone { IsAlone asked.start hand.old.ending.columns.items }
+    requires can { CanAct D.Disk (L.shape layout.now) hand.old.ending.columns.items devices.old }
+    requires held { IsLabelFor hand.old.ending.columns.items label.old }
     requires counter { label.old.counter + 67 < 2 ^ 32 }
     requires room { 1024 * (L.shape layout.now).unit_sectors ≤ room.old }
-    requires judge { IsFor (L.shape layout.now) judge.old }
+    requires judge { IsFor (L.shape layout.now) hand.old.judge }
     ensures opened { HasOpened D.Disk (L.shape layout.now) asked.start asked.failed label.old
         label.new
-        ending.old.columns.items ending.new.columns.items devices.old devices.new ending.new.lost
-        result }
-    ensures can { CanAct D.Disk (L.shape layout.now) ending.new.columns.items devices.new }
-    ensures held { IsLabelFor ending.new.columns.items label.new }
-    ensures judge { IsFor (L.shape layout.now) judge.new }
+        hand.old.ending.columns.items hand.new.ending.columns.items
+        devices.old devices.new hand.new.ending.lost result }
+    ensures can { CanAct D.Disk (L.shape layout.now) hand.new.ending.columns.items devices.new }
+    ensures held { IsLabelFor hand.new.ending.columns.items label.new }
+    ensures judge { IsFor (L.shape layout.now) hand.new.judge }
 {
     let AskedRebuild { start, failed } = asked;
     let dirty = label.clean == 0;
-    let was = is_in_place(start, &ending.columns);
-    let _ = begin_labelled(layout, devices, ending, label, dirty, room, judge);
-    let is = is_in_place(start, &ending.columns);
-    fail_asked(start, layout, devices, ending, label, judge);
+    let was = is_in_place(start, &hand.ending.columns);
+    let _ = begin_labelled(layout, devices, hand, label, dirty, room);
+    let is = is_in_place(start, &hand.ending.columns);
+    fail_asked(start, layout, devices, hand, label);
     unless_failed(failed, start, was, is)
 }

@@ -1,6 +1,6 @@
 -- Columns that get their labels one after the other.
-use Rattle.std.proofs.Common.{◌≡◌, ◌≢◌, ◌∙◌, ℕ, zero, suc, ◌+◌, ◌<◌, ◌≤◌, Bool, true, false, List, [], ◌∷◌, length, Option, Some, None, refl, sym, ap, subst, inl, inr, arith}
-use Rattle.std.specs.Prelude.{set, slice_get, IsSome, is_some, option_and_then, if◌then◌else◌}
+use Rattle.std.proofs.Common.{◌≡◌, ◌≢◌, ◌∙◌, ℕ, ◌+◌, ◌<◌, ◌≤◌, Bool, true, false, List, [], length, Option, Some, None, refl, sym, ap, subst, inl, inr, arith}
+use Rattle.std.specs.Prelude.{set, slice_get, IsSome, option_and_then, if◌then◌else◌}
 use Rattle.std.specs.Option.{option_map_or}
 use Rattle.std.proofs.lemmas.Bool.{cases_order, cases_lt}
 use Rattle.blk_disk.specs.declared.disk.Disk.{Ghosts}
@@ -11,52 +11,22 @@ use Rattle.eng_cols.specs.declared.column.Column.{Column}
 use Rattle.eng_cols.specs.declared.column.Column.TheVariants as column
 use Rattle.eng_cols.specs.Cols.{device_set}
 use Rattle.eng_cols.specs.Deaths.{Dies}
-use Rattle.eng_cols.proofs.DeathLaws.{dies-refl, dies-more, dies-then, dies-set}
+use Rattle.eng_cols.proofs.DeathLaws.{dies-refl, dies-more, dies-then}
 use Rattle.raid_label.specs.declared.label.Label.{Label}
 use Rattle.top_close.specs.Settled.{HasDeviceOn, has_device, HaveDevices, LosesDevice}
-use Rattle.top_close.proofs.SettledLaws.{device_within}
-use Rattle.top_rounds.specs.Calls.{WritesOn}
+use Rattle.top_close.proofs.CallLaws.{more_all-none, more_all-one, more_all-then}
+use Rattle.top_close.proofs.SettledLaws.{device_within, if_dies, if_live, if_other, set_here}
+use Rattle.top_close.proofs.StageLaws.{live_before}
+use Rattle.top_rounds.specs.Calls.{IsLabelWrite, WritesOn}
 use Rattle.top_rounds.specs.Passes.{AreLabelled, CanBeLabelled, HoldsLabel, IsFirstInUse, IsTry, LabelsColumn}
-use Rattle.top_rounds.proofs.CallLaws.{writes_on-one, writes_on-refl, writes_on-then}
 
 -- ## Lists of columns
-
-pub set_here : (xs : List Column) (i : ℕ) (x : Column) → i < length xs → slice_get (set xs i x) i ≡ Some x
-set_here [] i x h = absurd (omega arith)
-set_here (y ∷ xs) zero x h = refl
-set_here (y ∷ xs) (suc i) x h = set_here xs i x (omega arith)
-
-set_other : (xs : List Column) (i k : ℕ) (x : Column) → k ≢ i → slice_get (set xs i x) k ≡ slice_get xs k
-set_other [] i k x apart = refl
-set_other (y ∷ xs) zero zero x apart = absurd (apart refl)
-set_other (y ∷ xs) zero (suc k) x apart = refl
-set_other (y ∷ xs) (suc i) zero x apart = refl
-set_other (y ∷ xs) (suc i) (suc k) x apart = set_other xs i k x (λ e. apart (omega (arith, e)))
-
-if_live : (columns : List Column) (c d : ℕ) (good : Bool) → HasDeviceOn columns c d → has_device (slice_get (if good then columns else set columns c column.Dead) c) ≡ good
-if_live columns c d true h = ap is_some h
-if_live columns c d false h = ap has_device (set_here columns c column.Dead (device_within columns c d h))
-
-if_other : (columns : List Column) (c k : ℕ) (good : Bool) → k ≢ c → slice_get (if good then columns else set columns c column.Dead) k ≡ slice_get columns k
-if_other columns c k true apart = refl
-if_other columns c k false apart = set_other columns c k column.Dead apart
-
-if_dies : (cause : ℕ → Type 0) (columns : List Column) (c d : ℕ) (good : Bool) → HasDeviceOn columns c d → (good ≡ false → cause c) → Dies cause columns (if good then columns else set columns c column.Dead)
-if_dies cause columns c d true h why = dies-refl cause columns
-if_dies cause columns c d false h why = dies-set cause columns c (device_within columns c d h) (why refl)
 
 -- a column that still has a device has it only where that went well
 if_good : (columns : List Column) (c d k : ℕ) (good : Bool) → HasDeviceOn columns c d → HasDeviceOn (if good then columns else set columns c column.Dead) c k → (good ≡ true) × (d ≡ k)
 if_good columns c d k true was h = let z : Some d ≡ Some k = sym was ∙ h in let e : d ≡ k = cc in (refl, e)
 if_good columns c d k false was h =
     let z : Some k ≡ None = sym h ∙ ap device_set (set_here columns c column.Dead (device_within columns c d was)) in absurd (let u : ⊥ = cc in u)
-
--- a column that has a device had it before deaths
-pub live_before : (cause : ℕ → Type 0) (columns after : List Column) (c d : ℕ) → Dies cause columns after → HasDeviceOn after c d → HasDeviceOn columns c d
-live_before cause columns after c d dies h = elim (dies.each c) [
-  | inl same ↦ ap device_set (sym same) ∙ h
-  | inr dead ↦ let z : Some d ≡ None = sym h ∙ ap device_set dead.0 in absurd (let u : ⊥ = cc in u)
-]
 
 -- ## The first columns
 
@@ -69,7 +39,7 @@ module _ {D : Type 0} (g : Ghosts D) where
     once = λ c d below. absurd (omega (arith, below));
     others = λ d none. refl;
     left = λ c h. refl;
-    told = λ d. writes_on-refl (calls_of g ds d);
+    told = λ d. more_all-none IsLabelWrite (calls_of g ds d);
   }
 
   -- the next column has no device
@@ -159,10 +129,10 @@ module _ {D : Type 0} (g : Ghosts D) where
     told : (k : ℕ) → WritesOn (calls_of g dev k) (calls_of g new k)
     unfolding d
     told k = elim (cases_order k d) [
-      | inl e ↦ subst (λ j. WritesOn (calls_of g dev j) (calls_of g new j)) (sym e) (writes_on-one _ _ good step.labelling.told)
+      | inl e ↦ subst (λ j. WritesOn (calls_of g dev j) (calls_of g new j)) (sym e) (more_all-one IsLabelWrite (call_of 1 0 512 good) (calls_of g dev d) (calls_of g new d) (good, refl) step.labelling.told)
       | inr order ↦
           let apart : k ≢ d = λ e. elim order [ inl lt ↦ omega (arith, e, lt) | inr gt ↦ omega (arith, e, gt) ] in
-          subst (λ o. WritesOn (calls_of g dev k) o) (ap (λ o. option_and_then g.calls o) (sym (step.labelling.others k apart))) (writes_on-refl (calls_of g dev k))
+          subst (λ o. WritesOn (calls_of g dev k) o) (ap (λ o. option_and_then g.calls o) (sym (step.labelling.others k apart))) (more_all-none IsLabelWrite (calls_of g dev k))
     ]
 
     pub labelled-more : AreLabelled g (n + 1) label columns after old new
@@ -180,7 +150,7 @@ module _ {D : Type 0} (g : Ghosts D) where
       ];
       others = λ k none. step.labelling.others k (λ e. none n (omega arith) (live ∙ ap (λ j. Some j) (sym e))) ∙ was.others k (λ c below. none c (omega (arith, below)));
       left = λ c h. ap (λ (l : List Column). slice_get l c) step.after_is ∙ (if_other mid n c good (λ e. omega (arith, h, e)) ∙ was.left c (omega (arith, h)));
-      told = λ k. writes_on-then (calls_of g old k) (calls_of g dev k) (calls_of g new k) (was.told k) (told k);
+      told = λ k. more_all-then IsLabelWrite (calls_of g old k) (calls_of g dev k) (calls_of g new k) (was.told k) (told k);
     }
 
     -- the write failed, and none before

@@ -6,8 +6,9 @@ use Rattle.std.proofs.lemmas.Bool.{cases_lt, cond-true}
 use Rattle.std.proofs.lemmas.List.{drop_all, length-append, length-map, take_all}
 use Rattle.std.proofs.lemmas.List.Elements.{All-from_get_or, All-get_or, All-nil, All-push, All-weaker}
 use Rattle.std.proofs.lemmas.List.Quantifiers.{all_pairs_push}
-use Rattle.std.proofs.lemmas.List.Sums.{sum_by-cons, sum_by-set}
+use Rattle.std.proofs.lemmas.List.Sums.{count_by-le-length, sum_by-cons, sum_by-set}
 use Rattle.std.proofs.lemmas.Option.{get_or_from_slice_get, slice_get-get_or, slice_get-map}
+use Rattle.blk_disk.specs.declared.disk.Call.{Call}
 use Rattle.blk_disk.specs.declared.disk.Disk.{Ghosts}
 use Rattle.blk_disk.specs.Devices.{device_at, calls_of, sector_of, Changes, RisesOn, StaysIf}
 use Rattle.blk_disk.proofs.DeviceLaws.{changes-more, changes-refl, changes-then, changes_size, rises-wider}
@@ -24,14 +25,16 @@ use Rattle.top_close.specs.Dying.{AnyCause}
 use Rattle.top_close.specs.Ended.{IsLossBy}
 use Rattle.top_close.specs.Settled.{HaveDevices, HasDeviceOn, has_device, LosesDevice}
 use Rattle.top_close.proofs.Counts.{counted, deaths_pass_less, nothing}
-use Rattle.top_close.proofs.SettledLaws.{device_within}
+use Rattle.top_close.proofs.CallLaws.{more_all-none, more_all-then}
+use Rattle.top_close.proofs.SettledLaws.{device_within, set_here}
 use Rattle.top_rounds.specs.Labels.{IsNumbered, Seating, given_up, seating_in, seating_of, unless_filling, with_round}
 use Rattle.top_rounds.specs.Passes.{AreLabelled, CanBeLabelled, EndsByDeath, EndsPass, IsFirstInUse}
-use Rattle.top_rounds.specs.Rounds.{AreRounds, AreWritten, DiesIn, HaveRounds, HaveTried, HoldsTried, IsGivenUp, IsGivenUpIn, IsInUse, IsUncalled, clean_in_end, device_count}
-use Rattle.top_rounds.specs.Calls.{WritesOn, WritesTo, WritesUntil, WritesWell}
+use Rattle.top_close.specs.Stage.{DiesIn, IsGivenUp, IsGivenUpIn, IsInUse, IsStage, IsUncalled, device_count}
+use Rattle.top_rounds.specs.Rounds.{AreRounds, AreWritten, CountsRounds, HaveRounds, HaveTried, HoldsTried, clean_in_end}
+use Rattle.top_rounds.specs.Calls.{IsLabelWrite, IsLabelled, WritesOn, WritesTo, WritesUntil, WritesWell}
 use Rattle.eng_cols.specs.Settable.{IsSettable}
-use Rattle.top_rounds.proofs.CallLaws.{to-until, well-none, well-to, writes_on-refl, writes_on-then}
-use Rattle.top_rounds.proofs.PassLaws.{live_before, set_here}
+use Rattle.top_rounds.proofs.CallLaws.{to-until, well-to}
+use Rattle.top_close.proofs.StageLaws.{given_before, live_before, live_less, told-others}
 
 -- ## Columns that die
 
@@ -65,27 +68,6 @@ fewer_by_one columns c d live =
     let one : one_if_live (get_or columns c column.Dead) ≡ 1 = one_here columns c d live in
     let all : device_count (set columns c column.Dead) + one_if_live (get_or columns c column.Dead) ≡ device_count columns + one_if_live column.Dead = sum_by-set one_if_live columns c column.Dead column.Dead (device_within columns c d live) in
     omega (arith, one, all)
-
-one_of : Option Column → ℕ
-one_of x = cond (has_device x) 1 0
-
--- deaths leave no more columns with devices
-pub live_less : (cause : ℕ → Type 0) (columns after : List Column) → Dies cause columns after → device_count after ≤ device_count columns
-unfolding one_if_live one_of
-live_less cause columns after dies = go columns after dies.count (λ c. elim (dies.each c) [ inl same ↦ inl same | inr dead ↦ inr dead.0 ])
-  where
-    go : (xs ys : List Column) → length ys ≡ length xs → ((c : ℕ) → (slice_get ys c ≡ slice_get xs c) ⊎ (slice_get ys c ≡ Some column.Dead)) → device_count ys ≤ device_count xs
-    go [] [] count each = omega arith
-    go [] (y ∷ ys) count each = absurd (omega (arith, count))
-    go (x ∷ xs) [] count each = absurd (omega (arith, count))
-    go (x ∷ xs) (y ∷ ys) count each =
-        let rest = go xs ys (omega (arith, count)) (λ c. each (suc c)) in
-        let old = sum_by-cons one_if_live x xs in
-        let new = sum_by-cons one_if_live y ys in
-        elim (each 0) [
-          | inl same ↦ let e : one_if_live y ≡ one_if_live x = ap one_of same in omega (arith, rest, old, new, e)
-          | inr dead ↦ let e : one_if_live y ≡ 0 = ap one_of dead in omega (arith, rest, old, new, e)
-        ]
 
 numbered_after : (cause : ℕ → Type 0) (n : ℕ) (columns mid : List Column) → Dies cause columns mid → All (IsNumbered n) columns → All (IsNumbered n) mid
 numbered_after cause n columns mid dies are = All-from_get_or (IsNumbered n) mid column.Dead (λ i within.
@@ -147,15 +129,7 @@ given_death columns = any_death _ columns (given_up columns) (gives_up (record {
 pub none_left : (cause : ℕ → Type 0) (columns after : List Column) → Dies cause (given_up columns) after → count_by is_set_filling after ≡ 0
 none_left cause columns after dies = omega (arith, none_given columns, deaths_pass_less cause is_set_filling (given_up columns) after refl dies)
 
--- a column that is filling was so before deaths
-pub given_before : (cause : ℕ → Type 0) (lost : Option Loss) (columns left : List Column) (c : ℕ) → Dies cause columns left → IsGivenUp lost left c → IsGivenUp lost columns c
-given_before cause None columns left c dies h = h
-given_before cause (Some loss) columns left c dies h = elim (dies.each c) [
-  | inl same ↦ ap (passes is_set_filling) (sym same) ∙ h
-  | inr dead ↦ let z : false ≡ true = sym (ap (passes is_set_filling) dead.0) ∙ h in absurd (let u : ⊥ = cc in u)
-]
-
--- and where none is none is behind them
+-- where none is filling none is behind deaths
 pub given_after : (cause : ℕ → Type 0) (lost : Option Loss) (columns after : List Column) → Dies cause columns after → IsGivenUpIn lost columns → IsGivenUpIn lost after
 given_after cause None columns after dies h = tt
 given_after cause (Some loss) columns after dies h = omega (arith, h, deaths_pass_less cause is_set_filling columns after refl dies)
@@ -222,8 +196,8 @@ module _ {D : Type 0} (g : Ghosts D) where
     frame = changes-refl g (IsFirstInUse columns) ds;
     others = λ d none. refl;
     dies = dies-refl (LosesDevice g columns ds ds) columns;
-    told = λ d. writes_on-refl (calls_of g ds d);
-    each = λ c d live. subst (λ b. WritesUntil b (calls_of g ds d) (calls_of g ds d)) (sym (ap is_some live)) (well-none (calls_of g ds d));
+    told = λ d. more_all-none IsLabelWrite (calls_of g ds d);
+    each = λ c d live. subst (λ b. WritesUntil b (calls_of g ds d) (calls_of g ds d)) (sym (ap is_some live)) (more_all-none IsLabelled (calls_of g ds d));
     holds = λ c d live tells. inl refl;
   }
 
@@ -262,7 +236,7 @@ module _ {D : Type 0} (g : Ghosts D) where
     began = dies-then (DiesIn g lost columns old new) columns left mid (dies-more (LosesDevice g columns old new) (DiesIn g lost columns old new) columns left (λ c h. inl h) died_before) gave_up
 
     told : (d : ℕ) → WritesOn (calls_of g old d) (calls_of g new d)
-    told d = writes_on-then (calls_of g old d) (calls_of g dev d) (calls_of g new d) (tried.told d) (pass.told d)
+    told d = more_all-then IsLabelWrite (calls_of g old d) (calls_of g dev d) (calls_of g new d) (tried.told d) (pass.told d)
 
     -- a device that no column of the pass has isn't called by it
     quiet : (d : ℕ) → ((k : ℕ) → k < n → HasDeviceOn mid k d → ⊥) → calls_of g dev d ≡ calls_of g new d
@@ -434,6 +408,39 @@ module _ {D : Type 0} (g : Ghosts D) where
   pub rounds_there : (loss : Option Loss) (label next : Label) (columns mid after : List Column) (old new : List (Option D)) → is_some loss ≡ true → ((l : Loss) → loss ≡ Some l → AreRounds g (Some l) label next columns mid after old new) → HaveRounds g loss label next columns after old new
   rounds_there None label next columns mid after old new some are = let z : false ≡ true = some in absurd (let u : ⊥ = cc in u)
   rounds_there (Some loss) label next columns mid after old new some are = (mid, are loss refl)
+
+-- ## Stages of rounds
+
+-- rounds of two stages
+pub counts-then : (k m : ℕ) (label before next : Label) (xs ys : List ℕ) → CountsRounds k label before (length xs) → CountsRounds m before next (length ys) → CountsRounds (k + m) label next (length (xs ++ ys))
+counts-then k m label before next xs ys was is = record { least = omega (arith, was.least, is.least); most = omega (arith, was.most, is.most, length-append xs ys) }
+
+-- no round
+pub counts-none : (label next : Label) → next.counter ≡ label.counter → CountsRounds 0 label next 0
+counts-none label next same = record { least = omega (arith, same); most = omega (arith, same) }
+
+-- of a label with the same counter
+pub counts_as : (k n : ℕ) (label before next : Label) → before.counter ≡ label.counter → CountsRounds k before next n → CountsRounds k label next n
+counts_as k n label before next same c = record { least = omega (arith, same, c.least); most = omega (arith, same, c.most) }
+
+module _ {D : Type 0} (g : Ghosts D) where
+  -- rounds are a stage, of which the devices are listed that failed but in a last round
+  abbrev pub stage_of_rounds : (lost : Option Loss) (label next : Label) (columns mid after : List Column) (old new : List (Option D)) → AreRounds g lost label next columns mid after old new → IsStage g (IsFirstInUse columns) (λ d. All IsLabelWrite) lost columns after old new
+  stage_of_rounds lost label next columns mid after old new r = record {
+    frame = r.frame;
+    told = r.told;
+    uncalled = told-others g columns old new r.others;
+    dies = dies-then (DiesIn g lost columns old new) columns mid after r.began (dies-more (LosesDevice g columns old new) (DiesIn g lost columns old new) mid after (λ c f. inl f) r.ended);
+    rises = r.rises;
+    failed = r.failed;
+    had = r.had;
+    gone = r.gone;
+    fewer = r.fewer;
+  }
+
+  -- the counter is greater by no more than there were rounds and columns
+  pub counts_few : (may : ℕ → ℕ → Type 0) (calls : ℕ → List Call → Type 0) (lost : Option Loss) (rounds : ℕ) (label next : Label) (columns after : List Column) (old new : List (Option D)) (s : IsStage g may calls lost columns after old new) → CountsRounds rounds label next (length s.rises) → length columns ≤ 32 → next.counter ≤ label.counter + rounds + 32
+  counts_few may calls lost rounds label next columns after old new s counter few = omega (arith, counter.most, s.fewer, count_by-le-length (λ x. has_device (Some x)) columns, few)
 
 -- ## Ends
 

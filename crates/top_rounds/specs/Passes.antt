@@ -8,15 +8,16 @@ use Rattle.eng_cols.specs.declared.column.Column.TheVariants as column
 use Rattle.eng_cols.specs.Deaths.{Dies}
 use Rattle.raid_label.specs.declared.label.Label.{Label}
 use Rattle.raid_label.specs.Bytes.{bytes_of}
+use Rattle.top_close.specs.Reserved.{IsReserved}
 use Rattle.top_close.specs.Settled.{HasDeviceOn, HaveDevices, has_device, LosesDevice}
 use Rattle.top_rounds.specs.Calls.{WritesOn}
 use Rattle.top_rounds.specs.Labels.{IsNumbered, for_column}
 
--- sector 0 of the device of a column
+-- the sector of the label on the device of a column
 pub record IsFirstInUse (columns : List Column) (d n : ℕ) : Type 0 where
   pub col : ℕ
   pub live : HasDeviceOn columns col d
-  pub first : n ≡ 0
+  pub first : IsReserved false n
 
 module _ {D : Type 0} (g : Ghosts D) where
   -- There are at most 32 columns, whose devices are theirs or at most 8 spares. The device of each column that has one is there, is no other's, and has a sector.
@@ -32,7 +33,7 @@ module _ {D : Type 0} (g : Ghosts D) where
 
   -- Device d got a label, well or not, and no other was called.
   pub record IsLabelling (d : ℕ) (label : Label) (old new : List (Option D)) (good : Bool) : Type 0 where
-    pub frame : Changes g (λ k n. (k ≡ d) × (n ≡ 0)) old new
+    pub frame : Changes g (λ k n. (k ≡ d) × IsReserved false n) old new
     pub cause : good ≡ false → RisesOn g old new d
     pub held : good ≡ true → g.tells → sector_of g new d 0 ≡ bytes_of label
     pub told : Tells (calls_of g old d) (calls_of g new d) (call_of 1 0 512 good)

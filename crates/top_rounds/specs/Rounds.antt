@@ -1,11 +1,10 @@
 -- Rounds of labels, one behind the other, until one is whole or the array is lost.
-use Rattle.std.specs.Prelude.{◌≡◌, ◌≢◌, ◌⊎◌, ◌≤◌, ◌+◌, ℕ, List, length, true, Option, Some, None, All, AllPairs, count_by, slice_get}
+use Rattle.std.specs.Prelude.{◌≡◌, ◌⊎◌, ◌≤◌, ◌+◌, ℕ, List, length, Option, Some, None, All, slice_get}
 use Rattle.blk_disk.specs.declared.disk.Call.{Call}
 use Rattle.blk_disk.specs.declared.disk.Disk.{Ghosts}
-use Rattle.blk_disk.specs.Devices.{device_at, sector_of, calls_of, RisesOn, Changes}
+use Rattle.blk_disk.specs.Devices.{sector_of, calls_of, RisesOn, Changes}
 use Rattle.eng_cols.specs.declared.column.Column.{Column}
 use Rattle.eng_cols.specs.declared.spot.Loss.{Loss}
-use Rattle.eng_cols.specs.Cols.{is_set_filling, passes}
 use Rattle.eng_cols.specs.Deaths.{Dies}
 use Rattle.raid_label.specs.declared.label.Label.{Label}
 use Rattle.raid_label.specs.Bytes.{bytes_of}
@@ -13,54 +12,28 @@ use Rattle.top_close.specs.Settled.{HasDeviceOn, has_device, LosesDevice}
 use Rattle.top_rounds.specs.Calls.{WritesOn, WritesTo, WritesUntil, WritesWell}
 use Rattle.top_rounds.specs.Labels.{for_column, given_up, seating_in, seating_of, with_round}
 use Rattle.top_rounds.specs.Passes.{HoldsLabel, IsFirstInUse}
-
--- how many columns have a device
-abbrev pub device_count : List Column → ℕ
-device_count columns = count_by (λ column. has_device (Some column)) columns
+use Rattle.top_close.specs.Stage.{DiesIn, HaveFailed, IsGivenUp, IsGivenUpIn, IsInUse, IsUncalled, device_count}
 
 -- the clean field of the last round: as it was to be, but 0 where the array is lost
 abbrev pub clean_in_end : Option Loss → ℕ → ℕ
 clean_in_end None clean = clean
 clean_in_end (Some loss) clean = 0
 
--- a device that no column has wasn't called
-abbrev pub IsUncalled : {D : Type 0} → List Column → List (Option D) → List (Option D) → Type 0
-IsUncalled columns old new = (d : ℕ) → ((c : ℕ) → HasDeviceOn columns c d → ⊥) → device_at new d ≡ device_at old d
-
--- a column has this device
-pub record IsInUse (columns : List Column) (d : ℕ) : Type 0 where
-  pub col : ℕ
-  pub live : HasDeviceOn columns col d
-
--- the array is lost, and the column was filling
-abbrev pub IsGivenUp : Option Loss → List Column → ℕ → Type 0
-IsGivenUp None columns c = ⊥
-IsGivenUp (Some loss) columns c = passes is_set_filling (slice_get columns c) ≡ true
-
 -- the columns in the end: of a lost array none is filling any more
 abbrev pub in_end : Option Loss → List Column → List Column
 in_end None columns = columns
 in_end (Some loss) columns = given_up columns
 
--- where the array is lost no column is filling any more
-abbrev pub IsGivenUpIn : Option Loss → List Column → Type 0
-IsGivenUpIn None columns = Unit {0}
-IsGivenUpIn (Some loss) columns = count_by is_set_filling columns ≡ 0
+-- the counter of the label is greater by so many rounds, and by at most one more for each of n devices
+pub record CountsRounds (rounds : ℕ) (label next : Label) (n : ℕ) : Type 0 where
+  pub least : label.counter + rounds ≤ next.counter
+  pub most : next.counter ≤ label.counter + rounds + n
 
 -- The device of column c had some call; of these all went well but the last, which did exactly where the column has it in the end. That of a column that was filling in a lost array isn't called in the last round: there all may have gone well, or there were none.
 abbrev pub AreWritten : Option Loss → List Column → List Column → ℕ → Option (List Call) → Option (List Call) → Type 0
 AreWritten lost columns after c before now = WritesTo (has_device (slice_get after c)) before now ⊎ (IsGivenUp lost columns c × WritesWell before now)
 
 module _ {D : Type 0} (g : Ghosts D) where
-  -- why a column died: its device failed, or it was filling and the array is lost
-  abbrev pub DiesIn : Option Loss → List Column → List (Option D) → List (Option D) → ℕ → Type 0
-  DiesIn lost columns old new c = LosesDevice g columns old new c ⊎ IsGivenUp lost columns c
-
-  -- different devices, of each of which the count of faults rose
-  pub record HaveFailed (old new : List (Option D)) (rises : List ℕ) : Type 0 where
-    pub apart : AllPairs (λ d e. d ≢ e) rises
-    pub rose : All (RisesOn g old new) rises
-
   -- sector 0 of device d holds the label of column c of a round that was tried: its counter is greater than that of the label before, and less than this one
   pub record IsTriedOn (label : Label) (below : ℕ) (devices : List (Option D)) (c d : ℕ) : Type 0 where
     pub tried : Label
@@ -77,7 +50,7 @@ module _ {D : Type 0} (g : Ghosts D) where
   pub record HaveTried (label next : Label) (columns mid : List Column) (old new : List (Option D)) : Type 0 where
     pub rises : List ℕ
     pub counter : next.counter ≡ label.counter + length rises
-    pub failed : HaveFailed old new rises
+    pub failed : HaveFailed g old new rises
     pub had : All (IsInUse columns) rises
     pub gone : All (λ d. (c : ℕ) → HasDeviceOn mid c d → ⊥) rises
     pub fewer : device_count mid + length rises ≤ device_count columns
@@ -91,7 +64,7 @@ module _ {D : Type 0} (g : Ghosts D) where
   -- Rounds were written. The counter is greater by at least 1, and by at most 1 more for each device that was in use, whose count of faults rose, and that is no column's in the end. The last round began with the columns `mid`, and the device of each column in the end has its label. How the label writes of each device that was in use went is `AreWritten`. The device of a column that was filling in a lost array, if its count of faults didn't rise, has what it had, or the label of a round before the last.
   pub record AreRounds (lost : Option Loss) (label next : Label) (columns mid after : List Column) (old new : List (Option D)) : Type 0 where
     pub rises : List ℕ
-    pub failed : HaveFailed old new rises
+    pub failed : HaveFailed g old new rises
     pub had : All (IsInUse columns) rises
     pub gone : All (λ d. (c : ℕ) → HasDeviceOn after c d → ⊥) rises
     pub fewer : device_count after + length rises ≤ device_count columns
@@ -101,7 +74,7 @@ module _ {D : Type 0} (g : Ghosts D) where
     pub held : (c d : ℕ) → HasDeviceOn after c d → HoldsLabel g new next c d
     pub frame : Changes g (IsFirstInUse columns) old new
     pub others : IsUncalled columns old new
-    pub began : Dies (DiesIn lost columns old new) columns mid
+    pub began : Dies (DiesIn g lost columns old new) columns mid
     pub ended : Dies (LosesDevice g columns old new) mid after
     pub given_up : IsGivenUpIn lost after
     pub told : (d : ℕ) → WritesOn (calls_of g old d) (calls_of g new d)

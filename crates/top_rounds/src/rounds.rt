@@ -14,19 +14,7 @@ use blk_disk::Disk;
 use eng_cols::{Cols, Column, Loss};
 use lay_core::Layout;
 use raid_label::Label;
-use top_close::{Ending, deaths_bring_no_unit_back};
-
-// By what an array is lost that has these columns.
-fn loss_of<L: Layout>(layout: &L, columns: &[Column], judge: &mut Cols) -> Option<Loss>
-    requires columns { IsSettable (L.shape layout.now) columns.now }
-    requires judge { IsFor (L.shape layout.now) judge.old }
-    ensures lost { IsLossBy (L.shape layout.now) None
-        (states_of (L.shape layout.now) columns.now) result }
-    ensures judge { IsFor (L.shape layout.now) judge.new }
-{
-    judge.set(layout, columns);
-    judge.lost(layout)
-}
+use top_close::{Hand, deaths_bring_no_unit_back, loss_of};
 
 fn is_lost<L: Layout>(layout: &L, columns: &[Column], judge: &mut Cols) -> bool
     requires columns { IsSettable (L.shape layout.now) columns.now }
@@ -122,33 +110,32 @@ fn rounds_of_kept<L: Layout, D: Disk>(
 ///
 /// An array that is lost as it is opened is to be left as it is: this isn't called for it.
 ///
-/// `judge` may hold any columns, as many as the layout has. An array is lost in the end by what it
-/// was lost before, or else by the columns that it then has. No memory is taken.
+/// An array is lost in the end by what it was lost before, or else by the columns that it then has.
+/// No memory is taken.
 pub fn round<L: Layout, D: Disk>(
     layout: &L,
     devices: &mut [Option<D>],
-    ending: &mut Ending,
+    hand: &mut Hand,
     label: &mut Label,
-    judge: &mut Cols,
 )
-    requires array { CanBeLabelled D.Disk ending.old.columns.items devices.old }
-    requires held { IsLabelFor ending.old.columns.items label.old }
+    requires array { CanBeLabelled D.Disk hand.old.ending.columns.items devices.old }
+    requires held { IsLabelFor hand.old.ending.columns.items label.old }
     requires counter { label.old.counter + 33 < 2 ^ 32 }
-    requires columns { IsSettable (L.shape layout.now) ending.old.columns.items }
-    requires judge { IsFor (L.shape layout.now) judge.old }
+    requires columns { IsSettable (L.shape layout.now) hand.old.ending.columns.items }
+    requires judge { IsFor (L.shape layout.now) hand.old.judge }
     ensures label { label.new ≡ with_round label.old label.new.counter
-        (clean_in_end ending.new.lost label.old.clean) (seating_in label.new) }
-    ensures held { IsLabelFor ending.new.columns.items label.new }
-    ensures rounds { HaveRounds D.Disk ending.new.lost label.old label.new
-        ending.old.columns.items ending.new.columns.items devices.old devices.new }
-    ensures lost { IsLossBy (L.shape layout.now) ending.old.lost
-        (states_of (L.shape layout.now) ending.new.columns.items) ending.new.lost }
-    ensures judge { IsFor (L.shape layout.now) judge.new }
+        (clean_in_end hand.new.ending.lost label.old.clean) (seating_in label.new) }
+    ensures held { IsLabelFor hand.new.ending.columns.items label.new }
+    ensures rounds { HaveRounds D.Disk hand.new.ending.lost label.old label.new
+        hand.old.ending.columns.items hand.new.ending.columns.items devices.old devices.new }
+    ensures lost { IsLossBy (L.shape layout.now) hand.old.ending.lost
+        (states_of (L.shape layout.now) hand.new.ending.columns.items) hand.new.ending.lost }
+    ensures judge { IsFor (L.shape layout.now) hand.new.judge }
 {
-    let columns = ending.columns.as_mut_slice();
-    if ending.lost.is_some() {
+    let columns = hand.ending.columns.as_mut_slice();
+    if hand.ending.lost.is_some() {
         last_round(devices, columns, label);
     } else {
-        ending.lost = rounds_of_kept(layout, devices, columns, label, judge);
+        hand.ending.lost = rounds_of_kept(layout, devices, columns, label, &mut hand.judge);
     }
 }

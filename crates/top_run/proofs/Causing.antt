@@ -12,7 +12,7 @@ use Rattle.eng_events.specs.Opened.{IsSetup}
 use Rattle.eng_parts.specs.declared.setup.Setup.{Setup}
 use Rattle.eng_parts.specs.declared.setup.Closed.{Closed}
 use Rattle.eng_array.specs.declared.start.Start.{Start}
-use Rattle.top_rounds.specs.Rounds.{IsGivenUp}
+use Rattle.top_close.specs.Stage.{IsGivenUp}
 use Rattle.top_serve.specs.Setups.{graphs_in, with_start}
 use Rattle.top_serve.specs.Served as served
 use Rattle.top_serve.specs.Served.{IsKeptAs}

@@ -22,7 +22,7 @@ use Rattle.eng_events.specs.Opened.{IsSetup}
 use Rattle.eng_array.specs.declared.start.Start.{Start}
 use Rattle.top_close.specs.Settled.{HasDeviceOn, LosesDevice}
 use Rattle.top_close.proofs.DyingLaws.{dies_apart, unspread}
-use Rattle.top_rounds.specs.Rounds.{IsGivenUp, IsGivenUpIn}
+use Rattle.top_close.specs.Stage.{IsGivenUp, IsGivenUpIn}
 use Rattle.top_serve.specs.Setups.{with_start}
 use Rattle.top_serve.specs.Served as served
 use Rattle.top_serve.specs.Served.{IsKeptAs}

@@ -14,7 +14,7 @@ use Rattle.eng_parts.specs.declared.setup.Setup.{Setup}
 use Rattle.eng_parts.specs.declared.setup.Closed.{Closed}
 use Rattle.top_close.specs.Settled.{LosesDevice, HasDeviceOn, has_device}
 use Rattle.top_close.proofs.SettledLaws.{device_within}
-use Rattle.top_rounds.specs.Rounds.{IsGivenUp}
+use Rattle.top_close.specs.Stage.{IsGivenUp}
 use Rattle.top_serve.specs.Served as served
 use Rattle.top_run.specs.Work.{Service}
 use Rattle.top_run.specs.Works.{service_of, work_of}

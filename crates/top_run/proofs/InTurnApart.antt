@@ -39,7 +39,7 @@ module _ {D : Type 0} (g : Ghosts D) (a : Work) (taken : List (Option D)) (s : S
   -- ## The array isn't lost
 
   no-loss : r.now.lost ≡ None
-  no-loss = (subst (λ (l : Option Loss). IsLossAtEnd a.layout r.now (states_of a.layout s.ending.columns) l) none r.ends.lost).0
+  no-loss = (subst (λ (l : Option Loss). IsLossAtEnd a.layout r.graphs r.start r.events r.now (states_of a.layout s.ending.columns) l) none r.ends.lost).0
 
   -- ## Items
 

@@ -26,7 +26,7 @@ use Rattle.eng_world.specs.declared.item.Reply.{Reply}
 use Rattle.eng_world.specs.declared.item.Reply.TheVariants as reply
 use Rattle.eng_world.specs.World.{IsRead, World}
 use Rattle.eng_world.specs.Legal.{StandsAt}
-use Rattle.eng_world.specs.Causes.{ItemAt, WasSpread, IsGone, IsCause}
+use Rattle.eng_world.specs.Causes.{ItemAt, WasSpread, IsGone, IsCause, IsLossOf}
 use Rattle.eng_world.proofs.Caused.{some-get}
 use Rattle.eng_array.specs.Starts.{column_of}
 use Rattle.eng_array.specs.declared.start.Start.{Start}
@@ -36,8 +36,7 @@ use Rattle.raid_script.specs.Replies.{items_in, items_at}
 use Rattle.top_close.specs.Dying.{AnyCause}
 use Rattle.top_close.proofs.DyingLaws.{columns_die, dies_apart, dies_unfilled, lost_no_less}
 use Rattle.top_close.proofs.ClosingLaws.{closing_dead, closing_lost}
-use Rattle.top_rounds.specs.Rounds.{IsGivenUp}
-use Rattle.top_serve.specs.Caused.{WasLostBy}
+use Rattle.top_close.specs.Stage.{IsGivenUp}
 use Rattle.top_serve.specs.Served.{IsKeptAs, IsUnbuilt}
 use Rattle.top_serve.specs.Setups.{with_start}
 use Rattle.top_serve.proofs.Alike.{IsOther, other-or-not, start-other}
@@ -284,13 +283,13 @@ module _ {D : Type 0} (g : Ghosts D) (a : Work) (taken back : List (Option D)) (
   ]
 
   -- what was lost in the run is lost in the end
-  lost-still : (loss : Loss) → WasLostBy y ran.now loss → NotLost y last → ⊥
+  lost-still : (loss : Loss) → IsLossOf y ran.graphs ran.start ran.events ran.now loss → NotLost y last → ⊥
   lost-still loss was kept =
       let one = one-kept g a taken back s ran in
       let apart : DieApart ran.ends.kept s.ending.columns = dies_apart (λ c. RisesAt g a taken s back c ⊎ IsGivenUp s.ending.lost ran.ends.kept c) ran.ends.kept s.ending.columns ran.ends.dies unspread-kept in
       let ended : NotLost y (states_of y ran.ends.kept) = lost_no_less y (states_of y ran.ends.kept) last (columns_die (λ c. RisesAt g a taken s back c ⊎ IsGivenUp s.ending.lost ran.ends.kept c) y ran.ends.kept s.ending.columns ran.ends.dies apart one) kept in
       let now : NotLost y ran.now.columns = closing_lost y ran.now.columns ran.ends.kept ran.ends.closes one ended in
-      lost-excludes y was.columns loss was.is_lost (lost_no_less y was.columns ran.now.columns (record { count = was.count; each = was.each }) now)
+      lost-excludes y was.after.columns loss was.is_lost (lost_no_less y was.after.columns ran.now.columns (record { count = was.count; each = was.each }) now)
 
   pub runs-outlived : OutlivesCall g a taken back → s.ending.lost ≡ None
   runs-outlived outlives = by s.ending.lost refl ran.ends.lost
@@ -298,7 +297,7 @@ module _ {D : Type 0} (g : Ghosts D) (a : Work) (taken back : List (Option D)) (
       kept : NotLost y last
       kept = lost_no_less y last (states_of y rest) (columns_die AnyCause y s.ending.columns rest only-dead (dies_unfilled AnyCause s.ending.columns rest only-dead none-left) one-ending) (outlives rest died-so)
 
-      by : (o : Option Loss) → s.ending.lost ≡ o → IsLossAtEnd y ran.now last o → s.ending.lost ≡ None
+      by : (o : Option Loss) → s.ending.lost ≡ o → IsLossAtEnd y ran.graphs ran.start ran.events ran.now last o → s.ending.lost ≡ None
       by None is h = is
       by (Some loss) is (inl h) = absurd (lost-still loss h.1 kept)
       by (Some loss) is (inr h) = absurd (lost-excludes y last loss h.1 kept)
@@ -306,7 +305,7 @@ module _ {D : Type 0} (g : Ghosts D) (a : Work) (taken back : List (Option D)) (
   -- so a run that isn't lost in the end was never lost
   never-lost : s.ending.lost ≡ None → (loss : Loss) → ran.now.lost ≡ Some loss → ⊥
   never-lost none loss is =
-      let z : Some loss ≡ None = sym is ∙ (subst (λ o. IsLossAtEnd y ran.now last o) none ran.ends.lost).0 in
+      let z : Some loss ≡ None = sym is ∙ (subst (λ o. IsLossAtEnd y ran.graphs ran.start ran.events ran.now last o) none ran.ends.lost).0 in
       let u : ⊥ = cc in u
 
   -- ## Devices that failed

@@ -27,7 +27,7 @@ use Rattle.eng_world.specs.World.{World}
 use Rattle.eng_world.specs.Step.{IsOpening, EventsLead}
 use Rattle.eng_world.specs.Legal.{AreOps, ReplyOf, RepliesFit}
 use Rattle.eng_world.specs.Invariant.{IsTold, AllReplied}
-use Rattle.eng_world.specs.Causes.{ItemAt, HaveCauses}
+use Rattle.eng_world.specs.Causes.{ItemAt, HaveCauses, IsLossOf}
 use Rattle.eng_world.specs.Rebuilding.{SpreadAlike}
 use Rattle.eng_world.specs.Rows.{IsInRows}
 use Rattle.eng_cols.specs.Stripes.{states_of}
@@ -37,12 +37,12 @@ use Rattle.eng_array.specs.declared.start.Start.{Start}
 use Rattle.raid_script.specs.Asked.{Asked, Other, seen}
 use Rattle.raid_script.specs.Replies.{StandFor, item_bytes, item_sectors, items_at, no_item, replies_at, sectors_before}
 use Rattle.top_serve.specs.Setups.{started_from, with_start}
-use Rattle.top_serve.specs.Caused.{RestsOn, WentBadOn, WasLostBy}
+use Rattle.top_serve.specs.Caused.{RestsOn, WentBadOn}
 use Rattle.top_serve.specs.Served.{BeginsBy, FillsBy, IsKeptAs, IsRebuiltBy, IsUnbuilt, SpreadsAlone, done_before}
 use Rattle.top_close.specs.Calls.{EndsSettled}
 use Rattle.top_close.specs.Closes.{ClosesAs}
 use Rattle.top_close.specs.Settled.{HasDeviceOn, has_device}
-use Rattle.top_rounds.specs.Rounds.{IsGivenUp, IsGivenUpIn}
+use Rattle.top_close.specs.Stage.{IsGivenUp, IsGivenUpIn}
 use Rattle.top_run.specs.Work.{Work, Service}
 
 -- ## Words of a run
@@ -67,10 +67,10 @@ pub record WasFailed (now : World) (c : ℕ) : Type 0 where
   pub asked : ItemAt now id (item.Fail c)
   pub replied : ReplyOf now id reply.Okay
 
--- what the array was lost by in the run, by columns that have only died since, and else by its columns in the end; if it was lost in either
-abbrev pub IsLossAtEnd : Shape → World → List ColumnState → Option Loss → Type 0
-IsLossAtEnd y now cols None = (now.lost ≡ None) × NotLost y cols
-IsLossAtEnd y now cols (Some loss) = ((now.lost ≡ Some loss) × WasLostBy y now loss) ⊎ ((now.lost ≡ None) × IsLost y cols loss)
+-- what the array was lost by in the run, by the columns that one event left, and else by its columns in the end; if it was lost in either
+abbrev pub IsLossAtEnd : Shape → Graphs → World → List Traced → World → List ColumnState → Option Loss → Type 0
+IsLossAtEnd y graphs start events now cols None = (now.lost ≡ None) × NotLost y cols
+IsLossAtEnd y graphs start events now cols (Some loss) = ((now.lost ≡ Some loss) × IsLossOf y graphs start events now loss) ⊎ ((now.lost ≡ None) × IsLost y cols loss)
 
 -- each item is one that a script may have: so it is no rebuild
 abbrev pub AsksAsScripts : Work → Type 0
@@ -164,7 +164,7 @@ module _ {D : Type 0} (g : Ghosts D) (a : Work) (taken : List (Option D)) where
       HasStopped now kept = (start : Start) → a.start ≡ Some start → slice_get kept (column_of start) ≡ Some column.Dead → IsStoppedBy now start
 
       -- The columns as they are kept are those of the run's end, where a column that was being rebuilt is live if it is whole, and else filling still, or dead where it was to be spread; in the end some more may have died, as they were settled, or as the array was lost while they were filling; and the loss is the run's, or that of the columns in the end.
-      pub record ColumnsEnd (now : World) : Type 0 where
+      pub record ColumnsEnd (graphs : Graphs) (start : World) (events : List Traced) (now : World) : Type 0 where
         pub kept : List Column
         pub closes : ClosesAs a.layout now.columns kept
         pub count : length kept ≡ length a.columns
@@ -174,7 +174,7 @@ module _ {D : Type 0} (g : Ghosts D) (a : Work) (taken : List (Option D)) where
         pub stopped : HasStopped now kept
         pub dies : Dies (λ c. RisesAt c ⊎ IsGivenUp s.ending.lost kept c) kept s.ending.columns
         pub given_up : IsGivenUpIn s.ending.lost s.ending.columns
-        pub lost : IsLossAtEnd a.layout now (states_of a.layout s.ending.columns) s.ending.lost
+        pub lost : IsLossAtEnd a.layout graphs start events now (states_of a.layout s.ending.columns) s.ending.lost
 
       -- ## Causes
 
@@ -202,7 +202,7 @@ module _ {D : Type 0} (g : Ghosts D) (a : Work) (taken : List (Option D)) where
         pub rests : Rests graphs start events now
         pub tells : Tells events now
         pub means : Means start now
-        pub ends : ColumnsEnd now
+        pub ends : ColumnsEnd graphs start events now
         pub causes : Causes graphs start events now
 
       -- ## Without labels

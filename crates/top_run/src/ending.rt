@@ -8,12 +8,12 @@ use blk_disk::Disk;
 use eng_array::Closed;
 use eng_cols::Cols;
 use lay_core::Layout;
-use top_close::{Ending, end_unlabelled};
+use top_close::{Ending, Hand, settle};
 
 /// Settles the devices in use, and tells of the run with its end. Nothing was rebuilt.
 pub(crate) fn ended<L: Layout + Drop, D: Disk + Drop>(
     closed: Closed<L, D>,
-    mut judge: Cols,
+    judge: Cols,
 ) -> (Service, Vec<Option<D>>)
     requires closed { CanBeEnded L.Layout closed }
     requires judge { IsFor (L.shape closed.layout) judge }
@@ -31,8 +31,12 @@ pub(crate) fn ended<L: Layout + Drop, D: Disk + Drop>(
         sectors,
         ..
     } = closed;
-    let mut ending = Ending { columns, lost };
-    end_unlabelled(&layout, devices.as_mut_slice(), &mut ending, &mut judge);
+    let mut hand = Hand {
+        ending: Ending { columns, lost },
+        judge,
+    };
+    settle(&layout, devices.as_mut_slice(), &mut hand);
+    let ending = hand.ending;
     let service = Service {
         clients,
         replies,

@@ -1,5 +1,5 @@
 //! Clients are served, and the run is ended.
-ghost use Rattle.std.specs.Prelude.{◌≡◌, ◌≤◌, IfOk, IfErr, IfSome, None, length, count_by};
+ghost use Rattle.std.specs.Prelude.{◌≡◌, ◌≤◌, IfOk, IfErr, None, length, count_by};
 ghost use Rattle.eng_cols.specs.Cols.{IsFor, is_set_filling};
 ghost use Rattle.eng_events.specs.Opened.{IsSetup};
 ghost use Rattle.eng_array.specs.Fitting.{FitsTrace};
@@ -18,22 +18,16 @@ use raid_progress::Progress;
 use std::alloc::Global;
 use std::sync::Wait;
 use std::thread::Threads;
-use top_serve::{Refused, ServeFault, serve};
-
-// The room for the columns of the layout, by which their loss is judged in the end.
-fn judge_for<L: Layout>(alloc: Global, layout: &L) -> Option<Cols>
-    ensures { IfSome result (IsFor (L.shape layout.now)) }
-{
-    Cols::with_room(alloc, layout.columns(), layout.stripes()).ok()
-}
+use top_serve::{Refused, serve};
 
 /// Serves the setup's clients until each item has its reply and no job is out, with so many workers, and ends the run:
 /// each device in use is settled, and a column whose device fails that is dead. No column is filling: that takes labels.
 ///
 /// `progress` is told every now and then, and in the end, how many items have a reply.
 ///
-/// All memory that the run itself takes is taken first. Refused are an array that is lost by its columns, and want of
-/// that memory; the setup then comes back as it was.
+/// By `judge` it is judged whether the array is lost in the end; it may hold any columns, as many as the layout has. All
+/// memory that the run itself takes is taken first. Refused are an array that is lost by its columns, and want of that
+/// memory; the setup then comes back as it was.
 pub fn run_clients<
     L: Layout + Drop + Send,
     D: Disk + Drop + Send,
@@ -43,11 +37,13 @@ pub fn run_clients<
     rt: &R,
     alloc: Global,
     setup: Setup<L, D>,
+    judge: Cols,
     workers: u32,
     progress: &P,
 ) -> Result<(Service, Vec<Option<D>>), Refused<L, D>>
     requires workers { workers ≤ 16 }
     requires setup { IsSetup L.Layout D.Disk setup }
+    requires judge { IsFor (L.shape setup.layout) judge }
     requires filling { count_by is_set_filling setup.columns.items ≡ 0 }
     requires few { IsFew setup }
     requires trace { FitsTrace L.Layout setup }
@@ -60,10 +56,6 @@ pub fn run_clients<
     ensures fault { IfErr result (λ refused. IsServeRefusal L.Layout setup refused.fault) }
     ensures back { IfErr result (λ refused. refused.setup ≡ setup) }
 {
-    let Some(judge) = judge_for(alloc, &setup.layout) else {
-        let fault = ServeFault::Memory;
-        return Err(Refused { fault, setup });
-    };
     match serve(rt, alloc, setup, workers, progress) {
         Ok(closed) => Ok(ended(closed, judge)),
         Err(refused) => Err(refused),

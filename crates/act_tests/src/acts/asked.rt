@@ -1,10 +1,6 @@
 //! Arrays of devices in memory, what is done to them, and what tests ask of them.
-ghost use Rattle.std.specs.Prelude.{◌≡◌, ◌≤◌, ◌<◌, ◌+◌, ◌*◌, None, length, IsTrue};
+ghost use Rattle.std.specs.Prelude.{◌≡◌, ◌<◌, ◌+◌, ◌*◌, length, IsTrue};
 ghost use Rattle.blk_disk.specs.Devices.{size_of};
-ghost use Rattle.eng_cols.specs.Cols.{IsFor};
-ghost use Rattle.eng_cols.specs.Stripes.{states_of};
-ghost use Rattle.top_close.specs.Ended.{IsLossBy};
-ghost use Rattle.eng_cols.specs.Settable.{IsSettable};
 ghost use Rattle.top_acts.specs.Begun.{CanAct};
 ghost use Rattle.act_tests.specs.ActSamples.{FitsAt};
 
@@ -23,7 +19,7 @@ use top_acts::{
     Done, Renewal, begin_labelled, check, close, end_labelled, fail_column, kill, label, renew,
     renew_unlabelled,
 };
-use top_close::Ending;
+use top_close::{Ending, Hand, loss_of};
 
 /// The label that was written last. Its array is clean.
 pub(crate) const LAST: Label = Label {
@@ -124,17 +120,6 @@ fn device(alloc: Global, byte: u8, fails: u32) -> Result<Option<MemDisk>, Fail> 
     Ok(Some(MemDisk::new(alloc, bytes, fails, 100)?))
 }
 
-fn loss_of<L: Layout>(layout: &L, columns: &[Column], judge: &mut Cols) -> Option<Loss>
-    requires columns { IsSettable (L.shape layout.now) columns.now }
-    requires judge { IsFor (L.shape layout.now) judge.old }
-    ensures lost { IsLossBy (L.shape layout.now) None
-        (states_of (L.shape layout.now) columns.now) result }
-    ensures judge { IsFor (L.shape layout.now) judge.new }
-{
-    judge.set(layout, columns);
-    judge.lost(layout)
-}
-
 /// What comes of an act on such devices of level 5, each of which is in use. The label is the
 /// newest's, and then the label of the last round.
 pub(crate) fn acted(
@@ -163,59 +148,40 @@ pub(crate) fn acted_on<L: Layout>(
     }
     let room = Room::open(alloc, 1024 * layout.unit_sectors())?;
     let mut room = SweepRoom::new(room, Silent);
-    let mut judge = Cols::with_room(alloc, layout.columns(), layout.stripes())?;
-    let mut ending = Ending {
+    let judge = Cols::with_room(alloc, layout.columns(), layout.stripes())?;
+    let ending = Ending {
         columns,
         lost: None,
     };
+    let mut hand = Hand { ending, judge };
     *newest = LAST;
     let done = match act {
-        Act::Check => check(layout, devices, &mut ending, &mut room, &mut judge),
-        Act::Kill(column) if column < 3 => {
-            kill(layout, devices, &mut ending, column, newest, &mut judge)
-        }
+        Act::Check => check(layout, devices, &mut hand, &mut room),
+        Act::Kill(column) if column < 3 => kill(layout, devices, &mut hand, column, newest),
         Act::Fail(column) if column < 3 => {
-            ending.lost = loss_of(layout, &ending.columns, &mut judge);
-            fail_column(layout, devices, &mut ending, column, newest, &mut judge);
+            hand.ending.lost = loss_of(layout, &hand.ending.columns, &mut hand.judge);
+            fail_column(layout, devices, &mut hand, column, newest);
             Done::Nothing
         }
         Act::Kill(_) | Act::Fail(_) => return Err("no column".into()),
-        Act::Label => label(layout, devices, &mut ending, newest, &mut judge),
+        Act::Label => label(layout, devices, &mut hand, newest),
         Act::Begin(dirty) => {
-            let rewritten = begin_labelled(
-                layout,
-                devices,
-                &mut ending,
-                newest,
-                dirty,
-                &mut room,
-                &mut judge,
-            );
+            let rewritten = begin_labelled(layout, devices, &mut hand, newest, dirty, &mut room);
             Done::Rewrite(rewritten)
         }
         Act::Close => {
-            close(layout, devices, &mut ending, newest, &mut judge);
+            close(layout, devices, &mut hand, newest);
             Done::Nothing
         }
         Act::End(lost) => {
-            ending.lost = lost;
-            end_labelled(layout, devices, &mut ending, newest, &mut judge);
+            hand.ending.lost = lost;
+            end_labelled(layout, devices, &mut hand, newest);
             Done::Nothing
         }
-        Act::Renew(kind) => renew(
-            kind,
-            layout,
-            devices,
-            &mut ending,
-            newest,
-            &mut room,
-            &mut judge,
-        ),
-        Act::RenewUnlabelled(kind) => {
-            renew_unlabelled(kind, layout, devices, &mut ending, &mut room, &mut judge)
-        }
+        Act::Renew(kind) => renew(kind, layout, devices, &mut hand, newest, &mut room),
+        Act::RenewUnlabelled(kind) => renew_unlabelled(kind, layout, devices, &mut hand, &mut room),
     };
-    Ok((done, ending))
+    Ok((done, hand.ending))
 }
 
 // A call as one letter: a label, a unit that is read or written, or a settle; a small one where it

@@ -10,7 +10,7 @@ use eng_cols::{Cols, Column, Loss};
 use lay_core::Layout;
 use std::alloc::Global;
 use std::test::Fail;
-use top_close::{Ending, end_unlabelled};
+use top_close::{Ending, Hand, settle};
 
 /// A device of 65 sectors of zeros, of which the calls of these numbers fail.
 pub(crate) fn device(alloc: Global, fails: &[u32]) -> Result<Option<MemDisk>, Fail> {
@@ -79,11 +79,12 @@ pub(crate) fn ended<L: Layout, D: Disk>(
     if columns.len() != layout.columns() as usize || !fit(columns, devices) {
         return Err("no array".into());
     }
-    let mut judge = Cols::with_room(alloc, layout.columns(), layout.stripes())?;
-    let mut ending = Ending {
+    let judge = Cols::with_room(alloc, layout.columns(), layout.stripes())?;
+    let ending = Ending {
         columns: columns.to_vec(alloc)?,
         lost,
     };
-    end_unlabelled(layout, devices, &mut ending, &mut judge);
-    Ok(ending)
+    let mut hand = Hand { ending, judge };
+    settle(layout, devices, &mut hand);
+    Ok(hand.ending)
 }

@@ -11,6 +11,6 @@ returns g c =
     let a : length new ≡ devices.len = omega (arith, c.alter-act.auto.devices, ap length c.as_mut_slice.ensures.value, c.as_mut_slice.ensures.len) in
     let y = shape_in c.args.ready.layout in
     let columns = c.args.ready.opened.columns.items in
-    let e = ending_seen c.alter-act.new.array.ending in
+    let e = ending_seen c.alter-act.new.array.hand.ending in
     subst (λ back. DoesOrder g.D.Disk y columns devices.items back c.alter-act.result e c.args.order) (sym (lent-back devices.items new devices.len a))
     (subst (λ old. DoesOrder g.D.Disk y columns old new c.alter-act.result e c.args.order) c.as_mut_slice.ensures.value c.alter-act.ensures)

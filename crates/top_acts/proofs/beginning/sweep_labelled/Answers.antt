@@ -13,31 +13,31 @@ use Rattle.top_acts.proofs.beginning.sweep_labelled.Goals as goal
 
 pub write_lost-requires-clause-array : goal.write_lost-requires-clause-array
 write_lost-requires-clause-array g c =
-    let columns = c.args.ending.now.columns.items in
+    let columns = c.args.hand.now.ending.columns.items in
     let old = c.args.devices.now in
     let s = c.sweep_and_judge-count in
-    can-after g.D.Disk (Failed g.D.Disk (states_of (g.L.Layout.shape c.args.layout.now) columns) old s.new.devices) (MayRewrite g.D.Disk (sweep_of c.args.kind) (g.L.Layout.shape c.args.layout.now) columns old) columns s.new.ending.columns.items old s.new.devices
+    can-after g.D.Disk (Failed g.D.Disk (states_of (g.L.Layout.shape c.args.layout.now) columns) old s.new.devices) (MayRewrite g.D.Disk (sweep_of c.args.kind) (g.L.Layout.shape c.args.layout.now) columns old) columns s.new.hand.ending.columns.items old s.new.devices
     s.ensures.swept.dies s.ensures.swept.frame c.requires.can.labels
 
 pub returns-then-is_some-clause-swept : goal.returns-then-is_some-clause-swept
 returns-then-is_some-clause-swept g c =
     let s = c.sweep_and_judge-count in
     let w = c.write_lost in
-    let columns = c.args.ending.now.columns.items in
-    let mid = s.new.ending.columns.items in
+    let columns = c.args.hand.now.ending.columns.items in
+    let mid = s.new.hand.ending.columns.items in
     let dies = any_death (Failed g.D.Disk (states_of (g.L.Layout.shape c.args.layout.now) columns) c.args.devices.now s.new.devices) columns mid s.ensures.swept.dies in
     let few : count_by is_set_filling mid ≤ 1 = omega (arith, c.deaths_bring_no_unit_back.ensures.filling columns mid dies, c.requires.can.settable.filling) in
-    sweeps_lost g.D.Disk (g.L.Layout.shape c.args.layout.now) (sweep_of c.args.kind) c.args.label.now w.new.label c.args.ending.now.columns.items s.new.ending.columns.items w.new.ending.columns.items c.args.devices.now s.new.devices w.new.devices w.new.ending.lost s.result
+    sweeps_lost g.D.Disk (g.L.Layout.shape c.args.layout.now) (sweep_of c.args.kind) c.args.label.now w.new.label c.args.hand.now.ending.columns.items s.new.hand.ending.columns.items w.new.hand.ending.columns.items c.args.devices.now s.new.devices w.new.devices w.new.hand.ending.lost s.result
     (g.met.L.Layout.is_layout c.args.layout.now).checks_most few w.ensures.lost s.ensures.swept w.ensures.label w.ensures.rounds
 
 pub returns-else-is_some-clause-swept : goal.returns-else-is_some-clause-swept
 returns-else-is_some-clause-swept g c =
     let s = c.sweep_and_judge-count in
-    sweeps_kept g.D.Disk (g.L.Layout.shape c.args.layout.now) (sweep_of c.args.kind) c.args.label.now c.args.ending.now.columns.items s.new.ending.columns.items c.args.devices.now s.new.devices s.new.ending.lost s.result
-    (g.met.L.Layout.is_layout c.args.layout.now).checks_most (none_of s.new.ending.lost (sym c.is_some.ensures ∙ c.if-is_some.false)) s.ensures.swept
+    sweeps_kept g.D.Disk (g.L.Layout.shape c.args.layout.now) (sweep_of c.args.kind) c.args.label.now c.args.hand.now.ending.columns.items s.new.hand.ending.columns.items c.args.devices.now s.new.devices s.new.hand.ending.lost s.result
+    (g.met.L.Layout.is_layout c.args.layout.now).checks_most (none_of s.new.hand.ending.lost (sym c.is_some.ensures ∙ c.if-is_some.false)) s.ensures.swept
 
 pub write_lost-requires-clause-held : goal.write_lost-requires-clause-held
-write_lost-requires-clause-held g c = let s = c.sweep_and_judge-count in held_after c.args.ending.now.columns.items s.new.ending.columns.items c.args.label.now s.ensures.swept.dies.count c.requires.held
+write_lost-requires-clause-held g c = let s = c.sweep_and_judge-count in held_after c.args.hand.now.ending.columns.items s.new.hand.ending.columns.items c.args.label.now s.ensures.swept.dies.count c.requires.held
 
 pub returns-else-is_some-clause-held : goal.returns-else-is_some-clause-held
-returns-else-is_some-clause-held g c = let s = c.sweep_and_judge-count in held_after c.args.ending.now.columns.items s.new.ending.columns.items c.args.label.now s.ensures.swept.dies.count c.requires.held
+returns-else-is_some-clause-held g c = let s = c.sweep_and_judge-count in held_after c.args.hand.now.ending.columns.items s.new.hand.ending.columns.items c.args.label.now s.ensures.swept.dies.count c.requires.held

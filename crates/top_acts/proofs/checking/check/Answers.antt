@@ -15,7 +15,7 @@ sweep_check-count-requires-clause-columns g c = subst (λ l. IsSettable (g.L.Lay
 pub judge_end-requires-clause-columns : goal.judge_end-requires-clause-columns
 judge_end-requires-clause-columns g c =
     let y = g.L.Layout.shape c.args.layout.now in
-    let e = c.args.ending.now in
+    let e = c.args.hand.now.ending in
     let s = c.sweep_check-count.ensures in
     let old = c.as_mut_slice-columns.result.now in
     let new = c.sweep_check-count.new.columns in
@@ -29,7 +29,7 @@ judge_end-requires-clause-columns g c =
 pub returns-in-Some-clause-checked : goal.returns-in-Some-clause-checked
 returns-in-Some-clause-checked g c =
     let y = g.L.Layout.shape c.args.layout.now in
-    let e = c.args.ending.now in
+    let e = c.args.hand.now.ending in
     let s = c.sweep_check-count.ensures in
     let old = c.as_mut_slice-columns.result.now in
     let new = c.sweep_check-count.new.columns in
@@ -37,7 +37,7 @@ returns-in-Some-clause-checked g c =
     let own : length e.columns.items ≡ e.columns.len = sym e.columns.ok.0 in
     let same = whole_slice e.columns.len new e.columns.items own (s.dies.count ∙ (ap length value ∙ own)) in
     let j = c.judge_end in
-    subst (λ l. IsChecked g.D.Disk y l j.new.ending.columns.items c.args.devices.now c.sweep_check-count.new.devices j.new.ending.lost done.Nothing) value (record {
+    subst (λ l. IsChecked g.D.Disk y l j.new.hand.ending.columns.items c.args.devices.now c.sweep_check-count.new.devices j.new.hand.ending.lost done.Nothing) value (record {
       found = c.sweep_check-count.result;
       mid = new;
       told = sym (ap (λ o. unless_lost o (done.Check c.sweep_check-count.result)) c.in-Some.is);
@@ -47,14 +47,14 @@ returns-in-Some-clause-checked g c =
       dies = s.dies;
       swept = s.swept;
       calls = s.calls;
-      after_is = j.ensures.columns ∙ ap (in_end j.new.ending.lost) same;
+      after_is = j.ensures.columns ∙ ap (in_end j.new.hand.ending.lost) same;
       lost_is = j.ensures.lost;
     })
 
 pub returns-in-None-clause-checked : goal.returns-in-None-clause-checked
 returns-in-None-clause-checked g c =
     let y = g.L.Layout.shape c.args.layout.now in
-    let e = c.args.ending.now in
+    let e = c.args.hand.now.ending in
     let s = c.sweep_check-count.ensures in
     let old = c.as_mut_slice-columns.result.now in
     let new = c.sweep_check-count.new.columns in
@@ -62,7 +62,7 @@ returns-in-None-clause-checked g c =
     let own : length e.columns.items ≡ e.columns.len = sym e.columns.ok.0 in
     let same = whole_slice e.columns.len new e.columns.items own (s.dies.count ∙ (ap length value ∙ own)) in
     let j = c.judge_end in
-    subst (λ l. IsChecked g.D.Disk y l j.new.ending.columns.items c.args.devices.now c.sweep_check-count.new.devices j.new.ending.lost (done.Check c.sweep_check-count.result)) value (record {
+    subst (λ l. IsChecked g.D.Disk y l j.new.hand.ending.columns.items c.args.devices.now c.sweep_check-count.new.devices j.new.hand.ending.lost (done.Check c.sweep_check-count.result)) value (record {
       found = c.sweep_check-count.result;
       mid = new;
       told = sym (ap (λ o. unless_lost o (done.Check c.sweep_check-count.result)) c.in-None.is);
@@ -72,6 +72,6 @@ returns-in-None-clause-checked g c =
       dies = s.dies;
       swept = s.swept;
       calls = s.calls;
-      after_is = j.ensures.columns ∙ ap (in_end j.new.ending.lost) same;
+      after_is = j.ensures.columns ∙ ap (in_end j.new.hand.ending.lost) same;
       lost_is = j.ensures.lost;
     })

@@ -1,5 +1,5 @@
 use Rattle.std.proofs.Common.{◌≡◌, ◌≤◌, take}
-use Rattle.top_rounds.specs.Rounds.{device_count}
+use Rattle.top_close.specs.Stage.{device_count}
 use Rattle.top_acts.proofs.closing.count_devices.Given as goal
 
 -- those so far are counted

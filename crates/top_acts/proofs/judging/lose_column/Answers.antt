@@ -13,7 +13,7 @@ lose_in-requires-clause-within g c = omega (arith, ap length c.as_mut_slice.ensu
 pub returns-clause-without : goal.returns-clause-without
 returns-clause-without g c =
     let y = g.L.Layout.shape c.args.layout.now in
-    let e = c.args.ending.now in
+    let e = c.args.hand.now.ending in
     let r = c.lose_in in
     let own : length e.columns.items ≡ e.columns.len = sym e.columns.ok.0 in
     let same = whole_slice e.columns.len r.new.columns e.columns.items own (r.auto.columns ∙ (ap length c.as_mut_slice.ensures.value ∙ own)) in

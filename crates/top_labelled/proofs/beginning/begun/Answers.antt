@@ -1,4 +1,4 @@
-use Rattle.std.proofs.Common.{◌≡◌, List, length, refl, sym, ap, subst, arith}
+use Rattle.std.proofs.Common.{◌≡◌, List, length, refl, ap, subst, arith}
 use Rattle.eng_cols.specs.declared.column.Column.{Column}
 use Rattle.top_run.proofs.Settled.{lent-back}
 use Rattle.top_labelled.specs.Ran.{onto}

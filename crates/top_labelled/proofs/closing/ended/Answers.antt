@@ -12,7 +12,7 @@ pub returns : goal.returns
 returns g c =
     let devices = c.args.closed.devices in
     let new = c.end_labelled.new.devices in
-    let lost = c.end_labelled.new.ending.lost in
+    let lost = c.end_labelled.new.hand.ending.lost in
     let a : length new ≡ devices.len = omega (arith, c.end_labelled.auto.devices, ap length c.as_mut_slice.ensures.value, c.as_mut_slice.ensures.len) in
     let kept = subst (λ (cs : List Column). c.line_kept-line.result ≡ line_kept (g.L.Layout.shape c.args.closed.layout) c.args.asked c.args.device cs) c.deref.ensures.value c.line_kept-line.ensures in
     let line = c.line_at_end-line.ensures ∙ ap (λ (l : Option Line). line_at_end lost l) kept in
@@ -23,7 +23,7 @@ returns g c =
       history = c.args.closed.history.items;
       trace = c.args.closed.trace.items;
       line = c.line_at_end-line.result;
-      ending = record { columns = c.end_labelled.new.ending.columns.items; lost = lost };
+      ending = record { columns = c.end_labelled.new.hand.ending.columns.items; lost = lost };
     } in
     subst (λ back. HasEnded g.L.Layout g.D.Disk c.args.closed c.args.label c.args.asked c.args.device v back) (sym (lent-back devices.items new devices.len a))
     (ended-so g.L.Layout g.D.Disk c.args.closed c.args.label c.end_labelled.new.label c.args.asked c.args.device v c.as_mut_slice.result.now new refl line c.as_mut_slice.ensures.value c.end_labelled.ensures.closed c.end_labelled.ensures.first c.end_labelled.ensures.lost)

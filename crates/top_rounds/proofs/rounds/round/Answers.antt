@@ -13,7 +13,7 @@ use Rattle.top_rounds.proofs.rounds.round.Goals as goal
 
 pub returns-then-is_some-clause-rounds : goal.returns-then-is_some-clause-rounds
 returns-then-is_some-clause-rounds g c =
-    let e = c.args.ending.now in
+    let e = c.args.hand.now.ending in
     let is = c.last_round.ensures.label in
     let old = c.as_mut_slice-columns.result.now in
     let new = c.last_round.new.columns in
@@ -31,8 +31,8 @@ returns-then-is_some-clause-rounds g c =
 pub returns-else-is_some-clause-lost : goal.returns-else-is_some-clause-lost
 returns-else-is_some-clause-lost g c =
     let y = g.L.Layout.shape c.args.layout.now in
-    let e = c.args.ending.now in
-    let r = c.rounds_of_kept-ending in
+    let e = c.args.hand.now.ending in
+    let r = c.rounds_of_kept-hand in
     let value = ap length c.as_mut_slice-columns.ensures.value in
     let own : length e.columns.items ≡ e.columns.len = sym e.columns.ok.0 in
     let same = whole_slice e.columns.len r.new.columns e.columns.items own (r.auto.columns ∙ (value ∙ own)) in

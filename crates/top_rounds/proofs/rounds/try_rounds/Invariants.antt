@@ -1,7 +1,8 @@
 use Rattle.std.proofs.Common.{◌≡◌}
 use Rattle.eng_cols.specs.Cols.{IsFor}
 use Rattle.top_rounds.specs.Labels.{IsLabelFor, seating_in, with_round}
-use Rattle.top_rounds.specs.Rounds.{HaveTried, device_count}
+use Rattle.top_close.specs.Stage.{device_count}
+use Rattle.top_rounds.specs.Rounds.{HaveTried}
 use Rattle.top_rounds.proofs.rounds.try_rounds.Given as goal
 
 -- the rounds so far were tried, and none of them was whole

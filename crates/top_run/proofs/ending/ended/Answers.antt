@@ -7,8 +7,8 @@ use Rattle.top_run.proofs.ending.ended.Goals as goal
 pub returns : goal.returns
 returns g c =
     let devices = c.args.closed.devices in
-    let new = c.end_unlabelled.new.devices in
-    let a : length new ≡ devices.len = omega (arith, c.end_unlabelled.auto.devices, ap length c.as_mut_slice.ensures.value, c.as_mut_slice.ensures.len) in
+    let new = c.settle.new.devices in
+    let a : length new ≡ devices.len = omega (arith, c.settle.auto.devices, ap length c.as_mut_slice.ensures.value, c.as_mut_slice.ensures.len) in
     let v : Service = record {
       clients = c.args.closed.clients.items;
       replies = c.args.closed.replies.items;
@@ -16,7 +16,7 @@ returns g c =
       history = c.args.closed.history.items;
       trace = c.args.closed.trace.items;
       line = None;
-      ending = record { columns = c.end_unlabelled.new.ending.columns.items; lost = c.end_unlabelled.new.ending.lost };
+      ending = record { columns = c.settle.new.hand.ending.columns.items; lost = c.settle.new.hand.ending.lost };
     } in
     subst (λ back. RunIsEnded g.L.Layout c.args.closed g.D.Disk v back) (sym (lent-back devices.items new devices.len a))
-    (is-ended g.L.Layout c.args.closed g.D.Disk v c.as_mut_slice.result.now new refl c.as_mut_slice.ensures.value c.end_unlabelled.ensures.settled c.end_unlabelled.ensures.last c.end_unlabelled.ensures.lost)
+    (is-ended g.L.Layout c.args.closed g.D.Disk v c.as_mut_slice.result.now new refl c.as_mut_slice.ensures.value c.settle.ensures.settled c.settle.ensures.last c.settle.ensures.lost)

@@ -7,4 +7,4 @@ use Rattle.act_tests.proofs.acts.asked.acted_on.Goals as goal
 pub fail_column-requires-clause-by : goal.fail_column-requires-clause-by
 fail_column-requires-clause-by g c =
     let y = g.L.Layout.shape c.args.layout.now in
-    subst (λ (cs : List Column). IsLossBy y None (states_of y cs) c.loss_of-ending.result) c.deref-in-Fail.ensures.value c.loss_of-ending.ensures.lost
+    subst (λ (cs : List Column). IsLossBy y None (states_of y cs) c.loss_of-hand.result) c.deref-in-Fail.ensures.value c.loss_of-hand.ensures.lost

@@ -1,5 +1,5 @@
 use Rattle.top_close.specs.Settled.{AreSettled}
-use Rattle.top_close.proofs.settle.settle_all.Given as goal
+use Rattle.top_close.proofs.settling.settle_all.Given as goal
 
 -- the columns so far were settled
 abbrev pub invariant-loop-column : goal.invariant-loop-column

@@ -1,5 +1,5 @@
-use Rattle.top_close.proofs.Settling.{none_there, settling_is}
-use Rattle.top_close.proofs.settle.settle_device.Goals as goal
+use Rattle.top_close.proofs.Settles.{none_there, settling_is}
+use Rattle.top_close.proofs.settling.settle_device.Goals as goal
 
 pub unreachable-requires : goal.unreachable-requires
 unreachable-requires g c = none_there c.args.devices.now c.args.device c.index-devices-device.result c.requires.within c.in-None.is c.requires.there

@@ -1,12 +1,12 @@
 use Rattle.std.proofs.Common.{◌≡◌, ◌∙◌, length, refl, sym, ap, subst, Some, None, arith}
 use Rattle.std.proofs.lemmas.Option.{slice_get-get_or}
 use Rattle.eng_cols.specs.Cols.{device_set, is_set_filling, is_set_spread}
-use Rattle.top_close.proofs.Settling.{there_within}
+use Rattle.top_close.proofs.Settles.{there_within}
 use Rattle.top_close.proofs.SettledLaws.{settled-skip, settled-more, settled_last, still_there}
 use Rattle.top_close.proofs.Counts.{deaths_pass_less}
 use Rattle.top_close.specs.Settled.{AreSettled, HasDeviceOn}
-use Rattle.top_close.proofs.settle.settle_all.Goals as goal
-use Rattle.top_close.proofs.settle.settle_all.Goals.{in-Some, in_default}
+use Rattle.top_close.proofs.settling.settle_all.Goals as goal
+use Rattle.top_close.proofs.settling.settle_all.Goals.{in-Some, in_default}
 
 pub settle_column-requires-clause-there : goal.settle_column-requires-clause-there
 settle_column-requires-clause-there g c =
