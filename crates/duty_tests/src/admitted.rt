@@ -250,7 +250,7 @@ fn an_array_is_made_ready(rt: HostRuntime) -> Result<(), Fail> {
 
 // The configuration, the reads of the script, the sectors of the second disk, and the number of the answer. A read of 64
 // stripes has at most 332 nodes, so 2,672 events: 392 have room in a trace.
-const ORDERS: [(&str, u16, u16, u8); 6] = [
+const ORDERS: &[(&str, u16, u16, u8)] = &[
     (CONF, 392, 128, 0),
     (CONF, 393, 128, 3),
     (ONE_AWAY, 393, 128, 3),
@@ -272,7 +272,7 @@ fn is_answered(rt: &impl Abort, alloc: Global, row: (&str, u16, u16, u8)) -> Res
 #[test]
 fn refusals_come_in_order(rt: HostRuntime) -> Result<(), Fail> {
     for row in ORDERS {
-        is_answered(&rt, rt.alloc(), row)?;
+        is_answered(&rt, rt.alloc(), *row)?;
     }
     Ok(())
 }
@@ -327,7 +327,7 @@ fn are_judged(rt: &impl Abort, alloc: Global, rows: &[Row]) -> Result<(), Fail> 
     Ok(())
 }
 
-const LABELS_AND_SIZES: [Row; 20] = [
+const LABELS_AND_SIZES: &[Row] = &[
     (BLANK, 128, &["-f", "d1"], "status label 1 1 0 0\n"),
     (BLANK, 64, &["-f", "d1"], "status label 1 1 0 0\n"),
     (BLANK, 64, &["-s"], "status small 1 64 65\n"),
@@ -367,7 +367,7 @@ const LABELS_AND_SIZES: [Row; 20] = [
 
 #[test]
 fn labels_and_sizes_are_judged(rt: HostRuntime) -> Result<(), Fail> {
-    are_judged(&rt, rt.alloc(), &LABELS_AND_SIZES)
+    are_judged(&rt, rt.alloc(), LABELS_AND_SIZES)
 }
 
 const MIDDLE_DEAD: [Column; 3] = [
@@ -410,7 +410,7 @@ fn what_is_only_printed(rt: HostRuntime) -> Result<(), Fail> {
     prints(&rt, rt.alloc(), &["conf", "-G"], 0)
 }
 
-const REBUILDS: [Row; 8] = [
+const REBUILDS: &[Row] = &[
     (BLANK, 64, &["-F", "d1"], "status label 1 1 0 0\n"),
     (SOUND, 128, &["-F", "d1"], "status nospare\n"),
     (SOUND, 100, &["-F", "d1"], "status nospare\n"),
@@ -435,7 +435,7 @@ const REBUILDS: [Row; 8] = [
 // nothing, but the disk onto which it is rebuilt for its size. A lost array comes before a spare that there isn't.
 #[test]
 fn rebuilds_are_judged(rt: HostRuntime) -> Result<(), Fail> {
-    are_judged(&rt, rt.alloc(), &REBUILDS)
+    are_judged(&rt, rt.alloc(), REBUILDS)
 }
 
 // A traced rebuild beside so many reads is refused so, or not at all.

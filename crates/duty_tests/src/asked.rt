@@ -26,7 +26,7 @@ fn text(alloc: Global, name: &str, text: &str) -> Result<(Name, Vec<u8>), Fail> 
 }
 
 // Configurations, files of graphs and scripts that are right and wrong.
-const TEXTS: [(&str, &str); 8] = [
+const TEXTS: &[(&str, &str)] = &[
     ("conf", CONF),
     ("no_conf", "START array\n1 3\n"),
     (
@@ -43,7 +43,7 @@ const TEXTS: [(&str, &str); 8] = [
 fn texts_of(alloc: Global) -> Result<Vec<(Name, Vec<u8>)>, Fail> {
     let mut texts = Vec::new(alloc);
     for (name, lines) in TEXTS {
-        texts.push(text(alloc, name, lines)?)?;
+        texts.push(text(alloc, *name, *lines)?)?;
     }
     Ok(texts)
 }
@@ -159,7 +159,7 @@ fn are_answered(rt: &impl Abort, alloc: Global, rows: &[Row]) -> Result<(), Fail
     Ok(())
 }
 
-const ORDERS: [Row; 12] = [
+const ORDERS: &[Row] = &[
     (&["conf", "-F", "d0", "-R", "d0"], (1, 1, 0)),
     (&["no", "--io", "script", "-w", "17"], (1, 3, 0)),
     (&["no", "--io", "no", "--graphs", "no"], (6, 0, 0)),
@@ -182,10 +182,10 @@ const ORDERS: [Row; 12] = [
 
 #[test]
 fn refusals_come_in_order(rt: HostRuntime) -> Result<(), Fail> {
-    are_answered(&rt, rt.alloc(), &ORDERS)
+    are_answered(&rt, rt.alloc(), ORDERS)
 }
 
-const COMPONENTS: [Row; 13] = [
+const COMPONENTS: &[Row] = &[
     (&["conf", "-F", "s0"], (1, 3, 0)),
     (&["conf", "-R", "d9", "--io", "no"], (1, 3, 0)),
     (&["conf", "-R", "d0", "--io", "no"], (6, 0, 0)),
@@ -203,13 +203,13 @@ const COMPONENTS: [Row; 13] = [
 
 #[test]
 fn components_are_judged_in_order(rt: HostRuntime) -> Result<(), Fail> {
-    are_answered(&rt, rt.alloc(), &COMPONENTS)
+    are_answered(&rt, rt.alloc(), COMPONENTS)
 }
 
 // Words, the component's place, and how many devices are taken.
 type Taking = (&'static [&'static str], Option<u32>, usize);
 
-const DEVICES: [Taking; 9] = [
+const DEVICES: &[Taking] = &[
     (&["conf", "-F", "d2"], Some(2), 4),
     (&["conf", "-R", "d0", "--io", "plain"], Some(0), 4),
     (&["conf", "-f", "d2"], Some(2), 4),
@@ -239,7 +239,7 @@ fn takes(rt: &impl Abort, alloc: Global, row: Taking) -> Result<(), Fail> {
 #[test]
 fn devices_are_those_of_the_action(rt: HostRuntime) -> Result<(), Fail> {
     for row in DEVICES {
-        takes(&rt, rt.alloc(), row)?;
+        takes(&rt, rt.alloc(), *row)?;
     }
     Ok(())
 }

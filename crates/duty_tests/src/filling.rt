@@ -65,7 +65,7 @@ type Row = (u32, bool, &'static [&'static str], &'static str);
 // The column is filling where the labels are clean and stripes are left; else it is dead. With column 0 the array is lost at the
 // first stripe that isn't done, which is told before the column that is filling beside it. The spare is in a seat, so it isn't
 // free.
-const ROWS: [Row; 12] = [
+const ROWS: &[Row] = &[
     (20, true, &["--resume"], ""),
     (63, true, &["--resume", "--limit", "1"], ""),
     (64, true, &["--resume"], "status norebuild\n"),
@@ -99,10 +99,10 @@ const ROWS: [Row; 12] = [
 fn an_array_is_judged_that_is_filling(rt: HostRuntime) -> Result<(), Fail> {
     let alloc = rt.alloc();
     for (done, clean, action, wanted) in ROWS {
-        let mut bay = parity_bay(alloc, done, clean)?;
-        let words = words_of(alloc, action)?;
+        let mut bay = parity_bay(alloc, *done, *clean)?;
+        let words = words_of(alloc, *action)?;
         let printed = refusal_of(alloc, &mut bay, &words)?;
-        same_at(&rt, (done, wanted), printed.as_slice(), wanted.as_bytes());
+        same_at(&rt, (*done, *wanted), printed.as_slice(), wanted.as_bytes());
     }
     Ok(())
 }
@@ -124,7 +124,7 @@ fn begun_of(start: Option<Start>) -> Option<(Option<u32>, u32)> {
 
 type Begun = (&'static [&'static str], (Option<u32>, u32));
 
-const BEGUN: [Begun; 4] = [
+const BEGUN: &[Begun] = &[
     (&["conf", "--resume"], (None, u32::MAX)),
     (&["conf", "--resume", "--limit", "5"], (None, 5)),
     (&["conf", "-R", "d1"], (Some(1), u32::MAX)),
@@ -145,9 +145,9 @@ fn a_column_goes_on_or_begins_anew(rt: HostRuntime) -> Result<(), Fail> {
     let alloc = rt.alloc();
     for (words, wanted) in BEGUN {
         let mut bay = parity_bay(alloc, 20, true)?;
-        let ready = array_of(accepted(alloc, &mut bay, words)?.duty)?;
+        let ready = array_of(accepted(alloc, &mut bay, *words)?.duty)?;
         same(&rt, ready.opened.columns.as_slice(), HALF.as_slice());
-        same(&rt, begun_of(ready.start), Some(wanted));
+        same(&rt, begun_of(ready.start), Some(*wanted));
     }
     Ok(())
 }
@@ -197,7 +197,7 @@ type Beside = (u32, &'static [&'static str], &'static str);
 
 // Column 3 shares no stripe with column 0, so its death is no loss; but no two are rebuilt at a time. All 64 stripes of column
 // 0 are done: it is dead then. Column 1 has the other unit of each of its stripes.
-const BESIDE: [Beside; 7] = [
+const BESIDE: &[Beside] = &[
     (1, &["-F", "d3"], "status rebuilding 0\n"),
     (1, &["-R", "d3"], "status rebuilding 0\n"),
     (1, &["-f", "d3"], ""),
@@ -211,10 +211,10 @@ const BESIDE: [Beside; 7] = [
 fn one_column_is_rebuilt_at_a_time(rt: HostRuntime) -> Result<(), Fail> {
     let alloc = rt.alloc();
     for (done, action, wanted) in BESIDE {
-        let mut bay = mirror_bay(alloc, done)?;
-        let words = words_of(alloc, action)?;
+        let mut bay = mirror_bay(alloc, *done)?;
+        let words = words_of(alloc, *action)?;
         let printed = refusal_of(alloc, &mut bay, &words)?;
-        same_at(&rt, (done, wanted), printed.as_slice(), wanted.as_bytes());
+        same_at(&rt, (*done, *wanted), printed.as_slice(), wanted.as_bytes());
     }
     Ok(())
 }

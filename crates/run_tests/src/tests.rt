@@ -33,7 +33,7 @@ const CONF: &str = "START array\n1 3 0\nSTART disks\nd0\nd1\nd2\nSTART layout\n1
 const SCRIPT: &str = "0 write 0 1 a5\n0 read 0 1\n";
 
 // The components of each bay. A configuration names those that it takes.
-const NAMES: [&str; 9] = ["d0", "d1", "d2", "d3", "d4", "d5", "d6", "s0", "z"];
+const NAMES: &[&str] = &["d0", "d1", "d2", "d3", "d4", "d5", "d6", "s0", "z"];
 
 /// A step of a session.
 #[derive(Clone, Copy)]
@@ -114,9 +114,9 @@ fn bay_of(alloc: Global, session: &Session) -> Result<MemBay<MemDisk>, Fail> {
     ]?;
     let mut disks = Vec::new(alloc);
     for name in NAMES {
-        let fails = fails_of(alloc, name, session.fails)?;
+        let fails = fails_of(alloc, *name, session.fails)?;
         let disk = zeros(alloc, session.sectors, fails)?;
-        disks.push((Name::new(alloc, name)?, disk))?;
+        disks.push((Name::new(alloc, *name)?, disk))?;
     }
     let faults = session.faults.to_vec(alloc)?;
     Ok(MemBay::new(alloc, texts, disks, faults))
@@ -152,6 +152,21 @@ fn answer<D: Disk + Drop + Send, R: Threads + Wait + Sync>(
     words: &str,
 ) -> Result<(u8, Vec<u8>), Fail> {
     answer_telling(rt, alloc, bay, words, &Silent)
+}
+
+// These words end with this number, and print this.
+fn says<D: Disk + Drop + Send, R: Abort + Threads + Wait + Sync>(
+    rt: &R,
+    alloc: Global,
+    bay: &mut MemBay<D>,
+    words: &str,
+    exit: u8,
+    lines: &str,
+) -> Result<(), Fail> {
+    let (number, printed) = answer(rt, alloc, bay, words)?;
+    same_at(rt, words, printed.as_slice(), lines.as_bytes());
+    same_at(rt, words, number, exit);
+    Ok(())
 }
 
 fn is_filled(bytes: &[u8], byte: u8) -> bool {
@@ -295,11 +310,7 @@ fn act_out<R: Abort + Threads + Wait + Sync>(
     step: Step,
 ) -> Result<(), Fail> {
     match step {
-        Step::Run(words, exit, lines) => {
-            let (number, printed) = answer(rt, alloc, bay, words)?;
-            same_at(rt, words, printed.as_slice(), lines.as_bytes());
-            same_at(rt, words, number, exit);
-        }
+        Step::Run(words, exit, lines) => says(rt, alloc, bay, words, exit, lines)?,
         Step::Holds(name, lines) => {
             let held = held_by(alloc, found(bay, name)?)?;
             same_at(rt, name, held.as_str(), lines);
@@ -322,15 +333,15 @@ fn act_out<R: Abort + Threads + Wait + Sync>(
     Ok(())
 }
 
-// A session on its own bay.
-fn play_one<R: Abort + Threads + Wait + Sync>(
+// One step after another.
+fn act_all<R: Abort + Threads + Wait + Sync>(
     rt: &R,
     alloc: Global,
-    session: &Session,
+    bay: &mut MemBay<MemDisk>,
+    steps: &[Step],
 ) -> Result<(), Fail> {
-    let mut bay = bay_of(alloc, session)?;
-    for step in session.steps {
-        act_out(rt, alloc, &mut bay, *step)?;
+    for step in steps {
+        act_out(rt, alloc, bay, *step)?;
     }
     Ok(())
 }
@@ -342,7 +353,8 @@ fn play<R: Abort + Threads + Wait + Sync>(
     sessions: &[Session],
 ) -> Result<(), Fail> {
     for session in sessions {
-        play_one(rt, alloc, session)?;
+        let mut bay = bay_of(alloc, session)?;
+        act_all(rt, alloc, &mut bay, session.steps)?;
     }
     Ok(())
 }

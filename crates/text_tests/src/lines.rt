@@ -61,14 +61,14 @@ fn see_put(
 fn a_line_is_put_by_one_call(rt: HostRuntime) -> Result<(), Fail> {
     let (bytes, first, second) = put_twice(rt.alloc(), 100, &[])?;
     same(&rt, (bytes.len(), first, second), (72, true, true));
-    let cut = b"block 18446744073709551616 0 5af000\nbloc";
-    let rows: [(u32, &[u32], (bool, bool), &[u8]); 3] = [
+    const CUT: &[u8] = b"block 18446744073709551616 0 5af000\nbloc";
+    const ROWS: &[(u32, &[u32], (bool, bool), &[u8])] = &[
         (100, &[1], (true, false), MIXED),
         (40, &[0], (false, true), MIXED),
-        (40, &[], (true, false), cut),
+        (40, &[], (true, false), CUT),
     ];
-    for (room, fails, done, wanted) in rows {
-        see_put(&rt, rt.alloc(), room, fails, done, wanted)?;
+    for (room, fails, done, wanted) in ROWS {
+        see_put(&rt, rt.alloc(), *room, *fails, *done, *wanted)?;
     }
     Ok(())
 }

@@ -1,6 +1,6 @@
 //! Runs with workers.
 use super::*;
-use crate::judging::{holds, same, same_at};
+use crate::judging::{holds, same};
 use blk_disk::{Gate, GateDisk};
 
 // Each of the two writes waits for the other to have begun, so that they are made at the same time, or the one fails.
@@ -22,14 +22,8 @@ fn writes_meet<R: Abort + Threads + Wait + Sync>(
         (Name::new(alloc, "d1")?, other),
     ]?;
     let mut bay = MemBay::new(alloc, texts, disks, Vec::new(alloc));
-    let (number, lines) = answer(rt, alloc, &mut bay, words)?;
-    same(rt, number, 0);
-    same(
-        rt,
-        lines.as_slice(),
-        b"reply 0.0 done\ncommit 0.0\nstatus ok\n".as_slice(),
-    );
-    Ok(())
+    let lines = "reply 0.0 done\ncommit 0.0\nstatus ok\n";
+    says(rt, alloc, &mut bay, words, 0, lines)
 }
 
 // At level 5 and as a mirror, by two workers and by as many as there may be, ten times each.
@@ -54,7 +48,7 @@ fn two_workers_write_at_the_same_time(rt: HostRuntime) -> Result<(), Fail> {
 fn a_write_fails_among_workers(rt: HostRuntime) -> Result<(), Fail> {
     let alloc = rt.alloc();
     let lines =
-        b"reply 0.0 done\nreply 0.1 data\nblock 0 1 a5\ncommit 0.0\ncommit 0.1\ndead 0\nstatus ok\n";
+        "reply 0.0 done\nreply 0.1 data\nblock 0 1 a5\ncommit 0.0\ncommit 0.1\ndead 0\nstatus ok\n";
     let session = Session {
         fails: &[("d0", 1)],
         ..PLAIN
@@ -62,9 +56,7 @@ fn a_write_fails_among_workers(rt: HostRuntime) -> Result<(), Fail> {
     for _ in 0..10 {
         for words in ["r5 --io s1 -w 1", "r5 --io s1 -w 4", "r5 --io s1 -w 16"] {
             let mut bay = bay_of(alloc, &session)?;
-            let (number, printed) = answer(&rt, alloc, &mut bay, words)?;
-            same_at(&rt, words, number, 0);
-            same_at(&rt, words, printed.as_slice(), lines.as_slice());
+            says(&rt, alloc, &mut bay, words, 0, lines)?;
         }
     }
     Ok(())
@@ -96,13 +88,11 @@ fn a_column_is_rebuilt_beside_two_clients(rt: HostRuntime) -> Result<(), Fail> {
     holds(&rt, lines.starts_with(replies));
     holds(&rt, lines.ends_with(end));
     same(&rt, lines.len(), replies.len() + 36 + end.len());
-    let steps = [
+    const STEPS: &[Step] = &[
         Step::Run("r5 -p", 0, "parity clean\nstatus ok\n"),
         Step::Run("r5 -f d0", 0, "failed column 0\ndead 0\nstatus ok\n"),
     ];
-    for step in steps {
-        act_out(&rt, alloc, &mut bay, step)?;
-    }
+    act_all(&rt, alloc, &mut bay, STEPS)?;
     let (_, lines) = answer(&rt, alloc, &mut bay, "r5 --io s1 -w 4")?;
     holds(&rt, lines.starts_with(replies));
     Ok(())

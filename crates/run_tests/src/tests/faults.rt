@@ -13,7 +13,7 @@ const TWO_ABSENT: &str =
 // that fail lose the array.
 #[test]
 fn columns_that_fail_are_dead(rt: HostRuntime) -> Result<(), Fail> {
-    let sessions = [
+    const SESSIONS: &[Session] = &[
         Session {
             fails: &[("d1", 0)],
             steps: &[Step::Run(
@@ -92,7 +92,7 @@ fn columns_that_fail_are_dead(rt: HostRuntime) -> Result<(), Fail> {
             ..PLAIN
         },
     ];
-    play(&rt, rt.alloc(), &sessions)
+    play(&rt, rt.alloc(), SESSIONS)
 }
 
 // Block 1 is unit 1 of stripe 0, whose column is absent: it stands in the sum of the other two. An array with two absent
@@ -100,7 +100,7 @@ fn columns_that_fail_are_dead(rt: HostRuntime) -> Result<(), Fail> {
 // reply by then is lost.
 #[test]
 fn columns_are_done_without(rt: HostRuntime) -> Result<(), Fail> {
-    let sessions = [
+    const SESSIONS: &[Session] = &[
         Session {
             conf: ABSENT,
             script: "0 write 1 1 a5\n0 read 1 1\n",
@@ -133,7 +133,7 @@ fn columns_are_done_without(rt: HostRuntime) -> Result<(), Fail> {
             ..PLAIN
         },
     ];
-    play(&rt, rt.alloc(), &sessions)
+    play(&rt, rt.alloc(), SESSIONS)
 }
 
 // The write of block 0 by a read of unit 1; then the same where the write doesn't follow the commit, and where the sum lacks
@@ -144,7 +144,7 @@ const GRAPHS: &str =
 // Graphs are judged as they are taken. Where the read of one fails the operation has changed nothing, and isn't planned anew.
 #[test]
 fn operations_go_by_graphs_of_a_file(rt: HostRuntime) -> Result<(), Fail> {
-    let sessions = [
+    const SESSIONS: &[Session] = &[
         Session {
             script: "0 use early write 0 1 a5\n0 use wrong write 0 1 a5\n0 use large write 0 1 a5\n",
             other: GRAPHS,
@@ -167,5 +167,5 @@ fn operations_go_by_graphs_of_a_file(rt: HostRuntime) -> Result<(), Fail> {
             ..PLAIN
         },
     ];
-    play(&rt, rt.alloc(), &sessions)
+    play(&rt, rt.alloc(), SESSIONS)
 }

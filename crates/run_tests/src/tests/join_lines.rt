@@ -1,14 +1,14 @@
 //! Which join lines are refused, and when.
 use super::joined::{GRAPHS, bay_with};
 use super::*;
-use crate::judging::{same, same_at};
+use crate::judging::same_at;
 
 // Graphs of 1,025 and 1,026 nodes, and one of these that names a second stripe: their names, the stripe, and how many of the
 // nodes stand between commit and terminator.
-const LONG: [(&str, u32, u16); 3] = [("odd", 0, 1023), ("long", 0, 1024), ("high", 1, 1024)];
+const LONG: &[(&str, u32, u16)] = &[("odd", 0, 1023), ("long", 0, 1024), ("high", 1, 1024)];
 
 // Graphs of 1,024 and of 980 nodes.
-const COUNTED: [(&str, u32, u16); 2] = [("even", 0, 1022), ("rest", 0, 978)];
+const COUNTED: &[(&str, u32, u16)] = &[("even", 0, 1022), ("rest", 0, 978)];
 
 // A graph of a commit, so many sums of nothing into one buffer, and a terminator, each behind the one before.
 pub(super) fn push_chain(
@@ -44,7 +44,7 @@ fn with_chains(alloc: Global, chains: &[(&str, u32, u16)]) -> Result<String, Fai
 }
 
 // A script of join lines, the exit number, and what is printed.
-const LINES: [(&str, u8, &str); 16] = [
+const LINES: &[(&str, u8, &str)] = &[
     (
         "0 join large 0 1 a5 large 1 1 b6\n",
         3,
@@ -128,7 +128,7 @@ const LINES: [(&str, u8, &str); 16] = [
 ];
 
 // The same of the larger graphs.
-const LONG_LINES: [(&str, u8, &str); 8] = [
+const LONG_LINES: &[(&str, u8, &str)] = &[
     ("0 join long 0 1 a5 odd 2 1 b6\n", 3, "status script 1 12\n"),
     ("0 join long 0 1 a5 odd 1 1 b6\n", 3, "status script 1 11\n"),
     ("0 join high 0 1 a5 odd 2 1 b6\n", 3, "status script 1 10\n"),
@@ -179,14 +179,14 @@ fn are_told<R: Abort + Threads + Wait + Sync>(
 // over whole arrays or not, at the place to which the cause has moved: it is that of the first graph or of the second.
 #[test]
 fn graphs_that_are_not_joined_are_told(rt: HostRuntime) -> Result<(), Fail> {
-    are_told(&rt, rt.alloc(), GRAPHS, &LINES)
+    are_told(&rt, rt.alloc(), GRAPHS, LINES)
 }
 
 // Graphs of 2,051 nodes together are judged behind spans and stripes; of 2,050 the joined one has 2,048.
 #[test]
 fn graphs_that_are_too_large_together_are_told(rt: HostRuntime) -> Result<(), Fail> {
-    let graphs = with_chains(rt.alloc(), &LONG)?;
-    are_told(&rt, rt.alloc(), &graphs, &LONG_LINES)
+    let graphs = with_chains(rt.alloc(), LONG)?;
+    are_told(&rt, rt.alloc(), &graphs, LONG_LINES)
 }
 
 // An array that lacks one component, or two, or that is labelled and has no spare; the spans of the line meet in a stripe.
@@ -198,7 +198,7 @@ const APART: Session = Session {
 
 // A line is judged once the array is opened and isn't lost, and there is a spare for a reconstruction: its dead columns are
 // printed beside it.
-const OPENED: [Session; 3] = [
+const OPENED: &[Session] = &[
     Session {
         conf: "START array\n1 3 0\nSTART disks\nd0\nabsent\nd2\nSTART layout\n1 1 1 5\n",
         steps: &[Step::Run(
@@ -228,7 +228,7 @@ const OPENED: [Session; 3] = [
 
 #[test]
 fn graphs_are_joined_once_the_array_is_opened(rt: HostRuntime) -> Result<(), Fail> {
-    play(&rt, rt.alloc(), &OPENED)
+    play(&rt, rt.alloc(), OPENED)
 }
 
 const LINE: &str = "0 join large 0 1 a5 large 2 1 b6\n";
@@ -251,15 +251,10 @@ fn there_may_be_64_join_lines(rt: HostRuntime) -> Result<(), Fail> {
     replies.push_str("status ok\n")?;
     let words = "r5 --io s1 --graphs t1 -w 0";
     let mut bay = bay_with(alloc, CONF, GRAPHS, &script)?;
-    let (exit, printed) = answer(&rt, alloc, &mut bay, words)?;
-    same(&rt, printed.as_slice(), replies.as_bytes());
-    same(&rt, exit, 0);
+    says(&rt, alloc, &mut bay, words, 0, &replies)?;
     script.push_str(LINE)?;
     let mut bay = bay_with(alloc, CONF, GRAPHS, &script)?;
-    let (exit, printed) = answer(&rt, alloc, &mut bay, words)?;
-    same(&rt, printed.as_slice(), b"status script 65 13\n".as_slice());
-    same(&rt, exit, 3);
-    Ok(())
+    says(&rt, alloc, &mut bay, words, 3, "status script 65 13\n")
 }
 
 // An array of 31 columns, each stripe of which has 30 data units.
@@ -318,57 +313,59 @@ fn is_traced<R: Abort + Threads + Wait + Sync>(
     exit: u8,
 ) -> Result<(), Fail> {
     let conf = wide_conf(alloc)?;
-    let graphs = with_chains(alloc, &COUNTED)?;
+    let graphs = with_chains(alloc, COUNTED)?;
     let mut bay = bay_with(alloc, &conf, &graphs, script)?;
     let words = "r5 --io s1 --graphs t1 -w 0 --trace";
-    let (status, found) = answer(rt, alloc, &mut bay, words)?;
-    same_at(rt, script, found.as_slice(), printed.as_bytes());
-    same_at(rt, script, status, exit);
-    Ok(())
+    says(rt, alloc, &mut bay, words, exit, printed)
 }
 
-// The unit 2 that `large` writes holds data where a stripe has 30 data units, so that the checker refuses it.
+// The lines behind, and what is printed of them. The unit 2 that `large` writes holds data where a stripe has 30 data units, so
+// that the checker refuses it.
+const WITHIN: &[(&str, &str, &str)] = &[
+    (
+        "0 join large 0 1 a5 large 30 1 b6\n",
+        "reply 0.16 refused G12 0 2 0\n",
+        "begin 0.16\ntake 0.16\nstatus ok\n",
+    ),
+    (
+        "0 join large 0 1 a5 large 1920 1 b6\n0 fail 0\n0 fail 0\n0 fail 0\n0 fail 0\n0 fail 0\n",
+        "reply 0.16 refused R1\nreply 0.17 ok\nreply 0.18 ok\nreply 0.19 ok\nreply 0.20 ok\nreply 0.21 ok\n",
+        "begin 0.16\nbegin 0.17\nbegin 0.18\nbegin 0.19\nbegin 0.20\nbegin 0.21\ndead 0\nstatus ok\n",
+    ),
+];
+
 #[test]
 fn joined_graphs_count_for_the_bound_of_a_trace(rt: HostRuntime) -> Result<(), Fail> {
     let alloc = rt.alloc();
-    for (lines, replies, trace) in [
-        (
-            "0 join large 0 1 a5 large 30 1 b6\n",
-            "reply 0.16 refused G12 0 2 0\n",
-            "begin 0.16\ntake 0.16\nstatus ok\n",
-        ),
-        (
-            "0 join large 0 1 a5 large 1920 1 b6\n0 fail 0\n0 fail 0\n0 fail 0\n0 fail 0\n0 fail 0\n",
-            "reply 0.16 refused R1\nreply 0.17 ok\nreply 0.18 ok\nreply 0.19 ok\nreply 0.20 ok\nreply 0.21 ok\n",
-            "begin 0.16\nbegin 0.17\nbegin 0.18\nbegin 0.19\nbegin 0.20\nbegin 0.21\ndead 0\nstatus ok\n",
-        ),
-    ] {
-        let (script, printed) = traced(alloc, lines, replies, trace)?;
+    for (lines, replies, trace) in WITHIN {
+        let (script, printed) = traced(alloc, *lines, *replies, *trace)?;
         is_traced(&rt, alloc, &script, &printed, 0)?;
     }
     Ok(())
 }
 
 // An item more than there is room for; behind a line whose graphs can't be joined that isn't told.
+const BEYOND: &[(&str, &str)] = &[
+    (
+        "0 join large 0 1 a5 large 30 1 b6\n0 fail 0\n",
+        "status script 0 8\n",
+    ),
+    (
+        "0 join large 0 1 a5 large 1920 1 b6\n0 fail 0\n0 fail 0\n0 fail 0\n0 fail 0\n0 fail 0\n0 fail 0\n",
+        "status script 0 8\n",
+    ),
+    (
+        "0 join large 0 1 a5 large 1 1 b6\n0 fail 0\n0 fail 0\n0 fail 0\n0 fail 0\n0 fail 0\n0 fail 0\n",
+        "status script 17 11\n",
+    ),
+];
+
 #[test]
 fn graphs_are_joined_before_a_trace_is_bounded(rt: HostRuntime) -> Result<(), Fail> {
     let alloc = rt.alloc();
-    for (lines, printed) in [
-        (
-            "0 join large 0 1 a5 large 30 1 b6\n0 fail 0\n",
-            "status script 0 8\n",
-        ),
-        (
-            "0 join large 0 1 a5 large 1920 1 b6\n0 fail 0\n0 fail 0\n0 fail 0\n0 fail 0\n0 fail 0\n0 fail 0\n",
-            "status script 0 8\n",
-        ),
-        (
-            "0 join large 0 1 a5 large 1 1 b6\n0 fail 0\n0 fail 0\n0 fail 0\n0 fail 0\n0 fail 0\n0 fail 0\n",
-            "status script 17 11\n",
-        ),
-    ] {
-        let (script, _) = traced(alloc, lines, "", "")?;
-        is_traced(&rt, alloc, &script, printed, 3)?;
+    for (lines, printed) in BEYOND {
+        let (script, _) = traced(alloc, *lines, "", "")?;
+        is_traced(&rt, alloc, &script, *printed, 3)?;
     }
     Ok(())
 }

@@ -13,7 +13,7 @@ const BOTH: &str = "0 join large 0 1 a5 large 2 1 b6\n";
 // Blocks 0 to 2 are read behind it.
 const THEN_READ: &str = "0 join large 0 1 a5 large 2 1 b6\n0 read 0 3\n";
 
-const WAYS: [&str; 2] = ["r5 --io s1 --graphs t1 -w 0", "r5 --io s1 --graphs t1 -w 4"];
+const WAYS: &[&str] = &["r5 --io s1 --graphs t1 -w 0", "r5 --io s1 --graphs t1 -w 4"];
 
 /// Which calls of which components fail, what is printed, what the three components hold then, of which nothing is said of
 /// one that died by a write; and what is printed where blocks are read behind that.
@@ -21,42 +21,42 @@ const WAYS: [&str; 2] = ["r5 --io s1 --graphs t1 -w 0", "r5 --io s1 --graphs t1 
 struct Row {
     fails: &'static [(&'static str, u32)],
     printed: &'static str,
-    held: [Option<&'static str>; 3],
+    held: &'static [Option<&'static str>],
     read: &'static str,
 }
 
 // Block 0 is unit 0 of stripe 0, beside which unit 1 is in column 1 and the check unit in column 2; block 2 is unit 0 of
 // stripe 1, in column 2, beside which unit 1 is in column 0 and the check unit in column 1. The read of either span fails,
 // and neither is written; the write of either fails, and both are.
-const ROWS: [Row; 5] = [
+const ROWS: &[Row] = &[
     Row {
         fails: &[],
         printed: "reply 0.0 done\ncommit 0.0\nstatus ok\n",
-        held: [Some("64 a5\n"), Some("65 b6\n"), Some("64 a5\n65 b6\n")],
+        held: &[Some("64 a5\n"), Some("65 b6\n"), Some("64 a5\n65 b6\n")],
         read: "reply 0.0 done\nreply 0.1 data\nblock 0 1 a5\nblock 1 1 00\nblock 2 1 b6\ncommit 0.0\ncommit 0.1\nstatus ok\n",
     },
     Row {
         fails: &[("d1", 1)],
         printed: "reply 0.0 undone 1\ndead 1\nstatus ok\n",
-        held: [Some(""); 3],
+        held: &[Some(""); 3],
         read: "reply 0.0 undone 1\nreply 0.1 data\nblock 0 3 00\ncommit 0.1\ndead 1\nstatus ok\n",
     },
     Row {
         fails: &[("d0", 1)],
         printed: "reply 0.0 undone 0\ndead 0\nstatus ok\n",
-        held: [Some(""); 3],
+        held: &[Some(""); 3],
         read: "reply 0.0 undone 0\nreply 0.1 data\nblock 0 3 00\ncommit 0.1\ndead 0\nstatus ok\n",
     },
     Row {
         fails: &[("d0", 2)],
         printed: "reply 0.0 done\ncommit 0.0\ndead 0\nstatus ok\n",
-        held: [None, Some("65 b6\n"), Some("64 a5\n65 b6\n")],
+        held: &[None, Some("65 b6\n"), Some("64 a5\n65 b6\n")],
         read: "reply 0.0 done\nreply 0.1 data\nblock 0 1 a5\nblock 1 1 00\nblock 2 1 b6\ncommit 0.0\ncommit 0.1\ndead 0\nstatus ok\n",
     },
     Row {
         fails: &[("d2", 2)],
         printed: "reply 0.0 done\ncommit 0.0\ndead 2\nstatus ok\n",
-        held: [Some("64 a5\n"), Some("65 b6\n"), None],
+        held: &[Some("64 a5\n"), Some("65 b6\n"), None],
         read: "reply 0.0 done\nreply 0.1 data\nblock 0 1 a5\nblock 1 1 00\nblock 2 1 b6\ncommit 0.0\ncommit 0.1\ndead 2\nstatus ok\n",
     },
 ];
@@ -66,12 +66,12 @@ fn hold<R: Abort>(
     rt: &R,
     alloc: Global,
     bay: &MemBay<MemDisk>,
-    wanted: [Option<&str>; 3],
+    wanted: &[Option<&str>],
 ) -> Result<(), Fail> {
     for (name, held) in NAMES.iter().zip(wanted) {
         if let Some(held) = held {
             let found = held_by(alloc, found(bay, name)?)?;
-            same_at(rt, *name, found.as_str(), held);
+            same_at(rt, *name, found.as_str(), *held);
         }
     }
     Ok(())
@@ -105,9 +105,9 @@ fn joined_graphs_write_both_spans_or_neither(rt: HostRuntime) -> Result<(), Fail
     let alloc = rt.alloc();
     for words in WAYS {
         for row in ROWS {
-            let bay = run_with(&rt, alloc, &row, BOTH, words, row.printed)?;
+            let bay = run_with(&rt, alloc, row, BOTH, *words, row.printed)?;
             hold(&rt, alloc, &bay, row.held)?;
-            run_with(&rt, alloc, &row, THEN_READ, words, row.read)?;
+            run_with(&rt, alloc, row, THEN_READ, *words, row.read)?;
         }
     }
     Ok(())
@@ -116,7 +116,7 @@ fn joined_graphs_write_both_spans_or_neither(rt: HostRuntime) -> Result<(), Fail
 // The joined graph has ten nodes: two reads and two exclusive-ors, the commit, four writes, the terminator.
 #[test]
 fn a_joined_graph_has_one_commit(rt: HostRuntime) -> Result<(), Fail> {
-    let session = Session {
+    const SESSIONS: &[Session] = &[Session {
         script: BOTH,
         other: GRAPHS,
         steps: &[Step::Run(
@@ -125,29 +125,29 @@ fn a_joined_graph_has_one_commit(rt: HostRuntime) -> Result<(), Fail> {
             "reply 0.0 done\ncommit 0.0\nbegin 0.0\ntake 0.0\nfire 0.0 0\ngood 0.0 0\nfire 0.0 1\ngood 0.0 1\nfire 0.0 2\ngood 0.0 2\nfire 0.0 3\ngood 0.0 3\nfire 0.0 4\ngood 0.0 4\nfire 0.0 5\ngood 0.0 5\nfire 0.0 6\ngood 0.0 6\nfire 0.0 7\ngood 0.0 7\nfire 0.0 8\ngood 0.0 8\nfire 0.0 9\ngood 0.0 9\nstatus ok\n",
         )],
         ..PLAIN
-    };
-    play(&rt, rt.alloc(), &[session])
+    }];
+    play(&rt, rt.alloc(), SESSIONS)
 }
 
 /// What two clients ask for at once, and what the three components hold in the end, by the order of their commits.
 #[derive(Clone, Copy)]
 struct Clients {
     script: &'static str,
-    zero_first: [Option<&'static str>; 3],
-    one_first: [Option<&'static str>; 3],
+    zero_first: &'static [Option<&'static str>],
+    one_first: &'static [Option<&'static str>],
 }
 
 // Both take both stripes. Each writes one unit of each, and no order tells; or both write the same units, and of both spans
 // the one stands that was committed last.
-const CLIENTS: [Clients; 2] = [
+const CLIENTS: &[Clients] = &[
     Clients {
         script: "0 join large 0 1 11 index 3 1 22\n1 join index 1 1 33 large 2 1 44\n",
-        zero_first: [
+        zero_first: &[
             Some("64 11\n65 22\n"),
             Some("64 33\n65 66\n"),
             Some("64 22\n65 44\n"),
         ],
-        one_first: [
+        one_first: &[
             Some("64 11\n65 22\n"),
             Some("64 33\n65 66\n"),
             Some("64 22\n65 44\n"),
@@ -155,8 +155,8 @@ const CLIENTS: [Clients; 2] = [
     },
     Clients {
         script: "0 join large 0 1 11 large 2 1 22\n1 join large 0 1 33 large 2 1 44\n",
-        zero_first: [Some("64 33\n"), Some("65 44\n"), Some("64 33\n65 44\n")],
-        one_first: [Some("64 11\n"), Some("65 22\n"), Some("64 11\n65 22\n")],
+        zero_first: &[Some("64 33\n"), Some("65 44\n"), Some("64 33\n65 44\n")],
+        one_first: &[Some("64 11\n"), Some("65 22\n"), Some("64 11\n65 22\n")],
     },
 ];
 
@@ -184,7 +184,7 @@ fn two_clients_join_over_each_others_stripes(rt: HostRuntime) -> Result<(), Fail
 // The first span has two stripes, so that the second graph's is the third: block 4 is unit 0 of stripe 2, in column 1, whose
 // check unit is in column 0. And column 2 is dead, so that stripe 0 lacks its check unit and stripe 1 its unit 0: graphs that
 // would be refused over a whole array are accepted, and so is what they are joined to.
-const MORE: [Session; 2] = [
+const MORE: &[Session] = &[
     Session {
         script: "0 join three 0 3 a5 large 4 1 b6\n",
         other: GRAPHS,
@@ -219,7 +219,7 @@ const MORE: [Session; 2] = [
 
 #[test]
 fn joined_graphs_may_have_more_stripes_and_missing_units(rt: HostRuntime) -> Result<(), Fail> {
-    play(&rt, rt.alloc(), &MORE)
+    play(&rt, rt.alloc(), MORE)
 }
 
 // A configuration, graphs, a script, and the 31 components that one may take.

@@ -18,7 +18,7 @@ const FOREIGN: &str = "START array\n1 3 0\nSTART disks\nd0\nd1\nd3\nSTART layout
 // the spare. At last d2 is replaced: without a label it is refused, and its column is rebuilt on it.
 #[test]
 fn an_array_is_labelled_and_run_and_rebuilt(rt: HostRuntime) -> Result<(), Fail> {
-    let sessions = [Session {
+    const SESSIONS: &[Session] = &[Session {
         conf: WIDE,
         script: "0 write 64 256 5a\n0 read 64 256\n",
         sectors: 2112,
@@ -60,14 +60,14 @@ fn an_array_is_labelled_and_run_and_rebuilt(rt: HostRuntime) -> Result<(), Fail>
         ],
         ..PLAIN
     }];
-    play(&rt, rt.alloc(), &sessions)
+    play(&rt, rt.alloc(), SESSIONS)
 }
 
 // Each letter on an array without labels. Sector 64 of d2 is the check unit of stripe 0, and the data are zeros. The spare's
 // name is known to `-g`, and not to `-f`, which takes a column's.
 #[test]
 fn an_array_without_labels_has_its_letters(rt: HostRuntime) -> Result<(), Fail> {
-    let sessions = [
+    const SESSIONS: &[Session] = &[
         Session {
             steps: &[
                 Step::Run(
@@ -105,13 +105,13 @@ fn an_array_without_labels_has_its_letters(rt: HostRuntime) -> Result<(), Fail> 
             ..PLAIN
         },
     ];
-    play(&rt, rt.alloc(), &sessions)
+    play(&rt, rt.alloc(), SESSIONS)
 }
 
 // A column dies whose device fails as its stripes are tested, as its check units are written, or as its label is.
 #[test]
 fn a_letter_tells_the_columns_that_died(rt: HostRuntime) -> Result<(), Fail> {
-    let sessions = [
+    const SESSIONS: &[Session] = &[
         Session {
             fails: &[("d1", 1)],
             steps: &[Step::Run("r5 -p", 0, "parity clean\ndead 1\nstatus ok\n")],
@@ -138,7 +138,7 @@ fn a_letter_tells_the_columns_that_died(rt: HostRuntime) -> Result<(), Fail> {
             ..PLAIN
         },
     ];
-    play(&rt, rt.alloc(), &sessions)
+    play(&rt, rt.alloc(), SESSIONS)
 }
 
 // A column is failed, and another whose failure would lose the array isn't: the labels are what they were. The check unit of
@@ -147,7 +147,7 @@ fn a_letter_tells_the_columns_that_died(rt: HostRuntime) -> Result<(), Fail> {
 // run, and nothing is told of that.
 #[test]
 fn an_array_goes_by_its_labels(rt: HostRuntime) -> Result<(), Fail> {
-    let sessions = [
+    const SESSIONS: &[Session] = &[
         Session {
             steps: &[
                 Step::Run("r5 -I 7", 0, "labels written 3\nstatus ok\n"),
@@ -193,14 +193,14 @@ fn an_array_goes_by_its_labels(rt: HostRuntime) -> Result<(), Fail> {
             ..PLAIN
         },
     ];
-    play(&rt, rt.alloc(), &sessions)
+    play(&rt, rt.alloc(), SESSIONS)
 }
 
 // In the place of d2 a component that another array of the same shape has there, of five columns, and of three; and then one
 // without a label. No sector changes.
 #[test]
 fn labels_are_refused(rt: HostRuntime) -> Result<(), Fail> {
-    let sessions = [
+    const SESSIONS: &[Session] = &[
         Session {
             conf: WIDE,
             other: WIDE_FOREIGN,
@@ -237,14 +237,14 @@ fn labels_are_refused(rt: HostRuntime) -> Result<(), Fail> {
             ..PLAIN
         },
     ];
-    play(&rt, rt.alloc(), &sessions)
+    play(&rt, rt.alloc(), SESSIONS)
 }
 
 // Byte 8 of a label is its version's lowest. Labels of version 1 are read, and each round writes version 2.
 // Labels of another version are none.
 #[test]
 fn labels_of_version_1_are_read(rt: HostRuntime) -> Result<(), Fail> {
-    let sessions = [Session {
+    const SESSIONS: &[Session] = &[Session {
         conf: WIDE,
         sectors: 2112,
         steps: &[
@@ -268,12 +268,21 @@ fn labels_of_version_1_are_read(rt: HostRuntime) -> Result<(), Fail> {
         ],
         ..PLAIN
     }];
-    play(&rt, rt.alloc(), &sessions)
+    play(&rt, rt.alloc(), SESSIONS)
 }
+
+// Clean labels, as version 1 has them.
+const OLDER: &[Step] = &[
+    Step::Run("r5 -I 7", 0, "labels written 3\nstatus ok\n"),
+    Step::Run("r5 -i", 0, "parity initialised 64\nstatus ok\n"),
+    Step::Put("d0", 8, 1),
+    Step::Put("d1", 8, 1),
+    Step::Put("d2", 8, 1),
+];
 
 // A letter, what it prints, and the label of d0 then. The labels of before are of version 1, with counter 3. One that is only
 // read is written by no letter that looks, tests or is refused.
-const MIGRATED: [(&str, &str, u8, &str); 11] = [
+const MIGRATED: &[(&str, &str, u8, &str)] = &[
     (
         "r5 -s",
         "column 0 d0 optimal\ncolumn 1 d1 optimal\ncolumn 2 d2 optimal\nspare 0 s0 free\nparity clean\nstatus ok\n",
@@ -349,20 +358,11 @@ fn each_letter_that_writes_labels_writes_version_2(rt: HostRuntime) -> Result<()
         conf: rebuilds::SPARED,
         ..PLAIN
     };
-    let first = [
-        Step::Run("r5 -I 7", 0, "labels written 3\nstatus ok\n"),
-        Step::Run("r5 -i", 0, "parity initialised 64\nstatus ok\n"),
-        Step::Put("d0", 8, 1),
-        Step::Put("d1", 8, 1),
-        Step::Put("d2", 8, 1),
-    ];
     for (words, lines, exit, label) in MIGRATED {
         let mut bay = bay_of(alloc, &session)?;
-        for step in first {
-            act_out(&rt, alloc, &mut bay, step)?;
-        }
-        act_out(&rt, alloc, &mut bay, Step::Run(words, exit, lines))?;
-        act_out(&rt, alloc, &mut bay, Step::Run("r5 -g d0", 0, label))?;
+        act_all(&rt, alloc, &mut bay, OLDER)?;
+        says(&rt, alloc, &mut bay, *words, *exit, *lines)?;
+        says(&rt, alloc, &mut bay, "r5 -g d0", 0, *label)?;
     }
     Ok(())
 }

@@ -17,7 +17,7 @@ const DECLUSTERED: &str =
 // one another; one of tuples of three.
 #[test]
 fn columns_fail_at_each_level(rt: HostRuntime) -> Result<(), Fail> {
-    let sessions = [
+    const SESSIONS: &[Session] = &[
         Session {
             conf: MIRRORED,
             script: "0 fail 0\n0 fail 3\n0 write 0 2 5a\n0 read 0 2\n",
@@ -69,12 +69,12 @@ fn columns_fail_at_each_level(rt: HostRuntime) -> Result<(), Fail> {
             ..PLAIN
         },
     ];
-    play(&rt, rt.alloc(), &sessions)
+    play(&rt, rt.alloc(), SESSIONS)
 }
 
 // What two clients that share stripe 0 may print: block 1 is read as it was where the read stands before the write of client
 // 1 in the history, and else as that has written it.
-const SHARED: [&str; 3] = [
+const SHARED: &[&str] = &[
     "reply 0.0 done\nreply 0.1 data\nblock 0 1 11\nblock 1 1 00\nreply 1.0 done\ncommit 0.0\ncommit 0.1\ncommit 1.0\nstatus ok\n",
     "reply 0.0 done\nreply 0.1 data\nblock 0 1 11\nblock 1 1 22\nreply 1.0 done\ncommit 0.0\ncommit 1.0\ncommit 0.1\nstatus ok\n",
     "reply 0.0 done\nreply 0.1 data\nblock 0 1 11\nblock 1 1 22\nreply 1.0 done\ncommit 1.0\ncommit 0.0\ncommit 0.1\nstatus ok\n",
@@ -106,9 +106,9 @@ fn share<R: Abort + Threads + Wait + Sync>(
     let (number, lines) = answer(rt, alloc, &mut bay, "r5 --io s1 -w 2")?;
     same(rt, number, 0);
     holds(rt, is_shared(&lines));
-    for (name, wanted) in [("d0", held[0]), ("d1", held[1]), ("d2", held[2])] {
-        let lines = held_by(alloc, found(&bay, name)?)?;
-        same_at(rt, name, lines.as_str(), wanted);
+    for (name, wanted) in NAMES.iter().zip(held) {
+        let lines = held_by(alloc, found(&bay, *name)?)?;
+        same_at(rt, *name, lines.as_str(), wanted);
     }
     Ok(())
 }

@@ -126,11 +126,8 @@ const OF_CALLS: Session = Session {
 
 #[test]
 fn refusals_come_in_their_order(rt: HostRuntime) -> Result<(), Fail> {
-    play(
-        &rt,
-        rt.alloc(),
-        &[OF_TEXTS, OF_COLUMNS, OF_COMPONENTS, OF_CALLS],
-    )
+    const SESSIONS: &[Session] = &[OF_TEXTS, OF_COLUMNS, OF_COMPONENTS, OF_CALLS];
+    play(&rt, rt.alloc(), SESSIONS)
 }
 
 // With five devices an item by a graph of N nodes counts (2 N + 4) * 6 events: one of 2,048 nodes 24,600, and one of 1,204
@@ -145,6 +142,8 @@ fn items_of(alloc: Global, last: &str) -> Result<String, Fail> {
     Ok(script)
 }
 
+const FIVE: &[&str] = &["d0", "d1", "d2", "d3", "s0"];
+
 // Scripts `s1`, which leaves 904, and `s2`, for which there is no room; and their graphs.
 fn traced_bay(alloc: Global) -> Result<MemBay<MemDisk>, Fail> {
     let mut graphs = String::new(alloc);
@@ -157,8 +156,11 @@ fn traced_bay(alloc: Global) -> Result<MemBay<MemDisk>, Fail> {
         text(alloc, "t1", &graphs)?,
     ]?;
     let mut disks = Vec::new(alloc);
-    for name in ["d0", "d1", "d2", "d3", "s0"] {
-        disks.push((Name::new(alloc, name)?, zeros(alloc, 128, Vec::new(alloc))?))?;
+    for name in FIVE {
+        disks.push((
+            Name::new(alloc, *name)?,
+            zeros(alloc, 128, Vec::new(alloc))?,
+        ))?;
     }
     Ok(MemBay::new(alloc, texts, disks, Vec::new(alloc)))
 }
@@ -166,7 +168,7 @@ fn traced_bay(alloc: Global) -> Result<MemBay<MemDisk>, Fail> {
 // Words, the exit number, and how what is printed ends. A rebuild has five nodes and counts 84: ten of them fit beside `s1`, and
 // 11 don't. As many count as the limit says, and no more than are left. A loss, another column that is half rebuilt, a spare
 // that there isn't and a column that isn't half rebuilt are told before.
-const BOUNDED: [(&str, u8, &str); 13] = [
+const BOUNDED: &[(&str, u8, &str)] = &[
     (
         "r5 --resume --io s2 --graphs t1 --trace",
         14,
@@ -238,13 +240,12 @@ const BOUNDED: [(&str, u8, &str); 13] = [
 fn a_trace_is_bounded_behind_other_refusals(rt: HostRuntime) -> Result<(), Fail> {
     let alloc = rt.alloc();
     let mut bay = traced_bay(alloc)?;
-    for step in [LABELLED, INITIALISED] {
-        act_out(&rt, alloc, &mut bay, step)?;
-    }
+    act_out(&rt, alloc, &mut bay, LABELLED)?;
+    act_out(&rt, alloc, &mut bay, INITIALISED)?;
     for (words, exit, end) in BOUNDED {
-        let (number, printed) = answer(&rt, alloc, &mut bay, words)?;
-        same_at(&rt, words, printed.ends_with(end.as_bytes()), true);
-        same_at(&rt, words, number, exit);
+        let (number, printed) = answer(&rt, alloc, &mut bay, *words)?;
+        same_at(&rt, *words, printed.ends_with(end.as_bytes()), true);
+        same_at(&rt, *words, number, *exit);
     }
     Ok(())
 }

@@ -102,7 +102,8 @@ const ANOTHER_FAILS: Session = Session {
 
 #[test]
 fn a_rebuild_begins_anew_or_goes_on_beside_a_failure(rt: HostRuntime) -> Result<(), Fail> {
-    play(&rt, rt.alloc(), &[ANEW, ANOTHER_FAILS])
+    const SESSIONS: &[Session] = &[ANEW, ANOTHER_FAILS];
+    play(&rt, rt.alloc(), SESSIONS)
 }
 
 // A label of serial 7, counter 5, column 1 of three, with units of one sector, 64 rows, level 5, clean; no design; column 1 is on
@@ -146,5 +147,6 @@ const SWEPT: Session = Session {
 
 #[test]
 fn sweeps_see_the_stripes_that_are_done(rt: HostRuntime) -> Result<(), Fail> {
-    play(&rt, rt.alloc(), &[SWEPT])
+    const SESSIONS: &[Session] = &[SWEPT];
+    play(&rt, rt.alloc(), SESSIONS)
 }

@@ -66,18 +66,20 @@ fn tells<R: Abort + Threads + Wait + Sync>(
 }
 
 // Each column has 64 rows, so there are 64 stripes. A sweep tells each; what goes over no stripe tells nothing but its end.
+const TOLD: &[(&str, [u64; 3])] = &[
+    ("r5 -s", [0, 0, 0]),
+    ("r5 -I 7", [0, 0, 0]),
+    ("r5 -i", [64, 64, 64]),
+    ("r5 -p", [64, 64, 64]),
+    ("r5 -P", [64, 64, 64]),
+];
+
 #[test]
 fn numbers_ascend_to_all(rt: HostRuntime) -> Result<(), Fail> {
     let alloc = rt.alloc();
     let mut bay = bay_of(alloc, &PLAIN)?;
-    for (words, wanted) in [
-        ("r5 -s", [0, 0, 0]),
-        ("r5 -I 7", [0, 0, 0]),
-        ("r5 -i", [64, 64, 64]),
-        ("r5 -p", [64, 64, 64]),
-        ("r5 -P", [64, 64, 64]),
-    ] {
-        tells(&rt, alloc, &mut bay, words, wanted)?;
+    for (words, wanted) in TOLD {
+        tells(&rt, alloc, &mut bay, *words, *wanted)?;
     }
     Ok(())
 }

@@ -22,7 +22,7 @@ const READ: &str = "reply 0.0 ok\nreply 0.1 data\nblock 0 16 c3\ncommit 0.1\ndea
 // from such a place.
 #[test]
 fn columns_are_rebuilt_into_spare_places(rt: HostRuntime) -> Result<(), Fail> {
-    let sessions = [Session {
+    const SESSIONS: &[Session] = &[Session {
         conf: PLACES,
         script: "0 write 0 16 c3\n",
         other: "0 fail 2\n0 read 0 16\n",
@@ -58,7 +58,7 @@ fn columns_are_rebuilt_into_spare_places(rt: HostRuntime) -> Result<(), Fail> {
         ],
         ..PLAIN
     }];
-    play(&rt, rt.alloc(), &sessions)
+    play(&rt, rt.alloc(), SESSIONS)
 }
 
 // Calls 0 to 2 of the spare read its first sector, and the write of sector 96 is that of stripe 32, call 35: the column stays
@@ -67,7 +67,7 @@ fn columns_are_rebuilt_into_spare_places(rt: HostRuntime) -> Result<(), Fail> {
 // isn't rebuilt.
 #[test]
 fn a_rebuild_is_stopped(rt: HostRuntime) -> Result<(), Fail> {
-    let sessions = [
+    const SESSIONS: &[Session] = &[
         Session {
             conf: SPARED,
             script: "0 write 0 4 a5\n",
@@ -123,13 +123,13 @@ fn a_rebuild_is_stopped(rt: HostRuntime) -> Result<(), Fail> {
             ..PLAIN
         },
     ];
-    play(&rt, rt.alloc(), &sessions)
+    play(&rt, rt.alloc(), SESSIONS)
 }
 
 // A disk without a label is refused, and its column is rebuilt on it.
 #[test]
 fn a_replaced_disk_is_rebuilt(rt: HostRuntime) -> Result<(), Fail> {
-    let sessions = [Session {
+    const SESSIONS: &[Session] = &[Session {
         conf: letters::WIDE,
         sectors: 2112,
         steps: &[
@@ -145,14 +145,14 @@ fn a_replaced_disk_is_rebuilt(rt: HostRuntime) -> Result<(), Fail> {
         ],
         ..PLAIN
     }];
-    play(&rt, rt.alloc(), &sessions)
+    play(&rt, rt.alloc(), SESSIONS)
 }
 
 // One stripe of two units. The read has the stripe until it ends; then the rebuild reads the other unit, sums it up, commits,
 // writes and ends.
 #[test]
 fn a_trace_has_the_rebuild_too(rt: HostRuntime) -> Result<(), Fail> {
-    let sessions = [Session {
+    const SESSIONS: &[Session] = &[Session {
         conf: MIRROR,
         script: "0 read 0 1\n",
         sectors: 65,
@@ -169,7 +169,7 @@ fn a_trace_has_the_rebuild_too(rt: HostRuntime) -> Result<(), Fail> {
         ],
         ..PLAIN
     }];
-    play(&rt, rt.alloc(), &sessions)
+    play(&rt, rt.alloc(), SESSIONS)
 }
 
 // Column 1's 64 stripes are rebuilt onto the spare in two runs. Between them the first 20 are served: block
@@ -177,7 +177,7 @@ fn a_trace_has_the_rebuild_too(rt: HostRuntime) -> Result<(), Fail> {
 // isn't written there.
 #[test]
 fn a_rebuild_is_paused_and_resumed(rt: HostRuntime) -> Result<(), Fail> {
-    let sessions = [Session {
+    const SESSIONS: &[Session] = &[Session {
         conf: SPARED,
         script: "0 write 1 1 a5\n0 write 127 1 b6\n",
         other: "0 read 1 1\n0 read 127 1\n",
@@ -219,13 +219,13 @@ fn a_rebuild_is_paused_and_resumed(rt: HostRuntime) -> Result<(), Fail> {
         ],
         ..PLAIN
     }];
-    play(&rt, rt.alloc(), &sessions)
+    play(&rt, rt.alloc(), SESSIONS)
 }
 
 // Column 0 of four is rebuilt in part, so column 3 isn't rebuilt; column 0 is, onto its own disk.
 #[test]
 fn one_column_is_half_rebuilt_at_most(rt: HostRuntime) -> Result<(), Fail> {
-    let sessions = [Session {
+    const SESSIONS: &[Session] = &[Session {
         conf: PAIRS,
         steps: &[
             Step::Run("r5 -I 7", 0, "labels written 4\nstatus ok\n"),
@@ -245,5 +245,5 @@ fn one_column_is_half_rebuilt_at_most(rt: HostRuntime) -> Result<(), Fail> {
         ],
         ..PLAIN
     }];
-    play(&rt, rt.alloc(), &sessions)
+    play(&rt, rt.alloc(), SESSIONS)
 }

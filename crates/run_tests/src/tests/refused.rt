@@ -15,7 +15,7 @@ const NO_DESIGN: &str =
 // of two blocks.
 #[test]
 fn what_is_refused_changes_nothing(rt: HostRuntime) -> Result<(), Fail> {
-    let sessions = [
+    const SESSIONS: &[Session] = &[
         Session {
             steps: &[
                 Step::Run("", 1, "status usage 0\n"),
@@ -105,7 +105,7 @@ fn what_is_refused_changes_nothing(rt: HostRuntime) -> Result<(), Fail> {
             ..PLAIN
         },
     ];
-    play(&rt, rt.alloc(), &sessions)
+    play(&rt, rt.alloc(), SESSIONS)
 }
 
 // A configuration of 16,777,217 bytes.
@@ -115,10 +115,7 @@ fn a_long_text_is_refused(rt: HostRuntime) -> Result<(), Fail> {
     let long = vec![in alloc; b' '; 16_777_217]?;
     let texts = vec![in alloc; (Name::new(alloc, "r5")?, long)]?;
     let mut bay: MemBay<MemDisk> = MemBay::new(alloc, texts, Vec::new(alloc), Vec::new(alloc));
-    let (number, lines) = answer(&rt, alloc, &mut bay, "r5 -s")?;
-    same(&rt, number, 13);
-    same(&rt, lines.as_slice(), b"status long r5\n".as_slice());
-    Ok(())
+    says(&rt, alloc, &mut bay, "r5 -s", 13, "status long r5\n")
 }
 
 // The components hold what they would, and have had the same calls.
@@ -131,17 +128,14 @@ fn a_sink_that_fails_hides_the_output_alone(rt: HostRuntime) -> Result<(), Fail>
     let status = run(&rt, alloc, &words, &mut bay, &mut out, &Silent);
     same(&rt, status.number(), 7);
     same(&rt, out.bytes(), b"".as_slice());
-    for step in rows::WRITTEN {
-        act_out(&rt, alloc, &mut bay, step)?;
-    }
-    Ok(())
+    act_all(&rt, alloc, &mut bay, rows::WRITTEN)
 }
 
 // Words that don't go together, and numbers out of their range; an array without labels; a rebuild in part where only spare
 // places are free, before one into them; and one that is lost, of which no column is filling either.
 #[test]
 fn a_rebuild_in_part_is_refused(rt: HostRuntime) -> Result<(), Fail> {
-    let sessions = [
+    const SESSIONS: &[Session] = &[
         Session {
             conf: PLACES,
             steps: &[
@@ -174,5 +168,5 @@ fn a_rebuild_in_part_is_refused(rt: HostRuntime) -> Result<(), Fail> {
             ..PLAIN
         },
     ];
-    play(&rt, rt.alloc(), &sessions)
+    play(&rt, rt.alloc(), SESSIONS)
 }

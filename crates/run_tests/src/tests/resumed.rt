@@ -43,7 +43,7 @@ fn a_rebuild_goes_on_beside_two_clients(rt: HostRuntime) -> Result<(), Fail> {
         sectors: 2112,
         ..PLAIN
     };
-    let begun = [
+    const BEGUN: &[Step] = &[
         Step::Run("r5 -I 1001", 0, "labels written 5\nstatus ok\n"),
         Step::Run("r5 -i", 0, "parity initialised 64\nstatus ok\n"),
         Step::Run(
@@ -52,7 +52,7 @@ fn a_rebuild_goes_on_beside_two_clients(rt: HostRuntime) -> Result<(), Fail> {
             "reconstruct column 3 device 5 paused 20\nstatus ok\n",
         ),
     ];
-    let ended = [
+    const ENDED: &[Step] = &[
         Step::Run("r5 -p", 0, "parity clean\nstatus ok\n"),
         Step::Run("r5 -f d0", 0, "failed column 0\ndead 0\nstatus ok\n"),
     ];
@@ -60,17 +60,13 @@ fn a_rebuild_goes_on_beside_two_clients(rt: HostRuntime) -> Result<(), Fail> {
         b"reply 0.0 done\nreply 0.1 data\nblock 64 256 5a\nreply 1.0 done\nreply 1.1 data\nblock 4096 256 c3\ncommit ";
     let end = b"\nreconstruct column 3 device 5 done 64\nstatus ok\n";
     let mut bay = bay_of(alloc, &session)?;
-    for step in begun {
-        act_out(&rt, alloc, &mut bay, step)?;
-    }
+    act_all(&rt, alloc, &mut bay, BEGUN)?;
     let (number, lines) = answer(&rt, alloc, &mut bay, "r5 --resume --io s1 -w 4")?;
     same(&rt, number, 0);
     holds(&rt, lines.starts_with(replies));
     holds(&rt, lines.ends_with(end));
     same(&rt, lines.len(), replies.len() + 36 + end.len());
-    for step in ended {
-        act_out(&rt, alloc, &mut bay, step)?;
-    }
+    act_all(&rt, alloc, &mut bay, ENDED)?;
     let (_, lines) = answer(&rt, alloc, &mut bay, "r5 --io s1 -w 4")?;
     holds(&rt, lines.starts_with(replies));
     Ok(())
@@ -81,7 +77,7 @@ fn a_rebuild_goes_on_beside_two_clients(rt: HostRuntime) -> Result<(), Fail> {
 // columns are traced: the head counts the rebuilds that are added, however many may be.
 #[test]
 fn a_rebuild_of_the_same_column_begins_anew(rt: HostRuntime) -> Result<(), Fail> {
-    let sessions = [
+    const SESSIONS: &[Session] = &[
         Session {
             conf: SPARED,
             steps: &[
@@ -142,7 +138,7 @@ fn a_rebuild_of_the_same_column_begins_anew(rt: HostRuntime) -> Result<(), Fail>
             ..PLAIN
         },
     ];
-    play(&rt, rt.alloc(), &sessions)
+    play(&rt, rt.alloc(), SESSIONS)
 }
 
 // Column 0 of two mirrored pairs is half rebuilt, and column 3 fails: both pairs keep a column. Neither of these may fail too:
@@ -150,7 +146,7 @@ fn a_rebuild_of_the_same_column_begins_anew(rt: HostRuntime) -> Result<(), Fail>
 // dead column.
 #[test]
 fn a_rebuild_goes_on_beside_a_dead_column(rt: HostRuntime) -> Result<(), Fail> {
-    let sessions = [Session {
+    const SESSIONS: &[Session] = &[Session {
         conf: PAIRS,
         script: "0 write 0 4 a5\n",
         other: "0 read 0 4\n",
@@ -200,7 +196,7 @@ fn a_rebuild_goes_on_beside_a_dead_column(rt: HostRuntime) -> Result<(), Fail> {
         ],
         ..PLAIN
     }];
-    play(&rt, rt.alloc(), &sessions)
+    play(&rt, rt.alloc(), SESSIONS)
 }
 
 // By its calls from 0 on the spare's first sector is read by `-i` and by `-F`, 20 units are written, and it is settled, labelled
@@ -210,7 +206,7 @@ fn a_rebuild_goes_on_beside_a_dead_column(rt: HostRuntime) -> Result<(), Fail> {
 // paused.
 #[test]
 fn a_column_that_is_half_rebuilt_dies(rt: HostRuntime) -> Result<(), Fail> {
-    let sessions = [
+    const SESSIONS: &[Session] = &[
         Session {
             conf: SPARED,
             fails: &[("s0", 10)],
@@ -315,14 +311,14 @@ fn a_column_that_is_half_rebuilt_dies(rt: HostRuntime) -> Result<(), Fail> {
             ..PLAIN
         },
     ];
-    play(&rt, rt.alloc(), &sessions)
+    play(&rt, rt.alloc(), SESSIONS)
 }
 
 // Byte 40 of a label says whether the array was closed. A call that was killed leaves it at 0: then the column is dead as the
 // array is opened, with its spare in the seat, which the next run leaves free.
 #[test]
 fn a_call_that_is_killed_ends_a_paused_rebuild(rt: HostRuntime) -> Result<(), Fail> {
-    let sessions = [Session {
+    const SESSIONS: &[Session] = &[Session {
         conf: SPARED,
         script: "0 write 0 4 a5\n",
         other: "0 read 0 4\n",
@@ -359,7 +355,7 @@ fn a_call_that_is_killed_ends_a_paused_rebuild(rt: HostRuntime) -> Result<(), Fa
         ],
         ..PLAIN
     }];
-    play(&rt, rt.alloc(), &sessions)
+    play(&rt, rt.alloc(), SESSIONS)
 }
 
 // Column 4 of seven is spread, and column 2, 3 or 1 half rebuilt on its own disk: of its 49 stripes 7 have a unit on column 4
@@ -368,7 +364,7 @@ fn a_call_that_is_killed_ends_a_paused_rebuild(rt: HostRuntime) -> Result<(), Fa
 // 4 before two more of the 37 are rebuilt.
 #[test]
 fn stripes_are_counted_anew_where_a_spread_column_fails(rt: HostRuntime) -> Result<(), Fail> {
-    let sessions = [
+    const SESSIONS: &[Session] = &[
         Session {
             conf: PLACES,
             steps: &[
@@ -448,5 +444,5 @@ fn stripes_are_counted_anew_where_a_spread_column_fails(rt: HostRuntime) -> Resu
             ..PLAIN
         },
     ];
-    play(&rt, rt.alloc(), &sessions)
+    play(&rt, rt.alloc(), SESSIONS)
 }

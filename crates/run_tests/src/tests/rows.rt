@@ -10,7 +10,7 @@ const UNITS_OF_FOUR: &str = "START array\n1 3 0\nSTART disks\nd0\nd1\nd2\nSTART 
 
 // What the components hold behind a write of block 0 and a read of it, and which calls they have had: column 1 is read for the
 // sum, and column 2 has the check unit.
-pub(super) const WRITTEN: [Step; 6] = [
+pub(super) const WRITTEN: &[Step] = &[
     Step::Holds("d0", "64 a5\n"),
     Step::Holds("d1", ""),
     Step::Holds("d2", "64 a5\n"),
@@ -23,23 +23,7 @@ pub(super) const WRITTEN: [Step; 6] = [
 // over 17 stripes. What was written is read.
 #[test]
 fn scripts_are_run_by_their_items(rt: HostRuntime) -> Result<(), Fail> {
-    let sessions = [
-        Session {
-            steps: &[
-                Step::Run(
-                    "r5 --io s1 -w 0",
-                    0,
-                    "reply 0.0 done\nreply 0.1 data\nblock 0 1 a5\ncommit 0.0\ncommit 0.1\nstatus ok\n",
-                ),
-                WRITTEN[0],
-                WRITTEN[1],
-                WRITTEN[2],
-                WRITTEN[3],
-                WRITTEN[4],
-                WRITTEN[5],
-            ],
-            ..PLAIN
-        },
+    const SESSIONS: &[Session] = &[
         Session {
             script: "",
             steps: &[Step::Run("r5 --io s1 -w 0", 0, "status ok\n")],
@@ -69,7 +53,12 @@ fn scripts_are_run_by_their_items(rt: HostRuntime) -> Result<(), Fail> {
             ..PLAIN
         },
     ];
-    play(&rt, rt.alloc(), &sessions)
+    let alloc = rt.alloc();
+    let mut bay = bay_of(alloc, &PLAIN)?;
+    let lines = "reply 0.0 done\nreply 0.1 data\nblock 0 1 a5\ncommit 0.0\ncommit 0.1\nstatus ok\n";
+    says(&rt, alloc, &mut bay, "r5 --io s1 -w 0", 0, lines)?;
+    act_all(&rt, alloc, &mut bay, WRITTEN)?;
+    play(&rt, alloc, SESSIONS)
 }
 
 // The write of a whole stripe reads nothing: an exclusive-or, the commit, five writes, the terminator. Of five columns two
@@ -79,7 +68,7 @@ fn scripts_are_run_by_their_items(rt: HostRuntime) -> Result<(), Fail> {
 // neither.
 #[test]
 fn writes_read_the_fewest(rt: HostRuntime) -> Result<(), Fail> {
-    let sessions = [
+    const SESSIONS: &[Session] = &[
         Session {
             conf: FIVE,
             script: "0 write 0 4 3c\n",
@@ -158,7 +147,7 @@ fn writes_read_the_fewest(rt: HostRuntime) -> Result<(), Fail> {
             ..PLAIN
         },
     ];
-    play(&rt, rt.alloc(), &sessions)
+    play(&rt, rt.alloc(), SESSIONS)
 }
 
 // The sums are the same with workers and without.

@@ -1,14 +1,13 @@
 //! Lists of components, and the arrays that they make up.
 use super::letters::WIDE;
 use super::*;
-use crate::judging::{same, same_at};
 
 // Two members of an array of five columns, and a component without a label; then in its place one whose label is older,
 // since it was kept from before the parity was initialised. A component without a sector isn't read, and has no label; one whose
 // read fails is told apart from those.
 #[test]
 fn the_members_of_an_array_are_found(rt: HostRuntime) -> Result<(), Fail> {
-    let sessions = [
+    const SESSIONS: &[Session] = &[
         Session {
             conf: WIDE,
             other: "d4\nd0\nz\n",
@@ -51,7 +50,7 @@ fn the_members_of_an_array_are_found(rt: HostRuntime) -> Result<(), Fail> {
             ..PLAIN
         },
     ];
-    play(&rt, rt.alloc(), &sessions)
+    play(&rt, rt.alloc(), SESSIONS)
 }
 
 const TWO: &str = "START array\n1 2 0\nSTART disks\nd3\nd4\nSTART layout\n1 1 1 1\n";
@@ -60,7 +59,7 @@ const TWO: &str = "START array\n1 2 0\nSTART disks\nd3\nd4\nSTART layout\n1 1 1 
 // counter of the first, and its components are foreign to that, whose first label comes first.
 #[test]
 fn arrays_are_told_apart(rt: HostRuntime) -> Result<(), Fail> {
-    let sessions = [
+    const SESSIONS: &[Session] = &[
         Session {
             script: TWO,
             other: "d4\nd2\nd1\nz\nd6\nd0\nd3\n",
@@ -93,14 +92,14 @@ fn arrays_are_told_apart(rt: HostRuntime) -> Result<(), Fail> {
             ..PLAIN
         },
     ];
-    play(&rt, rt.alloc(), &sessions)
+    play(&rt, rt.alloc(), SESSIONS)
 }
 
 // Lines that are no list, and what comes of a list whose text or component isn't there, or of a bay that fails: at its call of
 // the text, and at that of the second component.
 #[test]
 fn a_list_is_refused(rt: HostRuntime) -> Result<(), Fail> {
-    let sessions = [
+    const SESSIONS: &[Session] = &[
         Session {
             conf: "d0 d1\n",
             script: "d0\nd1\nd0\n",
@@ -134,7 +133,7 @@ fn a_list_is_refused(rt: HostRuntime) -> Result<(), Fail> {
             ..PLAIN
         },
     ];
-    play(&rt, rt.alloc(), &sessions)
+    play(&rt, rt.alloc(), SESSIONS)
 }
 
 fn push_name(alloc: Global, text: &mut String, front: &str, number: u32) -> Result<(), Fail> {
@@ -171,29 +170,29 @@ fn a_list_has_1024_names_at_most(rt: HostRuntime) -> Result<(), Fail> {
     let mut most = many(alloc, 1024, 1024)?;
     let mut wanted = lines(alloc, "bare ", 1024)?;
     wanted.push_str("status ok\n")?;
-    let found = answer(&rt, alloc, &mut most, "list --scan")?;
-    same(&rt, found.0, 0);
-    same(&rt, found.1.as_slice(), wanted.as_bytes());
+    says(&rt, alloc, &mut most, "list --scan", 0, &wanted)?;
     let mut more = many(alloc, 1, 1025)?;
-    let refused = answer(&rt, alloc, &mut more, "list --scan")?;
-    same_at(
+    says(
         &rt,
-        refused.0,
-        refused.1.as_slice(),
-        b"status conf 1025 13\n".as_slice(),
-    );
-    Ok(())
+        alloc,
+        &mut more,
+        "list --scan",
+        2,
+        "status conf 1025 13\n",
+    )
 }
 
-// The answer to a list of this one name.
-fn answer_to<R: Threads + Wait + Sync>(
+// A list of this one name ends with this number, and prints this.
+fn says_of<R: Abort + Threads + Wait + Sync>(
     rt: &R,
     alloc: Global,
     name: &str,
-) -> Result<(u8, Vec<u8>), Fail> {
+    exit: u8,
+    lines: &str,
+) -> Result<(), Fail> {
     let texts = vec![in alloc; text(alloc, "list", name)?]?;
     let mut bay = MemBay::<MemDisk>::new(alloc, texts, Vec::new(alloc), Vec::new(alloc));
-    answer(rt, alloc, &mut bay, "list --scan")
+    says(rt, alloc, &mut bay, "list --scan", exit, lines)
 }
 
 // A name of 255 bytes is looked for, and one of 256 is refused.
@@ -208,16 +207,7 @@ fn a_name_has_255_bytes_at_most(rt: HostRuntime) -> Result<(), Fail> {
         let name = name.as_str();
         format!(in alloc; "status nofile {name}\n")?
     };
-    let missing = answer_to(&rt, alloc, &name)?;
-    same(&rt, missing.0, 6);
-    same(&rt, missing.1.as_slice(), wanted.as_bytes());
+    says_of(&rt, alloc, &name, 6, &wanted)?;
     name.push_str("n")?;
-    let refused = answer_to(&rt, alloc, &name)?;
-    same_at(
-        &rt,
-        refused.0,
-        refused.1.as_slice(),
-        b"status conf 1 7\n".as_slice(),
-    );
-    Ok(())
+    says_of(&rt, alloc, &name, 2, "status conf 1 7\n")
 }

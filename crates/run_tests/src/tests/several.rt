@@ -10,22 +10,22 @@ struct Row {
     fails: &'static [(&'static str, u32)],
     exit: u8,
     printed: &'static str,
-    held: [Option<&'static str>; 3],
+    held: &'static [Option<&'static str>],
 }
 
 const TWO: &str = "0 writes 0 1 11 3 1 22\n0 read 0 4\n";
 
-const NOTHING: [Option<&str>; 3] = [Some(""); 3];
+const NOTHING: &[Option<&str>] = &[Some(""); 3];
 
 // Block 0 is unit 0 of stripe 0, whose check unit is in column 2; block 3 is unit 1 of stripe 1, in column 0, and the check
 // unit is in column 1. Spans that share a block, one past the end, and one stripe more than 16 are refused.
-const ROWS: [Row; 4] = [
+const ROWS: &[Row] = &[
     Row {
         script: TWO,
         fails: &[],
         exit: 0,
         printed: "reply 0.0 done\nreply 0.1 data\nblock 0 1 11\nblock 1 2 00\nblock 3 1 22\ncommit 0.0\ncommit 0.1\nstatus ok\n",
-        held: [Some("64 11\n65 22\n"), Some("65 22\n"), Some("64 11\n")],
+        held: &[Some("64 11\n65 22\n"), Some("65 22\n"), Some("64 11\n")],
     },
     Row {
         script: "0 writes 0 2 11 1 1 22\n",
@@ -52,20 +52,20 @@ const ROWS: [Row; 4] = [
 
 // The read of column 1 fails, before the commit: the operation is planned anew. The second write of column 0 fails, behind
 // it. Either way both spans are written.
-const FAULTS: [Row; 2] = [
+const FAULTS: &[Row] = &[
     Row {
         script: TWO,
         fails: &[("d1", 1)],
         exit: 0,
         printed: "reply 0.0 done\nreply 0.1 data\nblock 0 1 11\nblock 1 2 00\nblock 3 1 22\ncommit 0.0\ncommit 0.1\ndead 1\nstatus ok\n",
-        held: [Some("64 11\n65 22\n"), Some(""), Some("64 11\n")],
+        held: &[Some("64 11\n65 22\n"), Some(""), Some("64 11\n")],
     },
     Row {
         script: TWO,
         fails: &[("d0", 2)],
         exit: 0,
         printed: "reply 0.0 done\nreply 0.1 data\nblock 0 1 11\nblock 1 2 00\nblock 3 1 22\ncommit 0.0\ncommit 0.1\ndead 0\nstatus ok\n",
-        held: [None, Some("65 22\n"), Some("64 11\n")],
+        held: &[None, Some("65 22\n"), Some("64 11\n")],
     },
 ];
 
@@ -88,7 +88,7 @@ fn stands<R: Abort + Threads + Wait + Sync>(
     for (name, held) in NAMES.iter().zip(row.held) {
         if let Some(held) = held {
             let found = held_by(alloc, found(&bay, name)?)?;
-            same_at(rt, *name, found.as_str(), held);
+            same_at(rt, *name, found.as_str(), *held);
         }
     }
     Ok(())
@@ -100,10 +100,10 @@ fn spans_are_written_at_once(rt: HostRuntime) -> Result<(), Fail> {
     let alloc = rt.alloc();
     for words in ["r5 --io s1 -w 0", "r5 --io s1 -w 4"] {
         for row in ROWS {
-            stands(&rt, alloc, &row, words)?;
+            stands(&rt, alloc, row, words)?;
         }
         for row in FAULTS {
-            stands(&rt, alloc, &row, words)?;
+            stands(&rt, alloc, row, words)?;
         }
     }
     Ok(())
@@ -117,7 +117,7 @@ const GRAPHS: &str =
 // last read of a graph fails neither span is written, and where a write fails behind the commit both are.
 #[test]
 fn graphs_of_a_file_write_all_spans_or_none(rt: HostRuntime) -> Result<(), Fail> {
-    let sessions = [
+    const SESSIONS: &[Session] = &[
         Session {
             script: "0 use one writes 0 1 11 3 1 22\n0 use two writes 0 1 11 3 1 22\n",
             other: GRAPHS,
@@ -160,10 +160,10 @@ fn graphs_of_a_file_write_all_spans_or_none(rt: HostRuntime) -> Result<(), Fail>
             ..PLAIN
         },
     ];
-    play(&rt, rt.alloc(), &sessions)
+    play(&rt, rt.alloc(), SESSIONS)
 }
 
-const MANY: [&str; 32] = [
+const MANY: &[&str] = &[
     "d0", "d1", "d2", "d3", "d4", "d5", "d6", "d7", "d8", "d9", "d10", "d11", "d12", "d13", "d14",
     "d15", "d16", "d17", "d18", "d19", "d20", "d21", "d22", "d23", "d24", "d25", "d26", "d27",
     "d28", "d29", "d30", "d31",
@@ -175,9 +175,12 @@ fn wide(alloc: Global, layout: &str, script: &str) -> Result<MemBay<MemDisk>, Fa
     conf.push_str("START array\n1 32 0\nSTART disks\n")?;
     let mut disks = Vec::new(alloc);
     for name in MANY {
-        conf.push_str(name)?;
+        conf.push_str(*name)?;
         conf.push_str("\n")?;
-        disks.push((Name::new(alloc, name)?, zeros(alloc, 128, Vec::new(alloc))?))?;
+        disks.push((
+            Name::new(alloc, *name)?,
+            zeros(alloc, 128, Vec::new(alloc))?,
+        ))?;
     }
     conf.push_str("START layout\n")?;
     conf.push_str(layout)?;
@@ -196,27 +199,24 @@ fn filled_from(alloc: Global, first: usize) -> Result<String, Fail> {
     Ok(lines)
 }
 
+// What the first three of them hold in front of that.
+const FRONTS: &[&str] = &[
+    "64 11\n65 11\n66 11\n67 11\n",
+    "64 11\n66 22\n67 22\n",
+    "64 22\n66 33\n67 33\n",
+];
+
 // All 16 stripes of 32 data units of four sectors, but for sector 1 of each of the first stripe's units 1 to 7: 519 parts.
 #[test]
 fn a_part_more_for_each_gap_is_written(rt: HostRuntime) -> Result<(), Fail> {
     let alloc = rt.alloc();
     let script = "0 writes 0 5 11 6 3 22 10 3 33 14 3 44 18 3 55 22 3 66 26 3 77 30 2018 88\n";
     let mut bay = wide(alloc, "4 1 1 0", script)?;
-    let (exit, printed) = answer(&rt, alloc, &mut bay, "r5 --io s1 -w 0")?;
-    same(
-        &rt,
-        printed.as_slice(),
-        b"reply 0.0 done\ncommit 0.0\nstatus ok\n".as_slice(),
-    );
-    same(&rt, exit, 0);
-    let fronts = [
-        "64 11\n65 11\n66 11\n67 11\n",
-        "64 11\n66 22\n67 22\n",
-        "64 22\n66 33\n67 33\n",
-    ];
-    for (name, front) in MANY.iter().zip(fronts) {
+    let lines = "reply 0.0 done\ncommit 0.0\nstatus ok\n";
+    says(&rt, alloc, &mut bay, "r5 --io s1 -w 0", 0, lines)?;
+    for (name, front) in MANY.iter().zip(FRONTS) {
         let mut lines = String::new(alloc);
-        lines.push_str(front)?;
+        lines.push_str(*front)?;
         let rest = filled_from(alloc, 68)?;
         lines.push_str(&rest)?;
         let held = held_by(alloc, found(&bay, name)?)?;
@@ -236,13 +236,9 @@ fn eight_spans_lease_the_whole_pool(rt: HostRuntime) -> Result<(), Fail> {
         "0 writes 0 32 11 62 32 22 124 32 33 186 32 44 248 32 55 310 32 66 372 32 77 434 32 88\n0 read 61 3\n0 read 465 2\n";
     for words in ["r5 --io s1 -w 0", "r5 --io s1 -w 4"] {
         let mut bay = wide(alloc, "1 1 1 5", script)?;
-        let (exit, printed) = answer(&rt, alloc, &mut bay, words)?;
-        same(
-            &rt,
-            printed.as_slice(),
-            b"reply 0.0 done\nreply 0.1 data\nblock 61 1 00\nblock 62 2 22\nreply 0.2 data\nblock 465 1 88\nblock 466 1 00\ncommit 0.0\ncommit 0.1\ncommit 0.2\nstatus ok\n".as_slice(),
-        );
-        same(&rt, exit, 0);
+        let lines =
+            "reply 0.0 done\nreply 0.1 data\nblock 61 1 00\nblock 62 2 22\nreply 0.2 data\nblock 465 1 88\nblock 466 1 00\ncommit 0.0\ncommit 0.1\ncommit 0.2\nstatus ok\n";
+        says(&rt, alloc, &mut bay, words, 0, lines)?;
     }
     Ok(())
 }

@@ -7,6 +7,21 @@ const REQUESTS: &str = "disk 1000\nat 0 write 640 1 11\nat 0 write 64 1 22\nat 0
 const REPLIES: &str = "reply 0 done\nreply 1 done\nreply 2 data\nblock 640 1 11\nstatus ok\n";
 
 // First in, first out, the ways are 640, 577 and 575 sectors; else 64, 575 and 1, where the scan turns before the last one.
+const ORDERS: &[(&str, &str)] = &[
+    (
+        "t1 --sim fifo",
+        "served 0 0 11\nserved 1 11 21\nserved 2 21 30\n",
+    ),
+    (
+        "t1 --sim sstf",
+        "served 1 0 2\nserved 0 2 11\nserved 2 11 12\n",
+    ),
+    (
+        "t1 --sim scan",
+        "served 1 0 2\nserved 0 2 11\nserved 2 11 12\n",
+    ),
+];
+
 #[test]
 fn requests_are_served_in_three_orders(rt: HostRuntime) -> Result<(), Fail> {
     let alloc = rt.alloc();
@@ -15,25 +30,9 @@ fn requests_are_served_in_three_orders(rt: HostRuntime) -> Result<(), Fail> {
         ..PLAIN
     };
     let mut bay = bay_of(alloc, &session)?;
-    let rows = [
-        (
-            "t1 --sim fifo",
-            "served 0 0 11\nserved 1 11 21\nserved 2 21 30\n",
-        ),
-        (
-            "t1 --sim sstf",
-            "served 1 0 2\nserved 0 2 11\nserved 2 11 12\n",
-        ),
-        (
-            "t1 --sim scan",
-            "served 1 0 2\nserved 0 2 11\nserved 2 11 12\n",
-        ),
-    ];
-    for (words, served) in rows {
+    for (words, served) in ORDERS {
         let wanted = format!(in alloc; "{served}{REPLIES}")?;
-        let found = answer(&rt, alloc, &mut bay, words)?;
-        same_at(&rt, words, found.1.as_slice(), wanted.as_bytes());
-        same_at(&rt, words, found.0, 0);
+        says(&rt, alloc, &mut bay, *words, 0, &wanted)?;
     }
     same(&rt, bay.disk("d0").is_some(), true);
     Ok(())
@@ -43,7 +42,7 @@ fn requests_are_served_in_three_orders(rt: HostRuntime) -> Result<(), Fail> {
 // number goes first; upwards 131 comes first, and the head turns for 129. A read of blocks that differ has a line for each run.
 #[test]
 fn the_disk_waits_and_the_head_turns(rt: HostRuntime) -> Result<(), Fail> {
-    let sessions = [Session {
+    const SESSIONS: &[Session] = &[Session {
         other: "disk 262144\nat 2 write 128 2 0102\nat 100 read 129 1\nat 100 write 131 1 33\n",
         more: "disk 4\nat 0 write 1 1 a5\nat 0 read 0 4\n",
         steps: &[
@@ -65,12 +64,12 @@ fn the_disk_waits_and_the_head_turns(rt: HostRuntime) -> Result<(), Fail> {
         ],
         ..PLAIN
     }];
-    play(&rt, rt.alloc(), &sessions)
+    play(&rt, rt.alloc(), SESSIONS)
 }
 
 // A text that is no list of requests, and the line and code by which it is refused. Words are judged from left to right, and
 // the limits at the end of the line.
-const REFUSED: [(&str, &str); 18] = [
+const REFUSED: &[(&str, &str)] = &[
     ("", "1 1"),
     ("# nothing\n", "2 1"),
     ("disc 5\n", "1 1"),
@@ -95,12 +94,15 @@ const REFUSED: [(&str, &str); 18] = [
 fn requests_are_refused(rt: HostRuntime) -> Result<(), Fail> {
     let alloc = rt.alloc();
     for (other, place) in REFUSED {
-        let session = Session { other, ..PLAIN };
+        let session = Session {
+            other: *other,
+            ..PLAIN
+        };
         let mut bay = bay_of(alloc, &session)?;
         let wanted = format!(in alloc; "status conf {place}\n")?;
         let found = answer(&rt, alloc, &mut bay, "t1 --sim scan")?;
-        same_at(&rt, other, found.1.as_slice(), wanted.as_bytes());
-        same_at(&rt, other, found.0, 2);
+        same_at(&rt, *other, found.1.as_slice(), wanted.as_bytes());
+        same_at(&rt, *other, found.0, 2);
     }
     Ok(())
 }
@@ -120,12 +122,12 @@ fn a_disk_has_4096_requests_at_most(rt: HostRuntime) -> Result<(), Fail> {
     let requests = writes(alloc, 4097)?;
     let texts = vec![in alloc; text(alloc, "q", &requests)?]?;
     let mut bay = MemBay::<MemDisk>::new(alloc, texts, Vec::new(alloc), Vec::new(alloc));
-    let found = answer(&rt, alloc, &mut bay, "q --sim fifo")?;
-    same_at(
+    says(
         &rt,
-        found.0,
-        found.1.as_slice(),
-        b"status conf 4098 16\n".as_slice(),
-    );
-    Ok(())
+        alloc,
+        &mut bay,
+        "q --sim fifo",
+        2,
+        "status conf 4098 16\n",
+    )
 }

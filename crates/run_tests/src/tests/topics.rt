@@ -3,56 +3,56 @@ use super::*;
 use crate::judging::{holds, same, same_at};
 use top_help::{HELP, VERSION};
 
+const TOPICS: &[(&str, &str)] = &[
+    ("--help", HELP),
+    ("-h", HELP),
+    ("r5 -s -h", HELP),
+    ("-V --nothing --help", HELP),
+    ("--version", VERSION),
+    ("r5 -V -s", VERSION),
+];
+
 // Wherever the word stands, the help comes before the version, and neither has a status behind it.
 #[test]
 fn help_and_version_are_told(rt: HostRuntime) -> Result<(), Fail> {
     let alloc = rt.alloc();
     let mut bay = bay_of(alloc, &PLAIN)?;
-    let rows = [
-        ("--help", HELP),
-        ("-h", HELP),
-        ("r5 -s -h", HELP),
-        ("-V --nothing --help", HELP),
-        ("--version", VERSION),
-        ("r5 -V -s", VERSION),
-    ];
-    for (words, wanted) in rows {
-        let found = answer(&rt, alloc, &mut bay, words)?;
-        same_at(&rt, words, found.1.as_slice(), wanted.as_bytes());
-        same_at(&rt, words, found.0, 0);
+    for (words, wanted) in TOPICS {
+        says(&rt, alloc, &mut bay, *words, 0, *wanted)?;
     }
     Ok(())
 }
 
+const EXPLAINED: &[&str] = &[
+    "-I",
+    "-s",
+    "-g",
+    "-G",
+    "--scan",
+    "-f",
+    "-F",
+    "-R",
+    "-i",
+    "-p",
+    "-P",
+    "--io",
+    "--sweep",
+    "--sim",
+    "--graphs",
+    "--trace",
+    "-w",
+    "--clients",
+    "--ops",
+    "-h, --help",
+    "-V, --version",
+];
+
 // Every word is explained, in lines of at most 80 columns.
 #[test]
 fn the_help_names_every_word(rt: HostRuntime) -> Result<(), Fail> {
-    let words = [
-        "-I",
-        "-s",
-        "-g",
-        "-G",
-        "--scan",
-        "-f",
-        "-F",
-        "-R",
-        "-i",
-        "-p",
-        "-P",
-        "--io",
-        "--sweep",
-        "--sim",
-        "--graphs",
-        "--trace",
-        "-w",
-        "--clients",
-        "--ops",
-        "-h, --help",
-        "-V, --version",
-    ];
-    for word in words {
+    for word in EXPLAINED {
         let line = format!(in rt.alloc(); "\n  {word} ")?;
-        same_at(&rt, word, HELP.contains(line.as_str()), true);
+        same_at(&rt, *word, HELP.contains(line.as_str()), true);
     }
     for line in HELP.lines() {
         holds(&rt, line.len() <= 80);
@@ -64,7 +64,7 @@ fn the_help_names_every_word(rt: HostRuntime) -> Result<(), Fail> {
 // A list and requests are actions of their own, without an option; and a queue is one of three words.
 #[test]
 fn lists_and_requests_are_actions(rt: HostRuntime) -> Result<(), Fail> {
-    let sessions = [Session {
+    const SESSIONS: &[Session] = &[Session {
         steps: &[
             Step::Run("--scan", 1, "status usage 0\n"),
             Step::Run("t1 --sim", 1, "status usage 0\n"),
@@ -79,5 +79,5 @@ fn lists_and_requests_are_actions(rt: HostRuntime) -> Result<(), Fail> {
         ],
         ..PLAIN
     }];
-    play(&rt, rt.alloc(), &sessions)
+    play(&rt, rt.alloc(), SESSIONS)
 }

@@ -25,7 +25,7 @@ fn see(rt: &impl Abort, alloc: Global, rows: &[(&[u8], (u32, u8))]) {
 
 // Lines before the first disk.
 fn see_array(rt: &impl Abort, alloc: Global) {
-    let rows: [(&[u8], (u32, u8)); 22] = [
+    const ROWS: &[(&[u8], (u32, u8))] = &[
         (b"", (1, 3)),
         (b"\n# nothing\n", (3, 3)),
         (b"array", (1, 1)),
@@ -49,12 +49,12 @@ fn see_array(rt: &impl Abort, alloc: Global) {
         (b"START array\n3 0\nSTART spare", (3, 3)),
         (b"START array\n3 0", (3, 3)),
     ];
-    see(rt, alloc, &rows);
+    see(rt, alloc, ROWS);
 }
 
 // Lines from the first disk on.
 fn see_names(rt: &impl Abort, alloc: Global) {
-    let rows: [(&[u8], (u32, u8)); 17] = [
+    const ROWS: &[(&[u8], (u32, u8))] = &[
         (b"START array\n3 0\nSTART disks", (4, 5)),
         (b"START array\n3 0\nSTART disks\na\nb\n", (6, 5)),
         (b"START array\n3 0\nSTART disks\na\nb\nSTART layout", (6, 5)),
@@ -88,7 +88,7 @@ fn see_names(rt: &impl Abort, alloc: Global) {
             (7, 3),
         ),
     ];
-    see(rt, alloc, &rows);
+    see(rt, alloc, ROWS);
 }
 
 #[test]
@@ -120,7 +120,7 @@ fn see_behind_three(
 
 #[test]
 fn lines_of_layout_and_queue_have_their_codes(rt: HostRuntime) -> Result<(), Fail> {
-    let rows: [(&[u8], (u32, u8)); 24] = [
+    const ROWS: &[(&[u8], (u32, u8))] = &[
         (b"START layout", (8, 1)),
         (b"START layout\nSTART queue", (8, 2)),
         (b"START layout\n0 1 1 5", (8, 2)),
@@ -152,12 +152,12 @@ fn lines_of_layout_and_queue_have_their_codes(rt: HostRuntime) -> Result<(), Fai
         ),
         (b"START layout\n1 1 1 5\nSTART debug\nSTART \x01", (0, 0)),
     ];
-    see_behind_three(&rt, rt.alloc(), &rows)
+    see_behind_three(&rt, rt.alloc(), ROWS)
 }
 
 #[test]
 fn lines_of_designs_have_their_codes(rt: HostRuntime) -> Result<(), Fail> {
-    let rows: [(&[u8], (u32, u8)); 23] = [
+    const ROWS: &[(&[u8], (u32, u8))] = &[
         (b"START layout\n1 1 1 T", (9, 11)),
         (b"START layout\n1 1 1 D\nSTART queue", (9, 11)),
         (b"START layout\n1 1 1 T\nplan 3 3", (9, 1)),
@@ -191,12 +191,12 @@ fn lines_of_designs_have_their_codes(rt: HostRuntime) -> Result<(), Fail> {
         ),
         (b"START layout\n1 1 1 T\ndesign 0 3 0 0 0", (9, 12)),
     ];
-    see_behind_three(&rt, rt.alloc(), &rows)
+    see_behind_three(&rt, rt.alloc(), ROWS)
 }
 
 #[test]
 fn of_two_faults_the_first_is_judged(rt: HostRuntime) -> Result<(), Fail> {
-    let rows: [(&[u8], (u32, u8)); 9] = [
+    const ALONE: &[(&[u8], (u32, u8))] = &[
         // a missing disk or spare before the words of the line that shows it
         (b"START array\n2 0\nSTART disks\na\nSTART lay out", (5, 5)),
         (
@@ -216,8 +216,7 @@ fn of_two_faults_the_first_is_judged(rt: HostRuntime) -> Result<(), Fail> {
         // a disk too many before its name and its words
         (b"START array\n1 0\nSTART disks\na\na b", (5, 5)),
     ];
-    see(&rt, rt.alloc(), &rows);
-    let rows: [(&[u8], (u32, u8)); 11] = [
+    const BEHIND: &[(&[u8], (u32, u8))] = &[
         (b"START layout\n0 2", (8, 2)),
         (b"START layout\n1 2 x 6 1", (8, 9)),
         (b"START layout\n1 1 1 6 1", (8, 8)),
@@ -230,7 +229,8 @@ fn of_two_faults_the_first_is_judged(rt: HostRuntime) -> Result<(), Fail> {
         (b"START layout\n1 1 1 T\ncyclic 3 : 0 0\nlast", (9, 12)),
         (b"START layout\n1 1 1 5\nSTART queue\nlifo", (10, 10)),
     ];
-    see_behind_three(&rt, rt.alloc(), &rows)
+    see(&rt, rt.alloc(), ALONE);
+    see_behind_three(&rt, rt.alloc(), BEHIND)
 }
 
 // A configuration of 94 bytes in 11 lines.

@@ -109,13 +109,13 @@ fn graphs_are_found_by_their_names(rt: HostRuntime) -> Result<(), Fail> {
         b"graph b\nreturn 4294967295 7\nend\ngraph 0-9_az\nnode 0 xor 3\nend\ngraph abcdefghijklmnopqrstuvwxyz012345\nend";
     let book = read(&rt, rt.alloc(), text);
     same(&rt, book.count(), 3);
-    let rows: [(&[u8], Option<u32>); 4] = [
+    const ROWS: &[(&[u8], Option<u32>)] = &[
         (b"b", Some(0)),
         (b"0-9_az", Some(1)),
         (b"abcdefghijklmnopqrstuvwxyz012345", Some(2)),
         (b"", None),
     ];
-    see_names(&rt, &book, &rows);
+    see_names(&rt, &book, ROWS);
     let graphs = book.into_graphs();
     assert!(rt; graphs.len() == 3);
     see_return(&rt, &graphs[0]);
@@ -127,8 +127,8 @@ fn graphs_are_found_by_their_names(rt: HostRuntime) -> Result<(), Fail> {
 
 #[test]
 fn lines_between_graphs_are_refused(rt: HostRuntime) {
-    for (text, line, code) in [
-        (b"".as_slice(), 0, 0),
+    const ROWS: &[(&[u8], u32, u8)] = &[
+        (b"", 0, 0),
         (b"\n# no graph\n", 0, 0),
         (b"graph g\nend", 0, 0),
         (b"graf g", 1, 1),
@@ -147,8 +147,9 @@ fn lines_between_graphs_are_refused(rt: HostRuntime) {
         ),
         (b"graph g\nend\ngraph g", 3, 4),
         (b"graph g\nend\n\ngraph h\nend\ngraph g h", 6, 4),
-    ] {
-        same_at(&rt, text, refusal(&rt, rt.alloc(), text), (line, code));
+    ];
+    for (text, line, code) in ROWS {
+        same_at(&rt, *text, refusal(&rt, rt.alloc(), *text), (*line, *code));
     }
 }
 
@@ -169,7 +170,7 @@ fn see_second(rt: &impl Abort, alloc: Global, lines: &[&str], code: u8) -> Resul
 
 #[test]
 fn lines_of_a_graph_are_read(rt: HostRuntime) -> Result<(), Fail> {
-    let lines = [
+    const LINES: &[&str] = &[
         "buffer 0 stripe 1 from 2 count 3",
         "buffer 0 stripe 4294967295 from 4294967295 count 0 new 4294967295",
         "node 0 read 9 9 after 9",
@@ -182,13 +183,13 @@ fn lines_of_a_graph_are_read(rt: HostRuntime) -> Result<(), Fail> {
         "return 0 0",
         "# no line",
     ];
-    see_second(&rt, rt.alloc(), &lines, 0)?;
+    see_second(&rt, rt.alloc(), LINES, 0)?;
     Ok(())
 }
 
 #[test]
 fn words_that_a_line_doesnt_have_are_code_1(rt: HostRuntime) -> Result<(), Fail> {
-    let lines = [
+    const LINES: &[&str] = &[
         "graph h",
         "Buffer 0 stripe 0 from 0 count 1",
         "buffer",
@@ -218,13 +219,13 @@ fn words_that_a_line_doesnt_have_are_code_1(rt: HostRuntime) -> Result<(), Fail>
         "end 0",
         "node 0 commit\u{7}",
     ];
-    see_second(&rt, rt.alloc(), &lines, 1)?;
+    see_second(&rt, rt.alloc(), LINES, 1)?;
     Ok(())
 }
 
 #[test]
 fn words_that_are_no_number_are_code_2(rt: HostRuntime) -> Result<(), Fail> {
-    let lines = [
+    const LINES: &[&str] = &[
         "buffer x",
         "buffer 00000000000 stripe 0 from 0 count 1",
         "buffer 0 stripe -1",
@@ -242,22 +243,21 @@ fn words_that_are_no_number_are_code_2(rt: HostRuntime) -> Result<(), Fail> {
         "return x 0",
         "return 0 x 0",
     ];
-    see_second(&rt, rt.alloc(), &lines, 2)?;
+    see_second(&rt, rt.alloc(), LINES, 2)?;
     Ok(())
 }
 
 #[test]
 fn a_number_that_isnt_the_next_is_code_3(rt: HostRuntime) -> Result<(), Fail> {
-    let lines = [
+    const LINES: &[&str] = &[
         "buffer 1 stripe 0 from 0 count 1",
         "buffer 1",
         "node 1 commit",
         "node 4294967295 x",
     ];
-    see_second(&rt, rt.alloc(), &lines, 3)?;
-    for (text, line) in [
+    const TEXTS: &[(&[u8], u32)] = &[
         (
-            b"graph g\nbuffer 0 stripe 0 from 0 count 1\nbuffer 0 stripe 0 from 0 count 1".as_slice(),
+            b"graph g\nbuffer 0 stripe 0 from 0 count 1\nbuffer 0 stripe 0 from 0 count 1",
             3,
         ),
         (
@@ -265,8 +265,10 @@ fn a_number_that_isnt_the_next_is_code_3(rt: HostRuntime) -> Result<(), Fail> {
             3,
         ),
         (b"graph g\nnode 0 commit\nend\ngraph h\nnode 1 commit", 5),
-    ] {
-        same_at(&rt, text, refusal(&rt, rt.alloc(), text), (line, 3));
+    ];
+    see_second(&rt, rt.alloc(), LINES, 3)?;
+    for (text, line) in TEXTS {
+        same_at(&rt, *text, refusal(&rt, rt.alloc(), *text), (*line, 3));
     }
     Ok(())
 }

@@ -324,7 +324,7 @@ fn see_reads(
 
 #[test]
 fn prints_a_front_where_the_sink_fails(rt: HostRuntime) -> Result<(), Fail> {
-    let lines = [
+    const LINES: &[&str] = &[
         "reply 0.0 data\n",
         "block 3 1 5a\n",
         "reply 1.0 data\n",
@@ -335,7 +335,7 @@ fn prints_a_front_where_the_sink_fails(rt: HostRuntime) -> Result<(), Fail> {
         "sweep clients 2 operations 2\n",
         "written 0 read 3 sum 92928\n",
     ];
-    let all = see_fronts(&rt, rt.alloc(), &lines)?;
+    let all = see_fronts(&rt, rt.alloc(), LINES)?;
     // A sink without room for all cuts within a line.
     see_reads(&rt, rt.alloc(), 20, Err(Failed), b"reply 0.0 data\nblock")?;
     see_reads(&rt, rt.alloc(), 8192, Ok(()), all.as_bytes())

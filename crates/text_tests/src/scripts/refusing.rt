@@ -32,7 +32,7 @@ fn see(rt: &impl Abort, alloc: Global, rows: &[(&[u8], u8)]) {
 
 // Lines that have not the words of their kind.
 fn see_kinds(rt: &impl Abort, alloc: Global) {
-    let rows: [(&[u8], u8); 32] = [
+    const ROWS: &[(&[u8], u8)] = &[
         (b"0", 1),
         (b"0 erase 0 1", 1),
         (b"0 Read 0 1", 1),
@@ -69,12 +69,12 @@ fn see_kinds(rt: &impl Abort, alloc: Global) {
         (b"0 read 0 1\r\r", 1),
         (b"0 read 0 1 \x7f", 1),
     ];
-    see(rt, alloc, &rows);
+    see(rt, alloc, ROWS);
 }
 
 // Lines with a word out of its range.
 fn see_ranges(rt: &impl Abort, alloc: Global) {
-    let rows: [(&[u8], u8); 36] = [
+    const ROWS: &[(&[u8], u8)] = &[
         (b"x read 0 1", 2),
         (b"-1 read 0 1", 2),
         (b"0 read x 1", 2),
@@ -112,7 +112,7 @@ fn see_ranges(rt: &impl Abort, alloc: Global) {
         (b"0 join g 0 1 aa h 1 1 bb", 6),
         (b"0 join g 0 2 aa g 1 1 bb", 9),
     ];
-    see(rt, alloc, &rows);
+    see(rt, alloc, ROWS);
 }
 
 #[test]
@@ -123,7 +123,7 @@ fn each_code_has_its_lines(rt: HostRuntime) {
 
 #[test]
 fn of_two_faults_the_first_word_is_judged_first(rt: HostRuntime) {
-    let rows: [(&[u8], u8); 37] = [
+    const ROWS: &[(&[u8], u8)] = &[
         // a byte that no word has, before all words
         (b"16 read 0 0 \x01", 1),
         (b"x \x01", 1),
@@ -174,14 +174,13 @@ fn of_two_faults_the_first_word_is_judged_first(rt: HostRuntime) {
         (b"0 read 0 262145 1", 1),
         (b"0 use h read 0 262145", 6),
     ];
-    see(&rt, rt.alloc(), &rows);
+    see(&rt, rt.alloc(), ROWS);
 }
 
 #[test]
 fn of_two_lines_the_first_is_refused(rt: HostRuntime) {
-    let book = one_graph(&rt, rt.alloc());
-    for (text, line, code) in [
-        (b"0 read 0 1\n\n# x\n0 fail 5\n0 erase\n".as_slice(), 4, 5),
+    const ROWS: &[(&[u8], u32, u8)] = &[
+        (b"0 read 0 1\n\n# x\n0 fail 5\n0 erase\n", 4, 5),
         (b"\r\n\t\n16 sync 0", 3, 3),
         (b"0 read 0 262144\n0 write 0 9 00\n1 read 0 1\n", 3, 7),
         (
@@ -192,8 +191,10 @@ fn of_two_lines_the_first_is_refused(rt: HostRuntime) {
         (b"0 read 0 262144\n1 read 0 1 x\n", 2, 1),
         (b"0 read 0 262144\n1 sync 0\n", 0, 0),
         (b"0 writes 0 2 11 2 1 22\n0 writes 0 2 11 1 1 22", 2, 9),
-    ] {
-        same(&rt, refusal(&rt, rt.alloc(), text, &book), (line, code));
+    ];
+    let book = one_graph(&rt, rt.alloc());
+    for (text, line, code) in ROWS {
+        same(&rt, refusal(&rt, rt.alloc(), *text, &book), (*line, *code));
     }
 }
 
@@ -209,16 +210,17 @@ fn many_lines(alloc: Global, count: u32, last: &[u8]) -> Result<Vec<u8>, AllocEr
 
 #[test]
 fn there_are_at_most_65536_items(rt: HostRuntime) -> Result<(), Fail> {
-    let book = one_graph(&rt, rt.alloc());
-    for (last, line, code) in [
-        (b"".as_slice(), 0, 0),
+    const ROWS: &[(&[u8], u32, u8)] = &[
+        (b"", 0, 0),
         (b"1 sync 0", 65_537, 7),
         (b"16 sync 0", 65_537, 3),
         (b"1 writes 0 2 11 1 1 22", 65_537, 9),
         (b"1 writes 0 1 11 1 1 22", 65_537, 7),
-    ] {
-        let text = many_lines(rt.alloc(), 65_536, last)?;
-        same(&rt, refusal(&rt, rt.alloc(), &text, &book), (line, code));
+    ];
+    let book = one_graph(&rt, rt.alloc());
+    for (last, line, code) in ROWS {
+        let text = many_lines(rt.alloc(), 65_536, *last)?;
+        same(&rt, refusal(&rt, rt.alloc(), &text, &book), (*line, *code));
     }
     Ok(())
 }
@@ -236,9 +238,8 @@ fn many_joins(alloc: Global, count: u32, last: &[u8]) -> Result<Vec<u8>, AllocEr
 // The 65th is judged behind the words and the spans of its line, and before the limits of items and sectors.
 #[test]
 fn there_are_at_most_64_join_lines(rt: HostRuntime) -> Result<(), Fail> {
-    let book = one_graph(&rt, rt.alloc());
-    for (last, line, code) in [
-        (b"".as_slice(), 0, 0),
+    const ROWS: &[(&[u8], u32, u8)] = &[
+        (b"", 0, 0),
         (b"1 writes 0 1 aa 1 1 bb", 0, 0),
         (b"1 join g 0 1 aa g 1 1 bb", 65, 13),
         (b"1 join g 0 1 aa g 1 1 bb g", 65, 1),
@@ -246,9 +247,11 @@ fn there_are_at_most_64_join_lines(rt: HostRuntime) -> Result<(), Fail> {
         (b"1 join g 0 1 aa g 0 1 bb", 65, 9),
         (b"0 read 0 262144\n1 join g 0 1 aa g 1 1 bb", 66, 13),
         (b"0 read 0 262144\n0 read 0 1", 66, 7),
-    ] {
-        let text = many_joins(rt.alloc(), 64, last)?;
-        same(&rt, refusal(&rt, rt.alloc(), &text, &book), (line, code));
+    ];
+    let book = one_graph(&rt, rt.alloc());
+    for (last, line, code) in ROWS {
+        let text = many_joins(rt.alloc(), 64, *last)?;
+        same(&rt, refusal(&rt, rt.alloc(), &text, &book), (*line, *code));
     }
     Ok(())
 }
