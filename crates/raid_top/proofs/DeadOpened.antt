@@ -1,5 +1,5 @@
 -- Why a column is dead as an array is opened, from its last column back to the labels.
-use Rattle.std.specs.Prelude.{◌≡◌, ◌≢◌, ◌⊎◌, ◌<◌, ◌≤◌, ◌+◌, ◌*◌, ◌-◌, ◌==◌, ◌&&◌, ℕ, zero, suc, Bool, true, false, not, List, [], ◌∷◌, length, get_or, Option, Some, None, Result, Ok, Err, if◌then◌else◌, is_none, nat_le, nat_lt, slice_get, slice_index, slice_index_or, slice_set}
+use Rattle.std.specs.Prelude.{◌≡◌, ◌≢◌, ◌⊎◌, ◌<◌, ◌≤◌, ◌+◌, ◌*◌, ◌-◌, ◌==◌, ◌&&◌, ℕ, zero, suc, Bool, true, false, not, List, [], ◌∷◌, length, get_or, Option, Some, None, Result, Ok, if◌then◌else◌, is_none, nat_le, nat_lt, slice_get, slice_index, slice_index_or, slice_set}
 use Rattle.std.proofs.Common.{arith, refl, sym, ap, ap₂, subst, inl, inr, length-set, ◌∙◌}
 use Rattle.std.proofs.lemmas.Bool.{eqb-false, eqb-true, leb-false, ltb-false}
 use Rattle.std.proofs.lemmas.Option.{slice_get-get_or, slice_get_within}
@@ -21,7 +21,7 @@ use Rattle.top_open.specs.First.{first_below}
 use Rattle.top_open.specs.Labels.{label_at, newest_below, shape_refusal}
 use Rattle.top_open.specs.Opening.{Opened, columns_in, counter_refusal, filled_by, filling_of, is_unlabelled, judged_in, kept_if_left, labelled_if, labelled_in, own_seats, seats_in, small_in, unlabelled_in, unlabelled_refusal, with_filling}
 use Rattle.top_open.specs.Plan.{is_present, sectors_for, tables_below}
-use Rattle.top_open.specs.Seats.{columns_below, is_sound, is_spread_below, is_unread, judged_at, kept_if_sound, own_disk, read_disk, seat_at, seat_of, wanted}
+use Rattle.top_open.specs.Seats.{columns_below, is_sound, is_spread_below, is_unread, judged_at, kept_if_sound, read_disk, seat_at, seat_of, wanted}
 use Rattle.top_open.proofs.Below.{length-columns_below}
 use Rattle.top_open.proofs.Columns.{columns_count}
 use Rattle.top_open.proofs.Filled.{WasJudged, entries, filling, was}
@@ -29,7 +29,7 @@ use Rattle.top_open.proofs.LargeEnough.{get_there}
 use Rattle.top_open.proofs.OwnDevices.{columns_below-get, not_refused}
 use Rattle.top_duty.specs.Opening.{filling_at, kept_if_large, left_at, needs_of, opened_by, plan_of, present_of, stripes_on, without_small}
 use Rattle.top_duty.proofs.Opens.{Stages, stages}
-use Rattle.raid_top.specs.Opened.{IsCutOff, IsDeadFor, IsTooFar, IsUnfilled, LacksDevice, LacksDisk, LacksLabel, LacksSeat, LacksSectors}
+use Rattle.raid_top.specs.Opened.{IsCutOff, IsDeadFor, IsUnfilled, LacksDevice, LacksDisk, LacksLabel, LacksSeat, LacksSectors}
 
 -- ## A column is set
 
@@ -57,7 +57,7 @@ set_twice (z ∷ xs) zero x y = refl
 set_twice (z ∷ xs) (suc c) x y = ap (λ (l : List Column). z ∷ l) (set_twice xs c x y)
 
 set_back : (xs : List Column) (c : ℕ) (x : Column) → slice_get xs c ≡ Some x → slice_set xs c x ≡ xs
-set_back [] c x h = cc h
+set_back [] c x h = refl
 set_back (z ∷ xs) zero x h = (let same : z ≡ x = cc h in ap (λ (w : Column). w ∷ xs) (sym same))
 set_back (z ∷ xs) (suc c) x h = ap (λ (l : List Column). z ∷ l) (set_back xs c x h)
 

@@ -6,9 +6,8 @@ use Rattle.std.proofs.lemmas.Option.{slice_get-map}
 use Rattle.lay_core.specs.Layout.{Shape}
 use Rattle.eng_cols.specs.declared.column.Column.{Column}
 use Rattle.eng_cols.specs.declared.column.Column.TheVariants as column
-use Rattle.eng_cols.specs.declared.spot.Loss.{Loss}
 use Rattle.eng_cols.specs.Changes.{killed}
-use Rattle.eng_cols.specs.Cols.{ColumnState, Dead, Filling, device_set, is_done_on, is_set_filling, passes, state_set}
+use Rattle.eng_cols.specs.Cols.{ColumnState, Dead, Filling, is_done_on, is_set_filling, passes, state_set}
 use Rattle.eng_cols.specs.Deaths.{Dies}
 use Rattle.eng_cols.specs.Lost.{NotLost}
 use Rattle.eng_cols.specs.Stripes.{filled_in, leading, states_of}
@@ -16,7 +15,6 @@ use Rattle.eng_cols.proofs.Lists.{count_at_most, get_set_either, get_set_other}
 use Rattle.top_acts.specs.Killed.{IsWithout}
 use Rattle.top_close.specs.Closes.{FillingEnds, SpreadEnds}
 use Rattle.top_close.specs.Dying.{AnyCause}
-use Rattle.top_close.specs.Settled.{HasDeviceOn}
 use Rattle.top_close.proofs.DyingLaws.{columns_die, dies_unfilled, lost_no_less}
 use Rattle.top_labelled.proofs.Alone.{dead-as, done-all, kept-as}
 use Rattle.top_rounds.proofs.RoundLaws.{given_after}

@@ -1,5 +1,5 @@
 -- An array without labels has no column that is rebuilt, and none that is filling.
-use Rattle.std.specs.Prelude.{◌≡◌, ℕ, Bool, true, false, List, count_by, Option, Some, None, Ok, slice_get}
+use Rattle.std.specs.Prelude.{◌≡◌, ℕ, true, false, List, count_by, Option, Some, None, Ok, slice_get}
 use Rattle.std.proofs.Common.{refl, sym, ap, ◌∙◌}
 use Rattle.eng_array.specs.declared.start.Start.{Start}
 use Rattle.eng_cols.specs.Cols.{is_set_filling, passes}

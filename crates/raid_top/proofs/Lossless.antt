@@ -2,7 +2,7 @@
 use Rattle.std.specs.Prelude.{◌≡◌, ℕ, Bool, true, false, List, [], ◌∷◌, length, nat_lt, Option, Some, None, Result, Ok, Err, if◌then◌else◌}
 use Rattle.std.specs.List.{position}
 use Rattle.std.specs.Str.{bytes_eq}
-use Rattle.graph_text.specs.Format.{At, Named, graphs_of}
+use Rattle.graph_text.specs.Format.{Named, graphs_of}
 use Rattle.raid_conf.specs.Format.{conf_of}
 use Rattle.raid_conf.specs.declared.conf.Conf.{Conf}
 use Rattle.raid_script.specs.Format.{script_of}
@@ -20,8 +20,8 @@ use Rattle.top_status.specs.Refusals.{Refused, ◌then◌, only, or_refusal, sho
 use Rattle.top_words.specs.Asked.{Command, Component, Nameless, Column, Device, profile_of}
 use Rattle.top_words.specs.declared.profile.Kind.{Kind}
 use Rattle.top_words.specs.declared.profile.Kind.TheVariants as kind
-use Rattle.top_duty.specs.Duty.{OnArray, Shows, admitted_with, duty_by, duty_for, duty_in, Duty}
-use Rattle.top_duty.specs.Opening.{as_left, as_opened, fronted_by, kind_of, needs_of, opened_by, or_fault, plan_of, present_of, sizes_in, status_of}
+use Rattle.top_duty.specs.Duty.{OnArray, Shows, admitted_with, duty_by, duty_for, duty_in}
+use Rattle.top_duty.specs.Opening.{as_left, as_opened, fronted_by, kind_of, needs_of, opened_by, or_fault, plan_of, present_of, sizes_in}
 use Rattle.top_duty.specs.Start.{start_in}
 
 -- another status than that of a loss

@@ -1,12 +1,12 @@
 -- An array that is refused as lost lacks a unit on both columns of its loss.
-use Rattle.std.specs.Prelude.{◌≡◌, ◌⊎◌, ℕ, zero, suc, Bool, true, false, List, [], ◌∷◌, length, map, Option, Some, None, Result, Ok, Err, if◌then◌else◌}
+use Rattle.std.specs.Prelude.{◌≡◌, ℕ, Bool, true, false, List, [], ◌∷◌, length, map, Option, Some, None, Result, Ok, Err, if◌then◌else◌}
 use Rattle.std.specs.Option.{option_map_or}
 use Rattle.std.proofs.Common.{inl, inr, refl, sym, ap, subst, length-set, ◌∙◌}
 use Rattle.std.proofs.lemmas.List.{length-map}
 use Rattle.blk_disk.specs.Devices.{at_home}
 use Rattle.blk_disk.specs.declared.disk.Disk.{Ghosts}
 use Rattle.eng_cols.specs.declared.spot.Loss.{Loss}
-use Rattle.eng_cols.specs.Cols.{ColumnState, InOrder, state_set}
+use Rattle.eng_cols.specs.Cols.{InOrder, state_set}
 use Rattle.eng_cols.specs.Laws.{HaveSpares}
 use Rattle.eng_cols.specs.Lost.{IsLost}
 use Rattle.eng_cols.specs.Stripes.{filled_in}
@@ -32,7 +32,7 @@ use Rattle.top_status.specs.declared.status.Status.TheVariants as status
 use Rattle.top_status.specs.Refusals.{Refused, ◌then◌, only, text_in}
 use Rattle.top_status.specs.Status.{status_of_loss}
 use Rattle.top_words.specs.Asked.{Command}
-use Rattle.top_words.specs.Judged.{OnArray as InvokesArray, invocation_of}
+use Rattle.top_words.specs.Judged.{OnArray as InvokesArray}
 use Rattle.top_words.specs.declared.profile.Kind.{Kind}
 use Rattle.top_words.specs.declared.profile.Kind.TheVariants as kind
 use Rattle.top_words.specs.declared.profile.Rebuilding.{Rebuilding}
@@ -46,7 +46,7 @@ use Rattle.top_duty.specs.Taken.{RefusedAt, RefusedFor}
 use Rattle.top_duty.specs.Views.{other_of, short_of}
 use Rattle.top_duty.proofs.Fits.{fit_array}
 use Rattle.top_duty.proofs.Fitting.{is_fit}
-use Rattle.raid_top.specs.Calls.{CallOutcome, Refuses}
+use Rattle.raid_top.specs.Calls.{CallOutcome}
 use Rattle.raid_top.specs.Ends.{Acts}
 use Rattle.raid_top.specs.Laws.{LacksUnits, RefusedLossLacksUnits}
 use Rattle.raid_top.proofs.Lawful.{shape_laws}

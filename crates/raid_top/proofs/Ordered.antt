@@ -1,6 +1,6 @@
 -- Columns are in order as an array is opened, as a rebuild begins with them, and once some have died.
-use Rattle.std.specs.Prelude.{◌≡◌, ◌⊎◌, ◌<◌, ℕ, List, length, Bool, true, false, Option, Some, None, IsSome, slice_get, slice_set}
-use Rattle.std.proofs.Common.{refl, sym, ap, subst, inl, inr, arith, ◌∙◌}
+use Rattle.std.specs.Prelude.{◌≡◌, ◌⊎◌, ◌<◌, ℕ, List, length, true, false, Option, Some, None, IsSome, slice_get, slice_set}
+use Rattle.std.proofs.Common.{refl, sym, ap, subst, inl, inr, ◌∙◌}
 use Rattle.std.proofs.lemmas.Bool.{cases_eq}
 use Rattle.std.proofs.lemmas.List.{length-set}
 use Rattle.blk_disk.specs.declared.disk.Disk.{Ghosts}
@@ -9,11 +9,10 @@ use Rattle.eng_cols.specs.declared.column.Column.{Column}
 use Rattle.eng_cols.specs.declared.column.Column.TheVariants as column
 use Rattle.eng_cols.specs.Cols.{all_done, is_set_spread, passes}
 use Rattle.eng_cols.proofs.Lists.{count_at_most, get_set_either, get_set_other}
-use Rattle.eng_array.specs.Starts.{column_of}
 use Rattle.eng_array.specs.declared.start.Start.{Start}
 use Rattle.eng_array.specs.declared.start.Start.TheVariants as start
 use Rattle.raid_conf.specs.Form.{IsConf}
-use Rattle.raid_conf.specs.Layouts.{shape_in, shape_lawful, shape_of}
+use Rattle.raid_conf.specs.Layouts.{shape_lawful, shape_of}
 use Rattle.raid_conf.proofs.TableLaws.{shape-columns}
 use Rattle.top_bay.specs.Asked.{Asked}
 use Rattle.top_close.proofs.Counts.{none_passes}
