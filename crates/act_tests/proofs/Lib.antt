@@ -1,3 +1,4 @@
 mod ActFitting
 mod CloseFitting
 mod RoundFitting
+pub mod MapFitting

@@ -5,7 +5,7 @@
 //! has its data units on devices 0 and 1 and its check unit on device 2; stripe 1 has its data units
 //! on devices 2 and 0 and its check unit on device 1; stripe 2 has its data units on devices 1 and 2
 //! and its check unit on device 0.
-mod asked;
+pub(crate) mod asked;
 mod beginnings;
 mod endings;
 mod renewals;

@@ -1,4 +1,5 @@
-//! Tests of what becomes of an array's labels and columns around a run: settling, rounds of labels, and acts.
+//! Tests of what becomes of an array's labels and columns around a run: settling, rounds of labels, acts, and
+//! parity maps.
 //!
 //! They stand in a crate of their own, since a crate with tests is proved twice.
 #![tactic(auto)]
@@ -9,5 +10,7 @@ mod acts;
 mod closes;
 #[cfg(test)]
 mod judging;
+#[cfg(test)]
+mod maps;
 #[cfg(test)]
 mod rounds;

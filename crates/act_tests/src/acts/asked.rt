@@ -84,8 +84,12 @@ fn fits_at<L: Layout, D: Disk>(
     }
 }
 
-// Whether these are an array's columns and devices, each column with the disk of its own number.
-fn can_act<L: Layout, D: Disk>(layout: &L, columns: &[Column], devices: &[Option<D>]) -> bool
+/// Whether these are an array's columns and devices, each column with the disk of its own number.
+pub(crate) fn can_act<L: Layout, D: Disk>(
+    layout: &L,
+    columns: &[Column],
+    devices: &[Option<D>],
+) -> bool
     ensures { IsTrue result → CanAct D.Disk (L.shape layout.now) columns.now devices.now }
 {
     if columns.len() != layout.columns() as usize {
