@@ -1,5 +1,5 @@
 -- Whose stripes lie in the regions: while the array isn't lost what an operation writes lies in stripes that its item concerns; and once it is lost nothing new runs.
-use Rattle.std.proofs.Common.{◌≡◌, ◌<◌, ◌≤◌, ◌⊎◌, inl, inr, ℕ, Bool, true, false, Option, Some, None, slice_get, length, refl, sym, ◌∙◌, ap, subst}
+use Rattle.std.proofs.Common.{◌≡◌, ◌<◌, ◌≤◌, ◌⊎◌, inl, inr, ℕ, Bool, true, false, Option, Some, None, slice_get, length, refl, sym, ◌∙◌, ap}
 use Rattle.std.proofs.lemmas.Bool.{cases_eq, cases_lt}
 use Rattle.lay_core.specs.Layout.{Shape, Blocks}
 use Rattle.graph_mean.specs.declared.graph.Node.TheVariants.{Wr}

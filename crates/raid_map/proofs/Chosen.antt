@@ -6,16 +6,14 @@ use Rattle.blk_plain.specs.declared.op.Op.TheVariants as op
 use Rattle.lay_core.specs.Layout.{Shape, IsLayout}
 use Rattle.graph_mean.specs.declared.graph.Node.TheVariants.{Wr}
 use Rattle.graph_mean.specs.Graph.{View, kind_at}
-use Rattle.eng_cols.specs.declared.spot.Loss.{Loss}
 use Rattle.eng_cols.specs.Contents.{InSync}
-use Rattle.eng_world.specs.declared.item.Item.{Item}
 use Rattle.eng_world.specs.declared.item.Item.TheVariants as item
 use Rattle.eng_world.specs.declared.item.Traced.{Traced}
 use Rattle.eng_world.specs.declared.item.Reply.{Reply}
 use Rattle.eng_world.specs.World.{Plan, Running, Client, World, Waits, Runs, item_now, RunsAs, Goes, Replied}
 use Rattle.eng_world.specs.Planning.{Graphs, Promises, IsPlan}
-use Rattle.eng_world.specs.Failing.{FailsColumn, Loses, Survives, device_on}
-use Rattle.eng_world.specs.Step.{IsOpening, Step, EventsLead}
+use Rattle.eng_world.specs.Failing.{FailsColumn, device_on}
+use Rattle.eng_world.specs.Step.{IsOpening, EventsLead}
 use Rattle.eng_world.specs.Invariant.{Invariant, IsKind}
 use Rattle.eng_world.proofs.Clients.{runs-same, nothing-runs, waits-runs, item-same, other-runs, not-it, still-runs}
 use Rattle.eng_world.proofs.KeepsFailing.{suffers-back}

@@ -1,24 +1,23 @@
 -- Columns whose maps are read one after the other.
 use Rattle.std.proofs.Common.{◌≡◌, ◌≢◌, ◌∙◌, ◌⊎◌, ℕ, ◌+◌, ◌<◌, ◌≤◌, Bool, true, false, List, length, Option, Some, None, refl, sym, ap, subst, inl, inr, arith}
-use Rattle.std.specs.Prelude.{is_some, set, slice_get, slice_index, option_and_then, option_map, if◌then◌else◌, ◌||◌, ◌&&◌, ◌↔◌, nat_lt}
+use Rattle.std.specs.Prelude.{is_some, set, slice_get, slice_index, option_and_then, option_map, if◌then◌else◌, ◌||◌, ◌&&◌, nat_lt}
 use Rattle.std.proofs.lemmas.Bool.{cases_lt}
 use Rattle.std.proofs.lemmas.Option.{slice_get-map}
 use Rattle.blk_disk.specs.declared.disk.Disk.{Ghosts}
 use Rattle.blk_disk.specs.Disk.{Tells, call_of}
-use Rattle.blk_disk.specs.Devices.{device_at, size_of, calls_of, sector_of, contents_of, Changes}
+use Rattle.blk_disk.specs.Devices.{device_at, size_of, calls_of, sector_of, contents_of}
 use Rattle.blk_disk.proofs.DeviceLaws.{changes-refl, changes-then, changes_size, changes_sector, rises-wider}
 use Rattle.lay_core.specs.Layout.{Shape}
 use Rattle.eng_cols.specs.declared.column.Column.{Column}
 use Rattle.eng_cols.specs.declared.column.Column.TheVariants as column
-use Rattle.eng_cols.specs.Cols.{Live, Dead, Filling, Spread, HasDevice, device_set, state_set}
+use Rattle.eng_cols.specs.Cols.{HasDevice, device_set, state_set}
 use Rattle.eng_cols.specs.Deaths.{Dies}
 use Rattle.eng_cols.specs.Stripes.{states_of, filled_in}
 use Rattle.eng_cols.proofs.DeathLaws.{dies-refl, dies-more, dies-then}
 use Rattle.eng_cols.proofs.Fewer.{states-at}
 use Rattle.raid_map.specs.Regions.{regions_in, bit_at, IsMap, Marks, is_marked, IsMapOf, Adds}
 use Rattle.raid_map.specs.Marking.{IsOn, has_device, CanBeMarked, LosesDevice}
-use Rattle.raid_map.specs.Reading.{is_true, Grows, AddsFound, AddsRead, ReadsColumn, AreRead, IsUnion}
-use Rattle.raid_map.specs.Union.{HasMap, UnionMarks}
+use Rattle.raid_map.specs.Reading.{is_true, Grows, AddsRead, ReadsColumn, AreRead, IsUnion}
 use Rattle.raid_map.proofs.MarkLaws.{on_within, if_other, if_on, if_dies, if_has, one_device}
 use Rattle.raid_map.proofs.Unions.{regions-few, added-marks}
 use Rattle.raid_map.proofs.ReadOne.{grows-refl, grows-then}

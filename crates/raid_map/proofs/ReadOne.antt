@@ -1,6 +1,6 @@
 -- One device whose map is read.
-use Rattle.std.proofs.Common.{◌≡◌, ◌∙◌, ℕ, ◌<◌, ◌≤◌, Bool, true, false, List, [], length, get_or, Option, Some, None, refl, sym, ap, subst, inl, inr}
-use Rattle.std.specs.Prelude.{set, option_and_then, MatchBool, slice_index}
+use Rattle.std.proofs.Common.{◌≡◌, ◌∙◌, ℕ, ◌<◌, Bool, true, false, List, [], length, get_or, Option, Some, refl, sym, ap, subst, inl, inr}
+use Rattle.std.specs.Prelude.{set, option_and_then, MatchBool}
 use Rattle.std.specs.Option.{option_map_or}
 use Rattle.std.proofs.lemmas.Bool.{cases_lt}
 use Rattle.std.proofs.lemmas.List.{get_or_past}
@@ -8,7 +8,7 @@ use Rattle.blk_disk.specs.declared.disk.Disk.{Ghosts}
 use Rattle.blk_disk.specs.Disk.{Rose, Tells, call_of}
 use Rattle.blk_disk.specs.Devices.{device_at, calls_of, sector_of, Stays, StaysIf}
 use Rattle.blk_disk.proofs.DeviceLaws.{device_at-get, device_at-set, device_at-set_other, changes-set}
-use Rattle.raid_map.specs.Regions.{Marks, is_marked, IsMapOf, Adds}
+use Rattle.raid_map.specs.Regions.{Marks, IsMapOf, Adds}
 use Rattle.raid_map.specs.Reading.{Grows, AddsFound, AddsRead, IsReading}
 use Rattle.raid_map.proofs.Unions.{kept-marks}
 

@@ -1,11 +1,10 @@
 -- The library's graph of a read has no write.
-use Rattle.std.proofs.Common.{◌≡◌, ℕ, zero, suc, ◌<◌, ◌++◌, Bool, true, false, Option, Some, None, List, [], ◌∷◌, refl, sym, ap, ◌∙◌, subst, length}
+use Rattle.std.proofs.Common.{◌≡◌, ℕ, zero, suc, ◌++◌, Bool, true, false, Option, Some, None, List, [], ◌∷◌, refl, sym, ap, ◌∙◌, subst, length}
 use Rattle.std.specs.Prelude.{All, map, if◌then◌else◌}
-use Rattle.std.proofs.lemmas.Bool.{cases_Bool}
 use Rattle.std.proofs.lemmas.List.Elements.{All-nil, All-cons, All-append}
 use Rattle.graph_mean.specs.declared.task.Kind.{Kind}
 use Rattle.graph_mean.specs.declared.task.Kind.TheVariants.{Read}
-use Rattle.graph_mean.specs.Graph.{View, Vertex, no_vertex, kind_at}
+use Rattle.graph_mean.specs.Graph.{Vertex, no_vertex}
 use Rattle.graph_mean.specs.Task.{Aim, Missing, is_touched}
 use Rattle.graph_lib.specs.Piece.{Piece, At, start, reads_from, read_nodes, sum_node, sum_nodes, write_node, write_nodes, after, when}
 use Rattle.graph_lib.specs.Assembled.{spread, read_part, sum_part, write_part, commit_of, commit_node, end_node, assembled}

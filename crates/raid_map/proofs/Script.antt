@@ -1,14 +1,13 @@
 -- What a run asks for is marked, where the items of its script are.
-use Rattle.std.proofs.Common.{◌≡◌, ◌∙◌, ◌⊎◌, ◌<◌, ℕ, Bool, true, List, Option, Some, None, slice_get, sym, ap, subst, inl, inr}
+use Rattle.std.proofs.Common.{◌≡◌, ◌∙◌, ◌⊎◌, ◌<◌, ℕ, Bool, true, List, Option, Some, None, sym, ap, subst, inl, inr}
 use Rattle.std.specs.Prelude.{Vec}
 use Rattle.std.specs.declared.alloc.Global.{Global}
 use Rattle.blk_plain.specs.declared.op.Op.{Op}
-use Rattle.blk_plain.specs.declared.op.Op.TheVariants as op
 use Rattle.lay_core.specs.Layout.{Shape}
 use Rattle.eng_world.specs.declared.item.Item.{Item}
 use Rattle.eng_world.specs.declared.item.Item.TheVariants as item
 use Rattle.eng_world.specs.World.{World}
-use Rattle.eng_world.specs.Planning.{Graphs, InReach, Concerns}
+use Rattle.eng_world.specs.Planning.{Graphs, Concerns}
 use Rattle.raid_map.specs.Regions.{region_of, Marks, is_marked}
 use Rattle.raid_map.specs.Mapped.{ReadWrites, MayWrite, AreAskedFor}
 use Rattle.raid_map.specs.Asking.{FileWrites, MayWriteBy, ScriptMayWrite, MarksAlso, LibraryOnlyReads, IsItemOf, AreMarkedFor, IsMarkedRebuild, AreItemsOf}

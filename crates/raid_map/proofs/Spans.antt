@@ -1,13 +1,11 @@
 -- Regions that are marked for stripes, one after the other.
-use Rattle.std.proofs.Common.{◌≡◌, ◌≢◌, ◌∙◌, ◌⊎◌, ℕ, ◌+◌, ◌<◌, ◌≤◌, Bool, true, false, List, length, Option, Some, None, slice_get, refl, sym, ap, subst, inl, inr, arith}
-use Rattle.std.specs.Prelude.{◌↔◌, Result, Ok, Err, All, Contains, Vec, get_or, slice_index_or, slice_set}
+use Rattle.std.proofs.Common.{◌≡◌, ◌≢◌, ◌∙◌, ◌⊎◌, ℕ, ◌+◌, ◌<◌, ◌≤◌, true, false, List, length, Some, slice_get, refl, sym, ap, subst, inl, inr, arith}
+use Rattle.std.specs.Prelude.{Result, Ok, Err, Contains, Vec, slice_set}
 use Rattle.std.proofs.lemmas.Bool.{cases_eq, cases_lt}
 use Rattle.std.proofs.lemmas.List.{get_or-set_other, length-set, get_or_past}
 use Rattle.std.proofs.lemmas.Option.{slice_get-get_or, slice_get_within}
 use Rattle.std.specs.declared.alloc.Global.{Global}
-use Rattle.blk_plain.specs.declared.op.Op.{Op}
 use Rattle.blk_plain.specs.declared.op.Op.TheVariants as op
-use Rattle.blk_plain.specs.declared.op.Pattern.{Pattern}
 use Rattle.blk_plain.specs.declared.op.Patches.{Patches}
 use Rattle.blk_plain.specs.declared.op.Span.{Span}
 use Rattle.blk_plain.specs.Plain.{spans_of, is_in, is_in_some}
@@ -15,12 +13,11 @@ use Rattle.lay_core.specs.Layout.{Shape}
 use Rattle.lay_core.specs.Touched.{Touched, PassesEnd, PassesEndSome, IsSplit, stripe_count, stripes_among}
 use Rattle.graph_mean.specs.declared.graph.Node.{Node}
 use Rattle.graph_mean.specs.declared.graph.Node.TheVariants.{Rd, Wr, Xor, Cmt, Trm}
-use Rattle.graph_mean.specs.Graph.{View, Vertex, Held, no_vertex, kind_at}
+use Rattle.graph_mean.specs.Graph.{View, Vertex, no_vertex, kind_at}
 use Rattle.eng_world.specs.declared.item.Item.{Item}
-use Rattle.eng_world.specs.World.{IsRead}
 use Rattle.raid_map.specs.Regions.{region_of, Marks, is_marked}
 use Rattle.raid_map.specs.Mapped.{HasWrite}
-use Rattle.raid_map.specs.Asking.{is_write, FileWrites, MayWriteBy, MayWriteIn, SomeMayWrite, ScriptMayWrite, Reaches, MarksAlso}
+use Rattle.raid_map.specs.Asking.{is_write, MayWriteIn, SomeMayWrite, ScriptMayWrite, Reaches, MarksAlso}
 
 -- what came well wasn't refused
 pub split-not-refused : {T E : Type 0} {r : Result T E} {x : T} {e : E} → r ≡ Ok x → r ≡ Err e → ⊥

@@ -17,7 +17,7 @@ use Rattle.eng_cols.specs.Stripes.{states_of}
 use Rattle.eng_cols.proofs.Spots.{seat-device}
 use Rattle.eng_cols.proofs.Killing.{device-back, killed-device}
 use Rattle.raid_recon.specs.declared.kind.Sweep.TheVariants.{Sync}
-use Rattle.raid_recon.specs.Turns.{Turn, Left, Unread, Sound, Unsound, Written, Unwritten, TellsMore, call_if, call_at, seat_calls, read_calls, turn_calls, failed_at, dead_at, columns_after, IsTurn}
+use Rattle.raid_recon.specs.Turns.{Turn, Left, Unread, Sound, Unsound, Written, Unwritten, TellsMore, call_if, call_at, seat_calls, read_calls, turn_calls, dead_at, columns_after, IsTurn}
 use Rattle.raid_recon.specs.Ends.{AreGoodButLast, IsUnitCall, CallsUnits}
 use Rattle.raid_recon.specs.Units.{SweepsStripe}
 use Rattle.raid_recon.proofs.Calls.{tells_more-nil, tells_more-then}

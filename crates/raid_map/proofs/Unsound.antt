@@ -4,17 +4,16 @@ use Rattle.std.specs.Prelude.{slice_get}
 use Rattle.std.proofs.lemmas.Bool.{cases_Bool}
 use Rattle.lay_core.specs.Layout.{Shape, IsLayout}
 use Rattle.eng_cols.specs.declared.spot.Spot.{Spot}
-use Rattle.eng_cols.specs.Cols.{ColumnState, Live, Dead, Filling, HasDevice, InOrder}
+use Rattle.eng_cols.specs.Cols.{ColumnState, Live, Dead, Filling, HasDevice}
 use Rattle.eng_cols.specs.Seats.{is_available, seat}
 use Rattle.eng_cols.specs.Contents.{Contents, sector_at, InSync}
 use Rattle.eng_cols.proofs.Spots.{available-seat, seat-device, sectors-apart}
-use Rattle.eng_world.specs.declared.item.Traced.{Traced}
 use Rattle.eng_world.specs.declared.item.Traced.TheVariants as event
 use Rattle.eng_world.specs.Planning.{Graphs, Promises}
 use Rattle.eng_world.specs.Rows.{HasHad}
 use Rattle.raid_map.specs.Regions.{region_of}
 use Rattle.raid_map.specs.Stops.{MayHold, IsImage}
-use Rattle.raid_map.specs.Mapped.{Event, Happens, IsUnderWay, IsLeft, Mapped, MappedRun, IsStart, InSyncAnyhow, IsEarlier}
+use Rattle.raid_map.specs.Mapped.{Event, IsUnderWay, IsLeft, Mapped, MappedRun, IsStart, InSyncAnyhow, IsEarlier}
 use Rattle.raid_map.specs.Union.{UnionMarks, IsUnsound}
 use Rattle.raid_map.proofs.Sited.{IsPlaceOf, seat-place}
 use Rattle.raid_map.proofs.Holding.{Unclear, traced, traced-has, worlds, holds, Spared, under-marked}

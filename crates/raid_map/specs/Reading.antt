@@ -1,5 +1,5 @@
 -- What it is that the maps of the devices in use are read, and what is learnt of them.
-use Rattle.std.specs.Prelude.{◌≡◌, ◌≢◌, ◌<◌, ◌≤◌, ◌⊎◌, ◌↔◌, ℕ, List, length, Bool, true, false, Option, Some, None, is_some, slice_get, slice_set, slice_index, if◌then◌else◌}
+use Rattle.std.specs.Prelude.{◌≡◌, ◌≢◌, ◌<◌, ◌≤◌, ◌⊎◌, ◌↔◌, ℕ, List, length, Bool, true, false, Option, Some, None, is_some, slice_get, slice_set, if◌then◌else◌}
 use Rattle.blk_disk.specs.declared.disk.Disk.{Ghosts}
 use Rattle.blk_disk.specs.Disk.{Tells, call_of}
 use Rattle.blk_disk.specs.Devices.{device_at, calls_of, sector_of, contents_of, RisesOn, Changes}
@@ -8,7 +8,7 @@ use Rattle.eng_cols.specs.declared.column.Column.{Column}
 use Rattle.eng_cols.specs.declared.column.Column.TheVariants as column
 use Rattle.eng_cols.specs.Deaths.{Dies}
 use Rattle.eng_cols.specs.Stripes.{states_of}
-use Rattle.raid_map.specs.Regions.{regions_in, IsMap, Marks, is_marked, IsMapOf, Adds}
+use Rattle.raid_map.specs.Regions.{regions_in, Marks, is_marked, IsMapOf, Adds}
 use Rattle.raid_map.specs.Marking.{IsOn, has_device, LosesDevice}
 use Rattle.raid_map.specs.Union.{HasMap, UnionMarks}
 

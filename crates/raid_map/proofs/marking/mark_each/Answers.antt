@@ -1,4 +1,4 @@
-use Rattle.std.proofs.Common.{◌≡◌, ◌∙◌, sym, ap, subst, length, Some, None, arith}
+use Rattle.std.proofs.Common.{◌≡◌, ◌∙◌, sym, ap, subst, length, arith}
 use Rattle.std.proofs.lemmas.Option.{slice_get-get_or}
 use Rattle.eng_cols.specs.Cols.{device_set}
 use Rattle.raid_map.specs.Marking.{IsOn, AreMarked}

@@ -1,4 +1,3 @@
-use Rattle.std.proofs.Common.{◌≡◌, length}
 use Rattle.raid_map.specs.Reading.{AreRead}
 use Rattle.raid_map.proofs.ReadLaws.{SaidTo}
 use Rattle.raid_map.proofs.reading.read_maps.Given as goal
