@@ -1,4 +1,4 @@
-//! Tests of what all else stands on: plain blocks, devices, bays and sinks, words of texts, labels, kernels, buffers, locks and jobs.
+//! Tests of what all else stands on: plain blocks, devices, bays and sinks, words of texts, labels, kernels, buffers, stored sectors, locks and jobs.
 //!
 //! They stand in a crate of their own, since a crate with tests is proved twice.
 #![tactic(auto)]
@@ -21,6 +21,8 @@ mod labels;
 mod locks;
 #[cfg(test)]
 mod spans;
+#[cfg(test)]
+mod stores;
 #[cfg(test)]
 mod sums;
 #[cfg(test)]

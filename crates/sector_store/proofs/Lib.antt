@@ -1,0 +1,5 @@
+mod Joined
+mod Chosen
+mod Keeping
+pub mod Putting
+pub mod Sent
