@@ -7,3 +7,4 @@ pub mod Keeping
 pub mod SeatsApart
 pub mod Scattered
 pub mod Sent
+mod Giving

@@ -1,5 +1,6 @@
 -- A client before anything has begun.
-use Rattle.std.specs.Prelude.{List, [], None, replicate}
+use Rattle.std.specs.Prelude.{◌≡◌, ◌<◌, ℕ, List, [], Option, Some, None, Vec, length, replicate, slice_index_or}
+use Rattle.std.specs.declared.alloc.Global.{Global}
 use Rattle.lay_core.specs.Touched.{nothing}
 use Rattle.graph_mean.specs.declared.step.Phase.TheVariants as phase
 use Rattle.graph_mean.specs.Graph.{blank}
@@ -7,6 +8,7 @@ use Rattle.graph_mean.specs.Task.{no_task}
 use Rattle.eng_world.specs.declared.item.Item.{Item}
 use Rattle.eng_clients.specs.declared.stage.Stage.TheVariants.{Nothing}
 use Rattle.eng_clients.specs.Desk.{Desk}
+use Rattle.eng_log.specs.Given.{items_at}
 
 -- a client with these items that has begun none
 abbrev pub new_desk : List Item → Desk
@@ -24,3 +26,8 @@ new_desk items = record {
   by = None;
   file = None;
 }
+
+-- Each of the seventeen clients has room for as many items as it has of these.
+pub record AreRoomsFor (given : List (Vec Item Global)) (rooms : List (Option ℕ)) : Type 0 where
+  pub count : length rooms ≡ 17
+  pub each : (c : ℕ) → c < 17 → slice_index_or rooms c None ≡ Some (length (items_at given c))

@@ -18,6 +18,7 @@ use eng_one::Run;
 use eng_world::{Item, Reply};
 use graph_mean::{Buf, Graph, Kind, Node, Phase, Status, Task};
 use lay_core::StripeMap;
+pub use open::ClientRoom;
 use std::marker::Model;
 
 /// A client.

@@ -19,6 +19,7 @@ use eng_cols::Spot;
 use eng_one::{with_bit, without_bit};
 use eng_world::Reply;
 use graph_mean::{Buf, Graph, Node, Phase, Status};
+pub use open::ClientRooms;
 use std::marker::Model;
 
 /// The clients by number, client 16 the engine's own.

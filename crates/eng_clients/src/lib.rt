@@ -17,7 +17,7 @@ mod stage;
 mod turns;
 
 pub use client::Client;
-pub use clients::Clients;
+pub use clients::{ClientRooms, Clients};
 pub use memory::Memory;
 pub use planned::Asked;
 pub use rebuilds::Rebuilds;

@@ -18,7 +18,7 @@ ghost use Rattle.eng_log.specs.Handed.{region_at};
 ghost use Rattle.eng_ends.specs.Copied.{AreLaid, Reads, CopiesOne, Copies, sector_for};
 
 use crate::end::terminate;
-use blk_disk::{Disk, SECTOR};
+use blk_disk::Disk;
 use blk_plain::{Op, Span};
 use eng_job::Source;
 use eng_state::Array;
@@ -59,8 +59,7 @@ fn copy_front<L: Layout, D: Disk>(
         ≡ array.old.pool.unit }
 {
     let buffer = array.buffer_leaves(client, buf);
-    let front = &buffer.bytes()[..SECTOR * count as usize];
-    array.log.hand(first, front);
+    array.log.hand(first, count, buffer.bytes());
     array.buffer_home(client, buf, buffer);
 }
 

@@ -251,8 +251,8 @@ module _ {L D : Type 0} (lay : LayoutGhosts L) (disk : DiskGhosts D) (setup : Se
     graphs = a.graphs;
     cols = a.cols ∙ columns-set (lay.shape setup.layout) (length setup.devices.items) setup.clients.items setup.trace room ready setup.columns.items room-for set;
     devices = a.devices;
-    count = ap length (a.clients ∙ ap (λ (r : CoreRoom D). r.clients) set) ∙ room-for.count;
-    clients = λ c lt. ap (λ (l : List Desk). desk_at l c) (a.clients ∙ ap (λ (r : CoreRoom D). r.clients) set) ∙ room-for.clients c lt;
+    count = a.count;
+    clients = a.clients;
     unit = ap (λ (p : pool.PoolView). p.unit) (a.pool ∙ ap (λ (r : CoreRoom D). r.pool) set) ∙ room-for.unit;
     pool = subst (λ (p : pool.PoolView). pool.IsFresh p 2048) (sym (a.pool ∙ ap (λ (r : CoreRoom D). r.pool) set)) room-for.pool;
     locks = subst (λ (t : Table). IsIdle t 17) (sym (a.locks ∙ ap (λ (r : CoreRoom D). r.locks) set)) room-for.locks;

@@ -27,5 +27,5 @@ pub record IsClosed {L D : Type 0} (lay : LayoutGhosts L) (core : Array L D) (cl
   pub trace : closed.trace.items ≡ core.log.trace
   pub lost : closed.lost ≡ core.lost
   pub rebuilt : closed.rebuilt ≡ core.log.rebuilt
-  pub sectors : closed.sectors.items ≡ core.log.handed.bytes
+  pub sectors : closed.sectors ≡ core.log.handed.bytes
   pub regions : closed.regions.items ≡ core.log.handed.regions

@@ -56,13 +56,14 @@ module _ {L D : Type 0} (lay : LayoutGhosts L) (disk : DiskGhosts D) where
 
   -- ## What is opened
 
-  -- the core is put together of these parts
+  -- the core is put together of these parts, and each client has its items and has begun none
   pub record IsAssembled (setup : Setup L D) (room : CoreRoom D) (core : Array L D) : Type 0 where
     pub layout : core.layout ≡ setup.layout
     pub graphs : core.graphs ≡ setup.graphs
     pub cols : core.cols ≡ room.cols
     pub devices : core.devices ≡ record { slots = map brought setup.devices.items; failed = replicate (length setup.devices.items) false }
-    pub clients : core.clients ≡ room.clients
+    pub count : length core.clients ≡ 17
+    pub clients : (c : ℕ) → c < 17 → desk_at core.clients c ≡ new_desk (items_at setup.clients.items c)
     pub pool : core.pool ≡ room.pool
     pub locks : core.locks ≡ room.locks
     pub lists : core.lists ≡ room.lists

@@ -7,6 +7,7 @@ ghost use Rattle.eng_cols.specs.Stripes.{states_of};
 ghost use Rattle.eng_events.specs.Opened.{IsSetup, IsAssembled, IsOpened, NoneOut, OpensWorlds};
 ghost use Rattle.eng_state.specs.Serves.{Stands};
 ghost use Rattle.eng_state.specs.Sound.{IsSound};
+ghost use Rattle.eng_clients.specs.Fresh.{AreRoomsFor};
 ghost use Rattle.eng_parts.specs.Fresh.{IsRoomFor, IsFault};
 
 use blk_disk::Disk;
@@ -16,7 +17,8 @@ use lay_core::Layout;
 
 // A core of these parts, where the array isn't lost.
 fn put_together<L: Layout, D: Disk + Drop>(setup: Setup<L, D>, room: CoreRoom<D>) -> Array<L, D>
-    requires { length setup.devices.items ≤ room.devices }
+    requires devices { length setup.devices.items ≤ room.devices }
+    requires clients { AreRoomsFor setup.clients.items room.clients }
     ensures { IsAssembled L.Layout D.Disk setup room result }
 {
     Array {
@@ -26,7 +28,7 @@ fn put_together<L: Layout, D: Disk + Drop>(setup: Setup<L, D>, room: CoreRoom<D>
         pool: room.pool,
         locks: room.locks,
         lists: room.lists,
-        clients: room.clients,
+        clients: room.clients.bring(setup.clients),
         graphs: setup.graphs,
         scratch: room.scratch,
         log: room.log,

@@ -4,8 +4,8 @@ use denote.Param.Send.{IsSend, sendable, view_send}
 use denote.Param.SendFields.{declared_send}
 use denote.Struct.Field.{bool-field, u8-field, u32-field}
 use Rattle.blk_plain.specs.contracts.op.OpId as id
-use Rattle.buf_pool.proofs.Sent.{zeroed_send}
 use Rattle.eng_world.specs.contracts.item.Traced as traced
+use Rattle.sector_store.proofs.Sent.{store_send}
 use Rattle.eng_log.specs.contracts.handed.Handed as handed
 use Rattle.eng_log.specs.contracts.handed.Regions as regions
 use Rattle.eng_log.specs.contracts.log.Log as log
@@ -37,7 +37,7 @@ regions_send : IsSend regions.the_row
 regions_send = view_send _ _ _ _ _ (declared_send regions.TheInside.the_type (Vec-send region.the_row region_send, tt))
 
 handed_send : IsSend handed.the_row
-handed_send = view_send _ _ _ _ _ (declared_send handed.TheInside.the_type (zeroed_send, (Vec-send regions.the_row regions_send, tt)))
+handed_send = view_send _ _ _ _ _ (declared_send handed.TheInside.the_type (store_send, (Vec-send regions.the_row regions_send, tt)))
 
 pub log_send : IsSend log.the_row
 log_send = view_send _ _ _ _ _ (declared_send log.TheInside.the_type (Vec-send id.the_row id_send, (Vec-send traced.the_row traced_send, (flag_send, (number_send, (handed_send, (number_send, (number_send, tt))))))))

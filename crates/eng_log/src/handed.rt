@@ -1,12 +1,13 @@
 //! What reads hand out.
-ghost use Rattle.std.specs.Prelude.{◌≡◌, ◌<◌, ◌≤◌, ◌+◌, ◌*◌, length, [], slice_index_or};
+ghost use Rattle.std.specs.Prelude.{◌≡◌, ◌<◌, ◌≤◌, ◌+◌, ◌*◌, length, take, [], slice_index_or};
 ghost use Rattle.blk_disk.specs.Sectors.{put};
 ghost use Rattle.eng_log.specs.Handed.{AreRegions, region_at};
 
 mod open;
 
 use crate::region::Region;
-use buf_pool::Zeroed;
+use blk_plain::SECTOR;
+use sector_store::Store;
 use std::marker::Model;
 
 /// The regions of one client's items.
@@ -24,11 +25,10 @@ impl Model for Regions {
     ghost view = { λ r. r.list.items };
 }
 
-/// The sectors that reads hand out: a region for each read, so that no reply takes memory. Those behind the last that was
-/// handed out are written at the end.
+/// The sectors that reads hand out: a region for each read, so that no reply takes memory.
 #[derive(Drop)]
 pub struct Handed {
-    pub(crate) bytes: Zeroed,
+    pub(crate) bytes: Store,
     pub(crate) regions: Vec<Regions>,
 }
 
@@ -62,21 +62,22 @@ impl Handed {
         self.regions[client as usize].region(item)
     }
 
-    /// Puts these bytes in the place of those from a sector on.
-    pub(crate) fn copy(&mut self, first: usize, from: &[u8])
-        requires { 512 * first + length from.now ≤ length self.old.bytes }
-        ensures { self.new ≡ record self.old { bytes = put self.old.bytes first from.now } }
+    /// Puts the first so many sectors of these bytes in the place of those from a sector on.
+    pub(crate) fn copy(&mut self, first: usize, count: u32, from: &[u8])
+        requires count { 512 * count ≤ length from.now }
+        requires fits { 512 * first + 512 * count ≤ length self.old.bytes }
+        ensures { self.new ≡ record self.old
+            { bytes = put self.old.bytes first (take (512 * count) from.now) } }
     {
-        let _count = self.bytes.len();
-        self.bytes.put(512 * first, from);
+        self.bytes.put(first, &from[..SECTOR * count as usize]);
     }
 
-    /// The bytes, and the regions of each client's items.
-    pub fn close(self) -> (Vec<u8>, Vec<Regions>)
-        ensures bytes { result.0.items ≡ self.bytes }
+    /// The sectors, and the regions of each client's items.
+    pub fn close(self) -> (Store, Vec<Regions>)
+        ensures bytes { result.0 ≡ self.bytes }
         ensures regions { result.1.items ≡ self.regions }
     {
-        (self.bytes.into_vec(), self.regions)
+        (self.bytes, self.regions)
     }
 
     /// What is so of the regions. It does nothing.

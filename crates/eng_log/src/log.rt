@@ -1,5 +1,5 @@
 //! What a run leaves behind.
-ghost use Rattle.std.specs.Prelude.{◌≡◌, ◌<◌, ◌≤◌, ◌+◌, ◌*◌, [], true, length, slice_index_or};
+ghost use Rattle.std.specs.Prelude.{◌≡◌, ◌<◌, ◌≤◌, ◌+◌, ◌*◌, [], true, length, take, slice_index_or};
 ghost use Rattle.blk_disk.specs.Sectors.{put};
 ghost use Rattle.eng_log.specs.Handed.{AreRegions, region_at};
 ghost use Rattle.eng_log.specs.Log.{noted, entered, with_bytes, counted, MayCount};
@@ -90,11 +90,13 @@ impl Log {
         self.handed.stands();
     }
 
-    /// These bytes are handed out from a sector on.
-    pub fn hand(&mut self, first: usize, from: &[u8])
-        requires { 512 * first + length from.now ≤ length self.old.handed.bytes }
-        ensures { self.new ≡ with_bytes self.old (put self.old.handed.bytes first from.now) }
+    /// The first so many sectors of these bytes are handed out from a sector on.
+    pub fn hand(&mut self, first: usize, count: u32, from: &[u8])
+        requires count { 512 * count ≤ length from.now }
+        requires fits { 512 * first + 512 * count ≤ length self.old.handed.bytes }
+        ensures { self.new ≡ with_bytes self.old
+            (put self.old.handed.bytes first (take (512 * count) from.now)) }
     {
-        self.handed.copy(first, from);
+        self.handed.copy(first, count, from);
     }
 }

@@ -17,8 +17,8 @@ impl<T: Drop> From<AllocFailed<T>> for Memory {
     }
 }
 
-impl From<buf_pool::Memory> for Memory {
-    fn from(_: buf_pool::Memory) -> Self {
+impl From<sector_store::Memory> for Memory {
+    fn from(_: sector_store::Memory) -> Self {
         Memory
     }
 }

@@ -10,12 +10,10 @@ use Rattle.eng_world.specs.declared.item.Item.{Item}
 use Rattle.eng_parts.specs.declared.core_room.CoreRoom.{CoreRoom}
 use Rattle.eng_parts.specs.declared.setup.OpenFault.{OpenFault}
 use Rattle.eng_parts.specs.declared.setup.OpenFault.TheVariants as fault
-use Rattle.eng_clients.specs.Desk.{desk_at}
-use Rattle.eng_log.specs.Given.{items_at}
 use Rattle.eng_log.specs.Handed.{Handout}
 use Rattle.eng_log.specs.Laid.{items_before, IsLaidOut}
 use Rattle.eng_log.specs.Log.{Logged}
-use Rattle.eng_clients.specs.Fresh.{new_desk}
+use Rattle.eng_clients.specs.Fresh.{AreRoomsFor}
 
 -- an empty log: the history has room for 65,536 operations and a rebuild of each stripe, and the trace, if it is kept, for 1,048,576 events, the failure of each column, the start of a rebuild and one failure more
 abbrev pub fresh_log : Shape → Bool → Handout → Logged
@@ -29,7 +27,7 @@ fresh_log y trace handed = record {
   trace_room = if trace then 1048576 + 2 + y.columns else 0;
 }
 
--- The room is one for this layout, so many devices and these items: all columns are dead, all buffers free, no stripe is held, each client has its items, not too many in all, and has begun none, and there is a rebuild's place for each stripe.
+-- The room is one for this layout, so many devices and these items: all columns are dead, all buffers free, no stripe is held, each client has room for its items, not too many in all, and there is a rebuild's place for each stripe.
 pub record IsRoomFor {D : Type 0} (y : Shape) (most : ℕ) (given : List (Vec Item Global)) (trace : Bool) (room : CoreRoom D) : Type 0 where
   pub cols : room.cols ≡ record { states = replicate y.columns Dead; stripes = y.stripes }
   pub devices : room.devices ≡ most
@@ -38,8 +36,7 @@ pub record IsRoomFor {D : Type 0} (y : Shape) (most : ℕ) (given : List (Vec It
   pub locks : IsIdle room.locks 17
   pub lists : room.lists ≡ 32
   pub few : items_before given 16 ≤ 65536
-  pub count : length room.clients ≡ 17
-  pub clients : (c : ℕ) → c < 17 → desk_at room.clients c ≡ new_desk (items_at given c)
+  pub clients : AreRoomsFor given room.clients
   pub log : room.log ≡ fresh_log y trace room.log.handed
   pub laid : IsLaidOut given y.stripes room.log.handed
   pub rebuilds : room.rebuilds ≡ record { items = []; room = y.stripes }

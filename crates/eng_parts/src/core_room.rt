@@ -9,7 +9,7 @@ use crate::devices::DeviceRoom;
 use crate::setup::OpenFault;
 use crate::spare::Spare;
 use buf_pool::Pool;
-use eng_clients::{Clients, Rebuilds};
+use eng_clients::{ClientRooms, Rebuilds};
 use eng_cols::{Cols, Column, Loss};
 use eng_job::Lists;
 use eng_log::Log;
@@ -25,7 +25,7 @@ pub struct CoreRoom<D> {
     pub pool: Pool,
     pub locks: Locks,
     pub lists: Lists,
-    pub clients: Clients,
+    pub clients: ClientRooms,
     pub scratch: Scratch,
     pub log: Log,
     pub rebuilds: Rebuilds,

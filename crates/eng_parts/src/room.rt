@@ -3,10 +3,8 @@ ghost use Rattle.std.specs.Prelude.{◌≡◌, ◌<◌, ◌≤◌, ◌*◌, ℕ,
 ghost use Rattle.buf_pool.specs.Pool.{IsFresh};
 ghost use Rattle.stripe_lock.specs.Table.{IsIdle};
 ghost use Rattle.eng_cols.specs.Cols.{Dead};
-ghost use Rattle.eng_log.specs.Given.{items_at};
-ghost use Rattle.eng_clients.specs.Desk.{desk_at};
 ghost use Rattle.eng_log.specs.Laid.{items_before, sectors_before, IsLaidOut};
-ghost use Rattle.eng_clients.specs.Fresh.{new_desk};
+ghost use Rattle.eng_clients.specs.Fresh.{AreRoomsFor};
 ghost use Rattle.eng_parts.specs.Fresh.{fresh_log, IsRoomFor};
 
 use crate::core_room::CoreRoom;
@@ -15,7 +13,7 @@ use crate::memory::Memory;
 use crate::spare::Spare;
 use blk_plain::limits;
 use buf_pool::Pool;
-use eng_clients::{Clients, Rebuilds};
+use eng_clients::{ClientRooms, Rebuilds};
 use eng_cols::Cols;
 use eng_job::Lists;
 use eng_log::{Handed, Log};
@@ -77,15 +75,13 @@ fn log_for<L: Layout>(
     )?)
 }
 
-// The clients, of which none has begun an item.
-fn clients_for(alloc: Global, clients: &[Vec<Item>]) -> Result<Clients, Memory>
+// Room for the clients' items.
+fn clients_for(alloc: Global, clients: &[Vec<Item>]) -> Result<ClientRooms, Memory>
     requires clients { length clients.now ≤ 16 }
     requires items { items_before clients.now 16 ≤ 65536 }
-    ensures count { IfOk result (λ opened. length opened ≡ 17) }
-    ensures each { IfOk result
-        (λ opened. (c : ℕ) → c < 17 → desk_at opened c ≡ new_desk (items_at clients.now c)) }
+    ensures { IfOk result (AreRoomsFor clients.now) }
 {
-    Ok(Clients::open(alloc, clients)?)
+    Ok(ClientRooms::open(alloc, clients)?)
 }
 
 // The room is taken in three groups: each part that may be wanting adds an exit on which all parts before it are let go.
@@ -107,10 +103,10 @@ struct Tools<D> {
     scratch: Scratch,
 }
 
-// The clients, the engine's own among them, and the lists that they are handed out in.
+// Room for the clients, the engine's own among them, and the lists that they are handed out in.
 #[derive(Drop)]
 struct Desks {
-    clients: Clients,
+    clients: ClientRooms,
     rebuilds: Rebuilds,
     spare: Spare,
 }
@@ -158,13 +154,11 @@ fn tools_for<D: Drop>(alloc: Global, devices: u32) -> Result<Tools<D>, Memory>
     })
 }
 
-// None of the clients has begun an item, and there is a rebuild's place for each stripe.
+// There is room for each client's items, and a rebuild's place for each stripe.
 fn desks_for(alloc: Global, stripes: u32, clients: &[Vec<Item>]) -> Result<Desks, Memory>
     requires clients { length clients.now ≤ 16 }
     requires items { items_before clients.now 16 ≤ 65536 }
-    ensures count { IfOk result (λ desks. length desks.clients ≡ 17) }
-    ensures each { IfOk result
-        (λ desks. (c : ℕ) → c < 17 → desk_at desks.clients c ≡ new_desk (items_at clients.now c)) }
+    ensures clients { IfOk result (λ desks. AreRoomsFor clients.now desks.clients) }
     ensures rebuilds { IfOk result
         (λ desks. desks.rebuilds ≡ record { items = []; room = stripes }) }
     ensures spare { IfOk result (λ desks. desks.spare ≡ length clients.now) }

@@ -4,6 +4,7 @@ use eng_cols::{Column, Loss};
 use eng_log::Regions;
 use eng_world::{Item, Reply, Traced};
 use graph_mean::Graph;
+use sector_store::Store;
 
 /// What a core is opened over: the devices by number, what each column is, the items of each client, the graphs that
 /// items name, and whether the trace is kept.
@@ -42,6 +43,6 @@ pub struct Closed<L, D> {
     pub trace: Vec<Traced>,
     pub lost: Option<Loss>,
     pub rebuilt: u32,
-    pub sectors: Vec<u8>,
+    pub sectors: Store,
     pub regions: Vec<Regions>,
 }

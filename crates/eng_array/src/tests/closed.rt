@@ -116,9 +116,16 @@ pub(super) fn holds<L>(
 
 // The reads handed out blocks that are filled with these bytes, client by client and item by item.
 pub(super) fn handed<L>(rt: &impl Abort, closed: &Closed<L, MemDisk>, blocks: &[u8]) {
-    same(rt, closed.sectors.len() / SECTOR, blocks.len());
-    for (at, held) in closed.sectors.iter().enumerate() {
-        let wanted = filled(at / SECTOR, 0, blocks);
-        same_at(rt, "byte that was handed out", at, *held, wanted);
+    same(rt, closed.sectors.len(), blocks.len());
+    for at in 0..closed.sectors.len() {
+        let wanted = [filled(at, 0, blocks); SECTOR];
+        let held = closed.sectors.sector(at).as_slice();
+        same_at(
+            rt,
+            "sector that was handed out",
+            at,
+            held,
+            wanted.as_slice(),
+        );
     }
 }

@@ -1,6 +1,7 @@
-//! A client is opened, and closed.
-ghost use Rattle.std.specs.Prelude.{None, ◌≡◌, ◌≤◌, ◌+◌, ◌-◌, ◌++◌, length, replicate, IfOk, vec_capacity};
+//! The room for a client is taken, its items are brought in, and it is closed.
+ghost use Rattle.std.specs.Prelude.{None, ◌≡◌, ◌≢◌, ◌≤◌, ◌+◌, ◌-◌, ◌++◌, ℕ, [], length, replicate, IfOk, vec_capacity};
 ghost use Rattle.eng_world.specs.declared.item.Reply.TheVariants as reply;
+ghost use Rattle.eng_log.specs.Given.{items_at};
 ghost use Rattle.eng_clients.specs.Replied.{told_of};
 ghost use Rattle.eng_clients.specs.Fresh.{new_desk};
 
@@ -15,6 +16,8 @@ use eng_world::{Item, Reply};
 use graph_mean::{Graph, Task};
 use lay_core::StripeMap;
 use std::alloc::Global;
+use std::marker::Model;
+use std::mem;
 
 // So many replies are that the array was lost.
 fn reply_lost(replies: &mut Vec<Reply>, count: usize)
@@ -37,14 +40,81 @@ fn no_spots(alloc: Global) -> Result<Vec<Option<Spot>>, Memory>
     Ok(spots)
 }
 
-impl Client {
-    /// A client with a copy of these items and the room that any of them takes. The only error is want of memory.
-    pub fn open(alloc: Global, items: &[Item]) -> Result<Client, Memory>
-        requires { length items.now ≤ 4294967295 }
-        ensures { IfOk result (λ client. client ≡ new_desk items.now) }
+/// Room for a client of so many items. Contracts see how many.
+#[derive(Drop)]
+pub struct ClientRoom {
+    most: u32,
+    // No items, for a client that isn't given any.
+    none: Vec<Item>,
+    replies: Vec<Reply>,
+    client: Client,
+}
+
+impl Model for ClientRoom {
+    ghost use Rattle.std.specs.Prelude.{◌≡◌, ◌≤◌, ℕ, [], vec_capacity};
+    ghost use Rattle.eng_clients.specs.Fresh.{new_desk};
+
+    ghost Value = { ℕ };
+
+    ghost view = { λ r. r.most };
+
+    ghost invariant = { λ r. record {
+      none : r.none.items ≡ [];
+      replies : (r.replies.items ≡ []) × (r.most ≤ vec_capacity r.replies);
+      client : r.client ≡ new_desk [];
+    } };
+}
+
+// The items of the client of this number leave, if it has any, and none are left in their place.
+fn take_items(given: &mut [Vec<Item>], client: u32, none: Vec<Item>) -> Vec<Item>
+    requires { none.items ≡ [] }
+    ensures items { result.items ≡ items_at given.old client }
+    ensures others { (k : ℕ) → k ≢ client → items_at given.new k ≡ items_at given.old k }
+{
+    let client = client as usize;
+    if client < given.len() {
+        mem::replace(&mut given[client], none)
+    } else {
+        none
+    }
+}
+
+impl ClientRoom {
+    /// The room that any so many items take. The only error is want of memory.
+    pub fn open(alloc: Global, most: u32) -> Result<ClientRoom, Memory>
+        ensures { IfOk result (λ room. room ≡ most) }
     {
-        let copies = Vec::from_slice(alloc, items)?;
-        let replies = Vec::with_capacity(alloc, items.len())?;
+        Ok(ClientRoom {
+            most,
+            none: Vec::new(alloc),
+            replies: Vec::with_capacity(alloc, most as usize)?,
+            client: Client::open(alloc)?,
+        })
+    }
+
+    /// The client of this number, with its items of those that are given, if it has any.
+    pub fn bring(self, given: &mut [Vec<Item>], number: u32) -> Client
+        requires { length (items_at given.old number) ≤ self }
+        ensures client { result ≡ new_desk (items_at given.old number) }
+        ensures others { (k : ℕ) → k ≢ number → items_at given.new k ≡ items_at given.old k }
+    {
+        let ClientRoom {
+            none,
+            replies,
+            mut client,
+            ..
+        } = self;
+        client.items = take_items(given, number, none);
+        client.replies = replies;
+        client
+    }
+}
+
+impl Client {
+    // A client without items. The only error is want of memory.
+    fn open(alloc: Global) -> Result<Client, Memory>
+        ensures { IfOk result (λ client. client ≡ new_desk []) }
+    {
         let run = Run::open(alloc)?;
         let graph = Graph::with_room(alloc, limits::NODES, limits::BUFFERS, limits::EDGES)?;
         let task = Task::with_room(alloc)?;
@@ -52,8 +122,8 @@ impl Client {
         let missing = Vec::with_capacity(alloc, limits::TASK_STRIPES as usize)?;
         let spots = no_spots(alloc)?;
         Ok(Client {
-            items: copies,
-            replies,
+            items: Vec::new(alloc),
+            replies: Vec::new(alloc),
             stage: Stage::Nothing,
             run,
             graph,

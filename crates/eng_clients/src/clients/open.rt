@@ -1,11 +1,11 @@
-//! The clients are opened.
-ghost use Rattle.std.specs.Prelude.{◌≡◌, ◌≢◌, ◌<◌, ◌≤◌, ℕ, length, IfOk};
+//! The room for all clients is taken, and their items are brought in.
+ghost use Rattle.std.specs.Prelude.{◌≡◌, ◌≢◌, ◌<◌, ◌≤◌, ℕ, Some, None, length, slice_set, slice_index_or, IfOk};
 ghost use Rattle.std.specs.Int.{bit_at};
 ghost use Rattle.eng_clients.specs.Desk.{desk_at};
 ghost use Rattle.eng_log.specs.Given.{items_at};
-ghost use Rattle.eng_clients.specs.Fresh.{new_desk};
+ghost use Rattle.eng_clients.specs.Fresh.{new_desk, AreRoomsFor};
 
-use crate::client::Client;
+use crate::client::{Client, ClientRoom};
 use crate::clients::Clients;
 use crate::memory::Memory;
 use blk_plain::limits;
@@ -13,9 +13,27 @@ use eng_log::items_of;
 use eng_one::with_bit;
 use eng_world::Item;
 use std::alloc::Global;
+use std::marker::Model;
 
 // The most clients, the engine's own included.
 const CLIENTS: u32 = limits::CLIENTS + 1;
+
+/// Room for all clients by number. Contracts see for how many items each has room.
+#[derive(Drop)]
+pub struct ClientRooms {
+    rooms: Vec<Option<ClientRoom>>,
+    list: Vec<Client>,
+}
+
+impl Model for ClientRooms {
+    ghost use Rattle.std.specs.Prelude.{◌≡◌, ◌≤◌, ℕ, List, Option, [], vec_capacity};
+
+    ghost Value = { List (Option ℕ) };
+
+    ghost view = { λ r. r.rooms.items };
+
+    ghost invariant = { λ r. (r.list.items ≡ []) × (17 ≤ vec_capacity r.list) };
+}
 
 // The bits with one for this client, if it has an item left.
 fn with_client(busy: u64, number: u32, client: &Client) -> u64
@@ -30,21 +48,52 @@ fn with_client(busy: u64, number: u32, client: &Client) -> u64
     }
 }
 
-impl Clients {
-    /// All clients, with copies of these items and the room that any of them takes. The only error is want of memory.
-    pub fn open(alloc: Global, clients: &[Vec<Item>]) -> Result<Clients, Memory>
+// The client of this number, in the room that was taken for it.
+fn bring_one(rooms: &mut [Option<ClientRoom>], given: &mut [Vec<Item>], number: u32) -> Client
+    requires { (most : ℕ) × (slice_index_or rooms.old number None ≡ Some most)
+        × (length (items_at given.old number) ≤ most) }
+    ensures client { result ≡ new_desk (items_at given.old number) }
+    ensures others { (k : ℕ) → k ≢ number → items_at given.new k ≡ items_at given.old k }
+    ensures rooms { rooms.new ≡ slice_set rooms.old number None }
+{
+    match rooms[number as usize].take() {
+        Some(room) => room.bring(given, number),
+        None => unreachable!(),
+    }
+}
+
+impl ClientRooms {
+    /// The room that any of these items take. The only error is want of memory.
+    pub fn open(alloc: Global, clients: &[Vec<Item>]) -> Result<ClientRooms, Memory>
         requires { (c : ℕ) → length (items_at clients.now c) ≤ 65536 }
-        ensures count { IfOk result (λ opened. length opened ≡ 17) }
-        ensures each { IfOk result
-            (λ opened. (c : ℕ) → c < 17 → desk_at opened c ≡ new_desk (items_at clients.now c)) }
+        ensures { IfOk result (AreRoomsFor clients.now) }
     {
-        let mut list = Vec::with_capacity(alloc, CLIENTS as usize)?;
-        let mut busy = 0;
+        let mut rooms = Vec::with_capacity(alloc, CLIENTS as usize)?;
+        let list = Vec::with_capacity(alloc, CLIENTS as usize)?;
         for client in 0..CLIENTS {
-            let opened = Client::open(alloc, items_of(clients, client))?;
-            busy = with_client(busy, client, &opened);
-            list.push_reserved(opened);
+            let count = items_of(clients, client).len() as u32;
+            rooms.push_reserved(Some(ClientRoom::open(alloc, count)?));
         }
-        Ok(Clients { list, busy })
+        Ok(ClientRooms { rooms, list })
+    }
+
+    /// All clients, with these items. It takes no memory.
+    pub fn bring(self, given: Vec<Vec<Item>>) -> Clients
+        requires { AreRoomsFor given.items self }
+        ensures count { length result ≡ 17 }
+        ensures each { (c : ℕ) → c < 17 → desk_at result c ≡ new_desk (items_at given.items c) }
+    {
+        let ClientRooms {
+            mut rooms,
+            mut list,
+        } = self;
+        let mut given = given;
+        let mut busy = 0;
+        for number in 0..CLIENTS {
+            let client = bring_one(&mut rooms, &mut given, number);
+            busy = with_client(busy, number, &client);
+            list.push_reserved(client);
+        }
+        Clients { list, busy }
     }
 }

@@ -9,15 +9,12 @@ use crate::handed::{Handed, Regions};
 use crate::memory::Memory;
 use crate::region::Region;
 use blk_plain::{Op, limits};
-use buf_pool::Zeroed;
 use eng_world::Item;
+use sector_store::Store;
 use std::alloc::Global;
 
 // The most clients, the engine's own included.
 const CLIENTS: usize = limits::CLIENTS as usize + 1;
-
-// The bytes of a sector.
-const SECTOR: u32 = 512;
 
 // How many sectors the operation hands out.
 fn op_sectors(op: &Op) -> u32
@@ -97,7 +94,7 @@ impl Handed {
         let laid = lay_rows(alloc, clients)?;
         let mut regions = laid.0;
         regions.push_reserved(Regions::empty(alloc, own)?);
-        let bytes = Zeroed::open(alloc, (SECTOR * laid.1) as usize)?;
+        let bytes = Store::open(alloc, laid.1 as usize)?;
         Ok(Handed { bytes, regions })
     }
 }
