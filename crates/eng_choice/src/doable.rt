@@ -1,10 +1,10 @@
 //! Whether an event can be done now.
-ghost use Rattle.std.specs.Prelude.{◌↔◌, IsTrue};
+ghost use Rattle.std.specs.Prelude.{◌≡◌, ◌↔◌, None, IsTrue};
 ghost use Rattle.graph_mean.specs.Graph.{kind_at};
 ghost use Rattle.graph_mean.specs.Steps.{IsCall};
 ghost use Rattle.eng_clients.specs.Desk.{desk_at};
 ghost use Rattle.eng_state.specs.Sound.{IsSound};
-ghost use Rattle.eng_state.specs.Can.{CanFire, CanSkip};
+ghost use Rattle.eng_state.specs.Can.{place_now, CanFire, CanSkip};
 ghost use Rattle.eng_state.specs.Beginning.{CanBegin};
 ghost use Rattle.eng_state.specs.Serves.{Stands, CanBack};
 ghost use Rattle.eng_state.specs.Doing.{CanDo, IsRipe, HasPlace, IsNowhere, AreHome};
@@ -12,6 +12,7 @@ ghost use Rattle.eng_state.specs.Doing.{CanDo, IsRipe, HasPlace, IsNowhere, AreH
 use crate::takable::can_take;
 use blk_disk::Disk;
 use eng_clients::Stage;
+use eng_cols::Spot;
 use eng_state::Array;
 use eng_world::Event;
 use graph_mean::{Node, Phase};
@@ -46,13 +47,19 @@ fn is_ripe<L: Layout, D: Disk>(array: &Array<L, D>, client: u32, node: u32) -> b
         && array.clients.ready(client, node)
 }
 
-// Whether the node's unit, if it has one, stands on a device that is at home.
-fn has_place<L: Layout, D: Disk>(array: &Array<L, D>, client: u32, node: u32) -> bool
+// Whether the node's unit, if it has one, stands on a device that is at home. It stands there.
+fn has_place<L: Layout, D: Disk>(
+    array: &Array<L, D>,
+    client: u32,
+    node: u32,
+    at: Option<Spot>,
+) -> bool
     requires sound { IsSound L.Layout D.Disk array.now }
     requires ripe { IsRipe (desk_at array.now.clients client) node }
+    requires at { at ≡ place_now L.Layout array.now client node }
     ensures { IsTrue result ↔ HasPlace L.Layout array.now client node }
 {
-    match array.place_of(client, node) {
+    match at {
         Some(at) => array.devices.is_home(at.device),
         None => !is_call(array, client, node),
     }
@@ -89,37 +96,74 @@ fn has_buffers<L: Layout, D: Disk>(array: &Array<L, D>, client: u32, node: u32) 
     }
 }
 
-pub(crate) fn can_fire<L: Layout, D: Disk>(array: &Array<L, D>, client: u32, node: u32) -> bool
+/// Whether a node that is ready, whose unit stands there, can be fired.
+pub(crate) fn can_fire_at<L: Layout, D: Disk>(
+    array: &Array<L, D>,
+    client: u32,
+    node: u32,
+    at: Option<Spot>,
+) -> bool
+    requires sound { IsSound L.Layout D.Disk array.now }
+    requires not_lost { array.now.lost ≡ None }
+    requires ripe { IsRipe (desk_at array.now.clients client) node }
+    requires at { at ≡ place_now L.Layout array.now client node }
+    ensures { IsTrue result ↔ CanFire L.Layout array.now client node }
+{
+    array.lists.count() > 0
+        && has_place(array, client, node, at)
+        && has_buffers(array, client, node)
+}
+
+fn can_fire<L: Layout, D: Disk>(array: &Array<L, D>, client: u32, node: u32) -> bool
     requires { IsSound L.Layout D.Disk array.now }
     ensures { IsTrue result ↔ CanFire L.Layout array.now client node }
 {
     array.lost.is_none()
         && is_ripe(array, client, node)
-        && array.lists.count() > 0
-        && has_place(array, client, node)
-        && has_buffers(array, client, node)
+        && can_fire_at(array, client, node, array.place_of(client, node))
 }
 
-// Whether the node is a write whose unit stands nowhere.
-fn is_nowhere<L: Layout, D: Disk>(array: &Array<L, D>, client: u32, node: u32) -> bool
+// Whether the node is a write whose unit, which stands there, stands nowhere.
+fn is_nowhere<L: Layout, D: Disk>(
+    array: &Array<L, D>,
+    client: u32,
+    node: u32,
+    at: Option<Spot>,
+) -> bool
     requires sound { IsSound L.Layout D.Disk array.now }
     requires ripe { IsRipe (desk_at array.now.clients client) node }
+    requires at { at ≡ place_now L.Layout array.now client node }
     ensures { IsTrue result ↔ IsNowhere L.Layout array.now client node }
 {
     match array.clients.node(client, node, &array.graphs) {
-        Node::Wr { .. } => array.place_of(client, node).is_none(),
+        Node::Wr { .. } => at.is_none(),
         Node::Rd { .. } | Node::Xor { .. } | Node::Cmt | Node::Trm => false,
     }
 }
 
-pub(crate) fn can_skip<L: Layout, D: Disk>(array: &Array<L, D>, client: u32, node: u32) -> bool
+/// Whether a node that is ready, whose unit stands there, can be skipped.
+pub(crate) fn can_skip_at<L: Layout, D: Disk>(
+    array: &Array<L, D>,
+    client: u32,
+    node: u32,
+    at: Option<Spot>,
+) -> bool
+    requires sound { IsSound L.Layout D.Disk array.now }
+    requires not_lost { array.now.lost ≡ None }
+    requires ripe { IsRipe (desk_at array.now.clients client) node }
+    requires at { at ≡ place_now L.Layout array.now client node }
+    ensures { IsTrue result ↔ CanSkip L.Layout array.now client node }
+{
+    array.clients.phase(client) == Phase::After && is_nowhere(array, client, node, at)
+}
+
+fn can_skip<L: Layout, D: Disk>(array: &Array<L, D>, client: u32, node: u32) -> bool
     requires { IsSound L.Layout D.Disk array.now }
     ensures { IsTrue result ↔ CanSkip L.Layout array.now client node }
 {
     array.lost.is_none()
         && is_ripe(array, client, node)
-        && array.clients.phase(client) == Phase::After
-        && is_nowhere(array, client, node)
+        && can_skip_at(array, client, node, array.place_of(client, node))
 }
 
 /// Whether the event can be done now. Events of clients and nodes that aren't there can't.

@@ -9,7 +9,7 @@ ghost use Rattle.eng_state.specs.Sound.{IsSound};
 ghost use Rattle.eng_state.specs.Doing.{CanDo};
 ghost use Rattle.eng_choice.specs.Picked.{client_of, next_after, NoneReadyOf, IsLeastReadyOf, CanNoNode, IsFirstNode, CanNothing, CanNothingAmong, IsFirstOf, IsFirstAmong, IsPicked, IsStuck};
 
-use crate::doable::{can_back, can_begin, can_fire, can_skip};
+use crate::doable::{can_back, can_begin, can_fire_at, can_skip_at};
 use crate::takable::can_take;
 use blk_disk::Disk;
 use blk_plain::limits;
@@ -43,18 +43,23 @@ fn ready_from<L: Layout, D: Disk>(array: &Array<L, D>, client: u32, from: u32) -
     }
 }
 
-// The first node of the client's that can be skipped or fired. Only nodes that are ready are looked at.
+// The first node of the client's that can be skipped or fired. Only nodes that are ready are looked at, and where the
+// unit of one stands is looked for once.
 fn pick_node<L: Layout, D: Disk>(array: &Array<L, D>, client: u32) -> Option<Event>
     requires { IsSound L.Layout D.Disk array.now }
     ensures { MatchOption result (CanNoNode L.Layout array.now client)
         (IsFirstNode L.Layout array.now client) }
 {
+    if array.lost.is_some() {
+        return None;
+    }
     let mut from = 0;
     while let Some(node) = ready_from(array, client, from) {
-        if can_skip(array, client, node) {
+        let at = array.place_of(client, node);
+        if can_skip_at(array, client, node, at) {
             return Some(Event::Skip { client, node });
         }
-        if can_fire(array, client, node) {
+        if can_fire_at(array, client, node, at) {
             return Some(Event::Fire { client, node });
         }
         from = node + 1;

@@ -33,15 +33,15 @@ pub(crate) fn enter_all(graph: &Graph, followers: &mut Followers)
     }
 }
 
-pub(crate) fn without_antes(unmet: &[u32]) -> NodeSet
+// Fills the set with the nodes that wait for none. What was in it is forgotten.
+pub(crate) fn fill_without_antes(unmet: &[u32], ready: &mut NodeSet)
     requires { length unmet.now ≤ 2048 }
-    ensures { (k : ℕ) → has result k ≡ (slice_index_or unmet.now k 1 == 0) }
+    ensures { (k : ℕ) → has ready.new k ≡ (slice_index_or unmet.now k 1 == 0) }
 {
-    let mut ready = NodeSet::new();
+    ready.clear();
     for n in 0..unmet.len() {
         if unmet[n] == 0 {
             ready.insert(n as u32);
         }
     }
-    ready
 }

@@ -35,6 +35,14 @@ impl NodeSet {
         }
     }
 
+    // No node is in it any more.
+    pub(crate) fn clear(&mut self)
+        ensures { (k : ℕ) → has self.new k ≡ false }
+    {
+        self.words = [0; 32];
+        self.blocks = 0;
+    }
+
     pub(crate) fn contains(&self, node: u32) -> bool
         requires { node < 2048 }
         ensures { result ≡ has self.now node }

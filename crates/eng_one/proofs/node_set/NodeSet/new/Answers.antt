@@ -1,22 +1,8 @@
-use Rattle.std.proofs.Common.{◌≡◌, ℕ, ◌∙◌, ap, refl, sym, arith, length, inl, inr, slice_index_or, replicate}
-use Rattle.std.specs.Prelude.{◌==◌, if◌then◌else◌, ◌/◌, ◌%◌}
-use Rattle.std.specs.Int.{bit_at}
-use Rattle.std.proofs.lemmas.List.{get_or-replicate, get_or_past}
-use Rattle.std.proofs.lemmas.Bool.{cases_lt}
-use Rattle.std.proofs.lemmas.Nat.Bits.{bit_at-zero}
+use Rattle.eng_one.proofs.NoWords.{no-words, has-none}
 use Rattle.eng_one.proofs.node_set.NodeSet.new.Goals as goal
 
-no-word : (k : ℕ) → ◌≡◌ {A = ℕ} (slice_index_or (replicate 32 0) k 0) 0
-no-word k = elim (cases_lt k 32) [
-  | inl low ↦ get_or-replicate 32 k 0 0 low
-  | inr past ↦ get_or_past (replicate 32 0) k 0 (let e : length (replicate {A = ℕ} 32 0) ≡ 32 = refl in omega (arith, past, e))
-]
-
 pub invariant_of-result : goal.invariant_of-result
-invariant_of-result c = record {
-  long = refl;
-  filled = λ w l. bit_at-zero w ∙ ap (λ (x : ℕ). if x == 0 then 0 else 1) (sym (no-word w));
-}
+invariant_of-result c = no-words
 
 pub returns : goal.returns
-returns c k = ap (λ (x : ℕ). bit_at x (k % 64) == 1) (no-word (k / 64)) ∙ ap (λ (x : ℕ). x == 1) (bit_at-zero (k % 64))
+returns c = has-none

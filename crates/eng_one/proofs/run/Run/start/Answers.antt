@@ -14,7 +14,7 @@ invariant_of-self c =
     let filled : length old ≡ length g.nodes = ap length c.refill-2.ensures.items ∙ length-replicate c.nodes-nodes.result 0 ∙ c.nodes-nodes.ensures in
     let long : length counts ≡ length g.nodes = search rules in
     let back : take c.refill-2.new.items.len (counts ++ drop (length counts) old) ≡ counts = written-back c.refill-2.new.items.len counts old (search rules) (long ∙ sym filled) in
-    begun-as g c.of.result.value.drawn c.refill.new.items.items c.enter_all.new.followers counts _ c.without_antes-self-inside.result _ _
+    begun-as g c.of.result.value.drawn c.refill.new.items.items c.enter_all.new.followers counts _ c.fill_without_antes.new.ready _ _
     (ap (λ (h : Held). h.drawn) c.of.ensures)
     (c.refill.ensures.items ∙ ap (λ (n : ℕ). replicate n Idle) c.nodes-nodes.ensures)
     back
@@ -23,6 +23,6 @@ invariant_of-self c =
     c.enter_all.ensures.nodes
     c.enter_all.ensures.all
     c.count_all.ensures
-    (λ k. c.without_antes-self-inside.ensures k ∙ ap (λ (xs : List ℕ). slice_index_or xs k 1 == 0) (c.deref.ensures.value ∙ back))
+    (λ k. c.fill_without_antes.ensures k ∙ ap (λ (xs : List ℕ). slice_index_or xs k 1 == 0) (c.deref.ensures.value ∙ back))
     (omega (arith, c.refill.ensures.room, c.self.invariant.mark_room))
     (omega (arith, c.refill-2.ensures.room, c.self.invariant.count_room))

@@ -1,0 +1,23 @@
+-- Words of which no bit is set.
+use Rattle.std.proofs.Common.{◌≡◌, ℕ, ◌∙◌, ap, refl, sym, arith, length, inl, inr, slice_index_or, replicate, false}
+use Rattle.std.specs.Prelude.{◌==◌, if◌then◌else◌, ◌/◌, ◌%◌}
+use Rattle.std.specs.Int.{bit_at}
+use Rattle.std.proofs.lemmas.List.{get_or-replicate, get_or_past}
+use Rattle.std.proofs.lemmas.Bool.{cases_lt}
+use Rattle.std.proofs.lemmas.Nat.Bits.{bit_at-zero}
+use Rattle.eng_one.specs.Bits.{has, AreWords}
+
+no-word : (k : ℕ) → ◌≡◌ {A = ℕ} (slice_index_or (replicate 32 0) k 0) 0
+no-word k = elim (cases_lt k 32) [
+  | inl low ↦ get_or-replicate 32 k 0 0 low
+  | inr past ↦ get_or_past (replicate 32 0) k 0 (let e : length (replicate {A = ℕ} 32 0) ≡ 32 = refl in omega (arith, past, e))
+]
+
+pub no-words : AreWords (replicate 32 0) 0
+no-words = record {
+  long = refl;
+  filled = λ w l. bit_at-zero w ∙ ap (λ (x : ℕ). if x == 0 then 0 else 1) (sym (no-word w));
+}
+
+pub has-none : (k : ℕ) → has (replicate 32 0) k ≡ false
+has-none k = ap (λ (x : ℕ). bit_at x (k % 64) == 1) (no-word (k / 64)) ∙ ap (λ (x : ℕ). x == 1) (bit_at-zero (k % 64))
