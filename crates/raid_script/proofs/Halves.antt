@@ -35,6 +35,16 @@ whole_repeats s = record {
   cycles = λ i h. ap (λ (k : ℕ). get_or s k 0) (sym (mod-eq_of_lt h));
 }
 
+-- its first byte repeats where each byte is that
+pub first_repeats : (s : List ℕ) → ((i : ℕ) → i < 512 → get_or s i 0 ≡ get_or s 0 0) → Repeats s 1
+first_repeats s same = record {
+  exponent = 0;
+  few = omega arith;
+  is = refl;
+  within = omega arith;
+  cycles = λ i h. same i h ∙ ap (λ (k : ℕ). get_or s k 0) (let left : i % 1 < 1 = mod-lt i (omega arith) in omega (arith, left));
+}
+
 -- where the two halves of what repeats are equal, a half repeats
 cycles_half : (s : List ℕ) (q : ℕ) → 0 < q → Cycles s (2 * q) → ((i : ℕ) → i < q → get_or s i 0 ≡ get_or s (q + i) 0) → Cycles s q
 cycles_half s q some whole halves i h = whole i h ∙ ⊎_elim low high (cases_lt (i % (2 * q)) q)

@@ -18,3 +18,4 @@ pub mod RunLaws
 pub mod Printed
 pub mod ReplyTexts
 pub mod Summed
+pub mod StoredSectors

@@ -1,9 +1,9 @@
 -- The texts of replies, place by place.
-use Rattle.std.proofs.Common.{◌≡◌, ◌∙◌, ℕ, ◌+◌, ◌*◌, ◌<◌, List, length, take, drop, get_or, refl, sym, ap, arith}
-use Rattle.std.specs.Prelude.{Vec, slice_get}
+use Rattle.std.proofs.Common.{◌≡◌, ◌∙◌, ℕ, ◌+◌, ◌*◌, ◌<◌, ◌≤◌, List, length, take, drop, get_or, refl, sym, ap, arith}
+use Rattle.std.specs.Prelude.{Vec, slice_get, sum_by}
 use Rattle.std.specs.declared.alloc.Global.{Global}
-use Rattle.std.proofs.lemmas.List.{get_or_default}
-use Rattle.std.proofs.lemmas.List.Sums.{sum_by_more}
+use Rattle.std.proofs.lemmas.List.{get_or_default, take-append-drop}
+use Rattle.std.proofs.lemmas.List.Sums.{sum_by_more, sum_by-append}
 use Rattle.std.proofs.lemmas.Option.{slice_get_read}
 use Rattle.eng_world.specs.declared.item.Item.{Item}
 use Rattle.eng_world.specs.declared.item.Reply.{Reply}
@@ -41,3 +41,20 @@ pub before_more : (clients : List (Vec Item Global)) (c : ℕ) (xs : Vec Item Gl
 before_more clients c xs items h xs_is items_is =
     sum_by_more (λ (row : Vec Item Global). row_sectors row.items) clients c xs h
     ∙ ap (λ (n : ℕ). sectors_before clients c + n) (ap (λ (row : Vec Item Global). row_sectors row.items) (sym xs_is) ∙ ap row_sectors (sym items_is))
+
+-- those of one item more are among all
+pub row_within : (items : List Item) (i : ℕ) (x : Item) (n : ℕ) → i < length items → x ≡ get_or items i x → n ≡ item_sectors x → row_sectors (take i items) + n ≤ row_sectors items
+row_within items i x n h x_is n_is =
+    let more = row_more items i x n h x_is n_is in
+    let split = sum_by-append item_sectors (take (i + 1) items) (drop (i + 1) items) in
+    let whole = ap row_sectors (take-append-drop (i + 1) items) in
+    omega (arith, more, split, whole)
+
+-- and those of one client more
+pub before_within : (clients : List (Vec Item Global)) (c : ℕ) (xs : Vec Item Global) (items : List Item) → c < length clients → xs ≡ get_or clients c xs → items ≡ xs.items
+    → sectors_before clients c + row_sectors items ≤ sum_by (λ row. row_sectors row.items) clients
+before_within clients c xs items h xs_is items_is =
+    let more = before_more clients c xs items h xs_is items_is in
+    let split = sum_by-append (λ (row : Vec Item Global). row_sectors row.items) (take (c + 1) clients) (drop (c + 1) clients) in
+    let whole = ap (λ (l : List (Vec Item Global)). sum_by (λ (row : Vec Item Global). row_sectors row.items) l) (take-append-drop (c + 1) clients) in
+    omega (arith, more, split, whole)

@@ -98,6 +98,10 @@ item_sectors (item.Fail column) = 0
 abbrev pub row_sectors : List Item → ℕ
 row_sectors items = sum_by item_sectors items
 
+-- of these bytes those of so many sectors, from this one on
+abbrev pub bytes_from : List ℕ → ℕ → ℕ → List ℕ
+bytes_from bytes from count = take (512 * count) (drop (512 * from) bytes)
+
 -- Of a client's bytes, those of item i: the sectors of each item stand behind those of the items before it, those of a
 -- read that isn't replied its data too.
 abbrev pub item_bytes : List Item → List ℕ → ℕ → ℕ → List ℕ

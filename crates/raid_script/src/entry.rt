@@ -44,7 +44,9 @@ pub struct Entry {
 }
 
 /// Room for patches, of which none is in use.
-pub fn patch_room() -> Patches {
+pub fn patch_room() -> Patches
+    ensures { result.used ≡ 0 }
+{
     let span = Span { first: 0, count: 0 };
     let pattern = Pattern {
         len: 1,

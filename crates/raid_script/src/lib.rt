@@ -55,7 +55,7 @@ pub use memory::Memory;
 pub use reader::read_script;
 pub use repetition::shortest_string;
 pub use replies::put_replies;
-pub use runs::{put_blocks, run_length};
+pub use runs::{put_blocks, run_length, stored_run};
 pub use script::Script;
 pub use summary::put_summary;
 pub use trace::put_trace;

@@ -1,16 +1,17 @@
 //! The replies.
-ghost use Rattle.std.specs.Prelude.{◌≡◌, ◌≤◌, ◌*◌, length, is_ok, IfOk, OnErr};
+ghost use Rattle.std.specs.Prelude.{◌≡◌, ◌≤◌, ◌+◌, ◌*◌, length, drop, is_ok, IfOk, OnErr};
 ghost use Rattle.blk_disk.specs.Disk.{Rose};
 ghost use Rattle.raid_bay.specs.Sink.{Puts};
-ghost use Rattle.raid_script.specs.Replies.{op_sectors, item_sectors, row_sectors, op_first, item_first, data_text, item_text, row_text, replies_text, StandFor};
+ghost use Rattle.raid_script.specs.Replies.{op_sectors, item_sectors, row_sectors, op_first, item_first, bytes_from, data_text, item_text, row_text, replies_text, StandFor};
 
 use crate::causes::set_reply;
-use crate::runs::put_runs;
+use crate::runs::put_stored;
 use blk_disk::Failed;
-use blk_plain::{Op, SECTOR};
+use blk_plain::Op;
 use eng_world::{Item, Reply};
 use put_line::Line;
 use raid_bay::Sink;
+use sector_store::Store;
 
 // The clients whose replies are printed: those below this number.
 const PRINTED: usize = 16;
@@ -54,21 +55,31 @@ fn item_first(item: &Item) -> u64
     }
 }
 
-// Prints the runs behind `data`.
+// Prints the runs behind `data` of the item, whose sectors are those from this one on.
 fn put_data<K: Sink>(
+    item: &Item,
     reply: Reply,
-    first: u64,
-    bytes: &[u8],
+    sectors: &Store,
+    from: usize,
     line: &mut Line,
     out: &mut K,
 ) -> Result<(), Failed>
-    ensures output { K.tells → Puts (is_ok result) (K.output out.old)
-        (data_text reply first bytes.now) (K.output out.new) }
+    requires { 512 * from + 512 * item_sectors item.now ≤ length sectors.now }
+    ensures output { K.tells → Puts (is_ok result)
+        (K.output out.old) (data_text reply (item_first item.now)
+        (bytes_from sectors.now from (item_sectors item.now))) (K.output out.new) }
     ensures later { K.faults out.old ≤ K.faults out.new }
     ensures cause { OnErr result (Rose (K.faults out.old) (K.faults out.new)) }
 {
     match reply {
-        Reply::Data => put_runs(first, bytes.as_chunks::<SECTOR>().0, line, out),
+        Reply::Data => put_stored(
+            item_first(item),
+            sectors,
+            from,
+            item_sectors(item),
+            line,
+            out,
+        ),
         Reply::Done
         | Reply::Okay
         | Reply::Undone { .. }
@@ -79,57 +90,54 @@ fn put_data<K: Sink>(
     }
 }
 
-// Prints an item's reply, and the runs of its sectors.
+// Prints the reply to a client's item of this number, and the runs of its sectors, which are those from this one on.
 fn put_item<K: Sink>(
-    client: usize,
-    index: usize,
+    place: (usize, usize),
     item: &Item,
     reply: Reply,
-    bytes: &[u8],
+    sectors: &Store,
+    from: usize,
     line: &mut Line,
     out: &mut K,
 ) -> Result<(), Failed>
+    requires { 512 * from + 512 * item_sectors item.now ≤ length sectors.now }
     ensures output { K.tells → Puts (is_ok result)
-        (K.output out.old) (item_text client index item.now reply bytes.now) (K.output out.new) }
+        (K.output out.old) (item_text place.0 place.1 item.now reply
+        (bytes_from sectors.now from (item_sectors item.now))) (K.output out.new) }
     ensures later { K.faults out.old ≤ K.faults out.new }
     ensures cause { OnErr result (Rose (K.faults out.old) (K.faults out.new)) }
 {
-    set_reply(line, client, index, reply);
+    set_reply(line, place.0, place.1, reply);
     line.put(out)?;
-    put_data(reply, item_first(item), bytes, line, out)
+    put_data(item, reply, sectors, from, line, out)
 }
 
-// Prints the replies to a client's items, whose sectors are the first of these bytes; and says how
-// many bytes these are.
+// Prints the replies to a client's items, whose sectors are those from this one on; and says how many
+// these are.
 fn put_row<K: Sink>(
     client: usize,
     items: &[Item],
     replies: &[Reply],
-    bytes: &[u8],
+    sectors: &Store,
+    from: usize,
     line: &mut Line,
     out: &mut K,
 ) -> Result<usize, Failed>
     requires answered { length replies.now ≡ length items.now }
-    requires enough { 512 * row_sectors items.now ≤ length bytes.now }
-    ensures output { K.tells → Puts (is_ok result)
-        (K.output out.old) (row_text client items.now replies.now bytes.now) (K.output out.new) }
-    ensures passed { IfOk result (λ n. n ≡ 512 * row_sectors items.now) }
+    requires enough { 512 * from + 512 * row_sectors items.now ≤ length sectors.now }
+    ensures output { K.tells → Puts (is_ok result) (K.output out.old)
+        (row_text client items.now replies.now (drop (512 * from) sectors.now))
+        (K.output out.new) }
+    ensures passed { IfOk result (λ n. n ≡ row_sectors items.now) }
     ensures later { K.faults out.old ≤ K.faults out.new }
     ensures cause { OnErr result (Rose (K.faults out.old) (K.faults out.new)) }
 {
+    // A call of the store makes known that its numbers are small.
+    let _count = sectors.len();
     let mut at = 0;
     for (i, item) in items.iter().enumerate() {
-        let size = SECTOR * item_sectors(item) as usize;
-        put_item(
-            client,
-            i,
-            item,
-            replies[i],
-            &bytes[at..at + size],
-            line,
-            out,
-        )?;
-        at += size;
+        put_item((client, i), item, replies[i], sectors, from + at, line, out)?;
+        at += item_sectors(item) as usize;
     }
     Ok(at)
 }
@@ -140,15 +148,15 @@ fn put_row<K: Sink>(
 /// checker refuses, or `lost`. Behind each `data` stands a line for each maximal run of equal
 /// sectors, as [`put_blocks`](crate::put_blocks) prints it.
 ///
-/// `sectors` are the bytes of the sectors that reads were handed: of each read as many as it has
-/// blocks, one read's behind the other's, client after client, those of a read without data too.
+/// `sectors` are those that reads were handed: of each read as many as it has blocks, one read's behind
+/// the other's, client after client, those of a read without data too.
 ///
 /// It puts one line a call, and takes no memory. Failed, only where the sink's count of faults
 /// rose, has put a front of the text.
 pub fn put_replies<K: Sink>(
     clients: &[Vec<Item>],
     replies: &[Vec<Reply>],
-    sectors: &[u8],
+    sectors: &Store,
     out: &mut K,
 ) -> Result<(), Failed>
     requires { StandFor clients.now replies.now sectors.now }
@@ -158,11 +166,13 @@ pub fn put_replies<K: Sink>(
     ensures cause { OnErr result (Rose (K.faults out.old) (K.faults out.new)) }
 {
     let mut line = Line::new();
+    // A call of the store makes known that its numbers are small.
+    let _count = sectors.len();
     let mut at = 0;
     for client in 0..clients.len().min(PRINTED) {
         let items = clients[client].as_slice();
         let told = replies[client].as_slice();
-        at += put_row(client, items, told, &sectors[at..], &mut line, out)?;
+        at += put_row(client, items, told, sectors, at, &mut line, out)?;
     }
     Ok(())
 }

@@ -10,6 +10,7 @@ use blk_disk::Failed;
 use eng_world::{Item, Reply};
 use put_line::Line;
 use raid_bay::Sink;
+use sector_store::Store;
 
 #[tactic(auto, unfolding(crate::specs::Summary::sweep_line))]
 fn set_sweep(line: &mut Line, clients: usize, operations: u128)
@@ -48,7 +49,7 @@ fn set_written(line: &mut Line, written: u128, read: usize, sum: u128)
 pub fn put_summary<K: Sink>(
     clients: &[Vec<Item>],
     replies: &[Vec<Reply>],
-    sectors: &[u8],
+    sectors: &Store,
     out: &mut K,
 ) -> Result<(), Failed>
     requires few { length clients.now ≤ 16 }

@@ -1,12 +1,13 @@
 //! What is summed up of a run: its items, the sectors that they write and read, the bytes replied.
-ghost use Rattle.std.specs.Prelude.{◌≡◌, ◌≤◌, ◌*◌, length, sum_by};
+ghost use Rattle.std.specs.Prelude.{◌≡◌, ◌≤◌, ◌+◌, ◌*◌, length, drop, sum_by};
 ghost use Rattle.blk_plain.specs.Plain.{used_of};
-ghost use Rattle.raid_script.specs.Replies.{row_sectors, StandFor};
+ghost use Rattle.raid_script.specs.Replies.{row_sectors, bytes_from, StandFor};
 ghost use Rattle.raid_script.specs.Summary.{op_writes, item_writes, row_writes, byte_sum, data_sum, row_sum, all_sum};
 
 use crate::replies::item_sectors;
-use blk_plain::{Op, Patch, Patches, SECTOR};
+use blk_plain::{Op, Patch, Patches};
 use eng_world::{Item, Reply};
+use sector_store::Store;
 
 fn patches_in_use(patches: &Patches) -> &[Patch]
     ensures value { result.now ≡ used_of patches.now }
@@ -103,13 +104,29 @@ fn sum_bytes(bytes: &[u8]) -> u128
     total
 }
 
+// The sum of the bytes of so many sectors, from this one on.
+fn sum_sectors(sectors: &Store, from: usize, count: u32) -> u128
+    requires { 512 * from + 512 * count ≤ length sectors.now }
+    ensures value { result ≡ byte_sum (bytes_from sectors.now from count) }
+    ensures small { result ≤ 130560 * count }
+{
+    // A call of the store makes known that its numbers are small.
+    let _count = sectors.len();
+    let mut total: u128 = 0;
+    for i in 0..count as usize {
+        total += sum_bytes(sectors.sector(from + i));
+    }
+    total
+}
+
 // The sum of the bytes behind `data`.
-fn sum_data(reply: Reply, bytes: &[u8]) -> u128
-    ensures value { result ≡ data_sum reply bytes.now }
-    ensures small { result ≤ 255 * length bytes.now }
+fn sum_data(reply: Reply, sectors: &Store, from: usize, count: u32) -> u128
+    requires { 512 * from + 512 * count ≤ length sectors.now }
+    ensures value { result ≡ data_sum reply (bytes_from sectors.now from count) }
+    ensures small { result ≤ 130560 * count }
 {
     match reply {
-        Reply::Data => sum_bytes(bytes),
+        Reply::Data => sum_sectors(sectors, from, count),
         Reply::Done
         | Reply::Okay
         | Reply::Undone { .. }
@@ -120,39 +137,42 @@ fn sum_data(reply: Reply, bytes: &[u8]) -> u128
     }
 }
 
-// The sum of what a client was replied, whose sectors are the first of these bytes; and how many
-// bytes these are.
-fn sum_row(items: &[Item], replies: &[Reply], bytes: &[u8]) -> (u128, usize)
+// The sum of what a client was replied, whose sectors are those from this one on; and how many these are.
+fn sum_row(items: &[Item], replies: &[Reply], sectors: &Store, from: usize) -> (u128, usize)
     requires answered { length replies.now ≡ length items.now }
-    requires enough { 512 * row_sectors items.now ≤ length bytes.now }
-    ensures sum { result.0 ≡ row_sum items.now replies.now bytes.now }
-    ensures passed { result.1 ≡ 512 * row_sectors items.now }
-    ensures small { result.0 ≤ 255 * result.1 }
+    requires enough { 512 * from + 512 * row_sectors items.now ≤ length sectors.now }
+    ensures sum { result.0 ≡ row_sum items.now replies.now (drop (512 * from) sectors.now) }
+    ensures passed { result.1 ≡ row_sectors items.now }
+    ensures small { result.0 ≤ 130560 * result.1 }
 {
+    // A call of the store makes known that its numbers are small.
+    let _count = sectors.len();
     let mut sum: u128 = 0;
     let mut at = 0;
     for (i, item) in items.iter().enumerate() {
-        let size = SECTOR * item_sectors(item) as usize;
-        sum += sum_data(replies[i], &bytes[at..at + size]);
-        at += size;
+        let count = item_sectors(item);
+        sum += sum_data(replies[i], sectors, from + at, count);
+        at += count as usize;
     }
     (sum, at)
 }
 
 /// The sum of all bytes behind `data`, and how many sectors all items read.
-pub fn sum_all(clients: &[Vec<Item>], replies: &[Vec<Reply>], sectors: &[u8]) -> (u128, usize)
+pub fn sum_all(clients: &[Vec<Item>], replies: &[Vec<Reply>], sectors: &Store) -> (u128, usize)
     requires { StandFor clients.now replies.now sectors.now }
     ensures sum { result.0 ≡ all_sum clients.now replies.now sectors.now }
     ensures read { result.1 ≡ sum_by (λ row. row_sectors row.items) clients.now }
 {
+    // A call of the store makes known that its numbers are small.
+    let _count = sectors.len();
     let mut sum: u128 = 0;
     let mut at = 0;
     for client in 0..clients.len() {
         let items = clients[client].as_slice();
         let told = replies[client].as_slice();
-        let row = sum_row(items, told, &sectors[at..]);
+        let row = sum_row(items, told, sectors, at);
         sum += row.0;
         at += row.1;
     }
-    (sum, at / SECTOR)
+    (sum, at)
 }

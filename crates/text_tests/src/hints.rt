@@ -40,7 +40,7 @@ fn each_refused_word_is_named(rt: HostRuntime) -> Result<(), Fail> {
     let unformed = format!(in alloc;
         "raidctl: the words can't be taken apart: an option twice or without its value, a word too many, one that isn't UTF-8, or no CONF\n{HELP}"
     )?;
-    let rows: [(&[&str], u8, &str); 12] = [
+    let rows: [(&[&str], u8, &str); 13] = [
         (&["CONF", "-f"], 0, unformed.as_str()),
         (
             &["CONF"],
@@ -66,6 +66,11 @@ fn each_refused_word_is_named(rt: HostRuntime) -> Result<(), Fail> {
             &["CONF", "--io", "S", "--limit", "3"],
             2,
             "raidctl: --limit needs -F, -R or --resume\n",
+        ),
+        (
+            &["CONF", "-P", "--map"],
+            2,
+            "raidctl: --map needs --io, --sweep, -F, -R or --resume\n",
         ),
         (
             &["CONF", "--sweep", "1"],
@@ -110,7 +115,7 @@ fn an_option_that_there_isnt_is_named(rt: HostRuntime) -> Result<(), Fail> {
     let unformed = format!(in alloc;
         "raidctl: the words can't be taken apart: an option twice or without its value, a word too many, one that isn't UTF-8, or no CONF\n{HELP}"
     )?;
-    let rows: [(&[&str], &str); 16] = [
+    let rows: [(&[&str], &str); 18] = [
         (&["-v", "-i", "CONF"], "-v"),
         (&["CONF", "-B"], "-B"),
         (&["CONF", "--copyback", "-S"], "--copyback"),
@@ -118,6 +123,7 @@ fn an_option_that_there_isnt_is_named(rt: HostRuntime) -> Result<(), Fail> {
         (&["CONF", "--i", "S"], "--i"),
         (&["CONF", "-f", "-d1"], "-d1"),
         (&["CONF", "--resume", "--limits", "3"], "--limits"),
+        (&["CONF", "--io", "S", "--maps"], "--maps"),
         (&[], ""),
         (&["--io", "S", "--graphs", "G", "--trace", "-w", "4"], ""),
         (&["--sweep", "1", "--clients", "2", "--ops", "3"], ""),
@@ -125,6 +131,7 @@ fn an_option_that_there_isnt_is_named(rt: HostRuntime) -> Result<(), Fail> {
         (&["-I", "7", "-F", "d2", "-R", "d3"], ""),
         (&["--scan", "--sim", "fifo"], ""),
         (&["--resume", "--limit", "3"], ""),
+        (&["-m", "--io", "S", "--map"], ""),
         (&["CONF", "--", "-S"], ""),
         (&["CONF", "-", "-sS"], ""),
     ];

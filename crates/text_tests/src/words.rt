@@ -34,15 +34,17 @@ fn see(rt: &impl Abort, alloc: Global, rows: &[(&[&str], u8)]) -> Result<(), Fai
 
 #[test]
 fn words_that_are_refused(rt: HostRuntime) -> Result<(), Fail> {
-    let rows: [(&[&str], u8); 14] = [
+    let rows: [(&[&str], u8); 16] = [
         (&[], 0),
         (&["--io", "S"], 0),
         (&["CONF", "--copyback"], 0),
         (&["CONF", "-F"], 0),
         (&["CONF", "-R", "d0", "-R", "d0"], 0),
         (&["CONF", "--trace", "--trace"], 0),
+        (&["CONF", "--map", "--io", "S", "--map"], 0),
         (&["CONF"], 1),
         (&["CONF", "--trace"], 1),
+        (&["CONF", "--map"], 1),
         (&["CONF", "--io", "S", "--sweep", "1"], 1),
         (&["CONF", "--sweep", "1", "--clients", "2"], 2),
         (&["CONF", "--io", "S", "--ops", "2"], 2),
@@ -68,12 +70,16 @@ fn rebuilds_that_are_refused(rt: HostRuntime) -> Result<(), Fail> {
 
 #[test]
 fn letters_that_are_refused(rt: HostRuntime) -> Result<(), Fail> {
-    let rows: [(&[&str], u8); 12] = [
+    let rows: [(&[&str], u8); 16] = [
         (&["CONF", "-s", "-s"], 0),
         (&["CONF", "-f"], 0),
         (&["CONF", "-s", "-p"], 1),
+        (&["CONF", "-s", "-m"], 1),
+        (&["CONF", "--io", "S", "-m"], 1),
         (&["CONF", "-f", "d0", "-g", "d0", "-w", "1"], 1),
         (&["CONF", "-s", "--trace"], 2),
+        (&["CONF", "-m", "--map"], 2),
+        (&["CONF", "-i", "--map"], 2),
         (&["CONF", "-i", "-w", "17"], 2),
         (&["CONF", "-I", "one"], 3),
         (&["CONF", "-I", "4294967296"], 3),
@@ -97,6 +103,7 @@ fn command<'a>(alloc: Global, words: &'a [Name]) -> Result<Command<'a>, Fail> {
 fn letter(action: Action<'_>) -> (char, &str, u32) {
     match action {
         Action::Show => ('s', "", 0),
+        Action::ShowMap => ('m', "", 0),
         Action::Init => ('i', "", 0),
         Action::Check => ('p', "", 0),
         Action::Rewrite => ('P', "", 0),
@@ -110,8 +117,9 @@ fn letter(action: Action<'_>) -> (char, &str, u32) {
 
 #[test]
 fn letters_that_are_commands(rt: HostRuntime) -> Result<(), Fail> {
-    let table: [(&[&str], (char, &str, u32)); 8] = [
+    let table: [(&[&str], (char, &str, u32)); 9] = [
         (&["C", "-s"], ('s', "", 0)),
+        (&["-m", "C"], ('m', "", 0)),
         (&["C", "-i"], ('i', "", 0)),
         (&["-p", "C"], ('p', "", 0)),
         (&["C", "-P"], ('P', "", 0)),
@@ -137,6 +145,7 @@ fn see_rebuild_beside(rt: &impl Abort, action: Action<'_>) -> Result<(), Fail> {
         limit: Some(7),
         beside: Some(beside),
         workers: 2,
+        map: true,
     } = action
     else {
         return Err("another action".into());
@@ -155,6 +164,7 @@ fn see_rebuild_alone(rt: &impl Abort, action: Action<'_>) -> Result<(), Fail> {
         limit: None,
         beside: None,
         workers: 4,
+        map: false,
     } = action
     else {
         return Err("another action".into());
@@ -169,6 +179,7 @@ fn see_resume(action: Action<'_>) -> Result<(), Fail> {
         limit: Some(4_294_967_295),
         beside: None,
         workers: 4,
+        map: true,
     } = action
     else {
         return Err("another action".into());
@@ -181,19 +192,27 @@ fn rebuilds_that_are_commands(rt: HostRuntime) -> Result<(), Fail> {
     let words = names(
         rt.alloc(),
         &[
-            "C", "--io", "S", "-F", "d1", "--trace", "-w", "2", "--limit", "7",
+            "C", "--io", "S", "-F", "d1", "--trace", "-w", "2", "--limit", "7", "--map",
         ],
     )?;
     see_rebuild_beside(&rt, command(rt.alloc(), words.as_slice())?.action)?;
     let words = names(rt.alloc(), &["C", "-R", "d1"])?;
     see_rebuild_alone(&rt, command(rt.alloc(), words.as_slice())?.action)?;
-    let words = names(rt.alloc(), &["C", "--limit", "4294967295", "--resume"])?;
+    let words = names(
+        rt.alloc(),
+        &["C", "--map", "--limit", "4294967295", "--resume"],
+    )?;
     see_resume(command(rt.alloc(), words.as_slice())?.action)
 }
 
-// A script runs.
+// A script runs, and no map is kept.
 fn see_io(rt: &impl Abort, action: Action<'_>) -> Result<(), Fail> {
-    let Action::Io { beside, workers: 0 } = action else {
+    let Action::Io {
+        beside,
+        workers: 0,
+        map: false,
+    } = action
+    else {
         return Err("another action".into());
     };
     same(rt, beside.script, "S");
@@ -208,6 +227,7 @@ fn see_sweep(action: Action<'_>) -> Result<(), Fail> {
         clients: 16,
         ops: 2048,
         workers: 4,
+        map: true,
     } = action
     else {
         return Err("another action".into());
@@ -223,7 +243,34 @@ fn words_that_are_commands(rt: HostRuntime) -> Result<(), Fail> {
     see_io(&rt, io.action)?;
     let words = names(
         rt.alloc(),
-        &["--sweep", "7", "--clients", "16", "--ops", "2048", "C"],
+        &[
+            "--sweep",
+            "7",
+            "--clients",
+            "16",
+            "--ops",
+            "2048",
+            "C",
+            "--map",
+        ],
     )?;
     see_sweep(command(rt.alloc(), words.as_slice())?.action)
+}
+
+// What goes with a map: the array has to have labels, which are judged where they are written alone.
+#[test]
+fn maps_want_labels(rt: HostRuntime) -> Result<(), Fail> {
+    let rows: [(&[&str], (bool, bool, bool)); 4] = [
+        (&["C", "--io", "S", "--map"], (true, true, true)),
+        (&["C", "--io", "S"], (false, false, true)),
+        (&["C", "--resume", "--map"], (true, true, true)),
+        (&["C", "-m"], (true, true, false)),
+    ];
+    for (words, wanted) in rows {
+        let names = names(rt.alloc(), words)?;
+        let profile = command(rt.alloc(), names.as_slice())?.action.profile();
+        let found = (profile.map, profile.labels, profile.writes);
+        same_at(&rt, words, found, wanted);
+    }
+    Ok(())
 }

@@ -1,5 +1,5 @@
 //! What is printed, against lines written out by hand, and what is printed where a sink fails.
-ghost use Rattle.std.specs.Prelude.{◌≡◌, ◌≤◌, ◌+◌, ◌*◌, length};
+ghost use Rattle.std.specs.Prelude.{◌≡◌, ◌≤◌, ◌+◌, ◌*◌, IfOk, length};
 ghost use Rattle.raid_script.specs.Replies.{op_sectors, item_sectors, row_sectors, StandFor};
 
 use crate::judging::{same, same_at};
@@ -9,7 +9,10 @@ use blk_plain::{Op, OpId, Pattern, Span};
 use eng_world::{Item, Reply, Traced};
 use graph_mean::Refusal;
 use raid_bay::{MemSink, Memory};
-use raid_script::{put_history, put_replies, put_summary, put_trace, run_length, shortest_string};
+use raid_script::{
+    put_history, put_replies, put_summary, put_trace, run_length, shortest_string, stored_run,
+};
+use sector_store::Store;
 use std::alloc::Global;
 use std::process::Abort;
 use std::test::Fail;
@@ -56,7 +59,7 @@ fn put_taken(out: &mut MemSink) -> Result<(), Failed> {
 fn put(
     clients: &[Vec<Item>],
     replies: &[Vec<Reply>],
-    sectors: &[u8],
+    sectors: &Store,
     all: bool,
     out: &mut MemSink,
 ) -> Result<(), Failed>
@@ -76,7 +79,7 @@ fn print(
     alloc: Global,
     first: (&[Item], &[Reply]),
     second: (&[Item], &[Reply]),
-    sectors: &[u8],
+    sectors: &Store,
     all: bool,
     out: &mut MemSink,
 ) -> Result<Result<(), Failed>, Fail>
@@ -93,11 +96,12 @@ fn print(
 fn see_reply(rt: &impl Abort, alloc: Global, reply: Reply, line: &[u8]) -> Result<(), Fail> {
     let mut out = roomy_sink(alloc)?;
     let first = ([Item::Fail { column: 0 }], [reply]);
+    let sectors = Store::open(alloc, 0)?;
     let printed = print(
         alloc,
         (&first.0, &first.1),
         (&[], &[]),
-        &[],
+        &sectors,
         false,
         &mut out,
     )?;
@@ -108,7 +112,7 @@ fn see_reply(rt: &impl Abort, alloc: Global, reply: Reply, line: &[u8]) -> Resul
 
 // Two sectors of one byte, one of two bytes in turn, one of no repetition; and the first and the
 // last of them again.
-fn drawn_sectors() -> [u8; 3072]
+fn drawn_bytes() -> [u8; 3072]
     ensures { length result ≡ 3072 }
 {
     let mut sectors = [0x5a; 3072];
@@ -120,6 +124,14 @@ fn drawn_sectors() -> [u8; 3072]
         }
     }
     sectors
+}
+
+fn drawn_sectors(alloc: Global) -> Result<Store, Fail>
+    ensures { IfOk result (λ sectors. length sectors ≡ 3072) }
+{
+    let mut sectors = Store::open(alloc, 6)?;
+    sectors.put(0, &drawn_bytes());
+    Ok(sectors)
 }
 
 #[test]
@@ -250,7 +262,7 @@ fn prints_each_kind_of_reply(rt: HostRuntime) -> Result<(), Fail> {
 fn put_runs(alloc: Global, out: &mut MemSink) -> Result<Result<(), Failed>, Fail> {
     let first = ([read(7, 4), read(900, 1)], [Reply::Data, Reply::Range]);
     let second = ([write(0, 3), read(0, 1)], [Reply::Done, Reply::Data]);
-    let sectors = drawn_sectors();
+    let sectors = drawn_sectors(alloc)?;
     print(
         alloc,
         (&first.0, &first.1),
@@ -273,9 +285,10 @@ fn prints_runs_by_their_shortest_strings(rt: HostRuntime) -> Result<(), Fail> {
         sweep clients 2 operations 4\nwritten 3 read 6 sum 92930\n"
     )?;
     same(&rt, out.bytes(), text.as_bytes());
-    let sectors = drawn_sectors();
-    let chunks = sectors.as_chunks::<512>().0;
-    same(&rt, run_length(chunks), 2);
+    same(&rt, run_length(drawn_bytes().as_chunks::<512>().0), 2);
+    let sectors = drawn_sectors(rt.alloc())?;
+    same(&rt, stored_run(&sectors, 0, 6), 2);
+    same(&rt, stored_run(&sectors, 3, 6), 1);
     same(&rt, shortest_string(&[0x77; 512]), &[0x77]);
     Ok(())
 }
@@ -284,7 +297,7 @@ fn prints_runs_by_their_shortest_strings(rt: HostRuntime) -> Result<(), Fail> {
 fn put_reads(alloc: Global, out: &mut MemSink) -> Result<Result<(), Failed>, Fail> {
     let first = ([read(3, 1)], [Reply::Data]);
     let second = ([read(4294967295, 2)], [Reply::Data]);
-    let sectors = drawn_sectors();
+    let sectors = drawn_sectors(alloc)?;
     print(
         alloc,
         (&first.0, &first.1),

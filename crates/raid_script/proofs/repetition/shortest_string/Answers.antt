@@ -1,12 +1,16 @@
-use Rattle.std.proofs.Common.{◌≡◌, ◌∙◌, ◌<◌, ◌/◌, take, drop, sym, arith}
+use Rattle.std.proofs.Common.{◌≡◌, ◌∙◌, ℕ, ◌<◌, ◌/◌, take, drop, sym, subst, arith}
 use Rattle.std.proofs.lemmas.Bool.{false≢true}
 use Rattle.std.proofs.lemmas.Slice.Eq.{bytes_eq-Decides}
-use Rattle.raid_script.proofs.Halves.{whole_repeats, half_repeats, is_shortest, is_short, is_listed, filled, is_least}
+use Rattle.raid_script.proofs.Halves.{Repeats, whole_repeats, first_repeats, half_repeats, is_shortest, is_short, is_listed, filled, is_least}
 use Rattle.raid_script.proofs.repetition.shortest_string.Goals as goal
-use Rattle.raid_script.proofs.repetition.shortest_string.Goals.{then-loop-length-test+else-is_doubled, else-loop-length-test}
+use Rattle.raid_script.proofs.repetition.shortest_string.Goals.{then-is_uniform, else-is_uniform, then-loop-length-test+else-is_doubled, else-loop-length-test}
 
 pub loop-length-init : goal.loop-length-init
-loop-length-init c = whole_repeats c.args.sector.now
+loop-length-init c =
+    elim c.if-is_uniform.branch [
+      | then-is_uniform w ↦ subst (λ (n : ℕ). Repeats c.args.sector.now n) (sym w.length-is) (first_repeats c.args.sector.now (c.is_uniform.ensures.0 w.if-is_uniform.true))
+      | else-is_uniform w ↦ subst (λ (n : ℕ). Repeats c.args.sector.now n) (sym w.length-is) (whole_repeats c.args.sector.now)
+    ]
 
 pub loop-length-preserved : goal.loop-length-preserved
 loop-length-preserved c =

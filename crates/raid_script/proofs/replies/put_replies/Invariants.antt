@@ -1,4 +1,4 @@
-use Rattle.std.proofs.Common.{◌≡◌, ◌≤◌, ◌*◌, List, ℕ, Bool, length, min}
+use Rattle.std.proofs.Common.{◌≡◌, ◌≤◌, List, ℕ, Bool, length, min}
 use Rattle.raid_bay.specs.Sink.{Puts}
 use Rattle.raid_script.specs.Replies.{client_text, replies_text, sectors_before}
 use Rattle.raid_script.proofs.Printed.{from_place}
@@ -9,5 +9,5 @@ abbrev pub invariant-loop-client : goal.invariant-loop-client
 invariant-loop-client g l = record {
   rest : g.K.Sink.tells → (b : Bool) (new : List ℕ) → Puts b (g.K.Sink.output l.out) (from_place (client_text l.clients l.replies l.sectors) l.client (min (length l.clients) 16)) new → Puts b (g.K.Sink.output l.fn.out) (replies_text l.clients l.replies l.sectors) new;
   later : g.K.Sink.faults l.fn.out ≤ g.K.Sink.faults l.out;
-  place : l.at ≡ 512 * sectors_before l.clients l.client;
+  place : l.at ≡ sectors_before l.clients l.client;
 }

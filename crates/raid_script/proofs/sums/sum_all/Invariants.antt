@@ -8,6 +8,6 @@ use Rattle.raid_script.proofs.sums.sum_all.Given as goal
 abbrev pub invariant-loop-client : goal.invariant-loop-client
 invariant-loop-client l = record {
   whole : l.sum + from_sum (client_sum l.clients l.replies l.sectors) l.client (length l.clients) ≡ all_sum l.clients l.replies l.sectors;
-  place : l.at ≡ 512 * sectors_before l.clients l.client;
-  small : l.sum ≤ 255 * l.at;
+  place : l.at ≡ sectors_before l.clients l.client;
+  small : l.sum ≤ 130560 * l.at;
 }

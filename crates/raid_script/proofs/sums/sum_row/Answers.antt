@@ -1,21 +1,31 @@
-use Rattle.std.proofs.Common.{◌≡◌, ◌∙◌, ◌+◌, ◌-◌, ◌*◌, ◌<◌, ℕ, length, take, drop, sym, ap, arith, rules}
+use Rattle.std.proofs.Common.{◌≡◌, ◌∙◌, ◌+◌, ◌*◌, ◌<◌, ℕ, List, length, drop, sym, ap, arith}
+use Rattle.raid_script.specs.Replies.{bytes_from}
 use Rattle.raid_script.specs.Summary.{place_sum}
 use Rattle.raid_script.proofs.Printed.{sum_more}
-use Rattle.raid_script.proofs.ReplyTexts.{row_more}
+use Rattle.raid_script.proofs.ReplyTexts.{row_more, row_within}
+use Rattle.raid_script.proofs.StoredSectors.{bytes-behind}
 use Rattle.raid_script.proofs.Summed.{place_sum_is}
 use Rattle.raid_script.proofs.sums.sum_row.Goals as goal
 
+pub sum_data-sum-requires : goal.sum_data-sum-requires
+sum_data-sum-requires c =
+    let within = row_within c.args.items.now c.loop-i.i c.index-items-i.result c.item_sectors-count.result c.loop-i-test.true c.index-items-i.is c.item_sectors-count.ensures in
+    let place = c.loop-i.invariant.place in
+    let enough = c.requires.enough in
+    omega (arith, within, place, enough)
+
 pub loop-i-preserved : goal.loop-i-preserved
 loop-i-preserved c =
-    let f = place_sum c.args.items.now c.args.replies.now c.args.bytes.now in
+    let bytes : List ℕ = drop (512 * c.args.from) c.args.sectors.now in
+    let f = place_sum c.args.items.now c.args.replies.now bytes in
     let n = length c.args.items.now in
     let i = c.loop-i.i in
     let h : i < n = c.loop-i-test.true in
-    let size : c.loop-i.at + 512 * c.item_sectors.result - c.loop-i.at ≡ 512 * c.item_sectors.result = omega arith in
-    let more = row_more c.args.items.now i c.index-items-i.result c.item_sectors.result h c.index-items-i.is c.item_sectors.ensures in
-    let is : f i ≡ c.sum_data-sum.result = place_sum_is c.args.items.now c.args.replies.now c.args.bytes.now (take (c.loop-i.at + 512 * c.item_sectors.result - c.loop-i.at) (drop c.loop-i.at c.args.bytes.now)) i c.index-items-i.result _ c.item_sectors.result c.loop-i.at h c.requires.answered c.index-items-i.is c.item_sectors.ensures c.loop-i.invariant.place (ap (λ (k : ℕ). take k (drop c.loop-i.at c.args.bytes.now)) size) ∙ sym c.sum_data-sum.ensures.value in
+    let count = c.item_sectors-count.result in
+    let more = row_more c.args.items.now i c.index-items-i.result count h c.index-items-i.is c.item_sectors-count.ensures in
+    let is : f i ≡ c.sum_data-sum.result = place_sum_is c.args.items.now c.args.replies.now bytes (bytes_from c.args.sectors.now (c.args.from + c.loop-i.at) count) i c.index-items-i.result _ count (512 * c.loop-i.at) h c.requires.answered c.index-items-i.is c.item_sectors-count.ensures (ap (λ (k : ℕ). 512 * k) c.loop-i.invariant.place) (bytes-behind c.args.sectors.now c.args.from c.loop-i.at count) ∙ sym c.sum_data-sum.ensures.value in
     record {
       whole = omega (arith, c.loop-i.invariant.whole, sum_more f i n h, is);
       place = omega (arith, more, c.loop-i.invariant.place);
-      small = search rules;
+      small = omega (arith, c.loop-i.invariant.small, c.sum_data-sum.ensures.small);
     }
