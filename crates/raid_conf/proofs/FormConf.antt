@@ -7,7 +7,7 @@ use Rattle.std.proofs.Math.Seq.{drop-append_seam, take-append_seam}
 use Rattle.std.proofs.lemmas.List.Elements.{All-append, All-nil}
 use Rattle.raid_text.specs.Text.{Text, Numbered, lines_in}
 use Rattle.raid_conf.specs.declared.conf.Conf.{Conf}
-use Rattle.raid_conf.specs.declared.fault.At.{At}
+use Rattle.text_steps.specs.declared.at.At.{At}
 use Rattle.raid_conf.specs.declared.fault.ConfFault.{ConfFault}
 use Rattle.raid_conf.specs.Answers.{GivesConf}
 use Rattle.raid_conf.specs.declared.given.Given.{Given}
@@ -16,7 +16,7 @@ use Rattle.raid_conf.specs.declared.role.Role.TheVariants.{Disk, Spare}
 use Rattle.raid_conf.specs.Designs.{objects_of, serves}
 use Rattle.raid_conf.specs.Levels.{allows, has_design, is_level}
 use Rattle.raid_conf.specs.Sections.{complete_of, Counts, cyclic_of, layout_of, listed_of, no_design, pass_start, queue_begins, queue_of, spares_begin, tuple_of}
-use Rattle.raid_conf.specs.Steps.{◌>>=◌, at_line, line_if_any, Next, next_line, next_word, only_if, Rest, whole}
+use Rattle.text_steps.specs.Steps.{◌>>=◌, at_line, line_if_any, Next, next_line, next_word, only_if, Rest, whole}
 use Rattle.raid_conf.specs.Form.{Place, Literal, Number, conf_places, design_places, Differ, FillsAll, given_places, HasForm, IsConf, IsConfOf, IsDesignOf, IsDiskName, IsGiven, IsLineOf, IsName, IsTail, IsWordGiven, layout_places, name_places, queue_places, spare_places, start_places, tuple_places}
 use Rattle.raid_conf.specs.Format.{after_start, array_in, conf_in, conf_of, debug_behind, design_in, disks_in, given_in, kind_in, layout_in, listed_in, names_in, next_tuple, queue_behind, queue_in, spare_lines, spares_in, tail_in, tuples_in}
 use Rattle.raid_conf.specs.Laws.{ConfIsOfTheForm}

@@ -12,7 +12,7 @@ use Rattle.raid_conf.specs.declared.role.Role.{Role}
 use Rattle.raid_conf.specs.declared.role.Role.TheVariants.{Disk, Spare}
 use Rattle.raid_conf.specs.Levels.{allows, is_level}
 use Rattle.raid_conf.specs.Sections.{absent_as, after_objects, array_of, begins, complete_of, count_code, counts_of, Counts, cyclic_of, first_of, has_name, layout_of, level_in, listed_of, may_be_columns, name_in, name_of, new_name, numbers_behind, pass_start, queue_begins, queue_of, queue_or_debug, spare_or_layout, spares_begin, start_of, tuple_behind, tuple_of, with_number}
-use Rattle.raid_conf.specs.Steps.{◌>>=◌, after_number, after_word, at_end, next_number, next_word, number_in, only_if}
+use Rattle.text_steps.specs.Steps.{◌>>=◌, after_number, after_word, at_end, next_number, next_word, number_in, only_if}
 use Rattle.raid_conf.specs.Form.{Place, Literal, Number, Fills, FillsAll, array_places, disk_word, IsDiskName, IsName, IsWordGiven, layout_places, name_places, start_places}
 use Rattle.raid_conf.proofs.OneStep.{between, bind_ok, bytes_same, end_fills, end_is, literal_fills, literal_is, NumberRead, number_fills, number_is, number_read, number_small, ok_pair, ok_same, only_ok, same_bytes, wanted_read, words_are}
 

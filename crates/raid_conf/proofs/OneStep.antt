@@ -1,12 +1,12 @@
 -- One step of reading, and what it says of the form.
-use Rattle.std.proofs.Common.{◌≡◌, ◌∙◌, ℕ, ◌<◌, ◌≤◌, ◌^◌, Bool, true, false, cond, List, [], ◌∷◌, ◌++◌, Option, Some, None, Result, Ok, Err, refl, ap, subst, eq-eqb, length}
+use Rattle.std.proofs.Common.{◌≡◌, ◌∙◌, ℕ, ◌<◌, ◌≤◌, ◌^◌, Bool, true, false, cond, List, [], ◌∷◌, ◌++◌, Option, Some, None, Result, Ok, Err, refl, ap, subst, eq-eqb, length, ok_or}
 use Rattle.std.specs.Prelude.{◌&&◌, codes, nat_eq, nat_le, nat_lt}
 use Rattle.std.specs.Str.{all_ascii_digits, bytes_eq}
 use Rattle.std.specs.Str.Parse.{digits_value}
 use Rattle.std.proofs.lemmas.Bool.{and_parts, eqb-true, leb-true, ltb-true}
 use Rattle.std.proofs.lemmas.Slice.Eq.{bytes_eq-Decides}
 use Rattle.raid_text.specs.Text.{Text, number_of}
-use Rattle.raid_conf.specs.Steps.{◌>>=◌, after_number, after_word, at_end, next_number, next_word, number_in, only_if, or_code}
+use Rattle.text_steps.specs.Steps.{◌>>=◌, after_number, after_word, at_end, next_number, next_word, number_in, only_if}
 use Rattle.raid_conf.specs.Form.{Place, Literal, Number, Fills, FillsAll}
 
 -- ---- steps that may refuse
@@ -63,7 +63,7 @@ pub number_is : (word : Text) (n : ℕ) → number_in word ≡ Ok n → number_o
 unfolding number_in
 number_is word n h = go (number_of word) h
   where
-    go : (o : Option ℕ) → or_code o 2 ≡ Ok n → o ≡ Some n
+    go : (o : Option ℕ) → ok_or {E = ℕ} o 2 ≡ Ok n → o ≡ Some n
     go None e = absurd (cc)
     go (Some k) e = ap (λ (m : ℕ). Some m) (ok_same k n e)
 

@@ -14,7 +14,7 @@ use Rattle.raid_conf.specs.declared.role.Role.TheVariants.{Disk, Spare}
 use Rattle.raid_conf.specs.Designs.{blocks_of, is_design, serves}
 use Rattle.raid_conf.specs.Levels.{has_design}
 use Rattle.raid_conf.specs.Sections.{count_code, has_name}
-use Rattle.raid_conf.specs.Steps.{line_among, line_if_any, Next, next_line, next_word, Rest, whole, words_in}
+use Rattle.text_steps.specs.Steps.{line_among, line_if_any, Next, next_line, next_word, Rest, whole, words_in}
 use Rattle.raid_conf.specs.Form.{Place, Literal, Number, array_places, conf_places, design_places, Differ, FillsAll, given_places, HasForm, IsConf, IsConfOf, IsDesignOf, IsGiven, IsLineOf, IsTail, layout_places, name_places, queue_places, spare_places, start_places, tuple_places}
 use Rattle.raid_conf.specs.Format.{after_start, array_in, conf_in, conf_of, debug_behind, design_in, disks_in, given_in, kind_in, layout_in, listed_in, names_in, next_name, next_tuple, queue_behind, queue_in, spare_lines, spares_in, tail_in, tuples_in, with_name}
 use Rattle.raid_conf.specs.Laws.{ConfIsRead}

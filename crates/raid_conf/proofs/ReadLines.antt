@@ -11,7 +11,7 @@ use Rattle.raid_conf.specs.declared.role.Role.{Role}
 use Rattle.raid_conf.specs.declared.role.Role.TheVariants.{Disk, Spare}
 use Rattle.raid_conf.specs.Levels.{allows, is_level}
 use Rattle.raid_conf.specs.Sections.{after_objects, array_of, begins, complete_of, counts_of, cyclic_of, first_of, has_name, layout_of, level_in, listed_of, may_be_columns, name_in, name_of, new_name, numbers_behind, pass_start, queue_begins, queue_of, queue_or_debug, spare_or_layout, spares_begin, start_of, tuple_behind, tuple_of, with_number}
-use Rattle.raid_conf.specs.Steps.{next_word}
+use Rattle.text_steps.specs.Steps.{next_word}
 use Rattle.raid_conf.specs.Form.{Place, Literal, Number, FillsAll, array_places, disk_word, IsName, layout_places, name_places, start_places}
 use Rattle.raid_conf.proofs.FormLines.{IsNameFor}
 use Rattle.raid_conf.proofs.OneStep.{bytes_same, end_back, is_number, literal_back, number_back, same_bytes, wanted_back, word_back}

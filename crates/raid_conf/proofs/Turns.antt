@@ -1,14 +1,14 @@
 -- Names, tuples and numbers that are read one after another, as loops do.
 use Rattle.std.proofs.Common.{◌≡◌, ◌∙◌, ℕ, ◌-◌, ◌+◌, ◌<◌, zero, suc, List, [], ◌∷◌, ◌++◌, Result, Ok, Err, refl, sym, ap, subst, arith}
 use Rattle.raid_text.specs.Text.{Text}
-use Rattle.raid_conf.specs.declared.fault.At.{At}
+use Rattle.text_steps.specs.declared.at.At.{At}
 use Rattle.raid_conf.specs.declared.fault.ConfFault.{ConfFault}
 use Rattle.raid_conf.specs.declared.fault.ConfFault.TheVariants as fault
 use Rattle.raid_conf.specs.declared.role.Role.{Role}
 use Rattle.raid_conf.specs.Answers.{GivesFault}
 use Rattle.raid_conf.specs.Format.{names_in, next_tuple, tuples_in, with_name}
 use Rattle.raid_conf.specs.Sections.{numbers_behind, tuple_behind, with_number}
-use Rattle.raid_conf.specs.Steps.{◌>>=◌, Rest, at_line}
+use Rattle.text_steps.specs.Steps.{◌>>=◌, Rest, at_line}
 
 -- what is left of n turns is one and then what is left of them
 one_more : (n i : ℕ) → i < n → n - i ≡ suc (n - (i + 1))

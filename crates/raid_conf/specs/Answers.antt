@@ -3,21 +3,16 @@ use Rattle.std.specs.Prelude.{◌≡◌, Bool, false, Result, Ok, Err}
 use Rattle.lay_design.specs.declared.fault.DesignFault.{DesignFault}
 use Rattle.lay_design.specs.declared.fault.DesignFault.TheVariants as design
 use Rattle.raid_conf.specs.declared.conf.Conf.{Conf}
-use Rattle.raid_conf.specs.declared.fault.At.{At as Refused}
+use Rattle.text_steps.specs.declared.at.At.{At as Refused}
 use Rattle.raid_conf.specs.declared.fault.ConfFault.{ConfFault}
 use Rattle.raid_conf.specs.declared.fault.ConfFault.TheVariants as fault
-
--- what a step gave, seen by a view, or its refusal
-abbrev pub Gives : {X A E : Type 0} → (X → A) → Result X E → Result A E → Type 0
-Gives view (Ok x) read = read ≡ Ok (view x)
-Gives view (Err e) read = read ≡ Err e
 
 -- the refusal of a text
 abbrev pub GivesFault : {A : Type 0} → ConfFault → Result A Refused → Type 0
 GivesFault (fault.At n code) read = read ≡ Err (record { line = n; code = code })
 GivesFault fault.Memory read = Unit {0}
 
--- the same as the first of a step that takes memory
+-- what a step gave that takes memory, seen by a view, or its refusal
 abbrev pub GivesIfRoom : {X A : Type 0} → (X → A) → Result X ConfFault → Result A Refused → Type 0
 GivesIfRoom view (Ok x) read = read ≡ Ok (view x)
 GivesIfRoom view (Err fault) read = GivesFault fault read

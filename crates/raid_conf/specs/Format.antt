@@ -1,9 +1,9 @@
 -- Configurations: what a text says, or the first line that is refused and the code of its refusal.
-use Rattle.std.specs.Prelude.{ℕ, zero, suc, List, [], ◌∷◌, ◌++◌, Bool, true, false, Option, Some, None, Result, Ok, Err, if◌then◌else◌, codes}
+use Rattle.std.specs.Prelude.{ℕ, zero, suc, List, [], ◌∷◌, ◌++◌, Option, Some, None, Result, Ok, Err, if◌then◌else◌, codes}
 use Rattle.std.specs.Str.{bytes_eq}
 use Rattle.raid_text.specs.Text.{Text}
 use Rattle.raid_conf.specs.declared.conf.Conf.{Conf}
-use Rattle.raid_conf.specs.declared.fault.At.{At}
+use Rattle.text_steps.specs.declared.at.At.{At}
 use Rattle.raid_conf.specs.declared.given.Given.{Given}
 use Rattle.raid_conf.specs.declared.given.Given.TheVariants.{Listed}
 use Rattle.raid_conf.specs.declared.role.Role.{Role}
@@ -11,7 +11,7 @@ use Rattle.raid_conf.specs.declared.role.Role.TheVariants.{Disk, Spare}
 use Rattle.raid_conf.specs.Designs.{serves}
 use Rattle.raid_conf.specs.Levels.{has_design}
 use Rattle.raid_conf.specs.Sections.{array_of, complete_of, count_code, cyclic_of, layout_of, listed_of, name_of, no_design, pass_start, queue_begins, queue_of, spares_begin, tuple_of}
-use Rattle.raid_conf.specs.Steps.{◌>>=◌, at_line, Next, line_if_any, next_line, next_word, only_if, Rest, whole}
+use Rattle.text_steps.specs.Steps.{◌>>=◌, at_line, Next, line_if_any, next_line, next_word, only_if, Rest, whole}
 
 -- the lines behind the one that begins this section; code 3 where none is left, this code where the next begins no section
 unfoldable pub after_start : ℕ → Text → Rest → Result Rest At

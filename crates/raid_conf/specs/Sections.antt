@@ -1,14 +1,14 @@
 -- The lines of a configuration, one by one: what a line says, or the code by which it is refused.
-use Rattle.std.specs.Prelude.{ℕ, zero, suc, ◌+◌, Bool, true, false, ◌&&◌, not, List, [], ◌∷◌, ◌++◌, Option, Some, None, Result, Ok, Err, if◌then◌else◌, nat_eq, nat_le, nat_lt, codes, length}
+use Rattle.std.specs.Prelude.{ℕ, zero, suc, ◌+◌, Bool, true, false, ◌&&◌, not, List, [], ◌∷◌, ◌++◌, Result, Ok, Err, if◌then◌else◌, nat_eq, nat_le, nat_lt, codes, length}
 use Rattle.std.specs.List.{list_any}
 use Rattle.std.specs.Str.{bytes_eq}
 use Rattle.raid_text.specs.Text.{Text}
 use Rattle.raid_conf.specs.declared.given.Given.{Given}
-use Rattle.raid_conf.specs.declared.given.Given.TheVariants.{Listed, Cyclic, Complete}
+use Rattle.raid_conf.specs.declared.given.Given.TheVariants.{Cyclic, Complete}
 use Rattle.raid_conf.specs.declared.role.Role.{Role}
 use Rattle.raid_conf.specs.declared.role.Role.TheVariants.{Disk, Spare}
 use Rattle.raid_conf.specs.Levels.{allows, is_level}
-use Rattle.raid_conf.specs.Steps.{◌>>=◌, after_number, after_word, at_end, next_number, next_word, number_in, only_if, or_code}
+use Rattle.text_steps.specs.Steps.{◌>>=◌, after_number, after_word, at_end, next_number, next_word, number_in, only_if}
 
 -- ---- the lines that begin sections
 

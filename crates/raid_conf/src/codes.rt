@@ -1,10 +1,5 @@
-//! The codes by which a line of a configuration is refused.
-
-/// A word that the form doesn't have there, or too few or too many words.
-pub const WORD: u8 = 1;
-
-/// A word that is no number where the form has one, or a number out of its range.
-pub const NUMBER: u8 = 2;
+//! The codes by which a line of a configuration is refused, beside those that all formats have in
+//! common.
 
 /// A section that is unknown, repeated, out of order or missing.
 pub const SECTION: u8 = 3;

@@ -1,20 +1,22 @@
 //! The lines of designs.
 ghost use Rattle.std.specs.Prelude.{◌≡◌, ◌∷◌, []};
 ghost use Rattle.raid_text.specs.Seen.{words_left};
-ghost use Rattle.raid_conf.specs.Answers.{Gives, GivesIfRoom};
+ghost use Rattle.raid_conf.specs.Answers.{GivesIfRoom};
 ghost use Rattle.raid_conf.specs.Format.{next_tuple, tuples_in};
 ghost use Rattle.raid_conf.specs.Sections.{after_objects, complete_of, cyclic_of, first_of, listed_of, no_design, numbers_behind, tuple_behind, tuple_of, with_number};
-ghost use Rattle.raid_conf.specs.Steps.{at_line, rest_of};
+ghost use Rattle.text_steps.specs.Steps.{at_line, rest_of};
+ghost use Rattle.text_steps.specs.Answers.{Gives};
 
-use crate::codes::{COLUMNS, TUPLES, WORD};
+use crate::codes::{COLUMNS, TUPLES};
 use crate::counts::Counts;
 use crate::fault::ConfFault;
 use crate::given::Given;
-use crate::lines::{at_line, next_line};
 use crate::numbers::Numbers;
-use crate::steps::{next_number, next_word, number_in, pass_end, pass_number, pass_word};
 use raid_text::{Lines, Words};
 use std::alloc::Global;
+use text_steps::{
+    WORD, at_line, next_line, next_number, next_word, number_in, pass_end, pass_number, pass_word,
+};
 
 // Passes v, which is the number of columns.
 #[tactic(auto, unfolding(crate::specs::Sections::after_objects))]

@@ -3,14 +3,8 @@ ghost use Rattle.std.specs.Prelude.{◌≡◌};
 ghost use Rattle.raid_conf.specs.declared.fault.ConfFault.TheVariants.{At as Refused, Memory};
 
 use std::alloc::{AllocError, AllocFailed};
+use text_steps::At;
 use thiserror::Error;
-
-/// The line by which a text is refused, and the code.
-#[derive(Clone, Copy, Debug, PartialEq, Eq)]
-pub(crate) struct At {
-    pub(crate) line: u32,
-    pub(crate) code: u8,
-}
 
 /// Why a text wasn't read as a configuration.
 #[derive(Clone, Copy, Debug, PartialEq, Eq, Error)]

@@ -30,7 +30,6 @@ mod fault;
 mod given;
 mod laws;
 mod layouts;
-mod lines;
 mod make;
 mod memory;
 mod name_lines;
@@ -42,7 +41,6 @@ mod print;
 mod reader;
 mod role;
 mod sections;
-mod steps;
 mod tables;
 
 pub use any_fault::AnyFault;

@@ -2,19 +2,19 @@
 ghost use Rattle.std.specs.Prelude.{◌≡◌, ◌+◌, ◌<◌, ◌≤◌, ◌++◌, [], length, IfOk, IsTrue};
 ghost use Rattle.raid_text.specs.Seen.{words_left};
 ghost use Rattle.raid_text.specs.Text.{is_word};
-ghost use Rattle.raid_conf.specs.Answers.{Gives, GivesIfRoom};
+ghost use Rattle.raid_conf.specs.Answers.{GivesIfRoom};
 ghost use Rattle.raid_conf.specs.Format.{names_in, next_name, with_name};
 ghost use Rattle.raid_conf.specs.Sections.{absent_as, count_code, has_name, name_in, name_of, new_name};
-ghost use Rattle.raid_conf.specs.Steps.{rest_of};
+ghost use Rattle.text_steps.specs.Steps.{rest_of};
+ghost use Rattle.text_steps.specs.Answers.{Gives};
 
 use crate::codes::{DISKS, NAME, SPARES};
-use crate::fault::{At, ConfFault};
-use crate::lines::{at_line, next_line};
+use crate::fault::ConfFault;
 use crate::names::Names;
 use crate::role::Role;
-use crate::steps::{next_word, pass_end};
 use raid_text::{Lines, Words};
 use std::alloc::Global;
+use text_steps::{At, at_line, next_line, next_word, pass_end};
 
 /// The most bytes of a name.
 const NAME_BYTES: usize = 255;

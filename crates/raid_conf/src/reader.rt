@@ -1,27 +1,27 @@
 //! The reader of a whole configuration.
 ghost use Rattle.std.specs.Prelude.{◌≡◌, ◌≤◌, length, IfOk};
 ghost use Rattle.raid_text.specs.Seen.{words_left};
-ghost use Rattle.raid_conf.specs.Answers.{Gives, GivesConf, GivesIfRoom};
+ghost use Rattle.raid_conf.specs.Answers.{GivesConf, GivesIfRoom};
 ghost use Rattle.raid_conf.specs.Form.{IsConf};
 ghost use Rattle.raid_conf.specs.Format.{after_start, array_in, conf_in, conf_of, design_in, disks_in, given_in, kind_in, layout_in, listed_in, queue_in, spare_lines, spares_in, tail_in};
-ghost use Rattle.raid_conf.specs.Steps.{rest_of};
+ghost use Rattle.text_steps.specs.Steps.{rest_of};
+ghost use Rattle.text_steps.specs.Answers.{Gives};
 
-use crate::codes::{DESIGN, SECTION, SPARES, TUPLES, WORD};
+use crate::codes::{DESIGN, SECTION, SPARES, TUPLES};
 use crate::conf::Conf;
 use crate::design_lines::{complete_line, cyclic_line, listed_line, no_design, read_tuples};
 use crate::designs::{has_design, serves};
-use crate::fault::{At, ConfFault};
+use crate::fault::ConfFault;
 use crate::given::Given;
-use crate::lines::{at_line, line_if_any, next_line};
 use crate::name_lines::read_names;
 use crate::names::Names;
 use crate::role::Role;
 use crate::sections::{
     Kind, Sizes, array_line, layout_line, pass_start, queue_begins, queue_line, spares_begin,
 };
-use crate::steps::next_word;
 use raid_text::{Lines, Words};
 use std::alloc::Global;
+use text_steps::{At, WORD, at_line, line_if_any, next_line, next_word};
 
 // Passes the line that begins this section; `code` where the next line begins none.
 #[tactic(auto, unfolding(crate::specs::Format::after_start))]

@@ -1,14 +1,16 @@
 //! The lines that begin sections, and those of the array, the layout and the queue.
 ghost use Rattle.std.specs.Prelude.{◌≡◌, ◌≤◌, IfOk, IsTrue};
 ghost use Rattle.raid_text.specs.Seen.{words_left};
-ghost use Rattle.raid_conf.specs.Answers.{Gives};
 ghost use Rattle.raid_conf.specs.Levels.{allows, is_level};
 ghost use Rattle.raid_conf.specs.Sections.{array_of, counts_of, layout_of, level_in, may_be_columns, pass_start, queue_begins, queue_of, queue_or_debug, spare_or_layout, spares_begin, start_of};
+ghost use Rattle.text_steps.specs.Answers.{Gives};
 
-use crate::codes::{COLUMNS, DISKS, LEVEL, NUMBER, ONE, QUEUE, SECTION, SPARES, WORD};
-use crate::steps::{next_number, next_word, number_in, pass_end, pass_number, pass_word};
+use crate::codes::{COLUMNS, DISKS, LEVEL, ONE, QUEUE, SECTION, SPARES};
 use blk_plain::limits;
 use raid_text::Words;
+use text_steps::{
+    NUMBER, WORD, next_number, next_word, number_in, pass_end, pass_number, pass_word,
+};
 
 // The name of the section that a line begins.
 #[tactic(auto, unfolding(crate::specs::Sections::start_of))]

@@ -1,6 +1,6 @@
 -- What a text has next, read line by line and on a line word by word from left to right, or where
 -- and by which code it is refused there.
-use Rattle.std.specs.Prelude.{ℕ, ◌+◌, Bool, List, [], ◌∷◌, length, Option, Some, None, Result, Ok, Err, if◌then◌else◌, nat_eq}
+use Rattle.std.specs.Prelude.{ℕ, ◌+◌, Bool, List, [], ◌∷◌, length, Option, Some, None, Result, Ok, Err, if◌then◌else◌, nat_eq, ok_or}
 use Rattle.std.specs.Str.{bytes_eq}
 use Rattle.raid_text.specs.declared.readers.Lines.{Lines}
 use Rattle.raid_text.specs.Seen.{left, line_count}
@@ -12,11 +12,6 @@ infixl 10 ◌>>=◌
 abbrev pub ◌>>=◌ : {A B E : Type 0} → Result A E → (A → Result B E) → Result B E
 (Ok x) >>= f = f x
 (Err e) >>= f = Err e
-
--- the value that there is, or this code
-abbrev pub or_code : {A : Type 0} → Option A → ℕ → Result A ℕ
-or_code None code = Err code
-or_code (Some x) code = Ok x
 
 -- nothing where the test passes, or this code
 abbrev pub only_if : Bool → ℕ → Result (Unit {0}) ℕ
@@ -37,7 +32,7 @@ after_word text code (word ∷ words) = if bytes_eq word text then Ok words else
 
 -- the number that a word is; code 2 where it is none
 unfoldable pub number_in : Text → Result ℕ ℕ
-number_in word = or_code (number_of word) 2
+number_in word = ok_or (number_of word) 2
 
 -- the number that comes next, and the words behind it; code 1 where no word comes, 2 where it is
 -- no number

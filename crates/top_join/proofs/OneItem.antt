@@ -13,8 +13,9 @@ use Rattle.raid_script.specs.Asked.{Asked, AskedPatch, Writes, WritesAll, Reads,
 use Rattle.raid_script.specs.Form.{AreLinesOf, IsJoin, IsSaid}
 use Rattle.raid_script.specs.Laws.{IsScriptOf}
 use Rattle.raid_script.proofs.ByClient.{by_first_more, by_first_none}
-use Rattle.top_join.specs.Joining.{or_else, spans_by, spans_in, spans_in_row}
+use Rattle.top_join.specs.Joining.{spans_by, spans_in, spans_in_row}
 use Rattle.top_join.specs.Lines.{IsLineOfItem}
+use Rattle.std.specs.Option.{option_or}
 
 -- ## Which items name a graph
 
@@ -90,11 +91,11 @@ module _ (book : List Named) (columns : ℕ) where
 -- an item that doesn't name it is passed over
 passed : (n : ℕ) (a : Asked) (items : List Asked) → spans_by n a ≡ None → spans_in_row n (a ∷ items) ≡ spans_in_row n items
 unfolding spans_in_row
-passed n a items is = ap (λ (x : Option (List Span)). or_else x (spans_in_row n items)) is
+passed n a items is = ap (λ (x : Option (List Span)). option_or x (spans_in_row n items)) is
 
 found : (n : ℕ) (a : Asked) (items : List Asked) (spans : List Span) → spans_by n a ≡ Some spans → spans_in_row n (a ∷ items) ≡ Some spans
 unfolding spans_in_row
-found n a items spans is = ap (λ (x : Option (List Span)). or_else x (spans_in_row n items)) is
+found n a items spans is = ap (λ (x : Option (List Span)). option_or x (spans_in_row n items)) is
 
 no_row : (n : ℕ) → spans_in_row n [] ≡ None
 unfolding spans_in_row
@@ -130,22 +131,22 @@ row_of n c (q ∷ front) back r spans f b is = step (nat_eq q.client c) refl (Al
 
 -- ## All clients
 
-or_none : (a : Option (List Span)) → or_else a None ≡ a
+or_none : (a : Option (List Span)) → option_or a None ≡ a
 or_none None = refl
 or_none (Some x) = refl
 
-or_assoc : (a b c : Option (List Span)) → or_else a (or_else b c) ≡ or_else (or_else a b) c
+or_assoc : (a b c : Option (List Span)) → option_or a (option_or b c) ≡ option_or (option_or a b) c
 or_assoc None b c = refl
 or_assoc (Some x) b c = refl
 
-spans_append : (n : ℕ) (rows : List (List Asked)) (row : List Asked) → spans_in n (rows ++ row ∷ []) ≡ or_else (spans_in n rows) (spans_in_row n row)
+spans_append : (n : ℕ) (rows : List (List Asked)) (row : List Asked) → spans_in n (rows ++ row ∷ []) ≡ option_or (spans_in n rows) (spans_in_row n row)
 unfolding spans_in
 spans_append n [] row = or_none (spans_in_row n row)
 spans_append n (first ∷ rows) row =
-    ap (λ (x : Option (List Span)). or_else (spans_in_row n first) x) (spans_append n rows row)
+    ap (λ (x : Option (List Span)). option_or (spans_in_row n first) x) (spans_append n rows row)
     ∙ or_assoc (spans_in_row n first) (spans_in n rows) (spans_in_row n row)
 
-one_more : (client k : ℕ) (spans : List Span) → or_else (if_so spans (nat_lt client k)) (if_so spans (nat_eq client k)) ≡ if_so spans (nat_lt client (suc k))
+one_more : (client k : ℕ) (spans : List Span) → option_or (if_so spans (nat_lt client k)) (if_so spans (nat_eq client k)) ≡ if_so spans (nat_lt client (suc k))
 one_more client k spans = elim (cases_lt client k) [
   | inl l ↦ rw (lt-ltb client k l) (rw (lt-ltb client (suc k) (omega (arith, l))) refl)
   | inr g ↦ elim (cases_lt k client) [
@@ -166,8 +167,8 @@ all_of n (suc k) client qs spans rows =
     ap (λ (i : ℕ). spans_in n (by_first i qs)) (sym (add-one k))
     ∙ (ap (spans_in n) (by_first_more k qs)
     ∙ (spans_append n (by_first k qs) (asked_by qs k)
-    ∙ (ap (λ (x : Option (List Span)). or_else x (spans_in_row n (asked_by qs k))) (all_of n k client qs spans rows)
-    ∙ (ap (λ (x : Option (List Span)). or_else (if_so spans (nat_lt client k)) x) (rows k)
+    ∙ (ap (λ (x : Option (List Span)). option_or x (spans_in_row n (asked_by qs k))) (all_of n k client qs spans rows)
+    ∙ (ap (λ (x : Option (List Span)). option_or (if_so spans (nat_lt client k)) x) (rows k)
     ∙ one_more client k spans))))
 
 -- ## The join line

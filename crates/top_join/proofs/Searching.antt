@@ -12,7 +12,8 @@ use Rattle.blk_plain.specs.Plain.{spans_of, used_of}
 use Rattle.eng_world.specs.declared.item.Item.{Item}
 use Rattle.raid_script.specs.Asked.{AskedPatch, Other, WritesAll, seen, seen_op, seen_patches}
 use Rattle.top_bound.proofs.Patched.{spans-seen}
-use Rattle.top_join.specs.Joining.{or_else, spans_by, spans_in, spans_in_row}
+use Rattle.top_join.specs.Joining.{spans_by, spans_in, spans_in_row}
+use Rattle.std.specs.Option.{option_or}
 
 -- ## One item
 
@@ -30,7 +31,7 @@ by-number n named patches few = go (nat_le patches.used 8) (le-leb patches.used 
 -- ## Rows
 
 pub row-step : (n : ℕ) (items : List Item) (i : ℕ) (d : Item) → i < length items
-    → spans_in_row n (map seen (drop i items)) ≡ or_else (spans_by n (seen (get_or items i d))) (spans_in_row n (map seen (drop (i + 1) items)))
+    → spans_in_row n (map seen (drop i items)) ≡ option_or (spans_by n (seen (get_or items i d))) (spans_in_row n (map seen (drop (i + 1) items)))
 unfolding spans_in_row
 row-step n items i d l = ap (λ (xs : List Item). spans_in_row n (map seen xs)) (drop_more items i d l)
 
@@ -39,7 +40,7 @@ unfolding spans_in_row
 row-none n = refl
 
 pub rows-step : (n : ℕ) (rows : List (Vec Item Global)) (i : ℕ) (d : Vec Item Global) → i < length rows
-    → spans_in n (map (λ (row : Vec Item Global). map seen row.items) (drop i rows)) ≡ or_else (spans_in_row n (map seen (get_or rows i d).items)) (spans_in n (map (λ (row : Vec Item Global). map seen row.items) (drop (i + 1) rows)))
+    → spans_in n (map (λ (row : Vec Item Global). map seen row.items) (drop i rows)) ≡ option_or (spans_in_row n (map seen (get_or rows i d).items)) (spans_in n (map (λ (row : Vec Item Global). map seen row.items) (drop (i + 1) rows)))
 unfolding spans_in
 rows-step n rows i d l = ap (λ (xs : List (Vec Item Global)). spans_in n (map (λ (row : Vec Item Global). map seen row.items) xs)) (drop_more rows i d l)
 

@@ -13,6 +13,7 @@ use Rattle.graph_merge.specs.Joined.{IsJoined}
 use Rattle.graph_text.specs.Format.{At, Named}
 use Rattle.raid_script.specs.declared.join.Join.{Join}
 use Rattle.raid_script.specs.Asked.{Asked, Writes, WritesAll, Reads, Syncs, Fails, Other}
+use Rattle.std.specs.Option.{option_or}
 
 -- ## Which spans
 
@@ -26,20 +27,15 @@ spans_by n (Syncs stripe) = None
 spans_by n (Fails column) = None
 spans_by n Other = None
 
--- the first of two that there is
-abbrev pub or_else : {A : Type 0} → Option A → Option A → Option A
-or_else (Some x) other = Some x
-or_else None other = other
-
 -- those of the first such item of a client
 unfoldable pub spans_in_row : ℕ → List Asked → Option (List Span)
 spans_in_row n [] = None
-spans_in_row n (asked ∷ items) = or_else (spans_by n asked) (spans_in_row n items)
+spans_in_row n (asked ∷ items) = option_or (spans_by n asked) (spans_in_row n items)
 
 -- and of the first client that has one
 unfoldable pub spans_in : ℕ → List (List Asked) → Option (List Span)
 spans_in n [] = None
-spans_in n (row ∷ rows) = or_else (spans_in_row n row) (spans_in n rows)
+spans_in n (row ∷ rows) = option_or (spans_in_row n row) (spans_in n rows)
 
 -- ## Two graphs
 

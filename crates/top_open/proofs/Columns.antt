@@ -1,5 +1,5 @@
 -- What the columns of an opening are: dead, spread, or on a device that is a disk or a spare, and whose sector 0 was read where there are labels.
-use Rattle.std.proofs.Common.{◌≡◌, ◌∙◌, ap, sym, subst, ℕ, zero, suc, ◌+◌, ◌-◌, ◌<◌, ◌≤◌, ◌==◌, ◌&&◌, Bool, true, false, List, [], ◌∷◌, length, refl, arith, Option, Some, None}
+use Rattle.std.proofs.Common.{◌≡◌, ◌∙◌, ap, sym, subst, ℕ, zero, suc, ◌+◌, ◌-◌, ◌<◌, ◌≤◌, ◌==◌, ◌&&◌, Bool, true, false, List, [], ◌∷◌, length, refl, arith, Option, Some, None, option_and_then}
 use Rattle.std.specs.Prelude.{count_by, slice_get, slice_index, slice_index_or, if◌then◌else◌, Result, Ok, Err, not, nat_le}
 use Rattle.std.proofs.lemmas.Bool.{eqb-false, leb-true}
 use Rattle.std.proofs.lemmas.Option.{slice_get_within}
@@ -14,7 +14,7 @@ use Rattle.top_open.specs.declared.plan.Plan.{Plan}
 use Rattle.top_open.specs.declared.plan.Needs.{Needs}
 use Rattle.top_open.specs.First.{first_below}
 use Rattle.top_open.specs.Plan.{is_present, sectors_for}
-use Rattle.top_open.specs.Labels.{label_at, label_of_option, newest_below, shape_refusal}
+use Rattle.top_open.specs.Labels.{label_at, newest_below, shape_refusal, label_of}
 use Rattle.top_open.specs.Seats.{columns_below, own_disk, read_disk, is_unread, is_sound, kept_if_sound, judged_at, seat_of, seat_at, is_spread_below}
 use Rattle.top_open.specs.Opening.{Opened, judged_in, unlabelled_in, labelled_in, labelled_if, is_unlabelled, unlabelled_refusal, counter_refusal, small_in, seats_in, columns_in}
 use Rattle.top_open.proofs.Below.{length-columns_below}
@@ -85,7 +85,7 @@ seat_is p present n c spread seat lt d h = go (seat == 0) refl (seat == 254) (p.
 held_of : (fronts : List Front) (d : ℕ) (l : Label) → label_at fronts d ≡ Some l → WasHeld fronts d
 held_of fronts d l h = go (slice_get fronts d) refl h
   where
-    go : (f : Option Front) → slice_get fronts d ≡ f → label_of_option f ≡ Some l → WasHeld fronts d
+    go : (f : Option Front) → slice_get fronts d ≡ f → option_and_then label_of f ≡ Some l → WasHeld fronts d
     go None e h = cc h
     go (Some Away) e h = cc h
     go (Some Unread) e h = cc h

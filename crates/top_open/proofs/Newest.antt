@@ -1,5 +1,5 @@
 -- The newest label of an opening.
-use Rattle.std.proofs.Common.{◌≡◌, ◌∙◌, ap, sym, ℕ, zero, suc, ◌≤◌, ◌&&◌, Bool, true, false, List, length, refl, Option, Some, None}
+use Rattle.std.proofs.Common.{◌≡◌, ◌∙◌, ap, sym, ℕ, zero, suc, ◌≤◌, ◌&&◌, Bool, true, false, List, length, refl, Option, Some, None, option_and_then}
 use Rattle.std.specs.Prelude.{if◌then◌else◌, Result, Ok, Err, nat_lt, slice_get}
 use Rattle.std.proofs.lemmas.Bool.{ltb-false}
 use Rattle.raid_label.specs.Bytes.{IsHeld}
@@ -13,13 +13,13 @@ use Rattle.top_open.specs.declared.plan.Plan.{Plan}
 use Rattle.top_open.specs.declared.plan.Needs.{Needs}
 use Rattle.top_open.specs.First.{first_below}
 use Rattle.top_open.specs.Plan.{sectors_for}
-use Rattle.top_open.specs.Labels.{label_at, label_of_option, newer, newest_below, shape_refusal}
+use Rattle.top_open.specs.Labels.{label_at, newer, newest_below, shape_refusal, label_of}
 use Rattle.top_open.specs.Seats.{judged_at}
 use Rattle.top_open.specs.Opening.{Opened, judged_in, unlabelled_in, labelled_in, labelled_if, is_unlabelled, unlabelled_refusal, counter_refusal, small_in, seats_in}
 use Rattle.top_open.proofs.OwnDevices.{not_refused}
 use Rattle.top_open.proofs.LargeEnough.{no_refusal}
 
-front_held : (o : Option Front) (l : Label) → label_of_option o ≡ Some l → IsHeld l
+front_held : (o : Option Front) (l : Label) → option_and_then label_of o ≡ Some l → IsHeld l
 front_held None l h = cc h
 front_held (Some Away) l h = cc h
 front_held (Some Unread) l h = cc h

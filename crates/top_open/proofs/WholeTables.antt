@@ -1,5 +1,5 @@
 -- The rows of an array are those of whole tables.
-use Rattle.std.proofs.Common.{◌≡◌, ◌∙◌, ap, sym, subst, ℕ, zero, suc, ◌-◌, ◌*◌, ◌/◌, ◌<◌, ◌≤◌, Bool, true, false, List, length, min, refl, arith, Option, Some, None}
+use Rattle.std.proofs.Common.{◌≡◌, ◌∙◌, ap, sym, subst, ℕ, zero, suc, ◌-◌, ◌*◌, ◌/◌, ◌<◌, ◌≤◌, Bool, true, false, List, length, min, refl, arith, Option, Some, None, option_map}
 use Rattle.std.specs.Prelude.{slice_get, slice_index, ◌&&◌, ◌==◌, ◌%◌, nat_le, if◌then◌else◌, Ok}
 use Rattle.std.proofs.Math.Nat.{le-div_iff_mul-le}
 use Rattle.std.proofs.lemmas.Bool.{eqb-true, leb-true}
@@ -12,12 +12,13 @@ use Rattle.top_open.specs.declared.plan.Plan.{Plan}
 use Rattle.top_open.specs.declared.plan.Needs.{Needs}
 use Rattle.top_open.specs.Plan.{AreWholeTables, IsPlan, are_rows, is_present, sectors_for, tables_below, tables_in}
 use Rattle.raid_label.specs.Judged.{fault_in}
-use Rattle.top_open.specs.Labels.{configured, newest_below, refusal_of_option, shape_refusal}
+use Rattle.top_open.specs.Labels.{configured, newest_below, shape_refusal, refusal_of}
 use Rattle.top_open.specs.Seats.{columns_below, judged_at, own_disk}
-use Rattle.top_open.specs.First.{first_below, or_refusal}
+use Rattle.top_open.specs.First.{first_below}
 use Rattle.top_open.specs.Opening.{Opened, judged_in, unlabelled_in, labelled_in, labelled_if, is_unlabelled, unlabelled_refusal, counter_refusal, small_in, seats_in, own_seats}
 use Rattle.top_open.proofs.OwnDevices.{not_refused}
 use Rattle.top_open.proofs.LargeEnough.{columns_below-at, no_refusal, rows_of, small_seat}
+use Rattle.std.specs.Option.{option_or}
 
 -- there are no more tables than the greatest number of stripes has
 few_stripes : (p : Plan) (present : List Bool) (sizes : List ℕ) (n : ℕ) → tables_below p present sizes n ≤ 1048576 / p.stripes
@@ -96,9 +97,9 @@ of_labelled q p present sizes fronts l o plan h =
     let made = not_refused (counter_refusal q l) _ o (not_refused (first_below (judged_at q.excused l fronts (seats_in p present l)) n) _ o (not_refused (small_in q.excused q.own sizes (sectors_for p l.rows) (seats_in p present l) n) _ o sized)) in
     let rows : l.rows ≡ o.rows = ap rows_of made in
     let none : shape_refusal p n l ≡ None = no_refusal _ _ o h in
-    subst (λ (r : ℕ). AreWholeTables p r) rows (go (refusal_of_option l.column (fault_in (Some l) 1 (configured p n l))) (are_rows p l.rows) refl none)
+    subst (λ (r : ℕ). AreWholeTables p r) rows (go (option_map (refusal_of l.column) (fault_in (Some l) 1 (configured p n l))) (are_rows p l.rows) refl none)
   where
-    go : (a : Option OpenFault) (b : Bool) → are_rows p l.rows ≡ b → or_refusal a (if b then None else Some (fault.Label l.column 4 l.rows p.step)) ≡ None → AreWholeTables p l.rows
+    go : (a : Option OpenFault) (b : Bool) → are_rows p l.rows ≡ b → option_or a (if b then None else Some (fault.Label l.column 4 l.rows p.step)) ≡ None → AreWholeTables p l.rows
     go (Some f) b e none = cc none
     go None false e none = cc none
     go None true e none = rows_are p l.rows plan e

@@ -11,7 +11,8 @@ use Rattle.raid_text.specs.Text.{Text}
 use Rattle.top_open.specs.declared.fronts.Front.{Front}
 use Rattle.top_scan.specs.Lines.{no_set}
 use Rattle.top_scan.specs.Places.{HaveColumnsBelow}
-use Rattle.top_scan.specs.Scanned.{IsComplete, label_of}
+use Rattle.top_scan.specs.Scanned.{IsComplete}
+use Rattle.top_open.specs.Labels.{label_of}
 
 -- what is so of every grouping
 abbrev pub HaveOwnColumns : Type 0

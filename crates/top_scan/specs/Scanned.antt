@@ -1,26 +1,17 @@
 -- What a scan finds, or how it is refused.
-use Rattle.std.specs.Prelude.{◌≡◌, ◌≤◌, ◌⊎◌, List, length, map, Option, None, Result, Ok}
+use Rattle.std.specs.Prelude.{◌≡◌, ◌≤◌, ◌⊎◌, List, length, map, Option, Result, Ok}
 use Rattle.blk_disk.specs.declared.disk.Disk.{Ghosts}
 use Rattle.raid_assemble.specs.Sets.{IsGrouping}
 use Rattle.raid_assemble.specs.declared.sets.Set.{Set}
 use Rattle.raid_assemble.specs.declared.sets.Standing.{Standing}
-use Rattle.raid_label.specs.Bytes.{label_in}
-use Rattle.raid_label.specs.declared.label.Label.{Label}
 use Rattle.raid_text.specs.Text.{Text}
 use Rattle.top_fetch.specs.Fetched.{there_are, or_status}
 use Rattle.top_open.specs.declared.fronts.Front.{Front}
-use Rattle.top_open.specs.declared.fronts.Front.TheVariants.{Away, Unread, Held}
 use Rattle.top_scan.specs.List.{list_of}
-use Rattle.top_scan.specs.Looks.{SomeAreLookedAt}
 use Rattle.top_status.specs.Refusals.{Refused, ◌then◌, text_in}
 use Rattle.top_status.specs.declared.status.Status.TheVariants as status
-
--- the label that a component has: none where it has no sector, where that couldn't be read, and
--- where it isn't well formed
-abbrev pub label_of : Front → Option Label
-label_of Away = None
-label_of Unread = None
-label_of (Held bytes) = label_in bytes
+use Rattle.top_open.specs.Labels.{label_of}
+use Rattle.top_scan.specs.Looks.{AreLookedAt}
 
 -- the names of the list of this name
 unfoldable pub list_in : (Text → Option Text) → Text → Result (List Text) Refused
@@ -37,7 +28,7 @@ names_in texts home list =
 abbrev pub IsScannedInPart : {D : Type 0} → Ghosts D → (tells : Type 0) → (Text → Option Text)
     → (home now : Text → Option D) → Text → Type 0
 IsScannedInPart g tells texts home now list = ((n : Text) → now n ≡ home n)
-    ⊎ ((names : List Text) × (list_in texts list ≡ Ok names) × SomeAreLookedAt g tells home now names)
+    ⊎ ((names : List Text) × (list_in texts list ≡ Ok names) × (fronts : List Front) × AreLookedAt g tells home now names fronts)
 
 -- There is a front for each name, at most 1,024; and these are the sets of their labels.
 pub record IsComplete (names : List Text) (fronts : List Front) (sets : List Set)

@@ -7,7 +7,8 @@ ghost use Rattle.top_fetch.specs.Answers.{IsEarly, AnswersAs};
 ghost use Rattle.top_fetch.specs.Told.{IsRead};
 ghost use Rattle.top_scan.specs.List.{AreApart};
 ghost use Rattle.top_scan.specs.Looks.{AreLookedAt};
-ghost use Rattle.top_scan.specs.Scanned.{IsComplete, IsScannedInPart, label_of, list_in, names_in};
+ghost use Rattle.top_scan.specs.Scanned.{IsComplete, IsScannedInPart, list_in, names_in};
+ghost use Rattle.top_open.specs.Labels.{label_of};
 
 use crate::list::{ListFault, read_list};
 use crate::looking::look_at_all;

@@ -1,12 +1,12 @@
 -- Requests to one simulated disk: what a text asks for, or the first line that is refused and the
 -- code of its refusal.
-use Rattle.std.specs.Prelude.{ℕ, ◌+◌, ◌&&◌, not, List, [], ◌∷◌, Result, Ok, Err, if◌then◌else◌}
+use Rattle.std.specs.Prelude.{ℕ, ◌+◌, ◌&&◌, not, List, [], ◌∷◌, Result, Ok, Err, if◌then◌else◌, ok_or}
 use Rattle.std.specs.Prelude.{nat_eq, nat_le, nat_lt, codes}
 use Rattle.std.specs.Str.{bytes_eq}
 use Rattle.raid_text.specs.Pattern.{pattern_of}
 use Rattle.raid_text.specs.Text.{Text, Numbered}
 use Rattle.text_steps.specs.Steps.{◌>>=◌, after_word, at_end, at_line, next_line, next_number}
-use Rattle.text_steps.specs.Steps.{next_word, only_if, or_code, whole, words_in, Rest}
+use Rattle.text_steps.specs.Steps.{next_word, only_if, whole, words_in, Rest}
 use Rattle.text_steps.specs.declared.at.At.{At}
 use Rattle.top_sim.specs.Asked.{Asked, Reads, Transfer, Workload, Writes, read_sectors}
 
@@ -44,7 +44,7 @@ next_span sectors words = do
 unfoldable pub next_pattern : List Text → Result (List ℕ × List Text) ℕ
 next_pattern words = do
   word ← next_word words
-  bytes ← or_code (pattern_of word.0) 17
+  bytes ← ok_or (pattern_of word.0) 17
   Ok (bytes, word.1)
 
 -- FIRST COUNT PATTERN

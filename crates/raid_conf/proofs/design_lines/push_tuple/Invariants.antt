@@ -1,7 +1,7 @@
 use Rattle.std.proofs.Common.{◌≡◌, ◌-◌}
 use Rattle.raid_text.specs.Seen.{words_left}
 use Rattle.raid_conf.specs.Sections.{tuple_behind}
-use Rattle.raid_conf.specs.Steps.{at_line}
+use Rattle.text_steps.specs.Steps.{at_line}
 use Rattle.raid_conf.proofs.design_lines.push_tuple.Given as goal
 
 abbrev pub invariant-loop-i : goal.invariant-loop-i

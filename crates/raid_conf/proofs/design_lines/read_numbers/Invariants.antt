@@ -1,7 +1,7 @@
 use Rattle.std.proofs.Common.{◌≡◌, length, []}
 use Rattle.raid_text.specs.Seen.{words_left}
 use Rattle.raid_conf.specs.Sections.{numbers_behind}
-use Rattle.raid_conf.specs.Steps.{at_line}
+use Rattle.text_steps.specs.Steps.{at_line}
 use Rattle.raid_conf.proofs.design_lines.read_numbers.Given as goal
 
 abbrev pub decreases-loop-word : goal.decreases-loop-word

@@ -1,5 +1,5 @@
 use Rattle.std.proofs.Common.{◌∙◌, sym, ◌-◌, arith}
-use Rattle.raid_conf.specs.Steps.{rest_of}
+use Rattle.text_steps.specs.Steps.{rest_of}
 use Rattle.raid_conf.proofs.Turns.{tuple_on, tuple_stop, tuples_done}
 use Rattle.raid_conf.proofs.design_lines.read_tuples.Goals as goal
 

@@ -1,6 +1,6 @@
 use Rattle.std.proofs.Common.{◌≡◌, ◌-◌, []}
 use Rattle.raid_conf.specs.Format.{tuples_in}
-use Rattle.raid_conf.specs.Steps.{rest_of}
+use Rattle.text_steps.specs.Steps.{rest_of}
 use Rattle.raid_conf.proofs.design_lines.read_tuples.Given as goal
 
 abbrev pub invariant-loop-i : goal.invariant-loop-i

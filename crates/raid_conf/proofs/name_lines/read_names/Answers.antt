@@ -1,5 +1,5 @@
 use Rattle.std.proofs.Common.{◌∙◌, refl, sym, ◌-◌, arith}
-use Rattle.raid_conf.specs.Steps.{rest_of}
+use Rattle.text_steps.specs.Steps.{rest_of}
 use Rattle.raid_conf.proofs.Turns.{name_on, name_stop, names_done}
 use Rattle.raid_conf.proofs.name_lines.read_names.Goals as goal
 

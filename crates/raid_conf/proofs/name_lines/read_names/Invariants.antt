@@ -1,6 +1,6 @@
 use Rattle.std.proofs.Common.{◌≡◌, ◌-◌, [], length}
 use Rattle.raid_conf.specs.Format.{names_in, with_name}
-use Rattle.raid_conf.specs.Steps.{rest_of}
+use Rattle.text_steps.specs.Steps.{rest_of}
 use Rattle.raid_conf.proofs.name_lines.read_names.Given as goal
 
 abbrev pub invariant-loop-i : goal.invariant-loop-i

@@ -1,6 +1,6 @@
 use Rattle.std.proofs.Common.{◌≡◌, refl}
 use Rattle.raid_conf.specs.Format.{conf_of}
-use Rattle.raid_conf.specs.Steps.{rest_of, whole}
+use Rattle.text_steps.specs.Steps.{rest_of, whole}
 use Rattle.raid_conf.proofs.FormConf.{limits}
 use Rattle.raid_conf.proofs.reader.read_conf.Goals as goal
 

@@ -7,9 +7,10 @@ use Rattle.blk_plain.specs.Plain.{spans_of}
 use Rattle.eng_world.specs.declared.item.Item.{Item}
 use Rattle.raid_script.specs.Asked.{seen}
 use Rattle.top_bound.specs.Bound.{MayBeAsked}
-use Rattle.top_join.specs.Joining.{or_else, spans_in, spans_in_row}
+use Rattle.top_join.specs.Joining.{spans_in, spans_in_row}
 use Rattle.top_join.proofs.Searching.{rows-none, rows-step}
 use Rattle.top_join.proofs.written.patches_in.Goals as goal
+use Rattle.std.specs.Option.{option_or}
 
 pub patches_in_row-requires : goal.patches_in_row-requires
 patches_in_row-requires c =
@@ -27,7 +28,7 @@ returns-in-Some-clause-spans c =
     ap (λ (z : Vec Item Global). spans_in_row n (map seen z.items)) (sym c.items-item.is)
     ∙ (ap (λ (l : List Item). spans_in_row n (map seen l)) (sym c.as_slice.ensures.value) ∙ sym c.in-Some.ensures.spans) in
     sym (c.loop-items.invariant ∙ (rows-step n rows i x c.loop-items-test.true
-    ∙ ap (λ (o : Option (List Span)). or_else o (spans_in n (map (λ (row : Vec Item Global). map seen row.items) (drop (i + 1) rows)))) here))
+    ∙ ap (λ (o : Option (List Span)). option_or o (spans_in n (map (λ (row : Vec Item Global). map seen row.items) (drop (i + 1) rows)))) here))
 
 pub loop-items-preserved : goal.loop-items-preserved
 loop-items-preserved c =
@@ -39,7 +40,7 @@ loop-items-preserved c =
     ap (λ (z : Vec Item Global). spans_in_row n (map seen z.items)) (sym c.items-item.is)
     ∙ (ap (λ (l : List Item). spans_in_row n (map seen l)) (sym c.as_slice.ensures.value) ∙ sym c.in_default.ensures.spans) in
     c.loop-items.invariant ∙ (rows-step n rows i x c.loop-items-test.true
-    ∙ ap (λ (o : Option (List Span)). or_else o (spans_in n (map (λ (row : Vec Item Global). map seen row.items) (drop (i + 1) rows)))) here)
+    ∙ ap (λ (o : Option (List Span)). option_or o (spans_in n (map (λ (row : Vec Item Global). map seen row.items) (drop (i + 1) rows)))) here)
 
 pub returns-clause-spans : goal.returns-clause-spans
 returns-clause-spans c =

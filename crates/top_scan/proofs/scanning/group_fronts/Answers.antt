@@ -3,8 +3,8 @@ use Rattle.std.proofs.lemmas.List.{get_or_default, map_push, take_more}
 use Rattle.raid_label.specs.declared.label.Label.{Label}
 use Rattle.top_open.specs.declared.fronts.Front.{Front}
 use Rattle.top_open.specs.declared.fronts.Front.TheVariants.{Away}
-use Rattle.top_scan.specs.Scanned.{label_of}
 use Rattle.top_scan.proofs.scanning.group_fronts.Goals as goal
+use Rattle.top_open.specs.Labels.{label_of}
 
 pub loop-place-preserved : goal.loop-place-preserved
 loop-place-preserved c =

@@ -1,6 +1,6 @@
 use Rattle.std.proofs.Common.{◌≡◌, ◌≤◌, length, map, take, vec_len, vec_capacity}
-use Rattle.top_scan.specs.Scanned.{label_of}
 use Rattle.top_scan.proofs.scanning.group_fronts.Given as goal
+use Rattle.top_open.specs.Labels.{label_of}
 
 -- the labels so far
 abbrev pub invariant-loop-place : goal.invariant-loop-place

@@ -24,7 +24,7 @@ returns-in-Err-look_at_all-clause-part g c = λ told.
     let names = c.in-Ok.names.items in
     let some = rw c.deref.ensures.value at c.in-Err-look_at_all.ensures.part in
     let looked = looked_same g.B.D.Disk B.tells names (B.home c.args.bay.now) (B.home c.open_list.new.bay) (B.home c.look_at_all.new.bay) some.0 c.in-Ok.ensures.read.homes some.1 in
-    inr (names, c.in-Ok.ensures.answer told, (some.0, looked))
+    inr (names, c.in-Ok.ensures.answer told, some.0, looked)
 
 pub returns-in-Err-group_fronts-clause-part : goal.returns-in-Err-group_fronts-clause-part
 returns-in-Err-group_fronts-clause-part g c = λ told.
@@ -32,4 +32,4 @@ returns-in-Err-group_fronts-clause-part g c = λ told.
     let names = c.in-Ok.names.items in
     let fronts = c.in-Ok-look_at_all.fronts.items in
     let looked = looked_same g.B.D.Disk B.tells names (B.home c.args.bay.now) (B.home c.open_list.new.bay) (B.home c.look_at_all.new.bay) fronts c.in-Ok.ensures.read.homes (rw c.deref.ensures.value at c.in-Ok-look_at_all.ensures.looked) in
-    inr (names, c.in-Ok.ensures.answer told, (fronts, looked))
+    inr (names, c.in-Ok.ensures.answer told, fronts, looked)
