@@ -1,16 +1,16 @@
 -- An image that differs from what the devices hold in one stripe alone.
-use Rattle.std.proofs.Common.{◌≡◌, ◌<◌, ◌≤◌, ◌+◌, ◌-◌, ◌*◌, inl, inr, ℕ, zero, suc, List, Bool, true, false, Option, Some, None, refl, sym, ◌∙◌, ap, subst, arith, rules}
+use Rattle.std.proofs.Common.{◌≡◌, ◌<◌, ◌≤◌, ◌+◌, ◌-◌, ◌*◌, ◌⊎◌, inl, inr, ℕ, zero, suc, List, Bool, true, false, Option, Some, None, refl, sym, ◌∙◌, ap, subst, arith, rules}
 use Rattle.std.specs.Prelude.{◌&&◌, ◌||◌, ◌==◌, if◌then◌else◌, nat_lt, nat_le}
 use Rattle.std.proofs.lemmas.Bool.{cases_eq, cases_Bool, and_parts, cond-true, cond-false}
-use Rattle.lay_core.specs.Sums.{xor_below}
 use Rattle.lay_core.specs.Layout.{Shape, IsLayout}
 use Rattle.eng_cols.specs.declared.spot.Spot.{Spot}
 use Rattle.eng_cols.specs.Cols.{ColumnState}
 use Rattle.eng_cols.specs.Seats.{is_available, seat}
-use Rattle.eng_cols.specs.Contents.{Contents, sector_at, byte_if, byte_of, InSync}
+use Rattle.eng_cols.specs.Contents.{Contents, sector_at, byte_if, byte_of}
 use Rattle.eng_cols.proofs.Sums.{below_same}
 use Rattle.eng_cols.proofs.Spots.{available-seat, same-place}
-use Rattle.raid_map.specs.Stops.{Stored, MayHold, IsImage}
+use Rattle.raid_map.specs.Stops.{Stored, SameSector, MayHold, IsImage}
+use Rattle.raid_map.specs.Union.{IsUnsound}
 use Rattle.raid_map.proofs.Sited.{IsPlaceOf, of_unit, of_spare}
 use Rattle.raid_map.proofs.Holding.{may-same}
 
@@ -72,20 +72,20 @@ sits-is y d n at h =
 
 -- ## The image
 
--- what the image has in the stripe's sectors, and elsewhere what the devices hold now
-pub picked : Shape → List ColumnState → ℕ → Contents → (ℕ → Stored) → Contents
-picked y cols s image stored d n k = if has_sector y cols s d n then image d n k else (stored d).now n k
+-- what one image has in the stripe's sectors, and elsewhere what another has
+pub picked : Shape → List ColumnState → ℕ → Contents → Contents → Contents
+picked y cols s image other d n k = if has_sector y cols s d n then image d n k else other d n k
 
 -- each of the stripe's sectors may be left as the image has it
 abbrev pub StripeMay : Shape → List ColumnState → ℕ → (ℕ → Stored) → Contents → Type 0
 StripeMay y cols s stored image = (i o : ℕ) (at : Spot) → i < y.width → o < y.unit_sectors → seat y cols s i ≡ Some at → MayHold (stored at.device) (sector_at y at o) (image at.device (sector_at y at o))
 
-module _ (y : Shape) (cols : List ColumnState) (s : ℕ) (stored : ℕ → Stored) (image : Contents) where
-  pub picked-image : ((d n : ℕ) → MayHold (stored d) n ((stored d).now n)) → StripeMay y cols s stored image → IsImage stored (picked y cols s image stored)
+module _ (y : Shape) (cols : List ColumnState) (s : ℕ) (image other : Contents) where
+  pub picked-image : (stored : ℕ → Stored) → IsImage stored other → StripeMay y cols s stored image → IsImage stored (picked y cols s image other)
   unfolding picked has_sector sits
-  picked-image now may d n = elim (cases_Bool (has_sector y cols s d n)) [
-    | inr h ↦ may-same (stored d) n (picked y cols s image stored d n) ((stored d).now n) (λ k kw. cond-false (has_sector y cols s d n) _ _ h) (now d n)
-    | inl h ↦ may-same (stored d) n (picked y cols s image stored d n) (image d n) (λ k kw. cond-true (has_sector y cols s d n) _ _ h)
+  picked-image stored may-other may d n = elim (cases_Bool (has_sector y cols s d n)) [
+    | inr h ↦ may-same (stored d) n (picked y cols s image other d n) (other d n) (λ k kw. cond-false (has_sector y cols s d n) _ _ h) (may-other d n)
+    | inl h ↦ may-same (stored d) n (picked y cols s image other d n) (image d n) (λ k kw. cond-true (has_sector y cols s d n) _ _ h)
         (let f = any-found (λ i. sits y d n (seat y cols s i)) y.width h in here f.0 f.1 (seat y cols s f.0) refl f.2)
   ]
     where
@@ -98,20 +98,40 @@ module _ (y : Shape) (cols : List ColumnState) (s : ℕ) (stored : ℕ → Store
           let q = sits-is y d n at h in
           subst (λ z. MayHold (stored z) n (image z n)) q.0 (subst (λ z. MayHold (stored at.device) z (image at.device z)) (sym q.3) (may i q.1 at iw q.2 is))
 
+  -- sector 1 is none of the stripe's
+  pub picked-map : (d : ℕ) → SameSector (picked y cols s image other d 1) (other d 1)
+  unfolding picked has_sector sits
+  picked-map d k kw = cond-false (has_sector y cols s d 1) _ _ (apart (cases_Bool (has_sector y cols s d 1)))
+    where
+      high : (i : ℕ) (o : Option Spot) → sits y d 1 o ≡ true → ⊥
+      high i None h = let z : false ≡ true = h in let u : ⊥ = cc in u
+      high i (Some at) h = let q = sits-is y d 1 at h in let e = q.3 in omega (arith, e)
+
+      apart : (has_sector y cols s d 1 ≡ true) ⊎ (has_sector y cols s d 1 ≡ false) → has_sector y cols s d 1 ≡ false
+      apart (inr h) = h
+      apart (inl h) = let f = any-found (λ i. sits y d 1 (seat y cols s i)) y.width h in absurd (high f.0 (seat y cols s f.0) f.2)
+
   pub byte-here : (contents : Contents) (i o k : ℕ) (at : Spot) → is_available y cols s i ≡ true → seat y cols s i ≡ Some at → byte_of y contents cols s i o k ≡ contents at.device (sector_at y at o) k
   byte-here contents i o k at av is = ap (λ z. byte_if y contents z o k) (cond-true (is_available y cols s i) _ _ av ∙ is)
 
-  picked-byte : (i o k : ℕ) → i < y.width → o < y.unit_sectors → is_available y cols s i ≡ true → byte_of y (picked y cols s image stored) cols s i o k ≡ byte_of y image cols s i o k
+  picked-byte : (i o k : ℕ) → i < y.width → o < y.unit_sectors → is_available y cols s i ≡ true → byte_of y (picked y cols s image other) cols s i o k ≡ byte_of y image cols s i o k
   unfolding picked has_sector
   picked-byte i o k iw ow av =
       let a = available-seat y cols s i av in
-      byte-here (picked y cols s image stored) i o k a.0 av a.1
+      byte-here (picked y cols s image other) i o k a.0 av a.1
       ∙ cond-true (has_sector y cols s a.0.device (sector_at y a.0 o)) _ _ (any-has (λ j. sits y a.0.device (sector_at y a.0 o) (seat y cols s j)) y.width i iw (ap (sits y a.0.device (sector_at y a.0 o)) a.1 ∙ sits-so y a.0 o ow))
       ∙ sym (byte-here image i o k a.0 av a.1)
 
-  -- a stripe sums to zero in an image of its sectors, where every image is in sync
-  pub stripe-sound : ((d n : ℕ) → MayHold (stored d) n ((stored d).now n)) → ((x : Contents) → IsImage stored x → InSync y x cols) → StripeMay y cols s stored image
-      → s < y.stripes → y.checks ≡ 1 → ((i : ℕ) → i < y.width → is_available y cols s i ≡ true) → (o k : ℕ) → o < y.unit_sectors → k < 512 → xor_below (λ i. byte_of y image cols s i o k) y.width ≡ 0
-  stripe-sound now sync may sw checked complete o k ow kw =
-      below_same (λ i. byte_of y image cols s i o k) (λ i. byte_of y (picked y cols s image stored) cols s i o k) y.width (λ i iw. sym (picked-byte i o k iw ow (complete i iw)))
-      ∙ sync (picked y cols s image stored) (picked-image now may) s o k sw ow kw checked complete
+  -- the stripe is as unsound in what is picked as in the image
+  pub picked-unsound : IsUnsound y cols image s → IsUnsound y cols (picked y cols s image other) s
+  picked-unsound u = record {
+    stripe = u.stripe;
+    checked = u.checked;
+    complete = u.complete;
+    offset = u.offset;
+    byte = u.byte;
+    within = u.within;
+    of_sector = u.of_sector;
+    differs = λ z. u.differs (below_same (λ i. byte_of y image cols s i u.offset u.byte) (λ i. byte_of y (picked y cols s image other) cols s i u.offset u.byte) y.width
+        (λ i iw. sym (picked-byte i u.offset u.byte iw u.within (u.complete i iw))) ∙ z);
+  }

@@ -3,8 +3,10 @@ pub mod Chosen
 pub mod Asked
 pub mod Holding
 pub mod Safe
+pub mod Kept
 pub mod Devices
 pub mod Images
+pub mod Starting
 pub mod Unsound
 pub mod Columns
 pub mod Cleared
@@ -17,6 +19,7 @@ pub mod SweepCalls
 pub mod Unions
 pub mod ReadOne
 pub mod ReadLaws
+pub mod Behind
 pub mod Spans
 pub mod Script
 pub mod Readers

@@ -242,7 +242,7 @@ set-device y columns c d has = go (slice_get columns c) refl has
     go (Some column.Spread) is h = absurd (let u : ⊥ = cc in u)
     go None is h = absurd (let u : ⊥ = cc in u)
 
-device-set : (y : Shape) (columns : List Column) (c d : ℕ) → HasDevice (states_of y columns) c d → IsOn columns c d
+pub device-set : (y : Shape) (columns : List Column) (c d : ℕ) → HasDevice (states_of y columns) c d → IsOn columns c d
 device-set y columns c d has = go (slice_get columns c) (sym (slice_get-map (state_set y.stripes (filled_in y columns)) columns c)) has
   where
     go : (o : Option Column) → option_map (state_set y.stripes (filled_in y columns)) o ≡ slice_get (states_of y columns) c → HasDevice (states_of y columns) c d → device_set o ≡ Some d

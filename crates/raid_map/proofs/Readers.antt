@@ -10,12 +10,12 @@ use Rattle.graph_lib.specs.Piece.{Piece, At, start, reads_from, read_nodes, sum_
 use Rattle.graph_lib.specs.Assembled.{spread, read_part, sum_part, write_part, commit_of, commit_node, end_node, assembled}
 use Rattle.graph_lib.specs.Library.{Range, plain_read, made_read, read_piece, touched_ranges, stripe_pieces, pieces_upto, library}
 use Rattle.raid_map.specs.Mapped.{HasWrite}
-use Rattle.raid_map.specs.Asking.{is_write}
+use Rattle.raid_map.specs.Asking.{node_writes}
 use Rattle.raid_map.proofs.Spans.{quiet-graph}
 
 -- none of these nodes is a write
 abbrev IsQuiet : Vertex → Type 0
-IsQuiet v = is_write v.kind ≡ false
+IsQuiet v = node_writes v.kind ≡ false
 
 abbrev AreQuiet : List Vertex → Type 0
 AreQuiet vs = All IsQuiet vs

@@ -5,22 +5,16 @@ use Rattle.std.proofs.lemmas.Bool.{cases_eq}
 use Rattle.std.proofs.lemmas.List.Elements.{Contains-append_cases}
 use Rattle.lay_core.specs.Layout.{Shape, IsLayout}
 use Rattle.eng_world.specs.declared.item.Traced.{Traced}
+use Rattle.eng_world.specs.World.{World}
 use Rattle.eng_world.specs.Planning.{Graphs, Promises}
+use Rattle.eng_world.specs.Step.{Step}
 use Rattle.eng_world.proofs.Caused.{tail-has, head-has}
-use Rattle.raid_map.specs.Regions.{IsMap}
 use Rattle.raid_map.specs.Stops.{Logged, Stored, SameSector, MayHold}
-use Rattle.raid_map.specs.Mapped.{Event, Mark, Settle, Happens, Clear, Mapped, Writes, Settles, Logs, IsSafe, IsUsed, MappedRun, IsStart}
-use Rattle.raid_map.proofs.Sited.{IsMarked}
+use Rattle.raid_map.specs.Mapped.{Event, Mark, Settle, Happens, Clear, Mapped, Writes, Settles, Logs, IsSafe, MarksAll, HasMarks, IsUsed, MappedRun, IsStart}
 use Rattle.raid_map.proofs.Holding.{cons-cases, in-none, map-same, Unclear, unclear-tail, traced, event-lies, within-tail}
 
--- the bytes are a map that marks all of these regions
-pub record HasMap (serial stripes : ℕ) (regions : ℕ → Bool) (bytes : ℕ → ℕ) : Type 0 where
-  pub marks : ℕ → Bool
-  pub all : (r : ℕ) → regions r ≡ true → marks r ≡ true
-  pub map : IsMap serial stripes marks bytes
-
-pub has-map-same : (serial stripes : ℕ) (regions : ℕ → Bool) (a b : ℕ → ℕ) → SameSector a b → HasMap serial stripes regions b → HasMap serial stripes regions a
-has-map-same serial stripes regions a b same h = record { marks = h.marks; all = h.all; map = map-same serial stripes h.marks a b same h.map }
+pub marks-same : (serial stripes : ℕ) (regions : ℕ → Bool) (a b : ℕ → ℕ) → SameSector a b → MarksAll serial stripes regions b → MarksAll serial stripes regions a
+marks-same serial stripes regions a b same h = record { marks = h.marks; all = h.all; map = map-same serial stripes h.marks a b same h.map }
 
 -- it was marked
 abbrev pub WasMarked : List Event → ℕ → Type 0
@@ -53,15 +47,15 @@ module _ (y : Shape) (layout : IsLayout y) (graphs : Graphs) (promises : Promise
   abbrev Run : List Event → Mapped → Type 0
   Run events now = MappedRun y graphs serial regions start events now
 
-  abbrev Good : (ℕ → ℕ) → Type 0
-  Good bytes = HasMap serial y.stripes regions bytes
+  abbrev pub Good : (ℕ → ℕ) → Type 0
+  Good bytes = MarksAll serial y.stripes regions bytes
 
   -- what the device holds is a map if it was marked, and all that a stop may leave is if it is safe
   pub record Maps (events : List Event) (now : Mapped) : Type 0 where
     pub here : (d : ℕ) → WasMarked events d → Good ((now.stored d).now 1)
     pub left : (d : ℕ) (bytes : ℕ → ℕ) → IsSafe events d → MayHold (now.stored d) 1 bytes → Good bytes
 
-  here-of : (P : ℕ → Stored → Type 0) (d : ℕ) (old new : ℕ → Stored) → ((k : ℕ) → k ≢ d → new k ≡ old k) → P d (new d) → ((k : ℕ) → k ≢ d → P k (old k)) → (k : ℕ) → P k (new k)
+  pub here-of : (P : ℕ → Stored → Type 0) (d : ℕ) (old new : ℕ → Stored) → ((k : ℕ) → k ≢ d → new k ≡ old k) → P d (new d) → ((k : ℕ) → k ≢ d → P k (old k)) → (k : ℕ) → P k (new k)
   here-of P d old new others here was k = elim (cases_eq k d) [
     | inl e ↦ subst (λ j. P j (new j)) (sym e) here
     | inr ne ↦ subst (P k) (sym (others k ne)) (was k ne)
@@ -76,7 +70,7 @@ module _ (y : Shape) (layout : IsLayout y) (graphs : Graphs) (promises : Promise
   mark-maps : (events : List Event) (d : ℕ) (marks : ℕ → Bool) (old new : Mapped) → Writes serial y.stripes d marks old.stored new.stored → ((r : ℕ) → regions r ≡ true → marks r ≡ true) → Maps events old → Maps (Mark d marks ∷ events) new
   mark-maps events d marks old new w all h = record {
     here = λ k was. here-of (λ j z. WasMarked (Mark d marks ∷ events) j → Good (z.now 1)) d old.stored new.stored w.others
-        (λ was. has-map-same serial y.stripes regions ((new.stored d).now 1) w.entry.bytes w.now written)
+        (λ was. marks-same serial y.stripes regions ((new.stored d).now 1) w.entry.bytes w.now written)
         (λ j ne was. h.here j (marked-before (Mark d marks) events j was (λ m e. ne (device-is j m e)))) k was;
     left = λ k bytes safe may. here-of (λ j z. IsSafe (Mark d marks ∷ events) j → MayHold z 1 bytes → Good bytes) d old.stored new.stored w.others
         (λ safe may. before bytes (safe-before (Mark d marks) events d safe no-settle) may)
@@ -95,14 +89,14 @@ module _ (y : Shape) (layout : IsLayout y) (graphs : Graphs) (promises : Promise
       before : (bytes : ℕ → ℕ) → IsSafe events d → MayHold (new.stored d) 1 bytes → Good bytes
       before bytes safe (inl q) = h.left d bytes safe (inl (λ k kw. q k kw ∙ w.settled 1 k))
       before bytes safe (inr q) = elim (cons-cases w.entry (old.stored d).logged q.entry (subst (λ l. Contains l q.entry) w.logged q.has)) [
-        | inl e ↦ has-map-same serial y.stripes regions bytes w.entry.bytes (λ k kw. q.same k kw ∙ ap (λ (l : Logged). l.bytes k) (sym e)) written
+        | inl e ↦ marks-same serial y.stripes regions bytes w.entry.bytes (λ k kw. q.same k kw ∙ ap (λ (l : Logged). l.bytes k) (sym e)) written
         | inr has ↦ h.left d bytes safe (inr (record { entry = q.entry; has = has; sector = q.sector; same = q.same }))
       ]
 
   settle-maps : (events : List Event) (d : ℕ) (old new : Mapped) → Settles d old.stored new.stored → Maps events old → Maps (Settle d ∷ events) new
   settle-maps events d old new w h = record {
     here = λ k was. here-of (λ j z. WasMarked (Settle d ∷ events) j → Good (z.now 1)) d old.stored new.stored w.others
-        (λ was. has-map-same serial y.stripes regions ((new.stored d).now 1) ((old.stored d).now 1) (λ k kw. w.now 1 k) (h.here d (marked-before (Settle d) events d was no-mark)))
+        (λ was. marks-same serial y.stripes regions ((new.stored d).now 1) ((old.stored d).now 1) (λ k kw. w.now 1 k) (h.here d (marked-before (Settle d) events d was no-mark)))
         (λ j ne was. h.here j (marked-before (Settle d) events j was no-mark)) k was;
     left = λ k bytes safe may. here-of (λ j z. IsSafe (Settle d ∷ events) j → MayHold z 1 bytes → Good bytes) d old.stored new.stored w.others
         (λ safe may. now bytes (marked safe) may)
@@ -119,29 +113,33 @@ module _ (y : Shape) (layout : IsLayout y) (graphs : Graphs) (promises : Promise
       marked safe = elim (safe-cases (Settle d) events d safe) [ inl q ↦ (q.marks, middle-has q.later (Mark d q.marks) q.before events q.split) | inr q ↦ q.1 ]
 
       now : (bytes : ℕ → ℕ) → WasMarked events d → MayHold (new.stored d) 1 bytes → Good bytes
-      now bytes was (inl q) = has-map-same serial y.stripes regions bytes ((old.stored d).now 1) (λ k kw. q k kw ∙ w.settled 1 k) (h.here d was)
+      now bytes was (inl q) = marks-same serial y.stripes regions bytes ((old.stored d).now 1) (λ k kw. q k kw ∙ w.settled 1 k) (h.here d was)
       now bytes was (inr q) = in-none q.entry (subst (λ l. Contains l q.entry) w.logged q.has)
 
+  -- an event that writes no sector 1 adds nothing to what a stop may leave of it
+  pub logs-before : (d : ℕ) (old new : World) (was is : Stored) (l : Logs d old new was is) → ((entry : Logged) → Contains l.more entry → entry.sector ≡ 1 → ⊥) → (bytes : ℕ → ℕ) → MayHold is 1 bytes → MayHold was 1 bytes
+  logs-before d old new was is l low bytes (inl q) = inl (λ k kw. q k kw ∙ l.settled 1 k)
+  logs-before d old new was is l low bytes (inr q) = elim (Contains-append_cases l.more was.logged q.entry (subst (λ z. Contains z q.entry) l.logged q.has)) [
+    | inl has ↦ absurd (low q.entry has q.sector)
+    | inr has ↦ inr (record { entry = q.entry; has = has; sector = q.sector; same = q.same })
+  ]
+
+  -- it writes none
+  abbrev pub NoMaps : (old new : Mapped) → ((d : ℕ) → Logs d old.world new.world (old.stored d) (new.stored d)) → Type 0
+  NoMaps old new logs = (d : ℕ) (entry : Logged) → Contains (logs d).more entry → entry.sector ≡ 1 → ⊥
+
+  happens-maps : (events : List Event) (e : Traced) (old new : Mapped) (logs : (d : ℕ) → Logs d old.world new.world (old.stored d) (new.stored d)) → NoMaps old new logs → Maps events old → Maps (Happens e ∷ events) new
+  happens-maps events e old new logs low h = record {
+    here = λ d was. marks-same serial y.stripes regions ((new.stored d).now 1) ((old.stored d).now 1) (λ k kw. (logs d).map k) (h.here d (marked-before (Happens e) events d was (λ m e. let u : ⊥ = cc in u)));
+    left = λ d bytes safe may. h.left d bytes (safe-before (Happens e) events d safe (λ e. let u : ⊥ = cc in u)) (logs-before d old.world new.world (old.stored d) (new.stored d) (logs d) (low d) bytes may);
+  }
+
   module _ (all : List Traced) where
-    happens-maps : (events : List Event) (e : Traced) (old new : Mapped) (within : (z : Traced) → Contains (traced events) z → Contains all z) → Run events old → (step : (d : ℕ) → Logs d old.world new.world (old.stored d) (new.stored d))
-        → ((d : ℕ) (entry : Logged) → Contains (step d).more entry → IsMarked y (λ c d. Unit {0}) regions d entry.sector) → Maps events old → Maps (Happens e ∷ events) new
-    happens-maps events e old new within run logs lie h = record {
-      here = λ d was. has-map-same serial y.stripes regions ((new.stored d).now 1) ((old.stored d).now 1) (λ k kw. (logs d).map k) (h.here d (marked-before (Happens e) events d was (λ m e. let u : ⊥ = cc in u)));
-      left = λ d bytes safe may. h.left d bytes (safe-before (Happens e) events d safe (λ e. let u : ⊥ = cc in u)) (before d bytes may);
-    }
-      where
-        low : (d : ℕ) (entry : Logged) → Contains (logs d).more entry → entry.sector ≡ 1 → ⊥
-        low d entry has is = let q = (lie d entry has).sector in omega (arith, q, is)
-
-        before : (d : ℕ) (bytes : ℕ → ℕ) → MayHold (new.stored d) 1 bytes → MayHold (old.stored d) 1 bytes
-        before d bytes (inl q) = inl (λ k kw. q k kw ∙ (logs d).settled 1 k)
-        before d bytes (inr q) = elim (Contains-append_cases (logs d).more (old.stored d).logged q.entry (subst (λ l. Contains l q.entry) (logs d).logged q.has)) [
-          | inl has ↦ absurd (low d q.entry has q.sector)
-          | inr has ↦ inr (record { entry = q.entry; has = has; sector = q.sector; same = q.same })
-        ]
-
-    any-column : (Had : ℕ → ℕ → Type 0) (d n : ℕ) → IsMarked y Had regions d n → IsMarked y (λ c d. Unit {0}) regions d n
-    any-column Had d n m = record { column = m.column; row = m.row; stripe = m.stripe; offset = m.offset; had = tt; within = m.within; place = m.place; marked = m.marked; below = m.below; sector = m.sector }
+    pub no-maps : (events : List Event) (e : Traced) (old new : Mapped) → ((z : Traced) → Contains (traced events) z → Contains all z) → Run events old → Step y graphs e old.world new.world
+        → (logs : (d : ℕ) → Logs d old.world new.world (old.stored d) (new.stored d)) → NoMaps old new logs
+    no-maps events e old new within run step logs d entry has is =
+        let q = (event-lies y layout graphs promises serial regions start s all events old e new.world within run step d (old.stored d) (new.stored d) (logs d) entry has).sector in
+        omega (arith, q, is)
 
     pub maps : (events : List Event) (now : Mapped) → ((z : Traced) → Contains (traced events) z → Contains all z) → Unclear events → Run events now → Maps events now
     maps [] now within clear h = record { here = λ d was. in-none (Mark d was.0) was.1; left = λ d bytes safe may. nothing d safe.marks safe.before safe.later safe.split }
@@ -153,9 +151,7 @@ module _ (y : Shape) (layout : IsLayout y) (graphs : Graphs) (promises : Promise
     maps (Settle d ∷ events) now within clear h = settle-maps events d h.0 now h.2.1 (maps events h.0 within (unclear-tail (Settle d) events clear) h.1)
     maps (Happens e ∷ events) now within clear h =
         let w = within-tail y layout graphs promises serial regions start s all (Happens e) events within in
-        happens-maps events e h.0 now w h.1 h.2.1
-        (λ d entry has. any-column _ d entry.sector (event-lies y layout graphs promises serial regions start s all events h.0 e now.world w h.1 h.2.0 d (h.0.stored d) (now.stored d) (h.2.1 d) entry has))
-        (maps events h.0 w (unclear-tail (Happens e) events clear) h.1)
+        happens-maps events e h.0 now h.2.1 (no-maps events e h.0 now w h.1 h.2.0 h.2.1) (maps events h.0 w (unclear-tail (Happens e) events clear) h.1)
     maps (Clear d ∷ events) now within clear h = absurd (clear d (head-has (Clear d) events))
 
   -- ## Who is safe
@@ -187,13 +183,25 @@ module _ (y : Shape) (layout : IsLayout y) (graphs : Graphs) (promises : Promise
   still-there (Happens e ∷ events) now never h = absurd (never e (head-has (Happens e) events))
   still-there (Clear d ∷ events) now never h = h.2.0 ∙ still-there events h.0 (λ e has. never e (tail-has (Clear d) events (Happens e) has)) h.1
 
-  pub safe-since : (events : List Event) (now : Mapped) → Run events now → (e : Traced) → Contains events (Happens e) → (d : ℕ) → IsUsed start.world d → IsSafe events d
+  -- the device had its marks at the start, or is safe
+  abbrev pub HasOrSafe : List Event → ℕ → Type 0
+  HasOrSafe events d = HasMarks serial y.stripes regions (start.stored d) ⊎ IsSafe events d
+
+  or-safe-on : (x : Event) (events : List Event) (d : ℕ) → HasOrSafe events d → HasOrSafe (x ∷ events) d
+  or-safe-on x events d (inl had) = inl had
+  or-safe-on x events d (inr safe) = inr (safe-on x events d safe)
+
+  -- an event of the world that is one of these, of which the last is none, is one of those before
+  earlier-has : (x : Event) (events : List Event) (e : Traced) → ((z : Traced) → x ≡ Happens z → ⊥) → Contains (x ∷ events) (Happens e) → Contains events (Happens e)
+  earlier-has x events e not has = elim (cons-cases x events (Happens e) has) [ inl is ↦ absurd (not e is) | inr q ↦ q ]
+
+  pub safe-since : (events : List Event) (now : Mapped) → Run events now → (e : Traced) → Contains events (Happens e) → (d : ℕ) → IsUsed start.world d → HasOrSafe events d
   safe-since [] now h e has d used = in-none (Happens e) has
-  safe-since (Mark j marks ∷ events) now h e has d used = safe-on (Mark j marks) events d (safe-since events h.0 h.1 e (elim (cons-cases (Mark j marks) events (Happens e) has) [ inl is ↦ absurd (let u : ⊥ = cc in u) | inr q ↦ q ]) d used)
-  safe-since (Settle j ∷ events) now h e has d used = safe-on (Settle j) events d (safe-since events h.0 h.1 e (elim (cons-cases (Settle j) events (Happens e) has) [ inl is ↦ absurd (let u : ⊥ = cc in u) | inr q ↦ q ]) d used)
-  safe-since (Clear j ∷ events) now h e has d used = safe-on (Clear j) events d (safe-since events h.0 h.1 e (elim (cons-cases (Clear j) events (Happens e) has) [ inl is ↦ absurd (let u : ⊥ = cc in u) | inr q ↦ q ]) d used)
-  safe-since (Happens x ∷ events) now h e has d used = safe-on (Happens x) events d (go (λ e has. safe-since events h.0 h.1 e has d used) (has-come events))
+  safe-since (Mark j marks ∷ events) now h e has d used = or-safe-on (Mark j marks) events d (safe-since events h.0 h.1 e (earlier-has (Mark j marks) events e (λ z is. let u : ⊥ = cc in u) has) d used)
+  safe-since (Settle j ∷ events) now h e has d used = or-safe-on (Settle j) events d (safe-since events h.0 h.1 e (earlier-has (Settle j) events e (λ z is. let u : ⊥ = cc in u) has) d used)
+  safe-since (Clear j ∷ events) now h e has d used = or-safe-on (Clear j) events d (safe-since events h.0 h.1 e (earlier-has (Clear j) events e (λ z is. let u : ⊥ = cc in u) has) d used)
+  safe-since (Happens x ∷ events) now h e has d used = or-safe-on (Happens x) events d (go (λ e has. safe-since events h.0 h.1 e has d used) (has-come events))
     where
-      go : ((e : Traced) → Contains events (Happens e) → IsSafe events d) → HasCome events → IsSafe events d
+      go : ((e : Traced) → Contains events (Happens e) → HasOrSafe events d) → HasCome events → HasOrSafe events d
       go before (some e has) = before e has
       go before (none never) = h.2.3 d used (subst (λ w. IsUsed w d) (sym (still-there events h.0 never h.1)) used)

@@ -17,7 +17,7 @@ use Rattle.graph_mean.specs.Graph.{View, Vertex, no_vertex, kind_at}
 use Rattle.eng_world.specs.declared.item.Item.{Item}
 use Rattle.raid_map.specs.Regions.{region_of, Marks, is_marked}
 use Rattle.raid_map.specs.Mapped.{HasWrite}
-use Rattle.raid_map.specs.Asking.{is_write, MayWriteIn, SomeMayWrite, ScriptMayWrite, Reaches, MarksAlso}
+use Rattle.raid_map.specs.Asking.{node_writes, MayWriteIn, SomeMayWrite, ScriptMayWrite, Reaches, MarksAlso}
 
 -- what came well wasn't refused
 pub split-not-refused : {T E : Type 0} {r : Result T E} {x : T} {e : E} → r ≡ Ok x → r ≡ Err e → ⊥
@@ -29,16 +29,16 @@ some-same h = cc
 -- ## Graphs
 
 -- no node below n is a write
-pub quiet-graph : (g : View) → ((k : ℕ) → k < length g.nodes → is_write (kind_at g k) ≡ false) → HasWrite g → ⊥
+pub quiet-graph : (g : View) → ((k : ℕ) → k < length g.nodes → node_writes (kind_at g k) ≡ false) → HasWrite g → ⊥
 quiet-graph g none h = elim (cases_lt h.0 (length g.nodes)) [
-  | inl lt ↦ let z : true ≡ false = ap is_write (sym h.3) ∙ none h.0 lt in let u : ⊥ = cc in u
+  | inl lt ↦ let z : true ≡ false = ap node_writes (sym h.3) ∙ none h.0 lt in let u : ⊥ = cc in u
   | inr far ↦ let z : no_vertex.kind ≡ Wr h.1 h.2 = ap (λ (v : Vertex). v.kind) (sym (get_or_past g.nodes h.0 no_vertex far)) ∙ h.3 in let u : ⊥ = cc in u
 ]
 
-pub write-graph : (g : View) (k : ℕ) → is_write (kind_at g k) ≡ true → HasWrite g
+pub write-graph : (g : View) (k : ℕ) → node_writes (kind_at g k) ≡ true → HasWrite g
 write-graph g k h = go (kind_at g k) refl h
   where
-    go : (node : Node) → kind_at g k ≡ node → is_write node ≡ true → HasWrite g
+    go : (node : Node) → kind_at g k ≡ node → node_writes node ≡ true → HasWrite g
     go (Wr unit buf) is h = (k, unit, buf, is)
     go (Rd unit buf) is h = absurd (let u : ⊥ = cc in u)
     go (Xor to) is h = absurd (let u : ⊥ = cc in u)

@@ -18,12 +18,13 @@ use Rattle.eng_world.proofs.Reaching.{reaches}
 use Rattle.eng_world.proofs.Promised.{not-lost}
 use Rattle.raid_map.specs.Regions.{region_of}
 use Rattle.raid_map.specs.Stops.{MayHold}
-use Rattle.raid_map.specs.Mapped.{Event, Mark, Settle, Happens, Clear, Mapped, MappedRun, IsStart, InSyncAnyhow, IsLeft}
+use Rattle.raid_map.specs.Mapped.{Event, Mark, Settle, Happens, Clear, Mapped, MappedRun, IsStart, UnsoundLieIn, IsLeft}
 use Rattle.raid_map.specs.Union.{UnionMarks, IsUnsound}
 use Rattle.raid_map.proofs.Holding.{Unclear, traced, worlds, covered, holds}
-use Rattle.raid_map.proofs.Safe.{maps, HasCome, some, none, has-come, safe-since, still-there}
+use Rattle.raid_map.proofs.Safe.{HasCome, some, none, has-come, still-there}
+use Rattle.raid_map.proofs.Kept.{used-marked}
 use Rattle.raid_map.proofs.Images.{byte-here}
-use Rattle.raid_map.proofs.Unsound.{start-alone, outside, spared-sound, unsound-marked, map-may}
+use Rattle.raid_map.proofs.Unsound.{start-alone, outside, spared-lies, unsound-marked, map-may}
 use Rattle.raid_map.proofs.Columns.{TiedTo, tied-refl, step-tied}
 use Rattle.raid_map.proofs.Cleared.{HasCleared, cleared, unclear, has-cleared, rests, IsQuiet, is-quiet}
 
@@ -59,17 +60,7 @@ module _ (y : Shape) (layout : IsLayout y) (graphs : Graphs) (promises : Promise
 
   -- ## Once a map is cleared
 
-  -- the array was in sync as it was opened
-  start-sync : InSyncAnyhow y start → sync
-  start-sync any t o k tw ow kw checked complete =
-      below_same (λ i. byte_of y start.world.contents start.world.columns t i o k) (λ i. byte_of y (λ d. (start.stored d).now) start.world.columns t i o k) y.width (λ i iw.
-      let a = available-seat y start.world.columns t i (complete i iw) in
-      byte-here y start.world.columns t start.stored start.world.contents start.world.contents i o k a.0 (complete i iw) a.1
-      ∙ sym (s.now a.0.device (sector_at y a.0 o) k (λ e. omega (arith, e)))
-      ∙ sym (byte-here y start.world.columns t start.stored start.world.contents (λ d. (start.stored d).now) i o k a.0 (complete i iw) a.1))
-      ∙ any (λ d. (start.stored d).now) (λ d n. s.may_hold d n) t o k tw ow kw checked complete
-
-  module _ (events : List Event) (now : Mapped) (run : Run events now) (any : InSyncAnyhow y start) (image : Contents) (left : IsLeft y now image) (t : ℕ) (u : IsUnsound y now.world.columns image t) where
+  module _ (events : List Event) (now : Mapped) (run : Run events now) (synced : sync) (lie : UnsoundLieIn y serial regions start.world.columns start) (image : Contents) (left : IsLeft y now image) (t : ℕ) (u : IsUnsound y now.world.columns image t) where
     quiet-sound : IsQuiet y graphs serial regions start events now → ⊥
     quiet-sound q = u.differs (below_same (λ i. byte_of y image now.world.columns t i u.offset u.byte) (λ i. byte_of y now.world.contents now.world.columns t i u.offset u.byte) y.width same
         ∙ in-sync t u.offset u.byte u.stripe u.within u.of_sector u.checked u.complete)
@@ -81,7 +72,7 @@ module _ (y : Shape) (layout : IsLayout y) (graphs : Graphs) (promises : Promise
         inv = known events now run q.lost
 
         in-sync : InSync y now.world.contents now.world.columns
-        in-sync = agrees-in-sync y now.world.contents now.world.columns layout now.world.blocks (λ z i zw any-stripe iw. (inv.holds (start-sync any)).idle z i zw iw (λ c r runs has. absurd (q.none c r runs)))
+        in-sync = agrees-in-sync y now.world.contents now.world.columns layout now.world.blocks (λ z i zw any-stripe iw. (inv.holds synced).idle z i zw iw (λ c r runs has. absurd (q.none c r runs)))
 
         same : (i : ℕ) → i < y.width → byte_of y image now.world.columns t i u.offset u.byte ≡ byte_of y now.world.contents now.world.columns t i u.offset u.byte
         same i iw =
@@ -89,10 +80,10 @@ module _ (y : Shape) (layout : IsLayout y) (graphs : Graphs) (promises : Promise
             let n = sector_at y a.0 u.offset in
             let high : n ≢ 1 = λ e. omega (arith, e) in
             let safe = q.settled a.0.device (a.0.column, seat-device y now.world.columns t i a.0 a.1) in
-            byte-here y now.world.columns t now.stored image image i u.offset u.byte a.0 (u.complete i iw) a.1
+            byte-here y now.world.columns t image image image i u.offset u.byte a.0 (u.complete i iw) a.1
             ∙ rests y graphs serial regions start events now run a.0.device safe n (image a.0.device n) high (allowed a.0.device n) u.byte u.of_sector
             ∙ (holds y layout graphs promises serial regions start s (traced events) events now (λ e has. has) run).agrees a.0.device n u.byte high
-            ∙ sym (byte-here y now.world.columns t now.stored image now.world.contents i u.offset u.byte a.0 (u.complete i iw) a.1)
+            ∙ sym (byte-here y now.world.columns t image image now.world.contents i u.offset u.byte a.0 (u.complete i iw) a.1)
 
     -- ## Until then
 
@@ -119,8 +110,8 @@ module _ (y : Shape) (layout : IsLayout y) (graphs : Graphs) (promises : Promise
         same i iw =
             let a = available-seat y now.world.columns t i (u.complete i iw) in
             let b = both i iw in
-            byte-here y now.world.columns t now.stored image image i u.offset u.byte a.0 (u.complete i iw) a.1
-            ∙ sym (byte-here y start.world.columns t start.stored image image i u.offset u.byte a.0 b.0 b.1)
+            byte-here y now.world.columns t image image image i u.offset u.byte a.0 (u.complete i iw) a.1
+            ∙ sym (byte-here y start.world.columns t image image image i u.offset u.byte a.0 b.0 b.1)
 
     -- a unit stands on a device that was in use as the array was opened
     abbrev UsedBoth : Type 0
@@ -146,18 +137,18 @@ module _ (y : Shape) (layout : IsLayout y) (graphs : Graphs) (promises : Promise
         by-region : Unclear events → (e : Traced) → Contains events (Happens e) → (regions (region_of y.stripes t) ≡ true) ⊎ (regions (region_of y.stripes t) ≡ false) → UnionMarks y serial now.world.columns image (region_of y.stripes t)
         by-region clear e has (inr not) =
             let out = outside y layout graphs promises serial regions start s events now run start.world.columns (start-alone y layout graphs promises serial regions start s events now run) t u.stripe not in
-            absurd (spared-sound y layout graphs promises serial regions start s events now run start.world.columns any t image left (was-unsound not) out)
+            let is = spared-lies y layout graphs promises serial regions start s events now run start.world.columns lie t image left (was-unsound not) out in
+            absurd (let z : true ≡ false = sym is ∙ not in let v : ⊥ = cc in v)
         by-region clear e has (inl is) =
             let both = one-used in
-            let safe = safe-since y layout graphs promises serial regions start s events now run e has both.1 (both.0, both.3) in
-            let map = (maps y layout graphs promises serial regions start s (traced events) events now (λ z h. h) clear run).left both.1 (image both.1 1) safe (map-may y layout graphs promises serial regions start s events now run image left both.1) in
+            let map = used-marked y layout graphs promises serial regions start s events now clear run e has both.1 (both.0, both.3) (image both.1 1) (map-may y layout graphs promises serial regions start s events now run image left both.1) in
             record { column = both.0; device = both.1; used = both.2; marks = map.marks; map = map.map; marked = map.all (region_of y.stripes t) is }
 
         by-come : Unclear events → HasCome y layout graphs promises serial regions start s events → UnionMarks y serial now.world.columns image (region_of y.stripes t)
         by-come clear (some e has) = by-region clear e has (cases_Bool (regions (region_of y.stripes t)))
         by-come clear (none never) =
             let same = ap (λ (w : World). w.columns) (still-there y layout graphs promises serial regions start s events now never run) in
-            subst (λ cols. UnionMarks y serial cols image (region_of y.stripes t)) (sym same) (unsound-marked y layout graphs promises serial regions start s events now run any clear image left t (subst (λ cols. IsUnsound y cols image t) same u))
+            subst (λ cols. UnionMarks y serial cols image (region_of y.stripes t)) (sym same) (unsound-marked y layout graphs promises serial regions start s events now run lie clear image left t (subst (λ cols. IsUnsound y cols image t) same u))
 
         by-clear : HasCleared events → UnionMarks y serial now.world.columns image (region_of y.stripes t)
         by-clear (cleared d has) = absurd (quiet-sound (is-quiet y graphs serial regions start events now run d has))

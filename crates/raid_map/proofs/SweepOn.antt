@@ -1,6 +1,6 @@
 -- The stripes of a sweep over the marked ones, one after another.
 use Rattle.std.specs.Prelude.{if◌then◌else◌}
-use Rattle.std.proofs.Common.{◌≡◌, ◌∙◌, ℕ, suc, ◌+◌, ◌<◌, ◌≤◌, Bool, true, false, List, length, Option, Some, None, refl, sym, ap, subst, inl, inr, arith}
+use Rattle.std.proofs.Common.{◌≡◌, ◌⊎◌, ◌∙◌, ℕ, suc, ◌+◌, ◌<◌, ◌≤◌, Bool, true, false, List, length, Option, Some, None, refl, sym, ap, subst, inl, inr, arith}
 use Rattle.std.proofs.lemmas.Bool.{cases_eq, cases_lt, cases_Bool}
 use Rattle.std.proofs.lemmas.List.{length-map}
 use Rattle.std.proofs.lemmas.Option.{slice_get_within}
@@ -12,7 +12,7 @@ use Rattle.eng_cols.specs.declared.column.Column.{Column}
 use Rattle.eng_cols.specs.declared.spot.Spot.{Spot}
 use Rattle.eng_cols.specs.Cols.{ColumnState, Columns, IsFor, HasDevice, InOrder, state_set}
 use Rattle.eng_cols.specs.Seats.{is_available, seat}
-use Rattle.eng_cols.specs.Contents.{InSync}
+use Rattle.eng_cols.specs.Contents.{InSync, byte_of, sector_at}
 use Rattle.eng_cols.specs.Deaths.{Dies}
 use Rattle.eng_cols.proofs.DeathLaws.{dies-refl, dies-more, dies-then, dies-set}
 use Rattle.eng_cols.proofs.Spots.{available-seat, seat-device}
@@ -20,13 +20,14 @@ use Rattle.eng_cols.proofs.Killing.{seat-apart}
 use Rattle.raid_recon.specs.declared.kind.Sweep.TheVariants.{Sync}
 use Rattle.eng_cols.specs.Stripes.{filled_in, states_of, count_below}
 use Rattle.raid_recon.specs.Array.{IsArray, IsJudge, IsComplete, IsCheckSector, Failed}
-use Rattle.raid_recon.specs.Sums.{sum_of, IsZero, IsNotZero}
+use Rattle.raid_recon.specs.Ends.{ChecksHold}
+use Rattle.raid_recon.specs.Sums.{sum_of, HoldsSum, IsZero, IsNotZero}
 use Rattle.raid_recon.specs.Turns.{Turn, Left, Unread, Sound, Unsound, Written, Unwritten, does_count, does_write, failed_at, dead_at, IsTurn}
 use Rattle.raid_recon.specs.Units.{SweepsStripe}
 use Rattle.raid_recon.proofs.Bytes.{zero-from}
 use Rattle.raid_recon.proofs.Places.{states-killed, array-kept}
-use Rattle.raid_recon.proofs.Frames.{last-unit, check-alone, sum-same}
-use Rattle.raid_recon.proofs.Backs.{Back, back-refl, back-then, back-turn, seat-unspread, sum-back, check-back}
+use Rattle.raid_recon.proofs.Frames.{last-unit, byte-same, check-alone, sum-same}
+use Rattle.raid_recon.proofs.Backs.{Back, back-refl, back-then, back-turn, seat-unspread, byte-back, sum-back, check-back}
 use Rattle.raid_map.specs.Sweeping.{MayRewrite, UnsoundAreMarked, IsSweptTo, IsCountedTo}
 
 no-bool : {A : Type 0} → false ≡ true → A
@@ -42,6 +43,10 @@ pub record SweptTo {D : Type 0} (g : Ghosts D) (y : Shape) (marks : ℕ → Bool
   pub swept : IsSweptTo g y marks columns old n mid dev
   pub back : Back y (states_of y mid) (states_of y columns)
   pub count : length mid ≡ length columns
+
+-- what check units hold so far
+abbrev pub HeldTo : {D : Type 0} (g : Ghosts D) (y : Shape) (columns : List Column) (old : List (Option D)) (mid : List Column) (dev : List (Option D)) → Type 0
+HeldTo g y columns old mid dev = g.tells → ChecksHold g y columns mid old dev
 
 below-next : (p : ℕ → Bool) (n : ℕ) → count_below p (n + 1) ≡ count_below p n + (if p n then 1 else 0)
 below-next p n = ap (count_below p) (let e : n + 1 ≡ suc n = omega arith in e)
@@ -104,6 +109,9 @@ module _ {D : Type 0} (g : Ghosts D) (y : Shape) (layout : IsLayout y) (one : y.
     back = back-refl y cols;
     count = refl;
   }
+
+  pub held-none : HeldTo g y columns old columns old
+  held-none told s below all here = inr (λ o k ou. refl)
 
   may-more : (n : ℕ) (d m : ℕ) → May n d m → May (n + 1) d m
   may-more n d m h = record { stripe = h.stripe; below = (let b = h.below in omega (arith, b)); marked = h.marked; complete = h.complete; not_zero = h.not_zero; sector = h.sector }
@@ -241,6 +249,57 @@ module _ {D : Type 0} (g : Ghosts D) (y : Shape) (layout : IsLayout y) (one : y.
           let e = alone.0 in omega (arith, lt, e))
           ∙ was.swept.sound told s lt m full o k ou ku)
     ]
+
+    -- ### What check units hold
+
+    abbrev Wrote : ℕ → ℕ → Type 0
+    Wrote d m = (does_write turn ≡ true) × IsCheckSector y mids n d m
+
+    -- the check unit of stripe s holds the sum of its data units, or what it held
+    abbrev HoldsAt : List (Option D) → ℕ → Type 0
+    HoldsAt ds s = HoldsSum y (contents_of g ds) cols s
+        ⊎ ((o k : ℕ) → o < y.unit_sectors → byte_of y (contents_of g ds) cols s (data_units y) o k ≡ byte_of y (contents_of g old) cols s (data_units y) o k)
+
+    -- where no sector of the stripe has changed
+    holds-still : (s : ℕ) → g.tells → ((i o : ℕ) (at : Spot) → i < y.width → o < y.unit_sectors → seat y cols s i ≡ Some at → Wrote at.device (sector_at y at o) → ⊥) → HoldsAt dev s → HoldsAt new s
+    holds-still s told away (inl sum) = inl (λ o k ou ku.
+        byte-same g Wrote dev new y cols s (data_units y) o k step.visit.frame told (λ at is. away (data_units y) o at last ou is)
+        ∙ (sum o k ou ku
+        ∙ sym (sum-same g Wrote dev new y cols s (data_units y) o k step.visit.frame told (λ i at iw is. away i o at (omega (arith, iw, last)) ou is))))
+    holds-still s told away (inr same) = inr (λ o k ou.
+        byte-same g Wrote dev new y cols s (data_units y) o k step.visit.frame told (λ at is. away (data_units y) o at last ou is) ∙ same o k ou)
+
+    other-away : (s : ℕ) → s < y.stripes → (s ≡ n → ⊥) → (i o : ℕ) (at : Spot) → i < y.width → o < y.unit_sectors → seat y cols s i ≡ Some at → Wrote at.device (sector_at y at o) → ⊥
+    other-away s below other i o at iw ou is may =
+        other (check-alone y cols layout array.order one n s i o at sw below iw ou is (check-back y mids cols n at.device (sector_at y at o) was.back may.1)).0
+
+    own-holds : g.tells → is_available y (states_of y after) n (data_units y) ≡ true → HoldsAt dev n → HoldsAt new n
+    own-holds told here before = go turn refl step.visit.is
+      where
+        still : (t : Turn) → turn ≡ t → does_write t ≡ false → HoldsAt new n
+        still t e not = holds-still n told (λ i o at iw ou is may. no-bool (sym not ∙ (sym (ap does_write e) ∙ may.0))) before
+
+        go : (t : Turn) → turn ≡ t → IsTurn g.tells Sync y (contents_of g dev) mids n t → HoldsAt new n
+        go Left e h = still Left e refl
+        go (Unread i) e h = still (Unread i) e refl
+        go Sound e h = still Sound e refl
+        go Unsound e h = still Unsound e refl
+        go Written e h = inl (λ o k ou ku.
+            sym (byte-back y (contents_of g new) mids cols n (data_units y) o k was.back (h.0 (data_units y) last))
+            ∙ (step.visit.sum told e o k ou ku
+            ∙ sum-back y (contents_of g new) mids cols n (data_units y) o k was.back (λ i iw. h.0 i (omega (arith, iw, last)))))
+        go Unwritten e h = absurd (gone y mid mid-array.order n (data_units y) (seat y mids n (data_units y)) (h.0 (data_units y) last) refl
+            (subst (λ q. is_available y (states_of y (dead_at mid q)) n (data_units y) ≡ true) (ap (failed_at y mids n) e)
+            (subst (λ cs. is_available y (states_of y cs) n (data_units y) ≡ true) step.columns_are here)))
+
+    pub held-more : HeldTo g y columns old mid dev → HeldTo g y columns old after new
+    held-more held told s below all here =
+        let before : HoldsAt dev s = held told s below all (step-back.available s (data_units y) here) in
+        elim (cases_eq s n) [
+          | inr other ↦ holds-still s told (other-away s below other) before
+          | inl own ↦ subst (HoldsAt new) (sym own)
+              (own-holds told (subst (λ z. is_available y (states_of y after) z (data_units y) ≡ true) own here) (subst (HoldsAt dev) own before))
+        ]
 
     -- ### Whether the stripe counts
 

@@ -18,12 +18,12 @@ use Rattle.raid_map.specs.Regions.{region_of, Marks, is_marked}
 use Rattle.raid_map.specs.Mapped.{HasWrite}
 
 -- the node is a write
-abbrev pub is_write : Node → Bool
-is_write (Rd unit buf) = false
-is_write (Wr unit buf) = true
-is_write (Xor to) = false
-is_write Cmt = false
-is_write Trm = false
+abbrev pub node_writes : Node → Bool
+node_writes (Rd unit buf) = false
+node_writes (Wr unit buf) = true
+node_writes (Xor to) = false
+node_writes Cmt = false
+node_writes Trm = false
 
 -- the graphs of the file by number; past the last there is a blank one
 abbrev pub file_of : List Held → ℕ → View

@@ -6,3 +6,4 @@ pub mod Union
 pub mod Marking
 pub mod Reading
 pub mod Sweeping
+pub mod Starts

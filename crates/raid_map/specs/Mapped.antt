@@ -21,6 +21,7 @@ use Rattle.eng_world.specs.Nodes.{IsWrittenAt}
 use Rattle.eng_world.specs.Step.{IsOpening, Step}
 use Rattle.raid_map.specs.Regions.{region_of, IsMap}
 use Rattle.raid_map.specs.Stops.{Logged, Stored, SameSector, MayHold, IsImage}
+use Rattle.raid_map.specs.Union.{UnionMarks, IsUnsound}
 
 -- Sector 1 of a device is written with a map; a device is settled, and answers that it is; an event of the world; and sector 1 of a device is written with a map without marks.
 pub data Event : Type 0 where
@@ -91,6 +92,16 @@ pub record IsSafe (events : List Event) (d : ℕ) : Type 0 where
   pub split : events ≡ later ++ Mark d marks ∷ before
   pub settled : Contains later (Settle d)
 
+-- the bytes are a map that marks all of these regions
+pub record MarksAll (serial stripes : ℕ) (regions : ℕ → Bool) (bytes : ℕ → ℕ) : Type 0 where
+  pub marks : ℕ → Bool
+  pub all : (r : ℕ) → regions r ≡ true → marks r ≡ true
+  pub map : IsMap serial stripes marks bytes
+
+-- whatever a stop leaves of the device's sector 1 is such a map
+abbrev pub HasMarks : ℕ → ℕ → (ℕ → Bool) → Stored → Type 0
+HasMarks serial stripes regions x = (bytes : ℕ → ℕ) → MayHold x 1 bytes → MarksAll serial stripes regions bytes
+
 -- the device was settled since the last event of the world
 pub record IsSettled (events : List Event) (d : ℕ) : Type 0 where
   pub later : List Event
@@ -128,7 +139,7 @@ abbrev pub IsUsed : World → ℕ → Type 0
 IsUsed w d = (c : ℕ) × HasDevice w.columns c d
 
 module _ (y : Shape) (graphs : Graphs) (serial : ℕ) (regions : ℕ → Bool) where
-  -- Before each event of the world each device that has been in use since the beginning was marked and is safe, and no map was cleared. A mark has all regions of what is asked. A map is cleared once nothing is under way and each device in use was settled behind the last event.
+  -- Before each event of the world each device that has been in use since the beginning had its marks at the start, or was marked and is safe; and no map was cleared. A mark has all regions of what is asked. A map is cleared once nothing is under way and each device in use was settled behind the last event.
   abbrev pub Leads : Mapped → Event → List Event → Mapped → Mapped → Type 0
   Leads start (Mark d marks) earlier old new =
       (new.world ≡ old.world) × Writes serial y.stripes d marks old.stored new.stored × ((r : ℕ) → regions r ≡ true → marks r ≡ true)
@@ -137,7 +148,7 @@ module _ (y : Shape) (graphs : Graphs) (serial : ℕ) (regions : ℕ → Bool) w
       Step y graphs e old.world new.world
       × ((d : ℕ) → Logs d old.world new.world (old.stored d) (new.stored d))
       × AreAskedFor y graphs regions new.world
-      × ((d : ℕ) → IsUsed start.world d → IsUsed old.world d → IsSafe earlier d)
+      × ((d : ℕ) → IsUsed start.world d → IsUsed old.world d → HasMarks serial y.stripes regions (start.stored d) ⊎ IsSafe earlier d)
       × ((d : ℕ) → Contains earlier (Clear d) → ⊥)
   Leads start (Clear d) earlier old new =
       (new.world ≡ old.world) × Writes serial y.stripes d (λ r. false) old.stored new.stored
@@ -154,6 +165,10 @@ pub record IsStart (y : Shape) (start : Mapped) : Type 0 where
   pub opening : IsOpening y start.world
   pub now : (d n k : ℕ) → n ≢ 1 → (start.stored d).now n k ≡ start.world.contents d n k
   pub may_hold : (d n : ℕ) → MayHold (start.stored d) n ((start.stored d).now n)
+
+-- In each image that a stop may leave of the start a stripe that lacks no unit by these columns and doesn't sum to zero lies in one of the regions, and in one that the union marks in that image.
+abbrev pub UnsoundLieIn : Shape → ℕ → (ℕ → Bool) → List ColumnState → Mapped → Type 0
+UnsoundLieIn y serial regions cols start = (image : Contents) (s : ℕ) → IsImage start.stored image → IsUnsound y cols image s → (regions (region_of y.stripes s) ≡ true) × UnionMarks y serial cols image (region_of y.stripes s)
 
 -- A write that is out writes sector n of device d: it may be there already, or not, or a part of it.
 pub record IsUnderWay (y : Shape) (w : World) (d n : ℕ) : Type 0 where

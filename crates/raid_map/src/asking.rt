@@ -3,7 +3,7 @@ ghost use Rattle.std.specs.Prelude.{◌≡◌, ◌<◌, ◌≤◌, ℕ, All, Con
 ghost use Rattle.blk_plain.specs.declared.op.Op.TheVariants as op;
 ghost use Rattle.eng_world.specs.declared.item.Item.TheVariants as item;
 ghost use Rattle.raid_map.specs.Mapped.{HasWrite};
-ghost use Rattle.raid_map.specs.Asking.{is_write, file_of, FileWrites, MayWriteBy, HasSpans, IsSpanned, Reaches, MayWriteIn, SomeMayWrite, ScriptMayWrite, MarksAlso};
+ghost use Rattle.raid_map.specs.Asking.{node_writes, file_of, FileWrites, MayWriteBy, HasSpans, IsSpanned, Reaches, MayWriteIn, SomeMayWrite, ScriptMayWrite, MarksAlso};
 
 use crate::map::Map;
 use blk_plain::{Op, Patches, Span};
@@ -11,8 +11,8 @@ use eng_world::Item;
 use graph_mean::{Graph, Node};
 use lay_core::{Layout, StripeMap, split, split_all};
 
-fn is_write(node: Node) -> bool
-    ensures { result ≡ is_write node }
+fn node_writes(node: Node) -> bool
+    ensures { result ≡ node_writes node }
 {
     match node {
         Node::Wr { .. } => true,
@@ -25,7 +25,7 @@ fn has_write(graph: &Graph) -> bool
     ensures { MatchBool result (HasWrite graph.now.drawn) (HasWrite graph.now.drawn → ⊥) }
 {
     for n in 0..graph.nodes() {
-        if is_write(graph.node(n)) {
+        if node_writes(graph.node(n)) {
             return true;
         }
     }

@@ -11,9 +11,10 @@ mod sweeping;
 
 pub use asking::mark_script;
 pub use laws::{
-    a_union_has_what_its_maps_mark, reads_of_the_library_have_no_write,
-    regions_of_a_script_are_enough, what_is_unsound_at_a_stop_is_marked,
-    what_is_unsound_by_earlier_columns_is_marked, what_is_unsound_is_marked,
+    a_union_has_what_its_maps_mark, an_array_in_sync_is_a_start, marks_and_a_sweep_leave_a_start,
+    reads_of_the_library_have_no_write, regions_of_a_script_are_enough,
+    what_is_unsound_at_a_stop_is_marked, what_is_unsound_by_earlier_columns_is_marked,
+    what_is_unsound_is_marked,
 };
 pub use map::Map;
 pub use marking::mark_all;

@@ -6,6 +6,7 @@ ghost use Rattle.eng_cols.specs.Contents.{InSync};
 ghost use Rattle.eng_cols.specs.Settable.{IsSettable};
 ghost use Rattle.eng_cols.specs.Stripes.{states_of};
 ghost use Rattle.raid_recon.specs.Array.{IsArray};
+ghost use Rattle.raid_recon.specs.Ends.{ChecksHold};
 ghost use Rattle.raid_recon.specs.Units.{SweepsStripe};
 ghost use Rattle.raid_recon.specs.declared.kind.Sweep.TheVariants as sweep;
 ghost use Rattle.raid_map.specs.Sweeping.{marks_stripe, UnsoundAreMarked, IsSweptTo, IsCountedTo, CallsMarked};
@@ -68,6 +69,8 @@ pub fn sweep_marked<L: Layout, D: StopDisk>(
     ensures counted { (L.shape layout.now).checks ≡ 1 → IsCountedTo D.Disk (L.shape layout.now)
         (marks_stripe map.now) columns.old devices.old (L.shape layout.now).stripes columns.new
         result }
+    ensures checks { (L.shape layout.now).checks ≡ 1 → D.tells → ChecksHold D.Disk
+        (L.shape layout.now) columns.old columns.new devices.old devices.new }
     ensures in_sync { D.tells → UnsoundAreMarked D.Disk (L.shape layout.now) (marks_stripe map.now)
         columns.old devices.old → InSync (L.shape layout.now) (contents_of D.Disk devices.new)
         (states_of (L.shape layout.now) columns.new) }

@@ -1,6 +1,6 @@
 use Rattle.std.proofs.Common.{◌≡◌, ◌∙◌, sym, subst, arith}
 use Rattle.raid_map.specs.Sweeping.{marks_stripe, IsCountedTo}
-use Rattle.raid_map.proofs.SweepOn.{SweptTo, array-mid, judge-set, swept-none, swept-more, swept-skip, swept-in-sync, counted-none, counted-skip, counted-yes, counted-no}
+use Rattle.raid_map.proofs.SweepOn.{SweptTo, array-mid, held-more, held-none, judge-set, swept-none, swept-more, swept-skip, swept-in-sync, counted-none, counted-skip, counted-yes, counted-no}
 use Rattle.raid_map.proofs.SweepCalls.{called-none, called-more, calls-marked}
 use Rattle.raid_map.proofs.sweeping.sweep_marked.Goals.{then-marked+then-sync_one, then-marked+else-sync_one, else-marked}
 use Rattle.raid_map.proofs.sweeping.sweep_marked.Goals as goal
@@ -25,6 +25,7 @@ loop-stripe-init g c =
       counted-none g.D.Disk y layout one marks c.args.columns.now c.args.devices.now c.requires.array,
       judge-set g.D.Disk y layout one marks c.args.columns.now c.args.devices.now c.requires.array c.args.judge.now c.set.new.self c.requires.judge c.requires.columns.entries c.set.ensures.columns,
       called-none g.D.Disk y marks c.args.columns.now c.args.devices.now,
+      held-none g.D.Disk y layout one marks c.args.columns.now c.args.devices.now c.requires.array,
     )
 
 pub loop-stripe-preserved : goal.loop-stripe-preserved
@@ -45,6 +46,7 @@ loop-stripe-preserved g c =
         w.sync_one.ensures.judge,
         called-more g.D.Disk y marks c.args.columns.now c.args.devices.now layout one c.loop-stripe.stripe (omega (arith, within, c.stripes-stripe-end.ensures)) (sym c.marked.ensures ∙ w.if-marked.true) c.loop-stripe.columns w.sync_one.new.columns c.loop-stripe.devices w.sync_one.new.devices w.sync_one.result
             (c.loop-stripe.invariant.0.back.order c.requires.array.order) c.loop-stripe.invariant.0.back w.sync_one.ensures.turn c.loop-stripe.invariant.5,
+        held-more g.D.Disk y layout one marks c.args.columns.now c.args.devices.now c.requires.array c.loop-stripe.stripe (omega (arith, within, c.stripes-stripe-end.ensures)) c.loop-stripe.columns w.sync_one.new.columns c.loop-stripe.devices w.sync_one.new.devices (sym c.marked.ensures ∙ w.if-marked.true) c.loop-stripe.invariant.0 w.sync_one.result w.sync_one.ensures.turn c.loop-stripe.invariant.6,
       )
       | then-marked+else-sync_one w ↦ rw (w.devices-is, w.columns-is, w.count-is, w.room-inside-is, w.judge-is) (
         swept-more g.D.Disk y layout one marks c.args.columns.now c.args.devices.now c.requires.array c.loop-stripe.stripe (omega (arith, within, c.stripes-stripe-end.ensures)) c.loop-stripe.columns w.sync_one.new.columns c.loop-stripe.devices w.sync_one.new.devices
@@ -55,6 +57,7 @@ loop-stripe-preserved g c =
         w.sync_one.ensures.judge,
         called-more g.D.Disk y marks c.args.columns.now c.args.devices.now layout one c.loop-stripe.stripe (omega (arith, within, c.stripes-stripe-end.ensures)) (sym c.marked.ensures ∙ w.if-marked.true) c.loop-stripe.columns w.sync_one.new.columns c.loop-stripe.devices w.sync_one.new.devices w.sync_one.result
             (c.loop-stripe.invariant.0.back.order c.requires.array.order) c.loop-stripe.invariant.0.back w.sync_one.ensures.turn c.loop-stripe.invariant.5,
+        held-more g.D.Disk y layout one marks c.args.columns.now c.args.devices.now c.requires.array c.loop-stripe.stripe (omega (arith, within, c.stripes-stripe-end.ensures)) c.loop-stripe.columns w.sync_one.new.columns c.loop-stripe.devices w.sync_one.new.devices (sym c.marked.ensures ∙ w.if-marked.true) c.loop-stripe.invariant.0 w.sync_one.result w.sync_one.ensures.turn c.loop-stripe.invariant.6,
       )
       | else-marked w ↦ rw (w.devices-is, w.columns-is, w.count-is, w.room-inside-is, w.judge-is) (
         swept-skip g.D.Disk y layout one marks c.args.columns.now c.args.devices.now c.requires.array c.loop-stripe.stripe c.loop-stripe.columns c.loop-stripe.devices
@@ -64,6 +67,7 @@ loop-stripe-preserved g c =
         counted-skip g.D.Disk y layout one marks c.args.columns.now c.args.devices.now c.requires.array c.loop-stripe.stripe c.loop-stripe.count c.loop-stripe.columns (sym c.marked.ensures ∙ w.if-marked.false) c.loop-stripe.invariant.3,
         c.loop-stripe.invariant.4,
         c.loop-stripe.invariant.5,
+        c.loop-stripe.invariant.6,
       )
     ]
 
@@ -85,3 +89,6 @@ returns-clause-counted g c one =
     let y = g.L.Layout.shape c.args.layout.now in
     let end : c.loop-stripe.stripe ≡ y.stripes = omega arith in
     subst (λ n. IsCountedTo g.D.Disk y (marks_stripe c.args.map.now) c.args.columns.now c.args.devices.now n c.loop-stripe.columns c.loop-stripe.count) end c.loop-stripe.invariant.3
+
+pub returns-clause-checks : goal.returns-clause-checks
+returns-clause-checks g c one = c.loop-stripe.invariant.6
