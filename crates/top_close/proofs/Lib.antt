@@ -6,3 +6,4 @@ pub mod DyingLaws
 pub mod ClosingLaws
 pub mod LackingLaws
 pub mod StageLaws
+mod LiveLaws

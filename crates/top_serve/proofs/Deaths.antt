@@ -184,7 +184,6 @@ module _ {L D : Type 0} (lay : LayoutGhosts L) (disk : DiskGhosts D) (setup : Se
     locks = is.locks;
     lists = is.lists;
     few = is.few;
-    count = is.count;
     clients = is.clients;
     log = is.log;
     laid = is.laid;

@@ -106,7 +106,7 @@ FillsBy (Some (start.Spread column)) c most = ⊥
 
 -- what reads handed out, with the region of each item
 abbrev pub handed_in : {L D : Type 0} → Closed L D → Handout
-handed_in closed = record { bytes = closed.sectors.items; regions = closed.regions.items }
+handed_in closed = record { bytes = closed.sectors; regions = closed.regions.items }
 
 module _ {L D : Type 0} (lay : LayoutGhosts L) (disk : DiskGhosts D) (setup : Setup L D) where
   -- ## The run
@@ -157,7 +157,7 @@ module _ {L D : Type 0} (lay : LayoutGhosts L) (disk : DiskGhosts D) (setup : Se
     -- The regions lie one behind the other, one for each item, as long as its read, and there are bytes for all of them; and data replies hand out what is there, which is said where devices tell what they hold.
     pub record HandsOut (now : World) : Type 0 where
       pub rows : (c : ℕ) → c < 16 → IsRow (items_at setup.clients.items c) (sectors_before setup.clients.items c) (length (items_at setup.clients.items c)) (slice_index_or closed.regions.items c [])
-      pub enough : 512 * sectors_before setup.clients.items 16 ≤ length closed.sectors.items
+      pub enough : 512 * sectors_before setup.clients.items 16 ≤ length closed.sectors
       pub handed : disk.tells → (c i b k : ℕ) → slice_get (now.clients c).replies i ≡ Some reply.Data → b < (region_at (handed_in closed) c i).count → k < 512 → (now.clients c).handed i b k ≡ handed_byte (handed_in closed) c i b k
 
     -- the sector may have changed: it is one of the array's rows, on a device that was in a column or is filled; or the device has no such sector
