@@ -1,9 +1,9 @@
--- An opening round, and a sweep behind it.
-use Rattle.std.proofs.Common.{◌≡◌, ◌∙◌, ℕ, ◌+◌, ◌≤◌, List, [], true, length, Option, Some, None, refl, sym, ap, subst, inl, inr, arith}
+-- What announces that sectors of the rows are going to be written, and a sweep behind it.
+use Rattle.std.proofs.Common.{◌≡◌, ◌⊎◌, ◌∙◌, ℕ, ◌+◌, ◌<◌, ◌≤◌, List, [], ◌++◌, true, false, length, Option, Some, None, refl, sym, ap, subst, inl, inr, append-nil, arith}
 use Rattle.std.specs.Prelude.{All, count_by, is_some}
-use Rattle.std.proofs.lemmas.Bool.{cases_eq}
+use Rattle.blk_disk.specs.declared.disk.Call.{Call}
 use Rattle.blk_disk.specs.declared.disk.Disk.{Ghosts}
-use Rattle.blk_disk.specs.Devices.{Changes, calls_of}
+use Rattle.blk_disk.specs.Devices.{Changes}
 use Rattle.blk_disk.proofs.DeviceLaws.{changes-more, changes-refl, changes_sector}
 use Rattle.lay_core.specs.Layout.{Shape, IsLayout}
 use Rattle.eng_cols.specs.declared.column.Column.{Column}
@@ -11,76 +11,83 @@ use Rattle.eng_cols.specs.declared.spot.Loss.{Loss}
 use Rattle.eng_cols.specs.Cols.{InOrder, is_set_filling}
 use Rattle.eng_cols.specs.Deaths.{Dies}
 use Rattle.raid_label.specs.declared.label.Label.{Label}
-use Rattle.raid_recon.specs.declared.kind.Sweep.{Sweep}
 use Rattle.eng_cols.specs.Stripes.{states_of}
-use Rattle.raid_recon.specs.Ends.{MayRewrite}
+use Rattle.raid_map.specs.Regions.{IsBytesOf}
 use Rattle.top_rounds.specs.Calls.{IsLabelWrite}
 use Rattle.top_rounds.specs.Labels.{seating_in, with_round}
 use Rattle.top_rounds.specs.Passes.{IsFirstInUse}
+use Rattle.raid_recon.proofs.Backs.{Back}
+use Rattle.top_close.specs.Settled.{HasDeviceOn}
 use Rattle.top_close.specs.Stage.{DiesIn, IsGivenUpIn, IsStage}
-use Rattle.top_rounds.specs.Rounds.{AreRounds, HaveRounds, clean_in_end}
-use Rattle.top_close.proofs.StageLaws.{live_before, stage-plain, stage-then, stage_as, told-others}
-use Rattle.top_rounds.proofs.RoundLaws.{counts-none, counts-then, counts_as, counts_few, round_again, stage_of_rounds}
+use Rattle.top_rounds.specs.Rounds.{CountsRounds, HaveRounds, clean_in_end}
+use Rattle.top_close.proofs.StageLaws.{live_before, stage-then, stage_as, told-others}
+use Rattle.top_rounds.proofs.RoundLaws.{counts-none, counts-then, counts_few, round_again, stage_of_rounds}
 use Rattle.top_acts.specs.Stages.{AreStaged}
-use Rattle.top_acts.specs.Begun.{AreLast, HasBegun, HasSeats, HasSwept, MayBegin, MaySweep, SweepHas}
-use Rattle.top_acts.specs.Sweeping.{DoesSweep, SweepsLabelled}
+use Rattle.top_acts.specs.Begun.{AreLast, HasBegun, HasSeats, MayBegin, MaySweep, SweepHas}
+use Rattle.top_acts.specs.Marking.{AreNotice}
+use Rattle.top_acts.specs.Sweeping.{SweepsLabelled}
+use Rattle.top_acts.specs.Sweeps.{Sweeps, Nothing, Over, Marked, Notice, Round, Marks, wrote_round}
+use Rattle.top_acts.proofs.Announced.{AreAnnounced, IsAnnounced, MayAnnounce, no_bool}
 use Rattle.top_acts.proofs.Backs.{died}
 use Rattle.top_acts.proofs.Counted.{counted_rounds}
-use Rattle.top_acts.proofs.Ended.{clean_none, no_loss, rounds_of}
-use Rattle.top_acts.proofs.Later.{Quiet, may_was, swept_first, swept_later, sync_later}
+use Rattle.top_acts.proofs.Ended.{clean_none, no_loss}
+use Rattle.top_acts.proofs.Later.{IsSwept, Quiet, has_first, has_later, sweep_high, sweep_still, sweep_was, sync_later}
 use Rattle.top_acts.proofs.Named.{apart_in, loses_of, only_lose}
 use Rattle.top_acts.proofs.Seated.{seats-kept, seats-then, seats_of_rounds}
-use Rattle.top_acts.proofs.Uncalled.{told-units}
-use Rattle.top_acts.proofs.Staged.{AreNone, staged-alone, staged-as, staged-before, staged-more, staged-sweep}
+use Rattle.top_acts.proofs.Staged.{AreNone, staged-around, staged-as, staged-before, staged-more}
+use Rattle.top_acts.proofs.Swept.{DidSweep, sweep_stage}
 
 pub no_none : {A X : Type 0} {x : X} → Some x ≡ None → A
 no_none h = absurd (let u : ⊥ = cc in u)
 
+-- ## Labels
+
+-- where a round was written in both, or in the second alone, the label in the end isn't clean
+label_again : (notice : Notice) (lost : Option Loss) (label first next : Label) → (wrote_round notice None ≡ true → first ≡ with_round label first.counter 0 (seating_in first)) → (wrote_round notice None ≡ false → first ≡ label)
+    → next ≡ with_round first next.counter (clean_in_end lost first.clean) (seating_in next) → wrote_round notice lost ≡ true → next ≡ with_round label next.counter 0 (seating_in next)
+label_again Round lost label first next was same is wrote =
+    round_again label first next 0 next.counter 0 (seating_in next) (was refl)
+    (is ∙ ap (λ k. with_round first next.counter k (seating_in next)) (ap (clean_in_end lost) (ap (λ (l : Label). l.clean) (was refl)) ∙ clean_none lost))
+label_again (Marks map) None label first next was same is wrote = no_bool (sym wrote)
+label_again (Marks map) (Some loss) label first next was same is wrote = subst (λ (l : Label). next ≡ with_round l next.counter 0 (seating_in next)) (same refl) is
+
+-- where none was written
+kept_again : (notice : Notice) (lost : Option Loss) (label first next : Label) → (wrote_round notice None ≡ false → first ≡ label) → (lost ≡ None → next ≡ first) → wrote_round notice lost ≡ false → next ≡ label
+kept_again Round lost label first next was is wrote = no_bool wrote
+kept_again (Marks map) None label first next was is wrote = is refl ∙ was refl
+kept_again (Marks map) (Some loss) label first next was is wrote = no_bool wrote
+
 module _ {D : Type 0} (g : Ghosts D) (y : Shape) where
-  abbrev pub swept_now : (kind : Sweep) (columns after : List Column) (old new : List (Option D)) (n : ℕ) → DoesSweep g kind y columns after old new n → HasSwept g kind y columns after old new n
-  swept_now kind columns after old new n s = record { counted = s.counted; none = λ e. (s.none e).0; checks = s.checks; in_sync = s.in_sync }
-
-  -- labels are written to sector 0 alone
-  quiet_in_use : (columns : List Column) (old new : List (Option D)) → Changes g (IsFirstInUse columns) old new → Quiet g y old new
-  quiet_in_use columns old new h = changes-more g (IsFirstInUse columns) (λ d n. n ≡ 0) old new (λ d n f. f.first) h
-
   -- ## The sweep
 
-  -- where there are no check units nothing changes
-  pub sweep_frame : (kind : Sweep) (columns after : List Column) (old new : List (Option D)) (n : ℕ) → y.checks ≤ 1 → DoesSweep g kind y columns after old new n → Changes g (MaySweep g (Some kind) y columns old) old new
-  sweep_frame kind columns after old new n most s = elim (cases_eq y.checks 1) [
-    | inl one ↦ changes-more g (MayRewrite g kind y columns old) (MaySweep g (Some kind) y columns old) old new (λ d m h. (one, h)) s.frame
-    | inr ne ↦ subst (λ l. Changes g (MaySweep g (Some kind) y columns old) old l) (sym (s.none (omega (arith, most, ne))).1.1) (changes-refl g (MaySweep g (Some kind) y columns old) old)
-  ]
-
-  -- a sweep is a stage, of which no device is listed
-  abbrev pub sweep_stage : (kind : Sweep) (lost : Option Loss) (columns after : List Column) (old new : List (Option D)) (n : ℕ) → y.checks ≤ 1 → DoesSweep g kind y columns after old new n → IsStage g (MaySweep g (Some kind) y columns old) (λ d. AreStaged AreNone AreNone (Some kind) y (states_of y columns) d) lost columns after old new
-  sweep_stage kind lost columns after old new n most s =
-      stage-plain g (MaySweep g (Some kind) y columns old) (λ d. AreStaged AreNone AreNone (Some kind) y (states_of y columns) d) lost columns after old new (sweep_frame kind columns after old new n most s)
-      (λ d. staged-sweep kind y (states_of y columns) d (calls_of g old d) (calls_of g new d) (s.calls d)) (told-units g y columns old new s.calls) (loses_of g y lost columns after old new s.dies)
+  -- labels are written to sector 0 alone
+  pub quiet_in_use : (columns : List Column) (old new : List (Option D)) → Changes g (IsFirstInUse columns) old new → Quiet g y old new
+  quiet_in_use columns old new h = changes-more g (IsFirstInUse columns) (λ d n. n < 64) old new (λ d n f. omega (arith, f.first)) h
 
   -- behind which the array isn't lost
-  pub sweeps_kept : (kind : Sweep) (label : Label) (columns after : List Column) (old new : List (Option D)) (lost : Option Loss) (n : ℕ) → y.checks ≤ 1 → lost ≡ None → DoesSweep g kind y columns after old new n
-      → SweepsLabelled g kind y label label columns after old new lost n
-  sweeps_kept kind label columns after old new lost n most kept s = record {
+  pub sweeps_kept : (sweep : Sweeps) (label : Label) (columns after : List Column) (old new : List (Option D)) (lost : Option Loss) (n : ℕ) → lost ≡ None → DidSweep g y sweep columns after old new n
+      → SweepsLabelled g sweep y label label columns after old new lost n
+  sweeps_kept sweep label columns after old new lost n kept s = record {
     rounds = 0;
     few = omega arith;
     none = λ e. refl;
-    stage = stage_as g (MaySweep g (Some kind) y columns old) (MayBegin g (Some kind) y columns old) (λ d. AreStaged AreNone AreNone (Some kind) y (states_of y columns) d) (λ d. AreStaged AreNone (AreLast lost) (Some kind) y (states_of y columns) d) lost columns after old new
-        (λ d m h. inr h) (λ d calls. staged-as AreNone AreNone (AreLast lost) (Some kind) y (states_of y columns) d calls (λ xs h. subst (λ o. AreLast o xs) (sym kept) h)) (sweep_stage kind lost columns after old new n most s);
+    stage = stage_as g (MaySweep g sweep y columns old) (MayBegin g Round sweep y columns old) (λ d. AreStaged AreNone AreNone sweep y (states_of y columns) d) (λ d. AreStaged AreNone (AreLast lost) sweep y (states_of y columns) d) lost columns after old new
+        (λ d m h. inr h) (λ d calls. staged-as AreNone AreNone (AreLast lost) sweep y (states_of y columns) d calls (λ xs h. subst (λ o. AreLast o xs) (sym kept) h)) (sweep_stage g y sweep lost columns after old new n s);
     counter = counts-none label label refl;
     label_is = ap (λ o. with_round label label.counter (clean_in_end o label.clean) (seating_in label)) (sym kept);
     seated = inl (kept, refl);
     given_up = subst (λ o. IsGivenUpIn o after) (sym kept) tt;
-    held = λ c d live was told. changes_sector g (MayRewrite g kind y columns old) old new d 0 s.frame told (λ m. omega (arith, m.sector.sector)) ∙ was told;
-    swept = swept_now kind columns after old new n s;
+    held = λ c d live was told. changes_sector g (MaySweep g sweep y columns old) old new d 0 s.frame told (λ m. omega (arith, sweep_high g y sweep columns old d 0 m)) ∙ was kept told;
+    same = λ e. refl;
+    alone = λ e. s.frame;
+    swept = s.has;
   }
 
   -- by which it is lost, and which has one round behind it
-  pub sweeps_lost : (kind : Sweep) (label next : Label) (columns mid after : List Column) (old dev new : List (Option D)) (lost : Option Loss) (n : ℕ) → y.checks ≤ 1 → count_by is_set_filling mid ≤ 1 → is_some lost ≡ true → DoesSweep g kind y columns mid old dev n
-      → next ≡ with_round label next.counter 0 (seating_in next) → HaveRounds g lost label next mid after dev new → SweepsLabelled g kind y label next columns after old new lost n
-  sweeps_lost kind label next columns mid after old dev new None n most few some s is h = no_loss some
-  sweeps_lost kind label next columns mid after old dev new (Some loss) n most few some s is h =
+  pub sweeps_lost : (sweep : Sweeps) (label next : Label) (columns mid after : List Column) (old dev new : List (Option D)) (lost : Option Loss) (n : ℕ) → count_by is_set_filling mid ≤ 1 → is_some lost ≡ true → DidSweep g y sweep columns mid old dev n
+      → next ≡ with_round label next.counter 0 (seating_in next) → HaveRounds g lost label next mid after dev new → SweepsLabelled g sweep y label next columns after old new lost n
+  sweeps_lost sweep label next columns mid after old dev new None n few some s is h = no_loss some
+  sweeps_lost sweep label next columns mid after old dev new (Some loss) n few some s is h =
       let r = h.1 in
       let last = counted_rounds g (Some loss) label next mid h.0 after dev new r in
       let dies = loses_of g y None columns mid old dev s.dies in
@@ -88,107 +95,176 @@ module _ {D : Type 0} (g : Ghosts D) (y : Shape) where
         rounds = 1;
         few = omega arith;
         none = λ e. no_none e;
-        stage = stage-then g (MaySweep g (Some kind) y columns old) (IsFirstInUse mid) (MayBegin g (Some kind) y columns old)
-            (λ d. AreStaged AreNone AreNone (Some kind) y (states_of y columns) d) (λ d. All IsLabelWrite) (λ d. AreStaged AreNone (AreLast (Some loss)) (Some kind) y (states_of y columns) d)
-            (Some loss) columns mid after old dev new (sweep_stage kind None columns mid old dev n most s) (stage_of_rounds g (Some loss) label next mid h.0 after dev new r)
+        stage = stage-then g (MaySweep g sweep y columns old) (IsFirstInUse mid) (MayBegin g Round sweep y columns old)
+            (λ d. AreStaged AreNone AreNone sweep y (states_of y columns) d) (λ d. All IsLabelWrite) (λ d. AreStaged AreNone (AreLast (Some loss)) sweep y (states_of y columns) d)
+            (Some loss) columns mid after old dev new (sweep_stage g y sweep None columns mid old dev n s) (stage_of_rounds g (Some loss) label next mid h.0 after dev new r)
             (λ d m f. inr f) (λ d m f. inl (record { col = f.col; live = live_before (DiesIn g None columns old dev) columns mid f.col d dies f.live; first = f.first }))
-            (λ d xs ys s w. staged-more AreNone (AreLast (Some loss)) (Some kind) y (states_of y columns) d xs ys s w);
+            (λ d xs ys s w. staged-more AreNone (AreLast (Some loss)) sweep y (states_of y columns) d xs ys s w);
         counter = counts-then 0 1 label label next [] r.rises (counts-none label label refl) (record { least = r.least; most = r.most });
         label_is = is;
-        seated = inr (seats-then g columns mid old dev new (MayRewrite g kind y columns old) (IsFirstInUse mid) s.frame r.frame (Some loss) next after dies (seats_of_rounds g (Some loss) label next mid h.0 after dev new r));
+        seated = inr (seats-then g columns mid old dev new (MaySweep g sweep y columns old) (IsFirstInUse mid) s.frame r.frame (Some loss) next after dies (seats_of_rounds g (Some loss) label next mid h.0 after dev new r));
         given_up = r.given_up;
         held = λ c d live was. r.held c d live;
-        swept = swept_later g y kind columns mid after old dev new n (died (DiesIn g (Some loss) mid dev new) y mid after last.stage.dies (apart_in g (Some loss) mid after dev new last.stage.dies) few) (quiet_in_use mid dev new r.frame) (swept_now kind columns mid old dev n s);
+        same = λ e. no_none e;
+        alone = λ e. no_none e;
+        swept = has_later g y sweep columns mid after old dev new n (died (DiesIn g (Some loss) mid dev new) y mid after last.stage.dies (apart_in g (Some loss) mid after dev new last.stage.dies) few) (quiet_in_use mid dev new r.frame) s.has;
       }
 
-  -- ## The opening round
+  -- ## What announces it
 
-  unswept : (sweep : Option Sweep) (columns after : List Column) (old new : List (Option D)) → sweep ≡ None → SweepHas g sweep y columns after old new 0
-  unswept None columns after old new e = refl
-  unswept (Some kind) columns after old new e = no_none e
+  unswept : (sweep : Sweeps) (columns after : List Column) (old new : List (Option D)) → sweep ≡ Nothing → SweepHas g sweep y columns after old new 0
+  unswept Nothing columns after old new e = refl
+  unswept (Over kind) columns after old new e = absurd (let u : ⊥ = cc in u)
+  unswept (Marked marks) columns after old new e = absurd (let u : ⊥ = cc in u)
+
+  low_announced : (notice : Notice) (columns : List Column) (d n : ℕ) → MayAnnounce notice columns d n → n < 64
+  low_announced Round columns d n f = omega (arith, f.first)
+  low_announced (Marks map) columns d n f = elim f.kept [ inl zero ↦ omega (arith, zero) | inr one ↦ omega (arith, one) ]
+
+  announced_may : (notice : Notice) (sweep : Sweeps) (columns : List Column) (old : List (Option D)) (d n : ℕ) → MayAnnounce notice columns d n → MayBegin g notice sweep y columns old d n
+  announced_may Round sweep columns old d n f = inl f
+  announced_may (Marks map) sweep columns old d n f = inl f
+
+  quiet_announced : (notice : Notice) (columns : List Column) (old new : List (Option D)) → Changes g (MayAnnounce notice columns) old new → Quiet g y old new
+  quiet_announced notice columns old new h = changes-more g (MayAnnounce notice columns) (λ d n. n < 64) old new (low_announced notice columns) h
 
   -- and nothing behind it
-  pub begun_only : (sweep : Option Sweep) (label before next : Label) (columns after : List Column) (old new : List (Option D)) (lost : Option Loss) → before ≡ record label { clean = 0 } → length columns ≤ 32 → count_by is_set_filling columns ≤ 1 → (lost ≡ None → sweep ≡ None)
-      → next ≡ with_round label next.counter 0 (seating_in next) → HaveRounds g lost before next columns after old new → HasBegun g sweep y label next columns after old new lost 0
-  begun_only sweep label before next columns after old new lost same many few none is have =
-      let rounds = rounds_of g lost before next columns after old new have in
-      let mid = rounds.0 in
-      let r = rounds.1 in
-      let counted = counted_rounds g lost before next columns mid after old new r in
-      let stage =
-      stage_as g (IsFirstInUse columns) (MayBegin g sweep y columns old) (λ d. All IsLabelWrite) (λ d. AreStaged (All IsLabelWrite) (AreLast lost) sweep y (states_of y columns) d) lost columns after old new
-      (λ d m f. inl f) (λ d calls. staged-alone lost sweep y (states_of y columns) d calls) (stage_of_rounds g lost before next columns mid after old new r) in
-      let counter = counts_as 1 (length r.rises) label before next (ap (λ (l : Label). l.counter) same) (record { least = r.least; most = r.most }) in
+  pub begun_only : (notice : Notice) (sweep : Sweeps) (label next : Label) (columns after : List Column) (old new : List (Option D)) (lost : Option Loss) → length columns ≤ 32 → count_by is_set_filling columns ≤ 1 → (lost ≡ None → sweep ≡ Nothing)
+      → IsAnnounced g notice label next columns after old new lost → HasBegun g notice sweep y label next columns after old new lost 0
+  begun_only notice sweep label next columns after old new lost many few none a =
+      let stage = stage_as g (MayAnnounce notice columns) (MayBegin g notice sweep y columns old) (λ d. AreAnnounced notice lost) (λ d. AreStaged (AreNotice notice) (AreLast lost) sweep y (states_of y columns) d) lost columns after old new
+      (announced_may notice sweep columns old)
+      (λ d calls h. subst (AreStaged (AreNotice notice) (AreLast lost) sweep y (states_of y columns) d) (sym h.all) (staged-around (AreNotice notice) (AreLast lost) sweep y (states_of y columns) d h.front h.back h.at_first h.at_last)) a.stage in
       record {
-        rounds = 1;
-        some = omega arith;
-        few = omega arith;
-        one = λ e. refl;
+        rounds = a.rounds;
+        some = a.some;
+        few = omega (arith, a.few);
+        one = a.one;
         stage = stage;
-        counter = counter;
-        bounded = omega (arith, counts_few g (MayBegin g sweep y columns old) (λ d. AreStaged (All IsLabelWrite) (AreLast lost) sweep y (states_of y columns) d) lost 1 label next columns after old new stage counter many);
-        label_is = is;
-        seated = seats_of_rounds g lost before next columns mid after old new r;
-        given_up = r.given_up;
-        held = r.held;
-        others = λ e. r.others;
+        counter = a.counter;
+        bounded = omega (arith, a.few, counts_few g (MayAnnounce notice columns) (λ d. AreAnnounced notice lost) lost a.rounds label next columns after old new a.stage a.counter many);
+        label_is = a.label_is;
+        seated = a.seated;
+        given_up = a.given_up;
+        held = a.held;
+        same = a.same;
+        mapped = a.mapped;
+        others = λ e. a.others;
         swept = λ e. unswept sweep columns after old new (none e);
-        still = λ told h. sync_later g y (states_of y columns) (states_of y after) old new (died (DiesIn g lost columns old new) y columns after counted.stage.dies (apart_in g lost columns after old new counted.stage.dies) few) (quiet_in_use columns old new r.frame) told h;
+        still = λ told h. sync_later g y (states_of y columns) (states_of y after) old new (died (DiesIn g lost columns old new) y columns after a.stage.dies (apart_in g lost columns after old new a.stage.dies) few) (quiet_announced notice columns old new a.stage.frame) told h;
         left = after;
         dev = new;
         first = next;
         opened = lost;
-        opens = subst (λ (l : Label). HaveRounds g lost l next columns after old new) same have;
+        opens = a.opens;
         stays = λ some. refl;
         behind = told-others g after new new (λ d none. refl);
+        since = changes-refl g (λ d n. ((is_some lost ≡ true) × (n ≡ 0)) ⊎ MaySweep g sweep y columns old d n) new;
+        lives = λ c d h. h;
       }
 
   -- and a sweep behind it
-  pub begun_swept : IsLayout y → (kind : Sweep) (label before first next : Label) (columns mid after : List Column) (old dev new : List (Option D)) (lost : Option Loss) (n : ℕ) → InOrder (states_of y columns) → before ≡ record label { clean = 0 } → length columns ≤ 32 → count_by is_set_filling columns ≤ 1 → count_by is_set_filling mid ≤ 1
-      → first ≡ with_round label first.counter 0 (seating_in first) → AreRounds g None before first columns mid mid old dev → SweepsLabelled g kind y first next mid after dev new lost n → HasBegun g (Some kind) y label next columns after old new lost n
-  begun_swept layout kind label before first next columns mid after old dev new lost n order same many few fewer is r s =
-      let counted = counted_rounds g None before first columns mid mid old dev r in
-      let back = died (DiesIn g None columns old dev) y columns mid counted.stage.dies (apart_in g None columns mid old dev counted.stage.dies) few in
-      let later = died (DiesIn g lost mid dev new) y mid after s.stage.dies (apart_in g lost mid after dev new s.stage.dies) fewer in
-      let quiet = quiet_in_use columns old dev r.frame in
-      let stage =
-      stage-then g (IsFirstInUse columns) (MayBegin g (Some kind) y mid dev) (MayBegin g (Some kind) y columns old)
-      (λ d. All IsLabelWrite) (λ d. AreStaged AreNone (AreLast lost) (Some kind) y (states_of y mid) d) (λ d. AreStaged (All IsLabelWrite) (AreLast lost) (Some kind) y (states_of y columns) d)
-      lost columns mid after old dev new (stage_of_rounds g None before first columns mid mid old dev r) s.stage
-      (λ d m f. inl f)
-      (λ d m f. elim f [
-        | inl used ↦ inl (record { col = used.col; live = live_before (DiesIn g None columns old dev) columns mid used.col d counted.stage.dies used.live; first = used.first })
-        | inr may ↦ inr (may.0, may_was g y kind columns mid old dev back quiet d m may.1)
-      ])
-      (λ d xs ys. staged-before (AreLast lost) (Some kind) y (states_of y mid) (states_of y columns) d xs ys back) in
-      let counter =
-      counts-then 1 s.rounds label first next r.rises s.stage.rises (counts_as 1 (length r.rises) label before first (ap (λ (l : Label). l.counter) same) (record { least = r.least; most = r.most })) s.counter in
-      record {
-        rounds = 1 + s.rounds;
-        some = omega arith;
-        few = omega (arith, s.few);
-        one = λ e. omega (arith, s.none e);
-        stage = stage;
-        counter = counter;
-        bounded = omega (arith, counts_few g (MayBegin g (Some kind) y columns old) (λ d. AreStaged (All IsLabelWrite) (AreLast lost) (Some kind) y (states_of y columns) d) lost (1 + s.rounds) label next columns after old new stage counter many, s.few);
-        label_is = round_again label first next 0 next.counter 0 (seating_in next) is
-            (s.label_is ∙ ap (λ k. with_round first next.counter k (seating_in next)) (ap (clean_in_end lost) (ap (λ (l : Label). l.clean) is) ∙ clean_none lost));
-        seated = elim s.seated [
-          | inl same ↦ subst (λ o. HasSeats g o next columns after old new) (sym same.0)
-              (seats-kept g columns mid old dev new (IsFirstInUse columns) (MayBegin g (Some kind) y mid dev) r.frame s.stage.frame next after counted.stage.dies (record { round = mid; seating = same.1 ∙ r.seating; came = r.began; went = r.ended })
-              (only_lose g mid after dev new (subst (λ o. Dies (DiesIn g o mid dev new) mid after) same.0 s.stage.dies)))
-          | inr h ↦ seats-then g columns mid old dev new (IsFirstInUse columns) (MayBegin g (Some kind) y mid dev) r.frame s.stage.frame lost next after counted.stage.dies h
-        ];
-        given_up = s.given_up;
-        held = λ c d live. s.held c d live (r.held c d (live_before (DiesIn g lost mid dev new) mid after c d s.stage.dies live));
-        others = λ e. no_none e;
-        swept = λ e. swept_first g y kind columns mid old dev back quiet layout order after new n later s.stage.frame s.swept;
-        still = λ told h. s.swept.in_sync told;
-        left = mid;
-        dev = dev;
-        first = first;
-        opened = None;
-        opens = subst (λ (l : Label). AreRounds g None l first columns mid mid old dev) same r;
-        stays = λ some. no_loss some;
-        behind = s.stage.uncalled;
-      }
+  module _ (layout : IsLayout y) (notice : Notice) (sweep : Sweeps) (some : sweep ≡ Nothing → ⊥) (label first next : Label) (columns mid after : List Column) (old dev new : List (Option D)) (lost : Option Loss) (n : ℕ) (order : InOrder (states_of y columns)) (many : length columns ≤ 32) (few : count_by is_set_filling columns ≤ 1) (fewer : count_by is_set_filling mid ≤ 1)
+      (a : IsAnnounced g notice label first columns mid old dev None) (s : SweepsLabelled g sweep y first next mid after dev new lost n) where
+    back : Back y (states_of y mid) (states_of y columns)
+    back = died (DiesIn g None columns old dev) y columns mid a.stage.dies (apart_in g None columns mid old dev a.stage.dies) few
+
+    later : Back y (states_of y after) (states_of y mid)
+    later = died (DiesIn g lost mid dev new) y mid after s.stage.dies (apart_in g lost mid after dev new s.stage.dies) fewer
+
+    quiet : Quiet g y old dev
+    quiet = quiet_announced notice columns old dev a.stage.frame
+
+    live : (c d : ℕ) → HasDeviceOn mid c d → HasDeviceOn columns c d
+    live c d h = live_before (DiesIn g None columns old dev) columns mid c d a.stage.dies h
+
+    -- which sectors the sweep, and a round behind it, may have changed
+    second : (m : Notice) (d k : ℕ) → MayBegin g Round sweep y mid dev d k → MayBegin g m sweep y columns old d k
+    second Round d k (inl used) = inl (record { col = used.col; live = live used.col d used.live; first = used.first })
+    second Round d k (inr may) = inr (sweep_was g y columns mid old dev back quiet sweep d k may)
+    second (Marks map) d k (inl used) = inl (record { col = used.col; live = live used.col d used.live; kept = inl used.first })
+    second (Marks map) d k (inr may) = inr (sweep_was g y columns mid old dev back quiet sweep d k may)
+
+    swept_low : (d k : ℕ) → MayBegin g Round sweep y mid dev d k → IsSwept g y columns mid old dev back quiet sweep d k
+    swept_low d k (inl used) = inl (omega (arith, used.first))
+    swept_low d k (inr may) = inr may
+
+    has : SweepHas g sweep y columns after old new n
+    has = has_first g y columns mid old dev back quiet sweep layout order after new n later
+        (changes-more g (MayBegin g Round sweep y mid dev) (IsSwept g y columns mid old dev back quiet sweep) dev new swept_low s.stage.frame) s.swept
+
+    abbrev MayFollow : ℕ → ℕ → Type 0
+    MayFollow d k = ((is_some lost ≡ true) × (k ≡ 0)) ⊎ MaySweep g sweep y columns old d k
+
+    follow : is_some lost ≡ true → (d k : ℕ) → MayBegin g Round sweep y mid dev d k → MayFollow d k
+    follow some d k (inl used) = inl (some, used.first)
+    follow some d k (inr may) = inr (sweep_was g y columns mid old dev back quiet sweep d k may)
+
+    -- labels are written behind the sweep where it lost the array
+    followed : (o : Option Loss) → lost ≡ o → Changes g MayFollow dev new
+    followed None e = changes-more g (MaySweep g sweep y mid dev) MayFollow dev new (λ d k may. inr (sweep_was g y columns mid old dev back quiet sweep d k may)) (s.alone e)
+    followed (Some loss) e = changes-more g (MayBegin g Round sweep y mid dev) MayFollow dev new (follow (ap is_some e)) s.stage.frame
+
+    -- sector 1 isn't one of those
+    no_second : (d : ℕ) → MayBegin g Round sweep y mid dev d 1 → ⊥
+    no_second d (inl used) = omega (arith, used.first)
+    no_second d (inr may) = omega (arith, sweep_high g y sweep mid dev d 1 may)
+
+    front_alone : (xs : List Call) (h : AreAnnounced notice None xs) → xs ≡ h.front
+    front_alone xs h = h.all ∙ (ap (λ (l : List Call). h.front ++ l) h.at_last ∙ append-nil h.front)
+
+    abbrev stage_both : IsStage g (MayBegin g notice sweep y columns old) (λ d. AreStaged (AreNotice notice) (AreLast lost) sweep y (states_of y columns) d) lost columns after old new
+    stage_both = stage-then g (MayAnnounce notice columns) (MayBegin g Round sweep y mid dev) (MayBegin g notice sweep y columns old)
+        (λ d. AreAnnounced notice None) (λ d. AreStaged AreNone (AreLast lost) sweep y (states_of y mid) d) (λ d. AreStaged (AreNotice notice) (AreLast lost) sweep y (states_of y columns) d)
+        lost columns mid after old dev new a.stage s.stage
+        (announced_may notice sweep columns old) (second notice)
+        (λ d xs ys h w. staged-before (AreNotice notice) (AreLast lost) sweep y (states_of y mid) (states_of y columns) d xs ys back (subst (AreNotice notice) (sym (front_alone xs h)) h.at_first) w)
+
+    counter_both : CountsRounds (a.rounds + s.rounds) label next (length (a.stage.rises ++ s.stage.rises))
+    counter_both = counts-then a.rounds s.rounds label first next a.stage.rises s.stage.rises a.counter s.counter
+
+    written : wrote_round notice lost ≡ true → lost ≡ None → wrote_round notice None ≡ true
+    written wrote none = subst (λ o. wrote_round notice o ≡ true) none wrote
+
+    seats : wrote_round notice lost ≡ true → HasSeats g lost next columns after old new
+    seats wrote = elim s.seated [
+      | inl same ↦
+          let h = a.seated (written wrote same.0) in
+          subst (λ o. HasSeats g o next columns after old new) (sym same.0)
+          (seats-kept g columns mid old dev new (MayAnnounce notice columns) (MayBegin g Round sweep y mid dev) a.stage.frame s.stage.frame next after a.stage.dies
+          (record { round = h.round; seating = same.1 ∙ h.seating; came = h.came; went = h.went })
+          (only_lose g mid after dev new (subst (λ o. Dies (DiesIn g o mid dev new) mid after) same.0 s.stage.dies)))
+      | inr h ↦ seats-then g columns mid old dev new (MayAnnounce notice columns) (MayBegin g Round sweep y mid dev) a.stage.frame s.stage.frame lost next after a.stage.dies h
+    ]
+
+    before_it : (c d : ℕ) → HasDeviceOn after c d → HasDeviceOn mid c d
+    before_it c d h = live_before (DiesIn g lost mid dev new) mid after c d s.stage.dies h
+
+    pub begun_swept : HasBegun g notice sweep y label next columns after old new lost n
+    begun_swept = record {
+      rounds = a.rounds + s.rounds;
+      some = omega (arith, a.some);
+      few = omega (arith, a.one refl, s.few);
+      one = λ e. omega (arith, a.one refl, s.none e);
+      stage = stage_both;
+      counter = counter_both;
+      bounded = omega (arith, a.few, s.few, counts_few g (MayBegin g notice sweep y columns old) (λ d. AreStaged (AreNotice notice) (AreLast lost) sweep y (states_of y columns) d) lost (a.rounds + s.rounds) label next columns after old new stage_both counter_both many);
+      label_is = label_again notice lost label first next a.label_is a.same s.label_is;
+      seated = seats;
+      given_up = s.given_up;
+      held = λ wrote c d h. s.held c d h (λ none. a.held (written wrote none) c d (before_it c d h));
+      same = kept_again notice lost label first next a.same s.same;
+      mapped = λ map e c d h told. subst (IsBytesOf map) (sym (changes_sector g (MayBegin g Round sweep y mid dev) dev new d 1 s.stage.frame told (no_second d))) (a.mapped map e c d (before_it c d h) told);
+      others = λ e. absurd (some e);
+      swept = λ e. has;
+      still = λ told h. sweep_still g y sweep columns after old new n some has told h;
+      left = mid;
+      dev = dev;
+      first = first;
+      opened = None;
+      opens = a.opens;
+      stays = λ is. no_loss is;
+      behind = s.stage.uncalled;
+      since = followed lost refl;
+      lives = before_it;
+    }

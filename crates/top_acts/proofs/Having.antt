@@ -13,6 +13,7 @@ use Rattle.std.specs.Prelude.{count_by}
 use Rattle.eng_cols.specs.Fewer.{DieApart}
 use Rattle.eng_cols.specs.Stripes.{filled_in, states_of}
 use Rattle.eng_cols.proofs.Fewer.{states-at}
+use Rattle.raid_map.specs.Marking.{CanBeMarked}
 use Rattle.raid_recon.specs.Array.{IsArray}
 use Rattle.top_close.specs.Settled.{HaveDevices, HasDeviceOn}
 use Rattle.top_rounds.proofs.RoundLaws.{any_death, can-after, settable_after}
@@ -47,4 +48,11 @@ module _ {D : Type 0} (g : Ghosts D) where
     array = array_after g y cause may columns after old new dies apart can.settable.filling changes can.array;
     labels = can-after g cause may columns after old new dies changes can.labels;
     settable = settable_after y columns after (any_death cause columns after dies) filling spread can.settable;
+  }
+
+  -- what can be acted on can be marked
+  pub marks_of : (y : Shape) (columns : List Column) (ds : List (Option D)) → CanAct g y columns ds → CanBeMarked g columns ds
+  marks_of y columns ds can = record {
+    sized = λ c d live. let there = can.array.there c d (has_live y columns c d live) in omega (arith, there);
+    apart = can.labels.have.apart;
   }

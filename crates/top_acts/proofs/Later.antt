@@ -1,5 +1,5 @@
 -- A sweep, said by the columns and contents before the rounds that were written before it, and by those behind the rounds and settles that come behind it.
-use Rattle.std.proofs.Common.{◌≡◌, ◌∙◌, ℕ, ◌<◌, List, true, false, Option, Some, inl, inr, sym, subst, arith}
+use Rattle.std.proofs.Common.{◌≡◌, ◌⊎◌, ◌∙◌, ℕ, ◌<◌, ◌≤◌, List, Bool, true, false, Option, Some, refl, inl, inr, sym, subst, arith}
 use Rattle.blk_disk.specs.declared.disk.Disk.{Ghosts}
 use Rattle.blk_disk.specs.Devices.{Changes, contents_of}
 use Rattle.lay_core.specs.Layout.{Shape, IsLayout, data_units}
@@ -17,19 +17,22 @@ use Rattle.raid_recon.specs.Sums.{sum_of, IsNotZero}
 use Rattle.raid_recon.specs.Turns.{Rewrites}
 use Rattle.raid_recon.proofs.Backs.{Back, byte-back, check-back, sum-back}
 use Rattle.raid_recon.proofs.Frames.{byte-same, check-alone, last-unit, sum-same}
-use Rattle.top_acts.specs.Begun.{HasSwept, MayBegin}
+use Rattle.raid_recon.specs.Array.{IsCheckSector}
+use Rattle.raid_map.specs.Sweeping.{IsCountedTo, MayRewrite as MayRewriteMarked}
+use Rattle.top_acts.specs.Begun.{HasSwept, HasSweptMarked, MaySweep, SweepHas}
+use Rattle.top_acts.specs.Sweeps.{Sweeps, Nothing, Over, Marked}
 use Rattle.top_acts.proofs.Backs.{complete_or}
 
 module _ {D : Type 0} (g : Ghosts D) (y : Shape) where
-  -- no sector has changed but sector 0
+  -- no sector of the rows has changed
   abbrev pub Quiet : List (Option D) → List (Option D) → Type 0
-  Quiet old new = Changes g (λ d n. n ≡ 0) old new
+  Quiet old new = Changes g (λ d n. n < 64) old new
 
   pub byte_quiet : (cols : List ColumnState) (old new : List (Option D)) (s i o k : ℕ) → Quiet old new → g.tells → byte_of y (contents_of g new) cols s i o k ≡ byte_of y (contents_of g old) cols s i o k
-  byte_quiet cols old new s i o k quiet told = byte-same g (λ d n. n ≡ 0) old new y cols s i o k quiet told (λ at is zero. omega (arith, zero))
+  byte_quiet cols old new s i o k quiet told = byte-same g (λ d n. n < 64) old new y cols s i o k quiet told (λ at is zero. omega (arith, zero))
 
   pub sum_quiet : (cols : List ColumnState) (old new : List (Option D)) (s n o k : ℕ) → Quiet old new → g.tells → sum_of y (contents_of g new) cols s n o k ≡ sum_of y (contents_of g old) cols s n o k
-  sum_quiet cols old new s n o k quiet told = sum-same g (λ d n. n ≡ 0) old new y cols s n o k quiet told (λ i at within is zero. omega (arith, zero))
+  sum_quiet cols old new s n o k quiet told = sum-same g (λ d n. n < 64) old new y cols s n o k quiet told (λ i at within is zero. omega (arith, zero))
 
   -- ## Behind a sweep
 
@@ -58,6 +61,46 @@ module _ {D : Type 0} (g : Ghosts D) (y : Shape) where
     in_sync = λ told. sync_later (states_of y mid) (states_of y after) dev new back quiet told (h.in_sync told);
   }
 
+  -- the same of a sweep over marked stripes
+  marked_later : (marks : ℕ → Bool) (columns mid after : List Column) (old dev new : List (Option D)) (n : ℕ) → Back y (states_of y after) (states_of y mid) → Quiet dev new → HasSweptMarked g marks y columns mid old dev n → HasSweptMarked g marks y columns after old new n
+  marked_later marks columns mid after old dev new n back quiet h = record {
+    counted = λ one. record {
+      most = (h.counted one).most;
+      least = λ p each. (h.counted one).least p (λ s sw ps. let e = each s sw ps in (e.0, (λ i iw. back.available s i (e.1 i iw)), e.2));
+    };
+    none = h.none;
+    checks = λ one told. checks_later columns mid after old dev new back quiet told (h.checks one told);
+    in_sync = λ told due. sync_later (states_of y mid) (states_of y after) dev new back quiet told (h.in_sync told due);
+  }
+
+  pub has_later : (sweep : Sweeps) (columns mid after : List Column) (old dev new : List (Option D)) (n : ℕ) → Back y (states_of y after) (states_of y mid) → Quiet dev new → SweepHas g sweep y columns mid old dev n → SweepHas g sweep y columns after old new n
+  has_later Nothing columns mid after old dev new n back quiet h = h
+  has_later (Over kind) columns mid after old dev new n back quiet h = swept_later kind columns mid after old dev new n back quiet h
+  has_later (Marked marks) columns mid after old dev new n back quiet h = marked_later marks columns mid after old dev new n back quiet h
+
+  -- what was in sync is so behind it
+  pub sweep_still : (sweep : Sweeps) (columns after : List Column) (old new : List (Option D)) (n : ℕ) → (sweep ≡ Nothing → ⊥) → SweepHas g sweep y columns after old new n → g.tells → InSync y (contents_of g old) (states_of y columns) → InSync y (contents_of g new) (states_of y after)
+  sweep_still Nothing columns after old new n some h told sound = absurd (some refl)
+  sweep_still (Over kind) columns after old new n some h told sound = h.in_sync told
+  sweep_still (Marked marks) columns after old new n some h told sound = λ s o k sw ou ku one all.
+      h.in_sync told (λ t tw full z. absurd (z.differs (sound t z.offset z.byte tw z.within z.of_sector one full))) s o k sw ou ku one all
+
+  -- a sector that a sweep may change is one of the check unit of a stripe that lacks no unit
+  pub record OfCheck (columns : List Column) (d n : ℕ) : Type 0 where
+    pub stripe : ℕ
+    pub within : stripe < y.stripes
+    pub complete : IsComplete y (states_of y columns) stripe
+    pub sector : IsCheckSector y (states_of y columns) stripe d n
+
+  pub of_check : (sweep : Sweeps) (columns : List Column) (old : List (Option D)) (d n : ℕ) → MaySweep g sweep y columns old d n → OfCheck columns d n
+  of_check Nothing columns old d n h = absurd h
+  of_check (Over kind) columns old d n h = record { stripe = h.1.stripe; within = h.1.within; complete = h.1.complete; sector = h.1.sector }
+  of_check (Marked marks) columns old d n h = record { stripe = h.1.stripe; within = h.1.below; complete = h.1.complete; sector = h.1.sector }
+
+  -- it isn't one of those before the rows
+  pub sweep_high : (sweep : Sweeps) (columns : List Column) (old : List (Option D)) (d n : ℕ) → MaySweep g sweep y columns old d n → 64 ≤ n
+  sweep_high sweep columns old d n h = let c = of_check sweep columns old d n h in omega (arith, c.sector.sector)
+
   -- ## Before it
 
   rewrites_same : (kind : Sweep) (P Q : Type 0) → (P → Q) → Rewrites kind P → Rewrites kind Q
@@ -70,7 +113,7 @@ module _ {D : Type 0} (g : Ghosts D) (y : Shape) where
   due_same Sync P Q f h = f h
   due_same Init P Q f h = h
 
-  module _ (kind : Sweep) (columns mid : List Column) (old dev : List (Option D)) (back : Back y (states_of y mid) (states_of y columns)) (quiet : Quiet old dev) where
+  module _ (columns mid : List Column) (old dev : List (Option D)) (back : Back y (states_of y mid) (states_of y columns)) (quiet : Quiet old dev) where
     sum_first : (s o k : ℕ) → g.tells → IsComplete y (states_of y mid) s → sum_of y (contents_of g dev) (states_of y mid) s y.width o k ≡ sum_of y (contents_of g old) (states_of y columns) s y.width o k
     sum_first s o k told all = sum-back y (contents_of g dev) (states_of y mid) (states_of y columns) s y.width o k back all ∙ sum_quiet (states_of y columns) old dev s y.width o k quiet told
 
@@ -83,8 +126,8 @@ module _ {D : Type 0} (g : Ghosts D) (y : Shape) where
     whole_was : (s : ℕ) → IsComplete y (states_of y mid) s → IsComplete y (states_of y columns) s
     whole_was s all i iw = back.available s i (all i iw)
 
-    pub may_was : (d n : ℕ) → MayRewrite g kind y mid dev d n → MayRewrite g kind y columns old d n
-    may_was d n h = record {
+    may_was : (kind : Sweep) (d n : ℕ) → MayRewrite g kind y mid dev d n → MayRewrite g kind y columns old d n
+    may_was kind d n h = record {
       stripe = h.stripe;
       within = h.within;
       complete = whole_was h.stripe h.complete;
@@ -92,22 +135,50 @@ module _ {D : Type 0} (g : Ghosts D) (y : Shape) where
       sector = check-back y (states_of y mid) (states_of y columns) h.stripe d n back h.sector;
     }
 
-    counted_first : (after : List Column) (n : ℕ) → Back y (states_of y after) (states_of y mid) → IsCounted g kind y mid after dev n → IsCounted g kind y columns after old n
-    counted_first after n later h = record {
+    marked_was : (marks : ℕ → Bool) (d n : ℕ) → MayRewriteMarked g y marks mid dev y.stripes d n → MayRewriteMarked g y marks columns old y.stripes d n
+    marked_was marks d n h = record {
+      stripe = h.stripe;
+      below = h.below;
+      marked = h.marked;
+      complete = whole_was h.stripe h.complete;
+      not_zero = λ told. not_zero_was h.stripe told h.complete (h.not_zero told);
+      sector = check-back y (states_of y mid) (states_of y columns) h.stripe d n back h.sector;
+    }
+
+    pub sweep_was : (sweep : Sweeps) (d n : ℕ) → MaySweep g sweep y mid dev d n → MaySweep g sweep y columns old d n
+    sweep_was Nothing d n h = h
+    sweep_was (Over kind) d n h = (h.0, may_was kind d n h.1)
+    sweep_was (Marked marks) d n h = (h.0, marked_was marks d n h.1)
+
+    counted_first : (kind : Sweep) (after : List Column) (n : ℕ) → Back y (states_of y after) (states_of y mid) → IsCounted g kind y mid after dev n → IsCounted g kind y columns after old n
+    counted_first kind after n later h = record {
       most = λ p each. h.most p (λ s sw all due. each s sw (whole_was s all) (due_same kind _ _ (λ f told. not_zero_was s told all (f told)) due));
       least = λ p each. h.least p (λ s sw ps.
           let e = each s sw ps in
           (e.0, due_same kind _ _ (λ f. (f.0, not_zero_is s f.0 (λ i iw. later.available s i (e.0 i iw)) f.1)) e.1));
     }
 
-    module _ (layout : IsLayout y) (order : InOrder (states_of y columns)) (one : y.checks ≡ 1) (after : List Column) (new : List (Option D)) (frame : Changes g (MayBegin g (Some kind) y mid dev) dev new) where
+    counted_to_first : (marks : ℕ → Bool) (after : List Column) (n : ℕ) → Back y (states_of y after) (states_of y mid) → IsCountedTo g y marks mid dev y.stripes after n → IsCountedTo g y marks columns old y.stripes after n
+    counted_to_first marks after n later h = record {
+      most = λ p each. h.most p (λ s sw m all due. each s sw m (whole_was s all) (λ told. not_zero_was s told all (due told)));
+      least = λ p each. h.least p (λ s sw ps.
+          let e = each s sw ps in
+          (e.0, e.1, (e.2.0, not_zero_is s e.2.0 (λ i iw. later.available s i (e.1 i iw)) e.2.1)));
+    }
+
+    -- which sectors have changed since
+    abbrev pub IsSwept : Sweeps → ℕ → ℕ → Type 0
+    IsSwept sweep d n = (n < 64) ⊎ MaySweep g sweep y mid dev d n
+
+    module _ (sweep : Sweeps) (layout : IsLayout y) (order : InOrder (states_of y columns)) (one : y.checks ≡ 1) (after : List Column) (new : List (Option D)) (frame : Changes g (IsSwept sweep) dev new) where
       last : data_units y < y.width
       last = omega (arith, last-unit y layout one)
 
       -- a stripe that lacked a unit is left alone
-      untouched : (s o : ℕ) (at : Spot) → s < y.stripes → o < y.unit_sectors → Lacks y (states_of y mid) s → seat y (states_of y columns) s (data_units y) ≡ Some at → MayBegin g (Some kind) y mid dev at.device (sector_at y at o) → ⊥
-      untouched s o at sw ou lacks is (inl used) = omega (arith, used.first)
-      untouched s o at sw ou lacks is (inr (one, may)) =
+      untouched : (s o : ℕ) (at : Spot) → s < y.stripes → o < y.unit_sectors → Lacks y (states_of y mid) s → seat y (states_of y columns) s (data_units y) ≡ Some at → IsSwept sweep at.device (sector_at y at o) → ⊥
+      untouched s o at sw ou lacks is (inl low) = omega (arith, low)
+      untouched s o at sw ou lacks is (inr swept) =
+          let may = of_check sweep mid dev at.device (sector_at y at o) swept in
           let same = (check-alone y (states_of y columns) layout order one may.stripe s (data_units y) o at may.within sw last ou is (check-back y (states_of y mid) (states_of y columns) may.stripe at.device (sector_at y at o) back may.sector)).0 in
           let all = subst (IsComplete y (states_of y mid)) (sym same) may.complete in
           let z : true ≡ false = sym (all lacks.unit lacks.within) ∙ lacks.missing in let u : ⊥ = cc in u
@@ -125,14 +196,21 @@ module _ {D : Type 0} (g : Ghosts D) (y : Shape) where
               ∙ byte_quiet (states_of y columns) old dev s (data_units y) o k quiet told)))
         ]
         | inr lacks ↦ inr (λ o k ou.
-            byte-same g (MayBegin g (Some kind) y mid dev) dev new y (states_of y columns) s (data_units y) o k frame told (λ at is. untouched s o at sw ou lacks is)
+            byte-same g (IsSwept sweep) dev new y (states_of y columns) s (data_units y) o k frame told (λ at is. untouched s o at sw ou lacks is)
             ∙ byte_quiet (states_of y columns) old dev s (data_units y) o k quiet told)
       ]
 
-    pub swept_first : IsLayout y → InOrder (states_of y columns) → (after : List Column) (new : List (Option D)) (n : ℕ) → Back y (states_of y after) (states_of y mid) → Changes g (MayBegin g (Some kind) y mid dev) dev new → HasSwept g kind y mid after dev new n → HasSwept g kind y columns after old new n
-    swept_first layout order after new n later frame h = record {
-      counted = λ one. counted_first after n later (h.counted one);
+    pub has_first : (sweep : Sweeps) → IsLayout y → InOrder (states_of y columns) → (after : List Column) (new : List (Option D)) (n : ℕ) → Back y (states_of y after) (states_of y mid) → Changes g (IsSwept sweep) dev new → SweepHas g sweep y mid after dev new n → SweepHas g sweep y columns after old new n
+    has_first Nothing layout order after new n later frame h = h
+    has_first (Over kind) layout order after new n later frame h = record {
+      counted = λ one. counted_first kind after n later (h.counted one);
       none = h.none;
-      checks = λ one told. checks_first layout order one after new frame told (h.checks one told);
+      checks = λ one told. checks_first (Over kind) layout order one after new frame told (h.checks one told);
       in_sync = h.in_sync;
+    }
+    has_first (Marked marks) layout order after new n later frame h = record {
+      counted = λ one. counted_to_first marks after n later (h.counted one);
+      none = h.none;
+      checks = λ one told. checks_first (Marked marks) layout order one after new frame told (h.checks one told);
+      in_sync = λ told due. h.in_sync told (λ s sw all z. due s sw (whole_was s all) (not_zero_was s told all z));
     }

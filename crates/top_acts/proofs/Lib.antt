@@ -1,8 +1,11 @@
+pub mod Announced
 pub mod Backs
 pub mod Begins
+pub mod Clears
 pub mod Closes
 pub mod Counted
 pub mod Ended
+pub mod Endings
 pub mod Fails
 pub mod Having
 pub mod Held
@@ -10,11 +13,14 @@ pub mod InTurn
 pub mod Kills
 pub mod Later
 pub mod Leaving
+pub mod Looked
+pub mod Marked
 pub mod Named
 pub mod Renews
 pub mod Seated
 pub mod Settled
 pub mod Staged
+pub mod Swept
 pub mod Tried
 pub mod Uncalled
 pub mod Without

@@ -54,7 +54,7 @@ abbrev one_of : Option Column → ℕ
 one_of x = cond (has_device x) 1 0
 
 -- one that was live and is dead makes fewer of them
-strict : (xs ys : List Column) → Dies AnyCause xs ys → (i : ℕ) → has_device (slice_get xs i) ≡ true → slice_get ys i ≡ Some column.Dead → suc (device_count ys) ≤ device_count xs
+pub strict : (xs ys : List Column) → Dies AnyCause xs ys → (i : ℕ) → has_device (slice_get xs i) ≡ true → slice_get ys i ≡ Some column.Dead → suc (device_count ys) ≤ device_count xs
 strict [] ys dies i live dead = let z : false ≡ true = live in absurd (let u : ⊥ = cc in u)
 strict (x ∷ xs) [] dies i live dead = absurd (omega (arith, dies.count))
 strict (x ∷ xs) (y ∷ ys) dies zero live dead =

@@ -2,7 +2,7 @@
 use Rattle.std.specs.Prelude.{◌≡◌, ◌⊎◌, ◌≤◌, ◌+◌, ℕ, List, [], length, Bool, true, false, Option, Some, None, All, is_some}
 use Rattle.blk_disk.specs.declared.disk.Call.{Call}
 use Rattle.blk_disk.specs.declared.disk.Disk.{Ghosts}
-use Rattle.blk_disk.specs.Devices.{contents_of}
+use Rattle.blk_disk.specs.Devices.{Changes, contents_of}
 use Rattle.lay_core.specs.Layout.{Shape}
 use Rattle.eng_cols.specs.declared.column.Column.{Column}
 use Rattle.eng_cols.specs.declared.spot.Loss.{Loss}
@@ -10,7 +10,6 @@ use Rattle.eng_cols.specs.Contents.{InSync}
 use Rattle.eng_cols.specs.Deaths.{Dies}
 use Rattle.raid_label.specs.declared.label.Label.{Label}
 use Rattle.raid_recon.specs.declared.kind.Sweep.{Sweep}
-use Rattle.raid_recon.specs.declared.kind.Sweep.TheVariants as sweep
 use Rattle.eng_cols.specs.Stripes.{states_of}
 use Rattle.raid_recon.specs.Array.{IsArray}
 use Rattle.raid_recon.specs.Ends.{MayRewrite, ChecksHold, IsCounted}
@@ -20,13 +19,13 @@ use Rattle.top_rounds.specs.Labels.{seating_in, seating_of, with_round}
 use Rattle.top_rounds.specs.Passes.{CanBeLabelled, HoldsLabel, IsFirstInUse}
 use Rattle.top_close.specs.Stage.{DiesIn, IsGivenUpIn, IsUncalled, IsStage, ToldNothing}
 use Rattle.top_rounds.specs.Rounds.{HaveRounds, CountsRounds}
+use Rattle.raid_map.specs.Regions.{Marks as Map}
+use Rattle.raid_map.specs.Sweeping.{MayRewrite as MayRewriteMarked, IsCountedTo, UnsoundAreMarked}
 use Rattle.eng_cols.specs.Settable.{IsSettable}
+use Rattle.top_acts.specs.Failed.{IsLeftLost}
+use Rattle.top_acts.specs.Marking.{AreNotice, HoldsMap, IsKeptInUse, MarksAll}
 use Rattle.top_acts.specs.Stages.{AreStaged}
-
--- the sweep of an array whose labels say that it isn't clean
-abbrev pub sweep_if : Bool → Option Sweep
-sweep_if true = Some sweep.Sync
-sweep_if false = None
+use Rattle.top_acts.specs.Sweeps.{Sweeps, Nothing, Over, Marked, Notice, Round, Marks, rounds_for, wrote_round}
 
 -- label writes, and none where the array isn't lost
 abbrev pub AreLast : Option Loss → List Call → Type 0
@@ -48,42 +47,64 @@ module _ {D : Type 0} (g : Ghosts D) where
     pub checks : y.checks ≡ 1 → g.tells → ChecksHold g y columns after old new
     pub in_sync : g.tells → InSync y (contents_of g new) (states_of y after)
 
-  abbrev pub SweepHas : Option Sweep → Shape → List Column → List Column → List (Option D) → List (Option D) → ℕ → Type 0
-  SweepHas None y columns after old new n = n ≡ 0
-  SweepHas (Some kind) y columns after old new n = HasSwept kind y columns after old new n
+  -- What a sweep over marked stripes did: it counted as it should, and each check unit holds the sum of its stripe's data units or what it held; and where each stripe that lacked no unit and wasn't in sync was marked, the units of each stripe that lacks none in the end sum to zero.
+  pub record HasSweptMarked (marks : ℕ → Bool) (y : Shape) (columns after : List Column) (old new : List (Option D)) (n : ℕ) : Type 0 where
+    pub counted : y.checks ≡ 1 → IsCountedTo g y marks columns old y.stripes after n
+    pub none : y.checks ≡ 0 → n ≡ 0
+    pub checks : y.checks ≡ 1 → g.tells → ChecksHold g y columns after old new
+    pub in_sync : g.tells → UnsoundAreMarked g y marks columns old → InSync y (contents_of g new) (states_of y after)
+
+  abbrev pub SweepHas : Sweeps → Shape → List Column → List Column → List (Option D) → List (Option D) → ℕ → Type 0
+  SweepHas Nothing y columns after old new n = n ≡ 0
+  SweepHas (Over kind) y columns after old new n = HasSwept kind y columns after old new n
+  SweepHas (Marked marks) y columns after old new n = HasSweptMarked marks y columns after old new n
 
   -- there are check units, and sector n of device d is one of such that this sweep rewrites
-  abbrev pub MaySweep : Option Sweep → Shape → List Column → List (Option D) → ℕ → ℕ → Type 0
-  MaySweep None y columns old d n = ⊥
-  MaySweep (Some kind) y columns old d n = (y.checks ≡ 1) × MayRewrite g kind y columns old d n
+  abbrev pub MaySweep : Sweeps → Shape → List Column → List (Option D) → ℕ → ℕ → Type 0
+  MaySweep Nothing y columns old d n = ⊥
+  MaySweep (Over kind) y columns old d n = (y.checks ≡ 1) × MayRewrite g kind y columns old d n
+  MaySweep (Marked marks) y columns old d n = (y.checks ≡ 1) × MayRewriteMarked g y marks columns old y.stripes d n
 
-  -- or sector 0 of a device in use
-  abbrev pub MayBegin : Option Sweep → Shape → List Column → List (Option D) → ℕ → ℕ → Type 0
-  MayBegin sweep y columns old d n = IsFirstInUse columns d n ⊎ MaySweep sweep y columns old d n
+  -- or sector 0 of a device in use; or sector 1, where maps are written
+  abbrev pub MayBegin : Notice → Sweeps → Shape → List Column → List (Option D) → ℕ → ℕ → Type 0
+  MayBegin Round sweep y columns old d n = IsFirstInUse columns d n ⊎ MaySweep sweep y columns old d n
+  MayBegin (Marks map) sweep y columns old d n = IsKeptInUse true columns d n ⊎ MaySweep sweep y columns old d n
 
-  -- The opening round was written, whose labels aren't clean; then, where that didn't lose the array, it was swept; and where the array is lost by that, the one round of a lost array was written. Each device in use in the end has the label of the last round, which says what the columns were then. `left`, `dev`, `first` and `opened` are the columns, the devices, the label and the loss that the opening round left: what was lost then stays lost by that, and no device that it left out of use was called behind it. All else is said by the columns and devices as they were before the opening round; n is what the sweep counted.
-  pub record HasBegun (sweep : Option Sweep) (y : Shape) (label next : Label) (columns after : List Column) (old new : List (Option D)) (lost : Option Loss) (n : ℕ) : Type 0 where
+  -- The opening round was written, whose labels aren't clean.
+  abbrev pub Opens : Notice → Option Loss → Label → Label → List Column → List Column → List (Option D) → List (Option D) → Type 0
+  Opens Round lost label first columns after old new = HaveRounds g lost (record label { clean = 0 }) first columns after old new
+  -- Or each device in use was marked with the map. Where the array is lost by that, its one round was written.
+  Opens (Marks map) None label first columns after old new = (first ≡ label) × MarksAll g map columns after old new
+  Opens (Marks map) (Some loss) label first columns after old new = (mid : List Column) × (dev : List (Option D))
+      × MarksAll g map columns mid old dev × IsLeftLost g loss label first mid after dev new
+
+  -- The opening round was written, whose labels aren't clean, or maps on each device in use in the place of that; then, where that didn't lose the array, it was swept; and where the array is lost by that, the one round of a lost array was written. Where a round was written each device in use in the end has the label of the last one, which says what the columns were then; else the label stays the newest's; and each device in use has the map, where maps were written. `left`, `dev`, `first` and `opened` are the columns, the devices, the label and the loss that the round or the maps left: what was lost then stays lost by that, no column has a device in the end that it hadn't then, no device that they left out of use was called behind them, and no sector has changed behind them but those of the sweep, and those of labels, where the array is lost. All else is said by the columns and devices as they were before; n is what the sweep counted.
+  pub record HasBegun (notice : Notice) (sweep : Sweeps) (y : Shape) (label next : Label) (columns after : List Column) (old new : List (Option D)) (lost : Option Loss) (n : ℕ) : Type 0 where
     pub rounds : ℕ
-    pub some : 1 ≤ rounds
-    pub few : rounds ≤ 2
-    pub one : lost ≡ None → rounds ≡ 1
-    pub stage : IsStage g (MayBegin sweep y columns old) (λ d. AreStaged (All IsLabelWrite) (AreLast lost) sweep y (states_of y columns) d) lost columns after old new
+    pub some : rounds_for notice ≤ rounds
+    pub few : rounds ≤ rounds_for notice + 1
+    pub one : lost ≡ None → rounds ≡ rounds_for notice
+    pub stage : IsStage g (MayBegin notice sweep y columns old) (λ d. AreStaged (AreNotice notice) (AreLast lost) sweep y (states_of y columns) d) lost columns after old new
     pub counter : CountsRounds rounds label next (length stage.rises)
     pub bounded : next.counter ≤ label.counter + 34
-    pub label_is : next ≡ with_round label next.counter 0 (seating_in next)
-    pub seated : HasSeats lost next columns after old new
+    pub label_is : wrote_round notice lost ≡ true → next ≡ with_round label next.counter 0 (seating_in next)
+    pub seated : wrote_round notice lost ≡ true → HasSeats lost next columns after old new
     pub given_up : IsGivenUpIn lost after
-    pub held : (c d : ℕ) → HasDeviceOn after c d → HoldsLabel g new next c d
-    pub others : sweep ≡ None → IsUncalled columns old new
+    pub held : wrote_round notice lost ≡ true → (c d : ℕ) → HasDeviceOn after c d → HoldsLabel g new next c d
+    pub same : wrote_round notice lost ≡ false → next ≡ label
+    pub mapped : (map : Map) → notice ≡ Marks map → (c d : ℕ) → HasDeviceOn after c d → HoldsMap g new map d
+    pub others : sweep ≡ Nothing → IsUncalled columns old new
     pub swept : lost ≡ None → SweepHas sweep y columns after old new n
     pub still : g.tells → InSync y (contents_of g old) (states_of y columns) → InSync y (contents_of g new) (states_of y after)
     pub left : List Column
     pub dev : List (Option D)
     pub first : Label
     pub opened : Option Loss
-    pub opens : HaveRounds g opened (record label { clean = 0 }) first columns left old dev
+    pub opens : Opens notice opened label first columns left old dev
     pub stays : is_some opened ≡ true → lost ≡ opened
     pub behind : ToldNothing g left dev new
+    pub since : Changes g (λ d n. ((is_some lost ≡ true) × (n ≡ 0)) ⊎ MaySweep sweep y columns old d n) dev new
+    pub lives : (c d : ℕ) → HasDeviceOn after c d → HasDeviceOn left c d
 
   -- what can be acted on: its columns are as many as the layout's, and their devices are there, large enough, and can be labelled
   pub record CanAct (y : Shape) (columns : List Column) (devices : List (Option D)) : Type 0 where

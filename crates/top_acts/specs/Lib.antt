@@ -1,10 +1,14 @@
 pub mod Begun
 pub mod Checked
+pub mod Cleared
 pub mod Closed
 pub mod Done
 pub mod Failed
 pub mod Killed
 pub mod Labelled
+pub mod Mapped
+pub mod Marking
 pub mod Renewed
 pub mod Stages
+pub mod Sweeps
 pub mod Sweeping

@@ -1,14 +1,15 @@
 -- The check units of an array were renewed: each was rewritten, or those whose stripes weren't in sync.
-use Rattle.std.specs.Prelude.{◌≡◌, ◌≤◌, ℕ, List, [], length, Option, Some, None, All}
+use Rattle.std.specs.Prelude.{◌≡◌, ◌⊎◌, ◌≤◌, ℕ, List, [], ◌∷◌, length, Bool, Option, Some, None, All}
 use Rattle.blk_disk.specs.declared.disk.Disk.{Ghosts}
-use Rattle.blk_disk.specs.Devices.{Changes, calls_of}
+use Rattle.blk_disk.specs.declared.disk.Call.{Call}
+use Rattle.blk_disk.specs.Disk.{call_of}
+use Rattle.blk_disk.specs.Devices.{Changes, RisesOn, calls_of, sector_of}
 use Rattle.lay_core.specs.Layout.{Shape}
 use Rattle.eng_cols.specs.declared.column.Column.{Column}
 use Rattle.eng_cols.specs.declared.spot.Loss.{Loss}
 use Rattle.eng_cols.specs.Deaths.{Dies}
 use Rattle.raid_label.specs.declared.label.Label.{Label}
 use Rattle.raid_recon.specs.declared.kind.Sweep.{Sweep}
-use Rattle.raid_recon.specs.declared.kind.Sweep.TheVariants as sweep
 use Rattle.eng_cols.specs.Stripes.{states_of}
 use Rattle.top_close.specs.Calls.{EndsSettled, IsSettle}
 use Rattle.top_close.specs.Ended.{IsLossBy}
@@ -22,53 +23,65 @@ use Rattle.top_acts.specs.declared.done.Done.{Done}
 use Rattle.top_acts.specs.declared.done.Done.TheVariants as done
 use Rattle.top_acts.specs.declared.sweeping.Renewal.{Renewal}
 use Rattle.top_acts.specs.declared.sweeping.Renewal.TheVariants as renewal
-use Rattle.top_acts.specs.Begun.{HasBegun, HasSwept, MayBegin, MaySweep}
-use Rattle.top_acts.specs.Closed.{ClosesSettled}
+use Rattle.top_acts.specs.Begun.{HasBegun, HasSwept, MaySweep}
 use Rattle.top_acts.specs.Done.{unless_lost}
+use Rattle.raid_map.specs.Regions.{Marks as Map, IsBytesOf}
 use Rattle.top_acts.specs.Failed.{StaysBegun}
-use Rattle.top_acts.specs.Stages.{IsClosing, SettlesFirst, StagesOn, AreStaged}
+use Rattle.top_acts.specs.Cleared.{EndsMappedSettled, IsEndingCall, MayEnd}
+use Rattle.top_acts.specs.Mapped.{LooksAtMaps, ReadsMap, clear_of, is_any_marked}
+use Rattle.top_acts.specs.Stages.{StagesOn, AreStaged}
 use Rattle.top_acts.specs.Sweeping.{DoesSweep}
-
--- the sweep by which that is done
-abbrev pub sweep_of : Renewal → Sweep
-sweep_of renewal.Init = sweep.Init
-sweep_of renewal.Rewrite = sweep.Sync
+use Rattle.top_acts.specs.Sweeps.{Over, Round, sweep_of}
 
 -- what is said to be done, of so many check units
 abbrev pub renewed : Renewal → ℕ → Done
 renewed renewal.Init n = done.Init n
 renewed renewal.Rewrite n = done.Rewrite n
 
-module _ {D : Type 0} (g : Ghosts D) where
-  -- An array that isn't lost was closed, with labels that say so; one that is was left as it was begun, and stays lost by that.
-  abbrev pub ClosesBegun : Option Loss → Label → Label → List Column → List Column → List (Option D) → List (Option D) → Option Loss → Type 0
-  ClosesBegun None first next columns after old new lost = ClosesSettled g (record first { clean = 1 }) next columns after old new lost
-  ClosesBegun (Some loss) first next columns after old new lost = StaysBegun g first next columns after old new × (lost ≡ Some loss)
+-- a settle, and label writes and settles behind it, and writes of maps, where these are cleared
+abbrev pub SettlesFirstOf : (clears : Bool) → List Call → Type 0
+SettlesFirstOf clears calls = (good : Bool) × (more : List Call) × (calls ≡ call_of 2 0 0 good ∷ more) × All (IsEndingCall clears) more
 
-  -- Of a labelled array: the opening round, the sweep, then each device in use settled, the closing round, and each settled again. Where the array is lost on the way, what is left of this isn't done, but for the one round of a lost array, and nothing is told. `mid`, `dev`, `first` and `before` are the columns, the devices, the label and the loss with which it was begun; all else is said by the columns and devices as they were before.
-  pub record IsRenewed (kind : Renewal) (y : Shape) (label next : Label) (columns after : List Column) (old new : List (Option D)) (lost : Option Loss) (result : Done) : Type 0 where
+module _ {D : Type 0} (g : Ghosts D) where
+  -- An array that isn't lost was closed, with labels that say so, and its maps were cleared, if they are to be; one that is was left as it was begun, and stays lost by that.
+  abbrev pub ClosesBegun : Option Map → Option Loss → Label → Label → List Column → List Column → List (Option D) → List (Option D) → Option Loss → Type 0
+  ClosesBegun clear None first next columns after old new lost = EndsMappedSettled g clear (record first { clean = 1 }) next columns after old new lost
+  ClosesBegun clear (Some loss) first next columns after old new lost = StaysBegun g first next columns after old new × (lost ≡ Some loss)
+
+  -- what isn't lost as its maps are read is begun, and closed; else it is left as it is
+  abbrev pub RenewsUnless : Option Map → Option Loss → Sweep → Shape → Label → Label → List Column → List Column → List (Option D) → List (Option D) → Option Loss → ℕ → Type 0
+  RenewsUnless clear None kind y label next columns after old new lost n = (mid : List Column) × (dev : List (Option D)) × (first : Label) × (before : Option Loss)
+      × HasBegun g Round (Over kind) y label first columns mid old dev before n × ClosesBegun clear before first next mid after dev new lost
+  RenewsUnless clear (Some loss) kind y label next columns after old new lost n = StaysBegun g label next columns after old new × (lost ≡ Some loss)
+
+  -- sector n of device d is that of the label on a device in use, or of the map, where maps are cleared; or one of a check unit that is renewed
+  abbrev pub MayRenew : (clears : Bool) → Sweep → Shape → List Column → List (Option D) → ℕ → ℕ → Type 0
+  MayRenew clears kind y columns old d n = MayEnd clears columns d n ⊎ MaySweep g (Over kind) y columns old d n
+
+  -- Of a labelled array: its maps are read, then the opening round, the sweep, then each device in use settled, the closing round, and each settled again; and the maps are cleared, where the union of those that were read has a mark. Where the array is lost on the way, what is left of this isn't done, but for the one round of a lost array, and nothing is told; one that is lost as its maps are read is left as it is. `read`, `looked` and `unread` are the columns, the devices and the loss with which it was begun; all else is said by the columns and devices as they were before. `blank` is the map into which the maps were read, and `union` what it is then.
+  pub record IsRenewed (kind : Renewal) (y : Shape) (label next : Label) (columns after : List Column) (old new : List (Option D)) (lost : Option Loss) (result : Done) (blank union : Map) : Type 0 where
+    pub read : List Column
+    pub looked : List (Option D)
+    pub unread : Option Loss
+    pub looks : LooksAtMaps g y blank union columns read old looked unread
     pub found : ℕ
     pub told : result ≡ unless_lost lost (renewed kind found)
     pub swept : lost ≡ None → HasSwept g (sweep_of kind) y columns after old new found
     pub rounds : ℕ
-    pub some : 1 ≤ rounds
+    pub some : unread ≡ None → 1 ≤ rounds
     pub few : rounds ≤ 2
     pub two : lost ≡ None → rounds ≡ 2
-    pub stage : IsStage g (MayBegin g (Some (sweep_of kind)) y columns old) (λ d. AreStaged (All IsLabelWrite) (All IsClosing) (Some (sweep_of kind)) y (states_of y columns) d) lost columns after old new
+    pub stage : IsStage g (MayRenew (is_any_marked union) (sweep_of kind) y columns old) (λ d. AreStaged (ReadsMap (All IsLabelWrite)) (All (IsEndingCall (is_any_marked union))) (Over (sweep_of kind)) y (states_of y columns) d) lost columns after old new
     pub counter : CountsRounds rounds label next (length stage.rises)
-    pub label_is : next ≡ with_round label next.counter (clean_in_end lost 1) (seating_in next)
+    pub label_is : unread ≡ None → next ≡ with_round label next.counter (clean_in_end lost 1) (seating_in next)
     pub seating : lost ≡ None → seating_in next ≡ seating_of after
     pub given_up : IsGivenUpIn lost after
-    pub held : (c d : ℕ) → HasDeviceOn after c d → HoldsLabel g new next c d
+    pub held : unread ≡ None → (c d : ℕ) → HasDeviceOn after c d → HoldsLabel g new next c d
     pub settled : lost ≡ None → (c d : ℕ) → HasDeviceOn after c d → EndsSettled (calls_of g new d)
-    pub ordered : lost ≡ None → (c d : ℕ) → HasDeviceOn after c d → StagesOn (All IsLabelWrite) SettlesFirst (Some (sweep_of kind)) y (states_of y columns) d (calls_of g old d) (calls_of g new d)
+    pub ordered : lost ≡ None → (c d : ℕ) → HasDeviceOn after c d → StagesOn (ReadsMap (All IsLabelWrite)) (SettlesFirstOf (is_any_marked union)) (Over (sweep_of kind)) y (states_of y columns) d (calls_of g old d) (calls_of g new d)
     pub lost_is : IsLossBy y None (states_of y after) lost
-    pub mid : List Column
-    pub dev : List (Option D)
-    pub first : Label
-    pub before : Option Loss
-    pub begins : HasBegun g (Some (sweep_of kind)) y label first columns mid old dev before found
-    pub closes : ClosesBegun before first next mid after dev new lost
+    pub map : g.tells → (d : ℕ) → (RisesOn g old new d → ⊥) → (sector_of g new d 1 ≡ sector_of g old d 1) ⊎ IsBytesOf blank (sector_of g new d 1)
+    pub renews : RenewsUnless (clear_of blank union) unread (sweep_of kind) y label next read after looked new lost found
 
   -- Of an array without labels: the sweep, which left columns `mid` and devices `dev`, then each device in use settled once, whether the array is lost or not.
   pub record IsRenewedPlain (kind : Renewal) (y : Shape) (columns after : List Column) (old new : List (Option D)) (lost : Option Loss) (result : Done) : Type 0 where
@@ -77,8 +90,8 @@ module _ {D : Type 0} (g : Ghosts D) where
     pub swept : HasSwept g (sweep_of kind) y columns after old new found
     pub dies : Dies (LosesDevice g columns old new) columns after
     pub settled : (c d : ℕ) → HasDeviceOn after c d → EndsSettled (calls_of g new d)
-    pub frame : Changes g (MaySweep g (Some (sweep_of kind)) y columns old) old new
-    pub calls : (d : ℕ) → StagesOn (λ calls. calls ≡ []) (All IsSettle) (Some (sweep_of kind)) y (states_of y columns) d (calls_of g old d) (calls_of g new d)
+    pub frame : Changes g (MaySweep g (Over (sweep_of kind)) y columns old) old new
+    pub calls : (d : ℕ) → StagesOn (λ calls. calls ≡ []) (All IsSettle) (Over (sweep_of kind)) y (states_of y columns) d (calls_of g old d) (calls_of g new d)
     pub uncalled : ToldNothing g columns old new
     pub lost_is : IsLossBy y None (states_of y after) lost
     pub mid : List Column

@@ -1,13 +1,14 @@
 -- The calls of a device: labels, then a sweep, then labels and settles.
-use Rattle.std.specs.Prelude.{◌≡◌, ◌⊎◌, ℕ, List, [], ◌∷◌, ◌++◌, All, Bool, true, false, Option, Some, None}
+use Rattle.std.specs.Prelude.{◌≡◌, ◌⊎◌, ℕ, List, [], ◌∷◌, ◌++◌, All, Bool, true, false, Option}
 use Rattle.blk_disk.specs.declared.disk.Call.{Call}
 use Rattle.blk_disk.specs.Disk.{call_of}
 use Rattle.lay_core.specs.Layout.{Shape}
 use Rattle.eng_cols.specs.Cols.{ColumnState}
-use Rattle.raid_recon.specs.declared.kind.Sweep.{Sweep}
+use Rattle.raid_map.specs.Sweeping.{IsMarkedCall}
 use Rattle.raid_recon.specs.Ends.{AreGoodButLast, IsUnitCall}
 use Rattle.top_close.specs.Calls.{IsSettle, MoreOn}
 use Rattle.top_rounds.specs.Calls.{IsLabelWrite}
+use Rattle.top_acts.specs.Sweeps.{Sweeps, Nothing, Over, Marked}
 
 -- a write of a label, or a settle
 abbrev pub IsClosing : Call → Type 0
@@ -43,13 +44,14 @@ SettlesFirst calls = (good : Bool) × (more : List Call) × (calls ≡ call_of 2
 abbrev pub SettlesFirstOn : Option (List Call) → Option (List Call) → Type 0
 SettlesFirstOn before now = MoreOn SettlesFirst before now
 
--- the calls of a sweep on device d: reads of whole units that stand there, and writes of whole check units, none behind one that failed; none where nothing is swept
-abbrev pub AreSweep : Option Sweep → Shape → List ColumnState → ℕ → List Call → Type 0
-AreSweep None y cols d calls = calls ≡ []
-AreSweep (Some kind) y cols d calls = AreGoodButLast calls × All (IsUnitCall y cols d) calls
+-- the calls of a sweep on device d: reads of whole units that stand there, and writes of whole check units, none behind one that failed, and of marked stripes alone where those are swept; none where nothing is swept
+abbrev pub AreSweep : Sweeps → Shape → List ColumnState → ℕ → List Call → Type 0
+AreSweep Nothing y cols d calls = calls ≡ []
+AreSweep (Over kind) y cols d calls = AreGoodButLast calls × All (IsUnitCall y cols d) calls
+AreSweep (Marked marks) y cols d calls = AreGoodButLast calls × All (IsMarkedCall y cols marks d) calls
 
 -- Calls of device d: such ones at first, then those of the sweep, then such ones.
-pub record AreStaged (first last : List Call → Type 0) (sweep : Option Sweep) (y : Shape) (cols : List ColumnState) (d : ℕ) (calls : List Call) : Type 0 where
+pub record AreStaged (first last : List Call → Type 0) (sweep : Sweeps) (y : Shape) (cols : List ColumnState) (d : ℕ) (calls : List Call) : Type 0 where
   pub front : List Call
   pub swept : List Call
   pub back : List Call
@@ -59,5 +61,5 @@ pub record AreStaged (first last : List Call → Type 0) (sweep : Option Sweep) 
   pub at_last : last back
 
 -- those that came are such
-abbrev pub StagesOn : (first last : List Call → Type 0) (sweep : Option Sweep) (y : Shape) (cols : List ColumnState) (d : ℕ) → Option (List Call) → Option (List Call) → Type 0
+abbrev pub StagesOn : (first last : List Call → Type 0) (sweep : Sweeps) (y : Shape) (cols : List ColumnState) (d : ℕ) → Option (List Call) → Option (List Call) → Type 0
 StagesOn first last sweep y cols d before now = MoreOn (AreStaged first last sweep y cols d) before now

@@ -1,26 +1,29 @@
-//! A labelled array is begun with: its opening round, and the sweep behind that.
-ghost use Rattle.std.specs.Prelude.{◌≡◌, ◌≤◌, ◌<◌, ◌+◌, ◌*◌, ◌^◌, None};
-ghost use Rattle.std.specs.Option.{option_map};
+//! A labelled array is begun with: its opening round, or marks in its place, and the sweep behind that.
+ghost use Rattle.std.specs.Prelude.{◌≡◌, ◌≤◌, ◌<◌, ◌+◌, ◌*◌, ◌^◌, None, true, is_some};
 ghost use Rattle.eng_cols.specs.Cols.{IsFor};
-ghost use Rattle.top_acts.specs.Begun.{CanAct, HasBegun, sweep_if};
-ghost use Rattle.top_acts.specs.Renewed.{sweep_of};
+ghost use Rattle.raid_map.specs.Sweeping.{marks_stripe};
+ghost use Rattle.top_acts.specs.Begun.{CanAct, HasBegun, Opens};
+ghost use Rattle.top_acts.specs.Mapped.{FitsLayout, IsOpeningFor};
+ghost use Rattle.top_acts.specs.Sweeps.{Marked, Marks, Over, notice_seen, sweep_of, sweeps_seen, wrote_round};
 ghost use Rattle.top_acts.specs.Sweeping.{SweepsLabelled};
 ghost use Rattle.eng_cols.specs.Stripes.{states_of};
 ghost use Rattle.top_close.specs.Ended.{IsLossBy};
-ghost use Rattle.top_rounds.specs.Labels.{IsLabelFor};
+ghost use Rattle.top_rounds.specs.Labels.{IsLabelFor, seating_in, with_round};
 
 use crate::ending::write_lost;
-use crate::sweeping::{Renewal, sweep_and_judge};
-use blk_disk::Disk;
+use crate::opening::{Notice, Opening, Sweeps};
+use crate::sweeping::{Renewal, mark_and_judge, sweep_and_judge, sweep_marks_and_judge};
+use blk_disk::StopDisk;
 use lay_core::Layout;
 use raid_label::Label;
+use raid_map::{Map, MapRoom};
 use raid_progress::Progress;
 use raid_recon::SweepRoom;
 use top_close::{Hand, deaths_bring_no_unit_back};
 use top_rounds::round;
 
-// The sweep behind the opening round, and the one round of an array that is lost by it.
-fn sweep_labelled<L: Layout, D: Disk, P: Progress>(
+// The sweep over all stripes, and the one round of an array that is lost by it.
+fn sweep_labelled<L: Layout, D: StopDisk, P: Progress>(
     kind: Renewal,
     layout: &L,
     devices: &mut [Option<D>],
@@ -33,7 +36,8 @@ fn sweep_labelled<L: Layout, D: Disk, P: Progress>(
     requires counter { label.old.counter + 33 < 2 ^ 32 }
     requires room { 1024 * (L.shape layout.now).unit_sectors ≤ room.old }
     requires judge { IsFor (L.shape layout.now) hand.old.judge }
-    ensures swept { SweepsLabelled D.Disk (sweep_of kind) (L.shape layout.now) label.old label.new
+    ensures swept { SweepsLabelled D.Disk (Over (sweep_of kind)) (L.shape layout.now)
+        label.old label.new
         hand.old.ending.columns.items hand.new.ending.columns.items
         devices.old devices.new hand.new.ending.lost result }
     ensures held { IsLabelFor hand.new.ending.columns.items label.new }
@@ -50,23 +54,23 @@ fn sweep_labelled<L: Layout, D: Disk, P: Progress>(
     count
 }
 
-/// The opening round, and the sweep behind that, if there is one to be made and the array isn't
-/// lost. All else is as in [`begin_labelled`].
-pub(crate) fn begin<L: Layout, D: Disk, P: Progress>(
-    sweep: Option<Renewal>,
+// The sweep over the stripes that a map marks, and the one round of an array that is lost by it.
+fn sweep_marks<L: Layout, D: StopDisk>(
+    map: &Map,
     layout: &L,
     devices: &mut [Option<D>],
     hand: &mut Hand,
     label: &mut Label,
-    room: &mut SweepRoom<P>,
+    room: &mut MapRoom,
 ) -> u64
     requires can { CanAct D.Disk (L.shape layout.now) hand.old.ending.columns.items devices.old }
+    requires map { map.now.stripes ≡ (L.shape layout.now).stripes }
     requires held { IsLabelFor hand.old.ending.columns.items label.old }
-    requires counter { label.old.counter + 66 < 2 ^ 32 }
+    requires counter { label.old.counter + 33 < 2 ^ 32 }
     requires room { 1024 * (L.shape layout.now).unit_sectors ≤ room.old }
     requires judge { IsFor (L.shape layout.now) hand.old.judge }
-    ensures begun { HasBegun D.Disk (option_map sweep_of sweep) (L.shape layout.now) label.old
-        label.new
+    ensures swept { SweepsLabelled D.Disk (Marked (marks_stripe map.now)) (L.shape layout.now)
+        label.old label.new
         hand.old.ending.columns.items hand.new.ending.columns.items
         devices.old devices.new hand.new.ending.lost result }
     ensures held { IsLabelFor hand.new.ending.columns.items label.new }
@@ -76,54 +80,124 @@ pub(crate) fn begin<L: Layout, D: Disk, P: Progress>(
     ensures judge { IsFor (L.shape layout.now) hand.new.judge }
 {
     deaths_bring_no_unit_back();
-    hand.ending.lost = None;
-    label.clean = 0;
-    round(layout, devices, hand, label);
+    let count = sweep_marks_and_judge(map, layout, devices, hand, room);
     if hand.ending.lost.is_some() {
-        return 0;
+        write_lost(layout, devices, hand, label);
     }
-    match sweep {
-        Some(kind) => sweep_labelled(kind, layout, devices, hand, label, room),
-        None => 0,
-    }
+    count
 }
 
-/// Begins what is done to a labelled array: the opening round is written, whose labels aren't clean,
-/// and then, where the labels said that the array is `dirty`, the check units of all stripes that
-/// lack no unit and aren't in sync are rewritten. A column is dead whose device fails. Where the
-/// array is lost in the opening round, that ends with the one round of a lost array and nothing is
-/// swept; where it is lost by the sweep, that one round is written behind it. Says how many check
-/// units were rewritten.
-///
-/// `label` is the newest's, and in the end the label of the last round. The array isn't lost as it
-/// is opened. `room` has 1,024 bytes for each sector of a unit. No memory is taken.
-pub fn begin_labelled<L: Layout, D: Disk, P: Progress>(
+// The map on each device in use, and the one round of an array that is lost by that.
+fn mark<L: Layout, D: StopDisk>(
+    map: &Map,
     layout: &L,
     devices: &mut [Option<D>],
     hand: &mut Hand,
     label: &mut Label,
-    dirty: bool,
+)
+    requires can { CanAct D.Disk (L.shape layout.now) hand.old.ending.columns.items devices.old }
+    requires map { map.now.stripes ≡ (L.shape layout.now).stripes }
+    requires held { IsLabelFor hand.old.ending.columns.items label.old }
+    requires counter { label.old.counter + 33 < 2 ^ 32 }
+    requires judge { IsFor (L.shape layout.now) hand.old.judge }
+    ensures opens { Opens D.Disk (Marks map.now) hand.new.ending.lost
+        label.old label.new hand.old.ending.columns.items hand.new.ending.columns.items
+        devices.old devices.new }
+    ensures label { is_some hand.new.ending.lost ≡ true
+        → label.new ≡ with_round label.old label.new.counter 0 (seating_in label.new) }
+    ensures few { label.new.counter ≤ label.old.counter + 33 }
+    ensures held { IsLabelFor hand.new.ending.columns.items label.new }
+    ensures lost { IsLossBy (L.shape layout.now) None
+        (states_of (L.shape layout.now) hand.new.ending.columns.items) hand.new.ending.lost }
+    ensures judge { IsFor (L.shape layout.now) hand.new.judge }
+{
+    deaths_bring_no_unit_back();
+    mark_and_judge(map, layout, devices, hand);
+    if hand.ending.lost.is_some() {
+        write_lost(layout, devices, hand, label);
+    }
+}
+
+// It is announced that sectors of the rows are going to be written.
+fn announce<L: Layout, D: StopDisk>(
+    notice: Notice<'_>,
+    layout: &L,
+    devices: &mut [Option<D>],
+    hand: &mut Hand,
+    label: &mut Label,
+)
+    requires can { CanAct D.Disk (L.shape layout.now) hand.old.ending.columns.items devices.old }
+    requires notice { IsOpeningFor (L.shape layout.now) (notice_seen notice) }
+    requires held { IsLabelFor hand.old.ending.columns.items label.old }
+    requires counter { label.old.counter + 33 < 2 ^ 32 }
+    requires judge { IsFor (L.shape layout.now) hand.old.judge }
+    ensures opens { Opens D.Disk (notice_seen notice.entry) hand.new.ending.lost
+        label.old label.new hand.old.ending.columns.items hand.new.ending.columns.items
+        devices.old devices.new }
+    ensures label { wrote_round (notice_seen notice.entry) hand.new.ending.lost ≡ true
+        → label.new ≡ with_round label.old label.new.counter 0 (seating_in label.new) }
+    ensures few { label.new.counter ≤ label.old.counter + 33 }
+    ensures held { IsLabelFor hand.new.ending.columns.items label.new }
+    ensures lost { IsLossBy (L.shape layout.now) None
+        (states_of (L.shape layout.now) hand.new.ending.columns.items) hand.new.ending.lost }
+    ensures judge { IsFor (L.shape layout.now) hand.new.judge }
+{
+    deaths_bring_no_unit_back();
+    hand.ending.lost = None;
+    match notice {
+        Notice::Round => {
+            label.clean = 0;
+            round(layout, devices, hand, label);
+        }
+        Notice::Marks(map) => mark(map, layout, devices, hand, label),
+    }
+}
+
+/// Begins what is done to a labelled array. It is announced that sectors of its rows are going to be
+/// written: by the opening round, whose labels aren't clean, or, in the place of that, by a map on each
+/// device in use. Then check units are rewritten, if any are to be. A column is dead whose device fails.
+/// Where the array is lost by the opening round, that ends with the one round of a lost array; where it
+/// is lost by the map or by the sweep, that one round is written behind it; and nothing is swept behind
+/// a loss. Says how many check units were rewritten.
+///
+/// `label` is the newest's, and in the end the label of the last round. The array isn't lost as it
+/// is opened. Both rooms have 1,024 bytes for each sector of a unit. No memory is taken.
+pub fn begin_labelled<L: Layout, D: StopDisk, P: Progress>(
+    opening: Opening<'_>,
+    layout: &L,
+    devices: &mut [Option<D>],
+    hand: &mut Hand,
+    label: &mut Label,
     room: &mut SweepRoom<P>,
+    marked: &mut MapRoom,
 ) -> u64
     requires can { CanAct D.Disk (L.shape layout.now) hand.old.ending.columns.items devices.old }
+    requires opening { FitsLayout (L.shape layout.now) (notice_seen opening.notice)
+        opening.sweeps }
     requires held { IsLabelFor hand.old.ending.columns.items label.old }
     requires counter { label.old.counter + 66 < 2 ^ 32 }
     requires room { 1024 * (L.shape layout.now).unit_sectors ≤ room.old }
+    requires marked { 1024 * (L.shape layout.now).unit_sectors ≤ marked.old }
     requires judge { IsFor (L.shape layout.now) hand.old.judge }
-    ensures begun { HasBegun D.Disk (sweep_if dirty) (L.shape layout.now) label.old label.new
+    ensures begun { HasBegun D.Disk (notice_seen opening.entry.notice)
+        (sweeps_seen opening.entry.sweeps) (L.shape layout.now) label.old label.new
         hand.old.ending.columns.items hand.new.ending.columns.items
         devices.old devices.new hand.new.ending.lost result }
     ensures lost { IsLossBy (L.shape layout.now) None
         (states_of (L.shape layout.now) hand.new.ending.columns.items) hand.new.ending.lost }
     ensures can { CanAct D.Disk (L.shape layout.now) hand.new.ending.columns.items devices.new }
     ensures held { IsLabelFor hand.new.ending.columns.items label.new }
-    ensures room { room.new ≡ room.old }
+    ensures rooms { (room.new ≡ room.old) × (marked.new ≡ marked.old) }
     ensures judge { IsFor (L.shape layout.now) hand.new.judge }
 {
     deaths_bring_no_unit_back();
-    if dirty {
-        begin(Some(Renewal::Rewrite), layout, devices, hand, label, room)
-    } else {
-        begin(None, layout, devices, hand, label, room)
+    announce(opening.notice, layout, devices, hand, label);
+    if hand.ending.lost.is_some() {
+        return 0;
+    }
+    match opening.sweeps {
+        Sweeps::Nothing => 0,
+        Sweeps::Over(kind) => sweep_labelled(kind, layout, devices, hand, label, room),
+        Sweeps::Marked(map) => sweep_marks(map, layout, devices, hand, label, marked),
     }
 }

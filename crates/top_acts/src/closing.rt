@@ -17,7 +17,8 @@ use raid_label::Label;
 use top_close::{Hand, deaths_bring_no_unit_back, settle};
 use top_rounds::round;
 
-fn count_devices(columns: &[Column]) -> u32
+/// How many columns have a device.
+pub(crate) fn count_devices(columns: &[Column]) -> u32
     requires { length columns.now ≤ 32 }
     ensures { result ≡ device_count columns.now }
 {
@@ -82,6 +83,7 @@ pub fn close<L: Layout, D: Disk>(
     requires judge { IsFor (L.shape layout.now) hand.old.judge }
     ensures closed { ClosesLabelled D.Disk true label.old label.new hand.old.ending.columns.items
         hand.new.ending.columns.items devices.old devices.new hand.new.ending.lost }
+    ensures held { IsLabelFor hand.new.ending.columns.items label.new }
     ensures lost { IsLossBy (L.shape layout.now) None
         (states_of (L.shape layout.now) hand.new.ending.columns.items) hand.new.ending.lost }
     ensures judge { IsFor (L.shape layout.now) hand.new.judge }

@@ -63,6 +63,7 @@ fn settle_and_end<L: Layout, D: Disk>(
         hand.new.ending.columns.items devices.old devices.new hand.new.ending.lost }
     ensures first { ClosesSettled D.Disk label.old label.new hand.old.ending.columns.items
         hand.new.ending.columns.items devices.old devices.new hand.new.ending.lost }
+    ensures held { IsLabelFor hand.new.ending.columns.items label.new }
     ensures lost { IsLossBy (L.shape layout.now) None
         (states_of (L.shape layout.now) hand.new.ending.columns.items) hand.new.ending.lost }
     ensures judge { IsFor (L.shape layout.now) hand.new.judge }
@@ -101,6 +102,7 @@ pub fn end_labelled<L: Layout, D: Disk>(
     ensures first { hand.old.ending.lost ≡ None →
         ClosesSettled D.Disk label.old label.new hand.old.ending.columns.items
         hand.new.ending.columns.items devices.old devices.new hand.new.ending.lost }
+    ensures held { IsLabelFor hand.new.ending.columns.items label.new }
     ensures lost { IsLossBy (L.shape layout.now) hand.old.ending.lost
         (states_of (L.shape layout.now) hand.new.ending.columns.items) hand.new.ending.lost }
     ensures judge { IsFor (L.shape layout.now) hand.new.judge }

@@ -7,6 +7,7 @@
 
 mod beginning;
 mod checking;
+mod clearing;
 mod closing;
 mod done;
 mod done_line;
@@ -15,11 +16,14 @@ mod failing;
 mod judging;
 mod killing;
 mod labelling;
+mod maps;
+mod opening;
 mod renewing;
 mod sweeping;
 
 pub use beginning::begin_labelled;
 pub use checking::check;
+pub use clearing::{end_and_clear, end_mapped};
 pub use closing::close;
 pub use done::Done;
 pub use done_line::put_done;
@@ -27,5 +31,7 @@ pub use ending::end_labelled;
 pub use failing::fail_column;
 pub use killing::{kill, settle_and_close};
 pub use labelling::label;
+pub use maps::{Maps, look_at_maps};
+pub use opening::{Notice, Opening, Sweeps};
 pub use renewing::{renew, renew_unlabelled};
 pub use sweeping::Renewal;

@@ -10,14 +10,15 @@ use eng_cols::{Cols, Column, Loss};
 use lay_core::Layout;
 use lay_plain::Raid5;
 use raid_label::Label;
+use raid_map::Map;
 use raid_progress::Silent;
 use raid_recon::{Room, SweepRoom};
 use std::alloc::Global;
 use std::process::Abort;
 use std::test::Fail;
 use top_acts::{
-    Done, Renewal, begin_labelled, check, close, end_labelled, fail_column, kill, label, renew,
-    renew_unlabelled,
+    Done, Maps, Notice, Opening, Renewal, Sweeps, begin_labelled, check, close, end_labelled,
+    fail_column, kill, label, renew, renew_unlabelled,
 };
 use top_close::{Ending, Hand, loss_of};
 
@@ -49,6 +50,8 @@ pub(crate) enum Act {
     Fail(u32),
     Label,
     Begin(bool),
+    /// So many stripes are swept, the first ones; and so many are marked.
+    Map(u32, u32),
     Close,
     End(Option<Loss>),
     Renew(Renewal),
@@ -170,7 +173,44 @@ pub(crate) fn acted_on<L: Layout>(
         Act::Kill(_) | Act::Fail(_) => return Err("no column".into()),
         Act::Label => label(layout, devices, &mut hand, newest),
         Act::Begin(dirty) => {
-            let rewritten = begin_labelled(layout, devices, &mut hand, newest, dirty, &mut room);
+            let mut maps = Maps::open(alloc, layout, LAST.serial)?;
+            let sweeps = if dirty {
+                Sweeps::Over(Renewal::Rewrite)
+            } else {
+                Sweeps::Nothing
+            };
+            let opening = Opening {
+                notice: Notice::Round,
+                sweeps,
+            };
+            let rewritten = begin_labelled(
+                opening,
+                layout,
+                devices,
+                &mut hand,
+                newest,
+                &mut room,
+                &mut maps.room,
+            );
+            Done::Rewrite(rewritten)
+        }
+        Act::Map(union, marks) => {
+            let mut maps = Maps::open(alloc, layout, LAST.serial)?;
+            mark_up_to(union, layout, &mut maps.union);
+            mark_up_to(marks, layout, &mut maps.marks);
+            let opening = Opening {
+                notice: Notice::Marks(&maps.marks),
+                sweeps: Sweeps::Marked(&maps.union),
+            };
+            let rewritten = begin_labelled(
+                opening,
+                layout,
+                devices,
+                &mut hand,
+                newest,
+                &mut room,
+                &mut maps.room,
+            );
             Done::Rewrite(rewritten)
         }
         Act::Close => {
@@ -182,17 +222,36 @@ pub(crate) fn acted_on<L: Layout>(
             end_labelled(layout, devices, &mut hand, newest);
             Done::Nothing
         }
-        Act::Renew(kind) => renew(kind, layout, devices, &mut hand, newest, &mut room),
+        Act::Renew(kind) => {
+            let mut maps = Maps::open(alloc, layout, LAST.serial)?;
+            renew(
+                kind, layout, devices, &mut hand, newest, &mut room, &mut maps,
+            )
+        }
         Act::RenewUnlabelled(kind) => renew_unlabelled(kind, layout, devices, &mut hand, &mut room),
     };
     Ok((done, hand.ending))
 }
 
-// A call as one letter: a label, a unit that is read or written, or a settle; a small one where it
-// failed.
+// Marks the first stripes, so many.
+fn mark_up_to<L: Layout>(count: u32, layout: &L, map: &mut Map)
+    requires { map.old.stripes ≡ (L.shape layout.now).stripes }
+    ensures { map.new.stripes ≡ map.old.stripes }
+{
+    for stripe in 0..count {
+        if stripe < layout.stripes() {
+            map.mark(stripe);
+        }
+    }
+}
+
+// A call as one letter: a label, a map that is read or written, a unit that is read or written, or a settle; a
+// small one where it failed.
 fn letter(call: &Call) -> u8 {
     let letter = match (call.kind, call.first) {
         (1, 0) => b'L',
+        (0, 1) => b'M',
+        (1, 1) => b'P',
         (0, 64..) => b'R',
         (1, 64..) => b'W',
         (2, _) => b'S',
@@ -234,6 +293,15 @@ pub(crate) fn label_on(device: &Option<MemDisk>) -> Option<[u8; 6]> {
     Some([
         bytes[16], bytes[20], bytes[40], bytes[60], bytes[61], bytes[62],
     ])
+}
+
+/// Of the map on a device the first marks. None where there is no map.
+pub(crate) fn marks_on(device: &Option<MemDisk>) -> Option<u8> {
+    let bytes = device.as_ref()?.bytes();
+    if bytes.len() != 67 * SECTOR || !bytes[SECTOR..].starts_with(b"RFPMAP01") {
+        return None;
+    }
+    Some(bytes[SECTOR + 16])
 }
 
 /// The first byte of each row of a device.

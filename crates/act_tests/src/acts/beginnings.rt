@@ -1,5 +1,5 @@
 //! Arrays that are begun with, and those that get their first labels.
-use super::asked::{Act, LAST, acted, acted_on, dead, devices, have_calls, label_on};
+use super::asked::{Act, LAST, acted, acted_on, dead, devices, have_calls, label_on, marks_on};
 use crate::judging::{holds, same};
 use lay_plain::Raid0;
 use std::test::Fail;
@@ -35,6 +35,47 @@ fn a_dirty_array_is_swept(rt: HostRuntime) -> Result<(), Fail> {
             Some([counter as u8, 2, 0, 0, seat, 0]),
         );
     }
+    Ok(())
+}
+
+// In the place of the opening round a map is written and settled; then the stripes are swept that
+// another map marks. Device 1 fails at each of the two calls.
+#[test]
+fn marked_stripes_are_swept_behind_a_map(rt: HostRuntime) -> Result<(), Fail> {
+    let rows: [(u32, u32, u32, u64, u8, [&[u8]; 3]); 5] = [
+        (1, 2, NONE, 1, 3, [b"PSR", b"PSR", b"PSRW"]),
+        (3, 3, NONE, 3, 7, [b"PSRRRW", b"PSRRWR", b"PSRWRR"]),
+        (0, 3, NONE, 0, 7, [b"PS", b"PS", b"PS"]),
+        (3, 1, 0, 0, 1, [b"PS", b"p", b"PS"]),
+        (3, 0, 1, 0, 0, [b"PS", b"Ps", b"PS"]),
+    ];
+    for (swept, marked, call, count, marks, calls) in rows {
+        let mut disks = devices(rt.alloc(), [NONE, call, NONE])?;
+        let mut label = LAST;
+        let act = Act::Map(swept, marked);
+        let (done, ending) = acted(rt.alloc(), act, &mut disks, &mut label)?;
+        same(&rt, done, Done::Rewrite(count));
+        same(&rt, ending.lost, None);
+        holds(&rt, label.counter == LAST.counter && label.clean == 1);
+        same(&rt, dead(&ending), [false, call < NONE, false]);
+        have_calls(&rt, &disks, calls);
+        same(&rt, marks_on(&disks[0]), Some(marks));
+        same(&rt, marks_on(&disks[2]), Some(marks));
+        same(&rt, label_on(&disks[0]), None);
+    }
+    Ok(())
+}
+
+// Two devices fail as they are marked: the one round of a lost array is written.
+#[test]
+fn an_array_may_be_lost_by_its_maps(rt: HostRuntime) -> Result<(), Fail> {
+    let mut disks = devices(rt.alloc(), [0, 1, NONE])?;
+    let mut label = LAST;
+    let (done, ending) = acted(rt.alloc(), Act::Map(3, 3), &mut disks, &mut label)?;
+    same(&rt, done, Done::Rewrite(0));
+    holds(&rt, ending.lost.is_some());
+    have_calls(&rt, &disks, [b"p", b"Ps", b"PSL"]);
+    same(&rt, label_on(&disks[2]), Some([8, 2, 0, 255, 255, 0]));
     Ok(())
 }
 

@@ -8,20 +8,22 @@ use top_acts::{Done, Renewal};
 
 const NONE: u32 = 99;
 
-// Device 1 fails at each of its calls in turn: a label of the opening round, the reads and the write
-// of the sweep, the settle before the closing round, its label there, and the last settle.
+// Device 1 fails at each of its calls in turn: the read of its map, a label of the opening round, the
+// reads and the write of the sweep, the settle before the closing round, its label there, and the last
+// settle.
 #[test]
 fn a_device_fails_at_each_call(rt: HostRuntime) -> Result<(), Fail> {
-    let rows: [(u32, u64, u32, [&[u8]; 3]); 9] = [
-        (0, 0, 10, [b"LLSLS", b"l", b"LSLS"]),
-        (1, 0, 9, [b"LRSLS", b"Lr", b"LSLS"]),
-        (2, 1, 9, [b"LRRSLS", b"LRr", b"LRWRSLS"]),
-        (3, 1, 9, [b"LRRSLS", b"LRRw", b"LRWRSLS"]),
-        (4, 2, 9, [b"LRRSLS", b"LRRWr", b"LRWRSLS"]),
-        (5, 3, 9, [b"LRRRWSLS", b"LRRWRs", b"LRWRRSLS"]),
-        (6, 3, 10, [b"LRRRWSLLS", b"LRRWRSl", b"LRWRRSLS"]),
-        (7, 3, 10, [b"LRRRWSLSLS", b"LRRWRSLs", b"LRWRRSLSLS"]),
-        (8, 3, 9, [b"LRRRWSLS", b"LRRWRSLS", b"LRWRRSLS"]),
+    let rows: [(u32, u64, u32, [&[u8]; 3]); 10] = [
+        (0, 0, 9, [b"MLSLS", b"m", b"MLSLS"]),
+        (1, 0, 10, [b"MLLSLS", b"Ml", b"MLSLS"]),
+        (2, 0, 9, [b"MLRSLS", b"MLr", b"MLSLS"]),
+        (3, 1, 9, [b"MLRRSLS", b"MLRr", b"MLRWRSLS"]),
+        (4, 1, 9, [b"MLRRSLS", b"MLRRw", b"MLRWRSLS"]),
+        (5, 2, 9, [b"MLRRSLS", b"MLRRWr", b"MLRWRSLS"]),
+        (6, 3, 9, [b"MLRRRWSLS", b"MLRRWRs", b"MLRWRRSLS"]),
+        (7, 3, 10, [b"MLRRRWSLLS", b"MLRRWRSl", b"MLRWRRSLS"]),
+        (8, 3, 10, [b"MLRRRWSLSLS", b"MLRRWRSLs", b"MLRWRRSLSLS"]),
+        (9, 3, 9, [b"MLRRRWSLS", b"MLRRWRSLS", b"MLRWRRSLS"]),
     ];
     for (call, count, counter, calls) in rows {
         let mut disks = devices(rt.alloc(), [NONE, call, NONE])?;
@@ -31,9 +33,9 @@ fn a_device_fails_at_each_call(rt: HostRuntime) -> Result<(), Fail> {
         same_at(&rt, call, done, Done::Rewrite(count));
         same_at(&rt, call, ending.lost, None);
         same_at(&rt, call, label.counter, counter);
-        same_at(&rt, call, dead(&ending), [false, call < 8, false]);
+        same_at(&rt, call, dead(&ending), [false, call < 9, false]);
         have_calls(&rt, &disks, calls);
-        let seat = if call < 8 { 255 } else { 0 };
+        let seat = if call < 9 { 255 } else { 0 };
         let counter = counter as u8;
         same(&rt, label_on(&disks[0]), Some([counter, 0, 1, 0, seat, 0]));
         same(&rt, label_on(&disks[2]), Some([counter, 2, 1, 0, seat, 0]));
@@ -47,10 +49,10 @@ fn a_device_fails_at_each_call(rt: HostRuntime) -> Result<(), Fail> {
 #[test]
 fn a_lost_array_gets_one_round_more(rt: HostRuntime) -> Result<(), Fail> {
     let rows: [([u32; 3], u32, [&[u8]; 3]); 4] = [
-        ([0, 0, NONE], 10, [b"l", b"l", b"L"]),
-        ([1, 1, NONE], 9, [b"Lr", b"Ls", b"LSL"]),
-        ([0, 2, NONE], 11, [b"l", b"LSl", b"LSL"]),
-        ([0, 3, NONE], 11, [b"l", b"LSLs", b"LSLSL"]),
+        ([1, 1, NONE], 10, [b"Ml", b"Ml", b"ML"]),
+        ([2, 2, NONE], 9, [b"MLr", b"MLs", b"MLSL"]),
+        ([1, 3, NONE], 11, [b"Ml", b"MLSl", b"MLSL"]),
+        ([1, 4, NONE], 11, [b"Ml", b"MLSLs", b"MLSLSL"]),
     ];
     for (fails, counter, calls) in rows {
         let mut disks = devices(rt.alloc(), fails)?;
@@ -75,16 +77,36 @@ fn a_lost_array_gets_one_round_more(rt: HostRuntime) -> Result<(), Fail> {
     Ok(())
 }
 
+// One that is lost as its maps are read is left as it is.
+#[test]
+fn what_is_lost_by_its_maps_gets_no_label(rt: HostRuntime) -> Result<(), Fail> {
+    let mut disks = devices(rt.alloc(), [0, NONE, 0])?;
+    let mut label = LAST;
+    let act = Act::Renew(Renewal::Rewrite);
+    let (done, ending) = acted(rt.alloc(), act, &mut disks, &mut label)?;
+    same(&rt, done, Done::Nothing);
+    same(&rt, ending.lost.is_some(), true);
+    same(&rt, dead(&ending), [true, false, true]);
+    same(&rt, label.counter, LAST.counter);
+    have_calls(&rt, &disks, [b"m", b"M", b"m"]);
+    Ok(())
+}
+
 // Each unit of three has a copy on the next column. The read of stripe 0 fails on device 0, which
 // stripe 1 doesn't need; there the read fails on device 1, and stripe 0 is lost.
 #[test]
 fn a_sweep_may_lose_the_array(rt: HostRuntime) -> Result<(), Fail> {
-    let rows = [
-        (Act::Begin(true), Done::Rewrite(0)),
-        (Act::Renew(Renewal::Rewrite), Done::Nothing),
+    let rows: [(Act, u32, Done, [&[u8]; 3]); 2] = [
+        (Act::Begin(true), 1, Done::Rewrite(0), [b"Lr", b"Lr", b"LL"]),
+        (
+            Act::Renew(Renewal::Rewrite),
+            2,
+            Done::Nothing,
+            [b"MLr", b"MLr", b"MLL"],
+        ),
     ];
-    for (act, told) in rows {
-        let mut disks = devices(rt.alloc(), [1, 1, NONE])?;
+    for (act, call, told, calls) in rows {
+        let mut disks = devices(rt.alloc(), [call, call, NONE])?;
         let mut label = LAST;
         let layout = Chain::new(3, 1, 2)?;
         let (done, ending) = acted_on(rt.alloc(), &layout, act, &mut disks, &mut label)?;
@@ -95,7 +117,7 @@ fn a_sweep_may_lose_the_array(rt: HostRuntime) -> Result<(), Fail> {
             stripe: 0,
         };
         same(&rt, ending.lost, Some(loss));
-        have_calls(&rt, &disks, [b"Lr", b"Lr", b"LL"]);
+        have_calls(&rt, &disks, calls);
         same(&rt, label_on(&disks[2]), Some([9, 2, 0, 255, 255, 0]));
     }
     Ok(())
@@ -109,7 +131,7 @@ fn each_check_unit_is_initialised(rt: HostRuntime) -> Result<(), Fail> {
     let (done, ending) = acted(rt.alloc(), act, &mut disks, &mut label)?;
     same(&rt, done, Done::Init(3));
     same(&rt, ending.lost, None);
-    have_calls(&rt, &disks, [b"LRRWSLS", b"LRWRSLS", b"LWRRSLS"]);
+    have_calls(&rt, &disks, [b"MLRRWSLS", b"MLRWRSLS", b"MLWRRSLS"]);
     same(&rt, rows_on(&disks[0]), Some([1, 1, 0]));
     same(&rt, rows_on(&disks[1]), Some([0, 1, 0]));
     same(&rt, rows_on(&disks[2]), Some([1, 0, 0]));

@@ -3,7 +3,7 @@ use Rattle.eng_cols.specs.Stripes.{states_of}
 use Rattle.raid_recon.specs.Array.{Failed}
 use Rattle.raid_recon.specs.Ends.{MayRewrite}
 use Rattle.top_rounds.proofs.RoundLaws.{any_death}
-use Rattle.top_acts.specs.Renewed.{sweep_of}
+use Rattle.top_acts.specs.Sweeps.{sweep_of}
 use Rattle.top_acts.proofs.Backs.{array_after}
 use Rattle.top_acts.proofs.Having.{have_of}
 use Rattle.top_acts.proofs.Named.{apart_in, loses_of}

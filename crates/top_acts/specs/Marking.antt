@@ -1,0 +1,41 @@
+-- Devices in use are marked with a map, or cleared by one without marks.
+use Rattle.std.specs.Prelude.{◌≡◌, ◌⊎◌, ℕ, List, All, length, Bool, Option}
+use Rattle.blk_disk.specs.declared.disk.Call.{Call}
+use Rattle.blk_disk.specs.declared.disk.Disk.{Ghosts}
+use Rattle.blk_disk.specs.Disk.{call_of}
+use Rattle.blk_disk.specs.Devices.{sector_of}
+use Rattle.eng_cols.specs.declared.column.Column.{Column}
+use Rattle.raid_map.specs.Marking.{AreMarked}
+use Rattle.raid_map.specs.Regions.{Marks as Map, IsBytesOf}
+use Rattle.top_close.specs.Calls.{IsSettle}
+use Rattle.top_close.specs.Reserved.{IsReserved}
+use Rattle.top_close.specs.Settled.{HasDeviceOn}
+use Rattle.top_rounds.specs.Calls.{IsLabelWrite}
+use Rattle.top_acts.specs.Sweeps.{Notice, Round, Marks}
+
+-- a write of sector 1 alone, whether it went well or not
+abbrev pub IsMapWrite : Call → Type 0
+IsMapWrite call = (good : Bool) × (call ≡ call_of 1 1 512 good)
+
+-- the calls by which it is announced: label writes; or writes of the map, and settles
+abbrev pub AreNotice : Notice → List Call → Type 0
+AreNotice Round calls = All IsLabelWrite calls
+AreNotice (Marks map) calls = All (λ call. IsMapWrite call ⊎ IsSettle call) calls
+
+-- the sector of the label on the device of a column, or that of the map, where maps are written
+pub record IsKeptInUse (mapped : Bool) (columns : List Column) (d n : ℕ) : Type 0 where
+  pub col : ℕ
+  pub live : HasDeviceOn columns col d
+  pub kept : IsReserved mapped n
+
+module _ {D : Type 0} (g : Ghosts D) where
+  -- where it is told, sector 1 of device d holds this map
+  abbrev pub HoldsMap : List (Option D) → Map → ℕ → Type 0
+  HoldsMap devices map d = g.tells → IsBytesOf map (sector_of g devices d 1)
+
+  -- The map was written on each device in use, which was then settled; a column has died where its device failed one of the two, and no other died. Whatever a stop leaves of a device that is in use still, its sector 1 is the map.
+  pub record MarksAll (map : Map) (columns after : List Column) (old new : List (Option D)) : Type 0 where
+    pub bytes : List ℕ
+    pub are : IsBytesOf map bytes
+    pub marked : AreMarked g (length columns) bytes columns after old new
+    pub held : (c d : ℕ) → HasDeviceOn after c d → HoldsMap new map d
