@@ -90,6 +90,13 @@ fn holds(rt: &impl Abort, disk: &MemDisk, blocks: usize)
     }
 }
 
+// Each byte of a sector is this one.
+fn is_filled(rt: &impl Abort, sector: &[u8], wanted: usize) {
+    for held in sector {
+        same(rt, usize::from(*held), wanted);
+    }
+}
+
 // Each client has its four writes done and its read's data.
 fn all_replied<D>(rt: &impl Abort, closed: &Closed<Raid5, D>, clients: usize)
     requires { clients ≤ 16 }
@@ -110,9 +117,9 @@ fn all_replied<D>(rt: &impl Abort, closed: &Closed<Raid5, D>, clients: usize)
         );
     }
     same(rt, closed.history.len(), 5 * clients);
-    same(rt, closed.sectors.len(), 4 * SECTOR * clients);
-    for (at, held) in closed.sectors.iter().enumerate() {
-        same_at(rt, at, usize::from(*held), at / SECTOR + 1);
+    same(rt, closed.sectors.len(), 4 * clients);
+    for at in 0..closed.sectors.len() {
+        is_filled(rt, closed.sectors.sector(at), at + 1);
     }
 }
 

@@ -119,17 +119,18 @@ fn a_dirty_array_is_swept(rt: HostRuntime) -> Result<(), Fail> {
     Ok(())
 }
 
-// The second device fails its label, which is its first call, or its first write; or, without
-// clients, as it is settled before the closing round, or behind it.
+// The second device fails the read of its map, which is its first call, its label, or its first write;
+// or, without clients, as it is settled before the closing round, or behind it.
 #[test]
 fn a_device_that_fails_is_out_of_the_labels(rt: HostRuntime) -> Result<(), Fail> {
     let alloc = rt.alloc();
     for (call, counter, busy) in [
-        (0, 8, true),
-        (1, 7, true),
-        (1, 7, false),
-        (2, 8, false),
+        (0, 7, true),
+        (1, 8, true),
+        (2, 7, true),
+        (2, 7, false),
         (3, 8, false),
+        (4, 8, false),
     ] {
         let first = device(alloc, 9, &[])?;
         let second = device(alloc, 9, &[call])?;
@@ -147,22 +148,22 @@ fn a_device_that_fails_is_out_of_the_labels(rt: HostRuntime) -> Result<(), Fail>
     Ok(())
 }
 
-// Both devices fail their first label; or both fail their first write.
+// Both devices fail as their maps are read, or by their first label; or both fail their first write.
 #[test]
 fn a_lost_array_is_served_no_more(rt: HostRuntime) -> Result<(), Fail> {
     let alloc = rt.alloc();
-    for call in [0, 1] {
+    for call in [0, 1, 2] {
         let first = device(alloc, 9, &[call])?;
         let second = device(alloc, 9, &[call])?;
         let labelled = ready(alloc, first, second, clients(alloc)?, 1)?;
         match run_labelled(&rt, alloc, labelled, 0, &Silent) {
             Ok((outcome, _devices)) => match outcome {
                 Outcome::Lost(ending) => {
-                    same(&rt, call, 0);
+                    holds(&rt, call < 2);
                     holds(&rt, ending.lost.is_some());
                 }
                 Outcome::Ran(service) => {
-                    same(&rt, call, 1);
+                    same(&rt, call, 2);
                     holds(&rt, service.lost.is_some());
                 }
             },
@@ -232,7 +233,7 @@ fn a_column_is_rebuilt_in_place(rt: HostRuntime) -> Result<(), Fail> {
 fn a_device_that_failed_is_not_rebuilt_onto(rt: HostRuntime) -> Result<(), Fail> {
     let alloc = rt.alloc();
     let first = device(alloc, 9, &[])?;
-    let second = device(alloc, 0, &[0])?;
+    let second = device(alloc, 0, &[1])?;
     let labelled = replacing(alloc, first, second, false)?;
     let (service, devices) = ran(&rt, alloc, labelled, 0)?;
     match service.line {

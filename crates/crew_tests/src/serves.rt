@@ -55,9 +55,10 @@ fn all_replied(rt: &impl Abort, closed: &Closed<Raid5, MemDisk>) {
             [Reply::Done, Reply::Data].as_slice(),
         );
     }
-    same(rt, closed.sectors.len(), 4 * SECTOR);
-    for (sector, byte) in [1, 0, 3, 0].iter().enumerate() {
-        same(rt, begins(&closed.sectors, sector), Some(*byte));
+    same(rt, closed.sectors.len(), 4);
+    for sector in 0..closed.sectors.len() {
+        let wanted = [1, 0, 3, 0].get(sector).copied();
+        same(rt, Some(closed.sectors.sector(sector)[0]), wanted);
     }
 }
 

@@ -1,5 +1,5 @@
 -- The blocks of an array that was begun.
-use Rattle.std.proofs.Common.{◌≡◌, ◌≢◌, ◌⊎◌, inl, inr, ℕ, suc, ◌<◌, ◌≤◌, List, true, false, Option, Some, None, sym, ◌∙◌, ap, subst, arith}
+use Rattle.std.proofs.Common.{◌≡◌, ◌≢◌, ◌⊎◌, inl, inr, ℕ, suc, ◌<◌, List, true, false, Option, sym, ◌∙◌, ap, subst, arith}
 use Rattle.std.specs.Prelude.{bit_xor, slice_index}
 use Rattle.std.proofs.lemmas.Bool.{cases_Bool, cases_eq, cond-true, cond-false}
 use Rattle.blk_disk.specs.declared.disk.Disk.{Ghosts}
@@ -14,17 +14,41 @@ use Rattle.eng_cols.specs.Lost.{NotLost}
 use Rattle.eng_cols.specs.Contents.{Contents, AnyStripe, InSync, byte_if, byte_of, decode, xor_others}
 use Rattle.eng_cols.proofs.Decoding.{agrees-decode, agrees-only}
 use Rattle.eng_cols.proofs.Sums.{below_one, others_more, others_same, xor_twice}
-use Rattle.raid_recon.specs.declared.kind.Sweep.TheVariants as sweep
 use Rattle.eng_cols.specs.Stripes.{states_of}
 use Rattle.raid_recon.specs.Array.{IsArray, IsComplete}
-use Rattle.raid_recon.specs.Ends.{MayRewrite, ChecksHold}
+use Rattle.raid_recon.specs.Ends.{ChecksHold}
 use Rattle.raid_recon.specs.Sums.{HoldsSum}
 use Rattle.raid_recon.proofs.Frames.{byte-same, check-alone, last-unit}
 use Rattle.raid_recon.proofs.Places.{spot-seat}
 use Rattle.top_close.specs.Dying.{OnlyDie, HoldSame}
 use Rattle.top_close.proofs.DyingLaws.{agrees_by_devices, lost_no_less, still_agrees, unit_back}
-use Rattle.top_acts.specs.Begun.{MayBegin}
+use Rattle.top_acts.specs.Begun.{MayBegin, MaySweep}
+use Rattle.top_acts.specs.Sweeps.{Sweeps, Nothing, Over, Marked, Notice, Round, Marks}
+use Rattle.top_acts.proofs.Later.{OfCheck, of_check}
 use Rattle.top_labelled.specs.Begun.{sums_of_others}
+
+-- ## What may have changed as it was begun
+
+module _ {D : Type 0} (g : Ghosts D) (y : Shape) (columns : List Column) (old : List (Option D)) where
+  swept-check : (sweep : Sweeps) (d n : ℕ) → MaySweep g sweep y columns old d n → (y.checks ≡ 1) × OfCheck g y columns d n
+  swept-check Nothing d n never = absurd never
+  swept-check (Over kind) d n h = (h.0, of_check g y (Over kind) columns old d n h)
+  swept-check (Marked marks) d n h = (h.0, of_check g y (Marked marks) columns old d n h)
+
+  pub may-check : (notice : Notice) (sweep : Sweeps) (d n : ℕ) → MayBegin g notice sweep y columns old d n → (n < 64) ⊎ ((y.checks ≡ 1) × OfCheck g y columns d n)
+  may-check Round sweep d n (inl first) = let e = first.first in inl (omega (arith, e))
+  may-check Round sweep d n (inr swept) = inr (swept-check sweep d n swept)
+  may-check (Marks map) sweep d n (inl kept) = inl (elim kept.kept [ inl label ↦ omega (arith, label) | inr second ↦ omega (arith, second) ])
+  may-check (Marks map) sweep d n (inr swept) = inr (swept-check sweep d n swept)
+
+  -- where nothing was swept
+  pub may-low : (notice : Notice) (d n : ℕ) → MayBegin g notice Nothing y columns old d n → n < 64
+  may-low Round d n (inl first) = let e = first.first in omega (arith, e)
+  may-low Round d n (inr never) = absurd never
+  may-low (Marks map) d n (inl kept) = elim kept.kept [ inl label ↦ omega (arith, label) | inr second ↦ omega (arith, second) ]
+  may-low (Marks map) d n (inr never) = absurd never
+
+-- ## The blocks
 
 module _ {D : Type 0} (g : Ghosts D) (y : Shape) (layout : IsLayout y) (columns after : List Column) (old new : List (Option D)) (array : IsArray g y columns old)
     (die : OnlyDie (states_of y columns) (states_of y after)) (kept : NotLost y (states_of y after)) (tells : g.tells) where
@@ -42,13 +66,9 @@ module _ {D : Type 0} (g : Ghosts D) (y : Shape) (layout : IsLayout y) (columns 
 
   -- ## Where nothing was swept
 
-  module _ (frame : Changes g (MayBegin g None y columns old) old new) (sync : InSync y held cols) where
-    first-only : (d n : ℕ) → 64 ≤ n → MayBegin g None y columns old d n → ⊥
-    first-only d n from (inl first) = let e = first.first in omega (arith, from, e)
-    first-only d n from (inr never) = never
-
+  module _ (frame : Changes g (λ d n. n < 64) old new) (sync : InSync y held cols) where
     same-rows : HoldSame cols held holds
-    same-rows c d n k has from = ap (λ (l : List ℕ). slice_index l k) (changes_sector g (MayBegin g None y columns old) old new d n frame tells (first-only d n from))
+    same-rows c d n k has from = ap (λ (l : List ℕ). slice_index l k) (changes_sector g (λ d n. n < 64) old new d n frame tells (λ low. omega (arith, from, low)))
 
     pub same-blocks : (b k : ℕ) → b < blocks_in y → k < 512 → decode y holds late b k ≡ decode y held cols b k
     same-blocks b k bl kl =
@@ -60,7 +80,11 @@ module _ {D : Type 0} (g : Ghosts D) (y : Shape) (layout : IsLayout y) (columns 
 
   -- ## Where check units were swept
 
-  module _ (frame : Changes g (MayBegin g (Some sweep.Sync) y columns old) old new) (checks : y.checks ≡ 1 → ChecksHold g y columns after old new) (b : ℕ) (below : b < blocks_in y) where
+  -- a sector before the rows, or one of the check unit of a stripe that lacked no unit
+  abbrev pub MayCheck : ℕ → ℕ → Type 0
+  MayCheck d n = (n < 64) ⊎ ((y.checks ≡ 1) × OfCheck g y columns d n)
+
+  module _ (frame : Changes g MayCheck old new) (checks : y.checks ≡ 1 → ChecksHold g y columns after old new) (b : ℕ) (below : b < blocks_in y) where
     abbrev s : ℕ
     s = stripe_of y b
 
@@ -92,13 +116,12 @@ module _ {D : Type 0} (g : Ghosts D) (y : Shape) (layout : IsLayout y) (columns 
     -- a unit that isn't the check unit of a stripe that lacked none is what it was
     unit-same : (j k : ℕ) → j < y.width → (j ≡ d → IsComplete y cols s → ⊥) → is k j ≡ was k j
     unit-same j k jw away =
-        byte-same g (MayBegin g (Some sweep.Sync) y columns old) old new y cols s j o k frame tells
+        byte-same g MayCheck old new y cols s j o k frame tells
         (λ at stands may. elim may [
-          | inl first ↦ let e = first.first in omega (arith, e)
+          | inl low ↦ omega (arith, low)
           | inr swept ↦
-              let one : y.checks ≡ 1 = swept.0 in
-              let turn : MayRewrite g sweep.Sync y columns old at.device _ = swept.1 in
-              let same = check-alone y cols layout array.order one turn.stripe s j o at turn.within sw jw ou stands turn.sector in
+              let turn : OfCheck g y columns at.device _ = swept.1 in
+              let same = check-alone y cols layout array.order swept.0 turn.stripe s j o at turn.within sw jw ou stands turn.sector in
               away same.1 (subst (λ (t : ℕ). IsComplete y cols t) (sym same.0) turn.complete)
         ])
 

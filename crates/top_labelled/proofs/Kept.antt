@@ -112,11 +112,14 @@ module _ {L D : Type 0} (lay : LayoutGhosts L) (disk : DiskGhosts D) (setup : Se
   free-there : (d : ℕ) → IsFreeDevice lay disk setup d → IsSome (device_at devices d)
   free-there d free = ap (λ (o : Option D). is_some o) (there-at d free.there free.there_is)
 
+  pub free-two : (d : ℕ) → IsFreeDevice lay disk setup d → 2 ≤ size_of disk devices d
+  free-two d free = let size : size_of disk devices d ≡ disk.size free.there = ap (λ (o : Option D). option_map_or disk.size o 0) (there-at d free.there free.there_is) in let large = free.size in omega (arith, size, large)
+
   free-sized : (d : ℕ) → IsFreeDevice lay disk setup d → 1 ≤ size_of disk devices d
-  free-sized d free = let size : size_of disk devices d ≡ disk.size free.there = ap (λ (o : Option D). option_map_or disk.size o 0) (there-at d free.there free.there_is) in let large = free.size in omega (arith, size, large)
+  free-sized d free = let two = free-two d free in omega (arith, two)
 
   -- the device that is filled anew is no other column's
-  target-of : (began : Option Start) (k e : ℕ) → MayStart lay disk setup began → FillsOn began k e → IsFreeDevice lay disk setup e
+  pub target-of : (began : Option Start) (k e : ℕ) → MayStart lay disk setup began → FillsOn began k e → IsFreeDevice lay disk setup e
   target-of None k e may is = not-some (start.Fill k e is.0) is.1
   target-of (Some (start.Resume c m)) k e may is = let z : Some (start.Resume c m) ≡ Some (start.Fill k e is.0) = is.1 in absurd (let u : ⊥ = cc in u)
   target-of (Some (start.Spread c)) k e may is = let z : Some (start.Spread c) ≡ Some (start.Fill k e is.0) = is.1 in absurd (let u : ⊥ = cc in u)

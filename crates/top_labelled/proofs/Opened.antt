@@ -1,5 +1,6 @@
 -- An array that was begun, up to the death of the column that is to be rebuilt anew.
-use Rattle.std.proofs.Common.{◌≡◌, ◌⊎◌, inl, inr, ℕ, List, Bool, length, Option, Some, None, slice_get, refl, sym, ◌∙◌, subst}
+use Rattle.std.proofs.Common.{◌≡◌, ◌⊎◌, inl, inr, ℕ, ◌≤◌, List, length, Option, Some, None, slice_get, refl, sym, ◌∙◌, subst}
+use Rattle.std.specs.Prelude.{count_by}
 use Rattle.blk_disk.specs.declared.disk.Disk.{Ghosts}
 use Rattle.blk_disk.specs.Devices.{Changes}
 use Rattle.blk_disk.proofs.DeviceLaws.{changes-more, changes-refl, changes-then, rises-wider}
@@ -13,21 +14,26 @@ use Rattle.eng_cols.specs.Stripes.{states_of}
 use Rattle.eng_cols.proofs.DeathLaws.{dies-more, dies-refl, dies-then}
 use Rattle.lay_core.specs.Layout.{Shape}
 use Rattle.raid_label.specs.declared.label.Label.{Label}
-use Rattle.top_acts.specs.Begun.{MayBegin}
+use Rattle.eng_cols.specs.Cols.{is_set_filling}
+use Rattle.raid_map.specs.Regions.{Marks as Map}
+use Rattle.top_acts.specs.Begun.{AreLast, MayBegin}
+use Rattle.top_acts.specs.Mapped.{LooksAtMaps, ReadsMap}
+use Rattle.top_acts.specs.Marking.{AreNotice}
+use Rattle.top_acts.specs.Stages.{AreStaged}
+use Rattle.top_acts.specs.Sweeps.{Notice, Round, Marks}
 use Rattle.top_acts.specs.Failed.{EndsFailed, StaysBegun}
 use Rattle.top_acts.proofs.Counted.{counted_rounds}
 use Rattle.top_acts.proofs.Named.{apart_in}
 use Rattle.top_close.specs.Dying.{AnyCause}
-use Rattle.top_close.specs.Ended.{IsLossBy}
 use Rattle.top_close.specs.Settled.{HasDeviceOn}
 use Rattle.top_rounds.specs.Passes.{IsFirstInUse}
-use Rattle.top_close.specs.Stage.{DiesIn, IsGivenUp, IsGivenUpIn}
+use Rattle.top_close.specs.Stage.{DiesIn, IsGivenUp, IsGivenUpIn, IsStage}
 use Rattle.top_close.proofs.StageLaws.{live_before, given_before}
 use Rattle.top_rounds.proofs.RoundLaws.{given_after}
-use Rattle.top_run.specs.Work.{Work}
-use Rattle.top_labelled.specs.Begun.{IsAlone, IsAnew, IsColumnWithin, sweep_in, without}
+use Rattle.top_labelled.specs.Begun.{IsAlone, IsAnew, IsColumnWithin, sweeps_in, without}
 use Rattle.top_labelled.specs.Between.{HasOpened}
-use Rattle.top_labelled.specs.Ran.{IsLostBefore}
+use Rattle.top_labelled.specs.declared.opening.AskedOpening.{AskedOpening}
+use Rattle.top_labelled.proofs.Looking.{begins-given, begins-stage}
 use Rattle.top_labelled.proofs.Without.{alone-later, apart-then, without-apart, without-dead, without-dies}
 
 -- ## Where no column dies
@@ -79,94 +85,93 @@ module _ {D : Type 0} (g : Ghosts D) (label next : Label) (columns after : List 
 
 -- ## All of it
 
-module _ {D : Type 0} (g : Ghosts D) (y : Shape) (asked : Option Start) (faulty : Bool) (newest next : Label) (columns after : List Column) (old new : List (Option D)) (lost : Option Loss) (began : Option Start)
-    (within : IsColumnWithin asked (length columns)) (h : HasOpened g y asked faulty newest next columns after old new lost began) where
-  pub within-begun : IsColumnWithin asked (length h.begun)
-  within-begun = subst (λ n. IsColumnWithin asked n) (sym h.has.stage.dies.count) within
+module _ {D : Type 0} (g : Ghosts D) (y : Shape) (asked : AskedOpening) (notice : Notice) (blank union : Map) (unread : Option Loss) (newest next : Label) (columns read after : List Column) (taken looked new : List (Option D)) (lost : Option Loss) (began : Option Start)
+    (few : count_by is_set_filling columns ≤ 1) (within : IsColumnWithin asked.start (length columns)) (looks : LooksAtMaps g y blank union columns read taken looked unread) (h : HasOpened g y asked notice union unread newest next read after looked new lost began) where
+  abbrev start : Option Start
+  start = asked.start
 
   abbrev Begun : ℕ → ℕ → Type 0
-  Begun = MayBegin g (sweep_in newest) y columns old
+  Begun = MayBegin g notice (sweeps_in newest union) y columns taken
 
-  since : Dies (DiesIn g lost (without asked h.begun) h.opened new) (without asked h.begun) after
-  since = fails-dies g h.first next (without asked h.begun) after h.opened new h.before lost h.fails
+  stage : IsStage g Begun (λ d. AreStaged (ReadsMap (AreNotice notice)) (AreLast h.before) (sweeps_in newest union) y (states_of y columns) d) h.before columns h.begun taken h.opened
+  stage = begins-stage g y notice (sweeps_in newest union) blank union newest h.first columns read h.begun taken looked h.opened h.before h.found few unread looks h.has
+
+  pub begun-dies : Dies (DiesIn g h.before columns taken h.opened) columns h.begun
+  begun-dies = stage.dies
+
+  pub within-begun : IsColumnWithin start (length h.begun)
+  within-begun = subst (λ n. IsColumnWithin start n) (sym stage.dies.count) within
+
+  since : Dies (DiesIn g lost (without start h.begun) h.opened new) (without start h.begun) after
+  since = fails-dies g h.first next (without start h.begun) after h.opened new h.before lost h.fails
 
   -- a column that has a device behind the death had it
-  had-begun : (c d : ℕ) → HasDeviceOn (without asked h.begun) c d → HasDeviceOn h.begun c d
-  had-begun c d on = live_before (IsAnew asked) h.begun (without asked h.begun) c d (without-dies asked h.begun) on
+  had-begun : (c d : ℕ) → HasDeviceOn (without start h.begun) c d → HasDeviceOn h.begun c d
+  had-begun c d on = live_before (IsAnew start) h.begun (without start h.begun) c d (without-dies start h.begun) on
 
   had-first : (c d : ℕ) → HasDeviceOn h.begun c d → HasDeviceOn columns c d
-  had-first c d on = live_before (DiesIn g h.before columns old h.opened) columns h.begun c d h.has.stage.dies on
+  had-first c d on = live_before (DiesIn g h.before columns taken h.opened) columns h.begun c d stage.dies on
+
+  first-may : (m : Notice) (d n : ℕ) → IsFirstInUse columns d n → MayBegin g m (sweeps_in newest union) y columns taken d n
+  first-may Round d n on = inl on
+  first-may (Marks map) d n on = inl (record { col = on.col; live = on.live; kept = inl on.first })
 
   -- a device that is in use behind the death was in use
-  was-first : (d n : ℕ) → IsFirstInUse (without asked h.begun) d n → Begun d n
-  was-first d n on = inl (record { col = on.col; live = had-first on.col d (had-begun on.col d on.live); first = on.first })
+  was-first : (d n : ℕ) → IsFirstInUse (without start h.begun) d n → Begun d n
+  was-first d n on = first-may notice d n (record { col = on.col; live = had-first on.col d (had-begun on.col d on.live); first = on.first })
+
+  pub moved-first : Changes g (IsFirstInUse (without start h.begun)) h.opened new
+  moved-first = fails-moved g h.first next (without start h.begun) after h.opened new h.before lost h.fails
 
   moved-since : Changes g Begun h.opened new
-  moved-since = changes-more g (IsFirstInUse (without asked h.begun)) Begun h.opened new was-first (fails-moved g h.first next (without asked h.begun) after h.opened new h.before lost h.fails)
+  moved-since = changes-more g (IsFirstInUse (without start h.begun)) Begun h.opened new was-first moved-first
 
-  pub opened-moved : Changes g Begun old new
-  opened-moved = changes-then g Begun old h.opened new h.has.stage.frame moved-since
+  pub opened-moved : Changes g Begun taken new
+  opened-moved = changes-then g Begun taken h.opened new stage.frame moved-since
 
   abbrev Why : ℕ → Type 0
-  Why c = IsAnew asked c ⊎ DiesIn g lost columns old new c
+  Why c = IsAnew start c ⊎ DiesIn g lost columns taken new c
 
-  lost-first : (c : ℕ) → DiesIn g h.before columns old h.opened c → Why c
-  lost-first c (inl why) = inr (inl (record { device = why.device; had = why.had; rose = rises-wider g (λ _ _. ⊥) Begun old old h.opened new why.device (changes-refl g (λ _ _. ⊥) old) why.rose moved-since }))
-  lost-first c (inr gave) = inr (inr (fails-given g h.first next (without asked h.begun) after h.opened new h.before lost columns c h.fails gave))
+  lost-first : (c : ℕ) → DiesIn g h.before columns taken h.opened c → Why c
+  lost-first c (inl why) = inr (inl (record { device = why.device; had = why.had; rose = rises-wider g (λ _ _. ⊥) Begun taken taken h.opened new why.device (changes-refl g (λ _ _. ⊥) taken) why.rose moved-since }))
+  lost-first c (inr gave) = inr (inr (fails-given g h.first next (without start h.begun) after h.opened new h.before lost columns c h.fails gave))
 
-  lost-then : (c : ℕ) → DiesIn g lost (without asked h.begun) h.opened new c → Why c
+  lost-then : (c : ℕ) → DiesIn g lost (without start h.begun) h.opened new c → Why c
   lost-then c (inl why) =
       inr (inl
       (record {
         device = why.device;
         had = had-first c why.device (had-begun c why.device why.had);
-        rose = rises-wider g Begun (λ _ _. ⊥) old h.opened new new why.device h.has.stage.frame why.rose (changes-refl g (λ _ _. ⊥) new);
+        rose = rises-wider g Begun (λ _ _. ⊥) taken h.opened new new why.device stage.frame why.rose (changes-refl g (λ _ _. ⊥) new);
       }))
-  lost-then c (inr gave) = inr (inr (given_before (DiesIn g h.before columns old h.opened) lost columns h.begun c h.has.stage.dies (given_before (IsAnew asked) lost h.begun (without asked h.begun) c (without-dies asked h.begun) gave)))
+  lost-then c (inr gave) = inr (inr (given_before (DiesIn g h.before columns taken h.opened) lost columns h.begun c stage.dies (given_before (IsAnew start) lost h.begun (without start h.begun) c (without-dies start h.begun) gave)))
 
   pub opened-dies : Dies Why columns after
   opened-dies =
-      dies-then Why columns h.begun after (dies-more (DiesIn g h.before columns old h.opened) Why columns h.begun lost-first h.has.stage.dies)
-      (dies-then Why h.begun (without asked h.begun) after (dies-more (IsAnew asked) Why h.begun (without asked h.begun) (λ c of. inl of) (without-dies asked h.begun))
-      (dies-more (DiesIn g lost (without asked h.begun) h.opened new) Why (without asked h.begun) after lost-then since))
+      dies-then Why columns h.begun after (dies-more (DiesIn g h.before columns taken h.opened) Why columns h.begun lost-first stage.dies)
+      (dies-then Why h.begun (without start h.begun) after (dies-more (IsAnew start) Why h.begun (without start h.begun) (λ c of. inl of) (without-dies start h.begun))
+      (dies-more (DiesIn g lost (without start h.begun) h.opened new) Why (without start h.begun) after lost-then since))
 
   pub opened-any : Dies AnyCause columns after
   opened-any = dies-more Why AnyCause columns after (λ c why. tt) opened-dies
 
-  pub opened-apart : IsAlone asked columns → DieApart columns after
+  pub opened-apart : IsAlone start columns → DieApart columns after
   opened-apart alone =
-      apart-then columns h.begun after (apart_in g h.before columns h.begun old h.opened h.has.stage.dies)
-      (apart-then h.begun (without asked h.begun) after
-      (without-apart asked h.begun within-begun (alone-later asked (DiesIn g h.before columns old h.opened) columns h.begun h.has.stage.dies alone))
-      (apart_in g lost (without asked h.begun) after h.opened new since))
+      apart-then columns h.begun after (apart_in g h.before columns h.begun taken h.opened stage.dies)
+      (apart-then h.begun (without start h.begun) after
+      (without-apart start h.begun within-begun (alone-later start (DiesIn g h.before columns taken h.opened) columns h.begun stage.dies alone))
+      (apart_in g lost (without start h.begun) after h.opened new since))
 
-  pub opened-dead : (c : ℕ) → IsAnew asked c → slice_get after c ≡ Some column.Dead
+  pub opened-dead : (c : ℕ) → IsAnew start c → slice_get after c ≡ Some column.Dead
   opened-dead c of = elim (since.each c) [
-    | inl same ↦ same ∙ without-dead asked h.begun c within-begun of
+    | inl same ↦ same ∙ without-dead start h.begun c within-begun of
     | inr dead ↦ dead.0
   ]
 
+  begun-given : IsGivenUpIn h.before h.begun
+  begun-given = begins-given g y notice (sweeps_in newest union) blank union newest h.first columns read h.begun taken looked h.opened h.before h.found few unread looks h.has
+
   pub opened-unfilled : IsGivenUpIn lost after
   opened-unfilled =
-      fails-unfilled g h.first next (without asked h.begun) after h.opened new h.before lost h.fails
-      (given_after (IsAnew asked) h.before h.begun (without asked h.begun) (without-dies asked h.begun) h.has.given_up)
-
--- an array that was lost so
-pub lost-before : {D : Type 0} (g : Ghosts D) (a : Work) (newest last : Label) (faulty : Bool) (taken back : List (Option D)) (columns : List Column) (lost : Option Loss) (began : Option Start) → IsColumnWithin a.start (length a.columns)
-    → HasOpened g a.layout a.start faulty newest last a.columns columns taken back lost began → (loss : Loss) → lost ≡ Some loss → IsLostBefore g a newest taken (record { columns = columns; lost = lost }) back
-lost-before g a newest last faulty taken back columns lost began within h loss is = record {
-  opened = h.opened;
-  begun = h.begun;
-  first = h.first;
-  last = last;
-  before = h.before;
-  begins = record { found = h.found; has = h.has; lost_is = h.was_lost };
-  fails = h.fails;
-  loss = loss;
-  lost = is;
-  lost_is = subst (λ (o : Option Loss). IsLossBy a.layout None (states_of a.layout columns) o) is h.lost_is;
-  named = opened-dead g a.layout a.start faulty newest last a.columns columns taken back lost began within h;
-  frame = opened-moved g a.layout a.start faulty newest last a.columns columns taken back lost began within h;
-  dies = subst (λ (o : Option Loss). Dies (λ c. IsAnew a.start c ⊎ DiesIn g o a.columns taken back c) a.columns columns) is (opened-dies g a.layout a.start faulty newest last a.columns columns taken back lost began within h);
-  given_up = opened-unfilled g a.layout a.start faulty newest last a.columns columns taken back lost began within h;
-}
+      fails-unfilled g h.first next (without start h.begun) after h.opened new h.before lost h.fails
+      (given_after (IsAnew start) h.before h.begun (without start h.begun) (without-dies start h.begun) begun-given)

@@ -1,7 +1,7 @@
 -- Laws of runs over an array with labels.
 use Rattle.std.proofs.Common.{◌≡◌, ◌⊎◌, inl, inr, ℕ, ◌<◌, ◌≤◌, List, Bool, min, Option, Some, None, refl, sym, ◌∙◌, ap, subst, arith}
 use Rattle.blk_disk.specs.declared.disk.Disk.{Ghosts}
-use Rattle.blk_disk.specs.Devices.{RisesOn}
+use Rattle.blk_disk.specs.Devices.{Changes, RisesOn}
 use Rattle.blk_disk.proofs.DeviceLaws.{changes-refl, rises-wider}
 use Rattle.lay_core.specs.Layout.{blocks_in}
 use Rattle.eng_cols.specs.declared.column.Column.{Column}
@@ -16,7 +16,7 @@ use Rattle.raid_label.specs.declared.label.Label.{Label}
 use Rattle.raid_script.specs.Drawn.{AreApart, drawn, share}
 use Rattle.raid_script.specs.Asked.{Asked}
 use Rattle.raid_script.proofs.DrawnShares.{drawn_apart}
-use Rattle.top_acts.specs.Begun.{MayBegin}
+use Rattle.top_acts.specs.Mapped.{unmarked}
 use Rattle.top_acts.proofs.Having.{has_live}
 use Rattle.top_acts.proofs.Named.{live_of, only_lose}
 use Rattle.top_close.specs.Settled.{HasDeviceOn, LosesDevice}
@@ -27,8 +27,9 @@ use Rattle.top_run.specs.Outliving.{IsRebuiltIn, MayDie, OutlivesCall}
 use Rattle.top_run.specs.InTurn.{SweptInTurn}
 use Rattle.top_run.proofs.InTurn.{runs-in-turn}
 use Rattle.top_run.proofs.Outlived.{runs-outlived}
-use Rattle.top_labelled.specs.Begun.{IsAnew, began_of, opened_as, sweep_in, without}
+use Rattle.top_labelled.specs.Begun.{IsAnew, began_of, is_kept, notice_in, opened_as, sweeps_in, without, writes_maps}
 use Rattle.top_labelled.specs.Ran.{IsLostBefore, MayChangeLabelled, RanLabelled}
+use Rattle.top_labelled.proofs.Looking.{begins-changes, begins-dies}
 use Rattle.top_labelled.proofs.Without.{anew-column, began-asked, began-none, without-dies}
 
 module _ {D : Type 0} (g : Ghosts D) (a : Work) (newest : Label) (taken : List (Option D)) where
@@ -50,14 +51,22 @@ module _ {D : Type 0} (g : Ghosts D) (a : Work) (newest : Label) (taken : List (
   lost-may loss back c (inr (inl why)) = begun-may back back (λ d rose. rose) c why
   lost-may loss back c (inr (inr filling)) = inr (inr (inl filling))
 
-  pub not-begun-lost : (e : Ending) (back : List (Option D)) → IsLostBefore g a newest taken e back → OutlivesCall g a taken back → ⊥
-  not-begun-lost e back h outlives =
+  pub not-begun-lost : (map : Bool) (e : Ending) (back : List (Option D)) → IsLostBefore g a newest taken map e back → OutlivesCall g a taken back → ⊥
+  not-begun-lost map e back h outlives =
       lost-excludes a.layout (states_of a.layout e.columns) h.loss h.lost_is
       (outlives e.columns (dies-more (λ c. IsAnew a.start c ⊎ DiesIn g (Some h.loss) a.columns taken back c) (MayDie g a taken back) a.columns e.columns (lost-may h.loss back) h.dies))
 
-  module _ (s : Service) (back : List (Option D)) (faulty : Bool) (r : RanLabelled g a newest taken s back faulty) where
-    abbrev Begun : ℕ → ℕ → Type 0
-    Begun = MayBegin g (sweep_in newest) a.layout a.columns taken
+  module _ (s : Service) (back : List (Option D)) (faulty map : Bool) (r : RanLabelled g a newest taken s back faulty map) where
+    abbrev keeps : Bool
+    keeps = is_kept map newest
+
+    abbrev mapped : Bool
+    mapped = writes_maps (is_kept map newest) r.begins.union
+
+    -- how the array was begun, whatever was written
+    moved : Changes g (λ _ _. Unit {0}) taken r.opened
+    moved = begins-changes g a.layout (notice_in keeps r.begins.marks) (sweeps_in newest r.begins.union) (unmarked a.layout.stripes newest.serial) r.begins.union newest r.first a.columns r.begins.read r.begun taken r.begins.looked r.opened None r.begins.found
+        r.begins.unread r.begins.looks r.begins.has
 
     abbrev mid : List Column
     mid = without a.start r.begun
@@ -77,10 +86,12 @@ module _ {D : Type 0} (g : Ghosts D) (a : Work) (newest : Label) (taken : List (
 
     -- a count that rose as the array was begun has risen in all, since that of a device never falls
     wider : (d : ℕ) → RisesOn g taken r.opened d → RisesOn g taken back d
-    wider d rose = rises-wider g (λ _ _. ⊥) (MayChangeLabelled g a newest taken s back r.began) taken taken r.opened back d (changes-refl g (λ _ _. ⊥) taken) rose r.since
+    wider d rose = rises-wider g (λ _ _. ⊥) (MayChangeLabelled g a newest taken s back mapped r.began) taken taken r.opened back d (changes-refl g (λ _ _. ⊥) taken) rose r.since
 
     loses : Dies (LosesDevice g a.columns taken r.opened) a.columns r.begun
-    loses = only_lose g a.columns r.begun taken r.opened r.begins.has.stage.dies
+    loses = only_lose g a.columns r.begun taken r.opened
+        (begins-dies g a.layout (notice_in keeps r.begins.marks) (sweeps_in newest r.begins.union) (unmarked a.layout.stripes newest.serial) r.begins.union newest r.first a.columns r.begins.read r.begun taken r.begins.looked r.opened None r.begins.found
+        r.begins.unread r.begins.looks r.begins.has)
 
     named : Dies (IsAnew a.start) r.begun mid
     named = without-dies a.start r.begun
@@ -106,5 +117,5 @@ module _ {D : Type 0} (g : Ghosts D) (a : Work) (newest : Label) (taken : List (
             inr (inr (inr (
               rose.0,
               has_live a.layout a.columns c rose.0 had,
-              rises-wider g Begun (λ _ _. ⊥) taken r.opened back back rose.0 r.begins.has.stage.frame rose.2 (changes-refl g (λ _ _. ⊥) back),
+              rises-wider g (λ _ _. Unit {0}) (λ _ _. ⊥) taken r.opened back back rose.0 moved rose.2 (changes-refl g (λ _ _. ⊥) back),
             )))

@@ -6,7 +6,7 @@ use Rattle.std.proofs.lemmas.Bool.{cases_eq}
 use Rattle.std.proofs.lemmas.List.{length-map, length-set}
 use Rattle.std.proofs.lemmas.Option.{slice_get_within, get_or_from_slice_get}
 use Rattle.blk_disk.specs.declared.disk.Disk.{Ghosts as DiskGhosts}
-use Rattle.blk_disk.specs.Devices.{device_at, StaysIf, Changes}
+use Rattle.blk_disk.specs.Devices.{device_at, size_of, StaysIf, Changes}
 use Rattle.blk_disk.proofs.DeviceLaws.{device_at-get}
 use Rattle.lay_core.specs.Layout.{Shape}
 use Rattle.lay_core.specs.declared.layout.Layout.{Ghosts as LayoutGhosts}
@@ -37,6 +37,7 @@ use Rattle.top_serve.specs.Setups.{IsFreeDevice, IsUnfilled, HasSparePlaces, May
 use Rattle.top_serve.proofs.Deaths.{alive-less, events-less, get-device, later, row-less, there-later}
 use Rattle.top_labelled.specs.Begun.{IsAlone, IsSeated, IsSeatedIf, IsColumnWithin, began_of, without}
 use Rattle.top_labelled.specs.Given.{RebuildsIf, with_dead}
+use Rattle.top_labelled.proofs.Kept.{free-two}
 use Rattle.top_labelled.proofs.Without.{began-asked, dies-behind, filling-at, never, none-beside, not-some, some-same, still-filling}
 
 -- a spread column of those that may have died was spread
@@ -272,3 +273,12 @@ target-alone lay disk setup (Some (start.Fill e f n)) c d most can is k live =
       | inl same ↦ same ∙ first
       | inr ne ↦ absurd (can.may.target.1.unused k (ap device_set (get_set_other setup.columns.items e k column.Dead ne) ∙ (live ∙ ap (λ (n : ℕ). Some n) (sym second))))
     ]
+
+-- the device has a second sector
+pub target-sized : {L D : Type 0} (lay : LayoutGhosts L) (disk : DiskGhosts D) (setup : Setup L D) (asked : Option Start) (c d most : ℕ) → RebuildsIf lay disk setup asked → asked ≡ Some (start.Fill c d most) → 2 ≤ size_of disk setup.devices.items d
+target-sized lay disk setup None c d most can is = not-some (start.Fill c d most) is
+target-sized lay disk setup (Some (start.Spread e)) c d most can is = let z : Some (start.Spread e) ≡ Some (start.Fill c d most) = is in absurd (let u : ⊥ = cc in u)
+target-sized lay disk setup (Some (start.Resume e n)) c d most can is = let z : Some (start.Resume e n) ≡ Some (start.Fill c d most) = is in absurd (let u : ⊥ = cc in u)
+target-sized lay disk setup (Some (start.Fill e f n)) c d most can is =
+    let same : f ≡ d = (let z : Some (start.Fill e f n) ≡ Some (start.Fill c d most) = is in cc) in
+    subst (λ (k : ℕ). 2 ≤ size_of disk setup.devices.items k) same (free-two lay disk (with_dead setup e) f can.may.target.1)

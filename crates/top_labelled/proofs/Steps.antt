@@ -1,10 +1,12 @@
 -- What is asked of an array at each step of a run over it, and what comes of the steps.
-use Rattle.std.proofs.Common.{◌≡◌, ◌⊎◌, inl, inr, ℕ, List, length, true, false, Option, Some, None, refl, sym, ◌∙◌, ap, subst, arith}
-use Rattle.std.specs.Prelude.{Vec, is_some, slice_get}
+use Rattle.std.proofs.Common.{◌≡◌, ◌⊎◌, inl, inr, ℕ, ◌≤◌, List, Bool, length, true, false, Option, Some, None, refl, sym, ◌∙◌, ap, subst, arith}
+use Rattle.std.specs.Prelude.{Vec, ◌&&◌, is_some, not, option_map, slice_get}
+use Rattle.std.specs.Bool.{then_some}
 use Rattle.std.specs.declared.alloc.Global.{Global}
 use Rattle.blk_disk.specs.declared.disk.Disk.{Ghosts as DiskGhosts}
-use Rattle.blk_disk.specs.Devices.{Changes}
-use Rattle.lay_core.specs.Layout.{IsLayout, Shape}
+use Rattle.blk_disk.specs.Devices.{Changes, size_of}
+use Rattle.blk_disk.proofs.DeviceLaws.{changes_size}
+use Rattle.lay_core.specs.Layout.{Shape}
 use Rattle.lay_core.specs.declared.layout.Layout.{Ghosts as LayoutGhosts}
 use Rattle.eng_cols.specs.declared.spot.Loss.{Loss}
 use Rattle.eng_cols.specs.Deaths.{Dies}
@@ -19,14 +21,19 @@ use Rattle.eng_parts.specs.declared.setup.Setup.{Setup}
 use Rattle.eng_parts.specs.declared.setup.Closed.{Closed}
 use Rattle.raid_label.specs.declared.label.Label.{Label}
 use Rattle.raid_script.specs.Replies.{StandFor}
-use Rattle.top_acts.specs.Begun.{CanAct, MayBegin}
-use Rattle.top_acts.specs.Closed.{ClosesLabelled, ClosesSettled}
+use Rattle.top_acts.specs.Begun.{HasBegun, MayBegin}
+use Rattle.raid_map.specs.Regions.{Marks as Map}
+use Rattle.top_acts.specs.Cleared.{EndsMapped, EndsMappedSettled}
 use Rattle.top_acts.specs.Failed.{StaysBegun}
+use Rattle.top_acts.specs.Mapped.{unmarked}
+use Rattle.top_acts.specs.Sweeps.{Notice, Sweeps}
 use Rattle.top_close.specs.Dying.{AnyCause}
 use Rattle.eng_cols.specs.Stripes.{states_of}
 use Rattle.top_close.specs.Ended.{IsLossBy}
+use Rattle.top_acts.proofs.Having.{has_live}
 use Rattle.top_acts.proofs.Named.{apart_in}
-use Rattle.top_rounds.specs.Labels.{IsLabelFor}
+use Rattle.top_rounds.specs.Passes.{CanBeLabelled}
+use Rattle.top_close.specs.Settled.{HasDeviceOn}
 use Rattle.top_close.specs.Stage.{DiesIn}
 use Rattle.eng_array.specs.Fitting.{FitsTrace}
 use Rattle.eng_array.specs.declared.start.Start.{Start}
@@ -42,15 +49,19 @@ use Rattle.top_labelled.specs.declared.labelled.Labelled.{Labelled}
 use Rattle.top_labelled.specs.declared.labelled.Outcome.{Outcome}
 use Rattle.top_labelled.specs.declared.labelled.Outcome.TheVariants as outcome
 use Rattle.top_labelled.specs.declared.beginning.Started.{Started}
-use Rattle.top_labelled.specs.Begun.{BeginsLabelled, IsAlone, IsSeatedIf, IsColumnWithin, sweep_in, without}
-use Rattle.top_labelled.specs.Between.{CanServe, HasEnded, HasOpened, HasServed, IsBegun, IsLeftBy, MayClose, closing_label}
+use Rattle.top_labelled.specs.declared.opening.AskedOpening.{AskedOpening}
+use Rattle.top_labelled.specs.Begun.{BeginsLabelled, BeginsUnless, IsAlone, IsSeatedIf, IsColumnWithin, is_kept, notice_in, sweeps_in, without, writes_maps}
+use Rattle.top_labelled.specs.Between.{CanServe, HasEnded, HasOpened, HasServed, IsBegun, IsLeftBy, MayClose, asked_of, clear_if, closing_label}
 use Rattle.top_labelled.specs.Given.{CameTo, CanRunLabelled}
 use Rattle.top_labelled.specs.Ran.{RanLabelled, line_of, onto}
 use Rattle.top_labelled.proofs.Arrays.{array-of, settable-of}
 use Rattle.top_labelled.proofs.All.{ran}
-use Rattle.top_labelled.proofs.Leaving.{ends-so, frame}
-use Rattle.top_labelled.proofs.Kept.{filling-kept, filling-started, labels-kept, labels-started, length-started, spread-kept, spread-started}
-use Rattle.top_labelled.proofs.Opened.{fails-kept, lost-before, opened-any, opened-apart, opened-moved}
+use Rattle.top_labelled.proofs.All.{moved as moved-all}
+use Rattle.top_labelled.proofs.Leaving.{ends-so}
+use Rattle.top_labelled.proofs.Looking.{begins-has}
+use Rattle.top_labelled.proofs.Unserved.{lost-before}
+use Rattle.top_labelled.proofs.Kept.{device-kept, filling-kept, filling-started, free-two, had-started, labels-kept, labels-started, length-started, spread-kept, spread-started, target-of}
+use Rattle.top_labelled.proofs.Opened.{begun-dies, fails-kept, opened-any, opened-apart, opened-moved}
 use Rattle.top_labelled.proofs.Restart.{rebuilds-alone, rebuilds-seated, rebuilds-within, start-later}
 use Rattle.top_labelled.proofs.Without.{began-is}
 
@@ -58,34 +69,15 @@ pub none-from : (o : Option Loss) → is_some o ≡ false → o ≡ None
 none-from None h = refl
 none-from (Some loss) h = let z : true ≡ false = h in absurd (let u : ⊥ = cc in u)
 
+-- the map that is handed on for a clear
+pub clear-as : {A : Type 0} (b w : Bool) (blank : Map) (x : A) (f : A → Map) → b ≡ w → f x ≡ blank → option_map f (then_some b x) ≡ clear_if w blank
+clear-as b w blank x f same now = subst (λ k. option_map f (then_some b x) ≡ clear_if k blank) same (go b)
+  where
+    go : (k : Bool) → option_map f (then_some k x) ≡ clear_if k blank
+    go true = ap (λ (m : Map). Some m) now
+    go false = refl
+
 module _ {L D : Type 0} (lay : LayoutGhosts L) (disk : DiskGhosts D) where
-  -- ## The beginning
-
-  pub can-act : (l : Labelled L D) → CanRunLabelled lay disk l → (lent : List (Option D)) → lent ≡ l.setup.devices.items → CanAct disk (shape_in lay l.setup) l.setup.columns.items lent
-  can-act l can lent is = subst (λ (ds : List (Option D)). CanAct disk (shape_in lay l.setup) l.setup.columns.items ds) (sym is)
-      (record { array = array-of lay disk l.setup can.setup; labels = can.array; settable = settable-of lay disk l.setup can.setup })
-
-  -- what is said of the opening, with the devices in their vector
-  pub begun-so : (l : Labelled L D) (b : Started L D) (lent new : List (Option D)) → lent ≡ l.setup.devices.items → b.setup.devices.items ≡ new
-      → b.setup ≡ record l.setup { devices = b.setup.devices; columns = b.setup.columns } → b.asked ≡ l.start → b.device ≡ onto l.start l.setup.columns.items
-      → HasOpened disk (shape_in lay l.setup) l.start l.failed l.label b.label l.setup.columns.items b.setup.columns.items lent new b.lost b.began
-      → CanAct disk (shape_in lay l.setup) b.setup.columns.items new → IsLabelFor b.setup.columns.items b.label → IsFor (shape_in lay l.setup) b.judge
-      → IsLayout (shape_in lay l.setup) → IsBegun lay disk l b
-  begun-so l b lent new was is setup asked device has can held judge layout =
-      let y : Shape = shape_in lay l.setup in
-      let one : HasOpened disk y l.start l.failed l.label b.label l.setup.columns.items b.setup.columns.items l.setup.devices.items new b.lost b.began =
-      subst (λ (ds : List (Option D)). HasOpened disk y l.start l.failed l.label b.label l.setup.columns.items b.setup.columns.items ds new b.lost b.began) was has in
-      record {
-        setup = setup;
-        opens = subst (λ (ds : List (Option D)). HasOpened disk y l.start l.failed l.label b.label l.setup.columns.items b.setup.columns.items l.setup.devices.items ds b.lost b.began) (sym is) one;
-        can = subst (λ (ds : List (Option D)). CanAct disk y b.setup.columns.items ds) (sym is) can;
-        held = held;
-        judge = judge;
-        layout = layout;
-        asked = asked;
-        device = device;
-      }
-
   -- ## Between the beginning and the run
 
   module _ (l : Labelled L D) (b : Started L D) (can : CanRunLabelled lay disk l) (begun : IsBegun lay disk l b) where
@@ -95,7 +87,22 @@ module _ {L D : Type 0} (lay : LayoutGhosts L) (disk : DiskGhosts D) where
     abbrev y : Shape
     y = shape_in lay l.setup
 
-    abbrev opens : HasOpened disk y l.start l.failed l.label b.label l.setup.columns.items b.setup.columns.items l.setup.devices.items b.setup.devices.items b.lost b.began
+    abbrev keeps : Bool
+    keeps = is_kept l.map l.label
+
+    abbrev notice : Notice
+    notice = notice_in (is_kept l.map l.label) b.maps.marks
+
+    abbrev sweep : Sweeps
+    sweep = sweeps_in l.label b.maps.union
+
+    abbrev blank : Map
+    blank = unmarked (shape_in lay l.setup).stripes l.label.serial
+
+    abbrev asks : AskedOpening
+    asks = asked_of l.start l.failed (is_kept l.map l.label) l.setup.columns.items
+
+    abbrev opens : HasOpened disk y asks notice b.maps.union begun.unread l.label b.label begun.read b.setup.columns.items begun.looked b.setup.devices.items b.lost b.began
     opens = begun.opens
 
     within : IsColumnWithin l.start (length l.setup.columns.items)
@@ -107,14 +114,14 @@ module _ {L D : Type 0} (lay : LayoutGhosts L) (disk : DiskGhosts D) where
     one : AtMostOne is_set_filling l.setup.columns.items
     one = count_at_most is_set_filling l.setup.columns.items can.setup.filling
 
-    moved : Changes disk (MayBegin disk (sweep_in l.label) y l.setup.columns.items l.setup.devices.items) l.setup.devices.items b.setup.devices.items
-    moved = opened-moved disk y l.start l.failed l.label b.label l.setup.columns.items b.setup.columns.items l.setup.devices.items b.setup.devices.items b.lost b.began within opens
+    moved : Changes disk (MayBegin disk notice sweep y l.setup.columns.items l.setup.devices.items) l.setup.devices.items b.setup.devices.items
+    moved = opened-moved disk y asks notice blank b.maps.union begun.unread l.label b.label l.setup.columns.items begun.read b.setup.columns.items l.setup.devices.items begun.looked b.setup.devices.items b.lost b.began can.setup.filling within begun.looks opens
 
     died : Dies AnyCause l.setup.columns.items b.setup.columns.items
-    died = opened-any disk y l.start l.failed l.label b.label l.setup.columns.items b.setup.columns.items l.setup.devices.items b.setup.devices.items b.lost b.began within opens
+    died = opened-any disk y asks notice blank b.maps.union begun.unread l.label b.label l.setup.columns.items begun.read b.setup.columns.items l.setup.devices.items begun.looked b.setup.devices.items b.lost b.began can.setup.filling within begun.looks opens
 
     apart : DieApart l.setup.columns.items b.setup.columns.items
-    apart = opened-apart disk y l.start l.failed l.label b.label l.setup.columns.items b.setup.columns.items l.setup.devices.items b.setup.devices.items b.lost b.began within opens alone
+    apart = opened-apart disk y asks notice blank b.maps.union begun.unread l.label b.label l.setup.columns.items begun.read b.setup.columns.items l.setup.devices.items begun.looked b.setup.devices.items b.lost b.began can.setup.filling within begun.looks opens alone
 
     -- what begins is what was asked, or nothing
     begins-or : (b.began ≡ None) ⊎ (b.began ≡ l.start)
@@ -138,18 +145,24 @@ module _ {L D : Type 0} (lay : LayoutGhosts L) (disk : DiskGhosts D) where
       quiet : (opens.before ≡ None) × StaysBegun disk opens.first b.label (without l.start opens.begun) b.setup.columns.items opens.opened b.setup.devices.items
       quiet = fails-kept disk opens.first b.label (without l.start opens.begun) b.setup.columns.items opens.opened b.setup.devices.items opens.before b.lost none opens.fails
 
+      first-dies : Dies (DiesIn disk opens.before l.setup.columns.items l.setup.devices.items opens.opened) l.setup.columns.items opens.begun
+      first-dies = begun-dies disk y asks notice blank b.maps.union begun.unread l.label b.label l.setup.columns.items begun.read b.setup.columns.items l.setup.devices.items begun.looked b.setup.devices.items b.lost b.began can.setup.filling within begun.looks opens
+
       begun-any : Dies AnyCause l.setup.columns.items opens.begun
-      begun-any = dies-more (DiesIn disk opens.before l.setup.columns.items l.setup.devices.items opens.opened) AnyCause l.setup.columns.items opens.begun (λ c why. tt) opens.has.stage.dies
+      begun-any = dies-more (DiesIn disk opens.before l.setup.columns.items l.setup.devices.items opens.opened) AnyCause l.setup.columns.items opens.begun (λ c why. tt) first-dies
 
       begun-apart : DieApart l.setup.columns.items opens.begun
-      begun-apart = apart_in disk opens.before l.setup.columns.items opens.begun l.setup.devices.items opens.opened opens.has.stage.dies
+      begun-apart = apart_in disk opens.before l.setup.columns.items opens.begun l.setup.devices.items opens.opened first-dies
 
       may-start : MayStart lay disk next b.began
       may-start = start-later lay disk l.setup b.setup.devices b.setup.columns opens.begun begun-any begun-apart one _ moved l.failed l.start b.began can.rebuilds quiet.1.columns_are opens.began_is
 
+      has-begun : HasBegun disk notice sweep y l.label opens.first begun.read opens.begun begun.looked opens.opened opens.before opens.found
+      has-begun = begins-has disk y notice sweep blank b.maps.union l.label opens.first l.setup.columns.items begun.read opens.begun l.setup.devices.items begun.looked opens.opened opens.before opens.found can.setup.filling begun.unread quiet.0 opens.has
+
       pub can-serve : (room : CoreRoom D) → IsRoomOf lay l.setup room → CanServe lay disk b room
       can-serve room is =
-          let bound = opens.has.bounded in
+          let bound = has-begun.bounded in
           let same : b.label.counter ≡ opens.first.counter = ap (λ (l : Label). l.counter) quiet.1.label_is in
           let few = can.counter in
           let back = sym begun.setup in
@@ -176,24 +189,47 @@ module _ {L D : Type 0} (lay : LayoutGhosts L) (disk : DiskGhosts D) where
         abbrev device : Option ℕ
         device = onto l.start l.setup.columns.items
 
-        abbrev ended : HasEnded lay disk has.closed opens.first l.start device v back
-        ended = subst (λ (n : Label). HasEnded lay disk has.closed n l.start device v back) quiet.1.label_is
-            (subst (λ (o : Option Start). HasEnded lay disk has.closed b.label o device v back) begun.asked (subst (λ (o : Option ℕ). HasEnded lay disk has.closed b.label b.asked o v back) begun.device has.ended))
+        -- by which map maps were cleared
+        abbrev clear : Option Map
+        clear = clear_if (b.clears && not (is_some has.closed.lost)) (unmarked b.maps.marks.stripes b.maps.marks.serial)
 
-        abbrev first : BeginsLabelled disk (work_of lay l.setup l.start) l.label l.setup.devices.items b.setup.devices.items opens.begun opens.first None
-        first = subst (λ (ds : List (Option D)). BeginsLabelled disk (work_of lay l.setup l.start) l.label l.setup.devices.items ds opens.begun opens.first None) (sym quiet.1.devices_are)
-            (subst (λ (o : Option Loss). BeginsLabelled disk (work_of lay l.setup l.start) l.label l.setup.devices.items opens.opened opens.begun opens.first o) quiet.0 (record { found = opens.found; has = opens.has; lost_is = opens.was_lost }))
+        clear-is : clear ≡ clear_if (writes_maps (is_kept l.map l.label) b.maps.union && not (is_some has.closed.lost)) (unmarked (shape_in lay l.setup).stripes l.label.serial)
+        clear-is =
+            ap (λ w. clear_if (w && not (is_some has.closed.lost)) (unmarked b.maps.marks.stripes b.maps.marks.serial)) begun.clears
+            ∙ (ap (λ n. clear_if (writes_maps (is_kept l.map l.label) b.maps.union && not (is_some has.closed.lost)) (unmarked n b.maps.marks.serial)) begun.maps.marks
+            ∙ ap (λ n. clear_if (writes_maps (is_kept l.map l.label) b.maps.union && not (is_some has.closed.lost)) (unmarked (shape_in lay l.setup).stripes n)) begun.serial)
 
-        pub came-to-run : RanLabelled disk (work_of lay l.setup l.start) l.label l.setup.devices.items v back l.failed
+        abbrev ended : HasEnded lay disk has.closed opens.first clear l.start device v back
+        ended = subst (λ (n : Label). HasEnded lay disk has.closed n clear l.start device v back) quiet.1.label_is
+            (subst (λ (o : Option Start). HasEnded lay disk has.closed b.label clear o device v back) begun.asked (subst (λ (o : Option ℕ). HasEnded lay disk has.closed b.label clear b.asked o v back) begun.device has.ended))
+
+        abbrev first : BeginsLabelled disk (work_of lay l.setup l.start) l.label l.setup.devices.items b.setup.devices.items opens.begun (is_kept l.map l.label) opens.first None
+        first = record {
+          looked = begun.looked;
+          read = begun.read;
+          unread = begun.unread;
+          union = b.maps.union;
+          looks = begun.looks;
+          marks = b.maps.marks;
+          found = opens.found;
+          has =
+              subst (λ (ds : List (Option D)). BeginsUnless disk begun.unread notice sweep y l.label opens.first begun.read opens.begun begun.looked ds None opens.found) (sym quiet.1.devices_are)
+              (subst (λ (o : Option Loss). BeginsUnless disk begun.unread notice sweep y l.label opens.first begun.read opens.begun begun.looked opens.opened o opens.found) quiet.0 opens.has);
+          lost_is = subst (λ (o : Option Loss). IsLossBy y None (states_of y opens.begun) o) quiet.0 opens.was_lost;
+        }
+
+        pub came-to-run : RanLabelled disk (work_of lay l.setup l.start) l.label l.setup.devices.items v back l.failed l.map
         came-to-run =
-            ran lay disk l.setup l.start b.began l.failed b.setup.devices b.setup.columns opens.begun has.closed l.label opens.first begun.layout can.rebuilds first quiet.1.columns_are opens.began_is
-            (array-of lay disk l.setup can.setup) (settable-of lay disk l.setup can.setup) not-lost given few run v back ended
+            ran lay disk l.setup l.start b.began l.failed l.map b.setup.devices b.setup.columns opens.begun has.closed l.label opens.first begun.layout can.rebuilds first quiet.1.columns_are opens.began_is begun.marked begun.maps.marks begun.serial
+            (array-of lay disk l.setup can.setup) (settable-of lay disk l.setup can.setup) not-lost given few run clear clear-is v back ended
 
         pub run-stands : StandFor v.clients v.replies v.sectors
-        run-stands = runs-stand lay disk next b.began has.closed given few run v back (ends-so lay disk has.closed opens.first l.start device v back ended)
+        run-stands = runs-stand lay disk next b.began has.closed given few run v back (ends-so lay disk has.closed opens.first clear l.start device v back ended)
 
         pub as-many : length back ≡ length l.setup.devices.items
-        as-many = (frame lay disk l.setup l.start b.began l.failed b.setup.devices b.setup.columns opens.begun has.closed l.label opens.first begun.layout can.rebuilds first quiet.1.columns_are opens.began_is run device v back ended).count
+        as-many =
+            (moved-all lay disk l.setup l.start b.began l.failed l.map b.setup.devices b.setup.columns opens.begun has.closed l.label opens.first begun.layout can.rebuilds first quiet.1.columns_are opens.began_is begun.marked begun.maps.marks begun.serial
+            (array-of lay disk l.setup can.setup) (settable-of lay disk l.setup can.setup) not-lost given few run clear clear-is v back ended).count
 
     -- ### It is lost
 
@@ -206,7 +242,8 @@ module _ {L D : Type 0} (lay : LayoutGhosts L) (disk : DiskGhosts D) where
         by (Some loss) is =
             subst (λ (ds : Vec (Option D) Global). CameTo lay disk l (outcome.Lost ending) ds.items) (sym left.1)
             (subst (λ e. CameTo lay disk l (outcome.Lost e) b.setup.devices.items) (sym left.0)
-            (lost-before disk (work_of lay l.setup l.start) l.label b.label l.failed l.setup.devices.items b.setup.devices.items b.setup.columns.items b.lost b.began within opens loss is))
+            (lost-before disk (work_of lay l.setup l.start) l.failed l.map b.maps.marks b.maps.union begun.unread l.label b.label begun.read b.setup.columns.items l.setup.devices.items begun.looked b.setup.devices.items b.lost b.began
+            can.setup.filling within begun.looks (λ _. begun.maps.marks) (λ _. begun.serial) opens loss is))
 
     pub left-many : (o : Outcome) (devices : Vec (Option D) Global) → IsLeftBy b o devices → length devices.items ≡ length l.setup.devices.items
     left-many (outcome.Ran service) devices left = absurd left
@@ -225,9 +262,23 @@ module _ {L D : Type 0} (lay : LayoutGhosts L) (disk : DiskGhosts D) where
     long : length closed.columns.items ≡ length were
     long = s.causes.count ∙ sym (length-started b.began b.setup.columns.items)
 
+    labels : CanBeLabelled disk closed.columns.items closed.devices.items
+    labels = labels-kept were closed.columns.items long ends disk _ b.setup.devices.items closed.devices.items s.leaves.frame (labels-started lay disk b.setup b.began can.start can.array can.seated)
+
+    -- the device of each column had a second sector
+    two-sectors : (c d : ℕ) → HasDeviceOn were c d → 2 ≤ size_of disk b.setup.devices.items d
+    two-sectors c d live = elim (had-started b.began b.setup.columns.items c d live) [
+      | inl was ↦ let large = (array-of lay disk b.setup can.setup).there c d (has_live (shape_in lay b.setup) b.setup.columns.items c d was) in omega (arith, large)
+      | inr is ↦ free-two lay disk b.setup d (target-of lay disk b.setup b.began c d can.start is)
+    ]
+
     pub may-close : MayClose lay disk closed b.label
     may-close = record {
-      array = labels-kept were closed.columns.items long ends disk _ b.setup.devices.items closed.devices.items s.leaves.frame (labels-started lay disk b.setup b.began can.start can.array can.seated);
+      array = labels;
+      marks = record {
+        sized = λ c d on. let two = two-sectors c d (device-kept were closed.columns.items long ends c d on) in let same = changes_size disk _ b.setup.devices.items closed.devices.items d s.leaves.frame in omega (arith, two, same);
+        apart = labels.have.apart;
+      };
       columns = record {
         entries = s.causes.count ∙ (can.setup.entries ∙ ap (λ z. (lay.shape z).columns) (sym s.tells.layout));
         filling = let most = filling-started lay disk b.setup b.began can.start can.setup.filling in let few = filling-kept were closed.columns.items long ends in omega (arith, few, most);
@@ -241,17 +292,17 @@ module _ {L D : Type 0} (lay : LayoutGhosts L) (disk : DiskGhosts D) where
     pub within-closed : IsColumnWithin b.asked (length closed.columns.items)
     within-closed = subst (λ n. IsColumnWithin b.asked n) (sym s.causes.count) can.within
 
-  pub ended-so : (closed : Closed L D) (label last : Label) (asked : Option Start) (onto : Option ℕ) (v : Service) (lent back : List (Option D)) → v ≡ service_of closed v.line v.ending
+  pub ended-so : (closed : Closed L D) (label last : Label) (clear : Option Map) (asked : Option Start) (onto : Option ℕ) (v : Service) (lent back : List (Option D)) → v ≡ service_of closed v.line v.ending
       → v.line ≡ line_of (lay.shape closed.layout) asked onto closed.columns.items v.ending.lost → lent ≡ closed.devices.items
-      → ClosesLabelled disk false (closing_label label) last closed.columns.items v.ending.columns lent back v.ending.lost
-      → (closed.lost ≡ None → ClosesSettled disk (closing_label label) last closed.columns.items v.ending.columns lent back v.ending.lost)
+      → EndsMapped disk clear false (closing_label label) last closed.columns.items v.ending.columns lent back v.ending.lost
+      → (closed.lost ≡ None → EndsMappedSettled disk clear (closing_label label) last closed.columns.items v.ending.columns lent back v.ending.lost)
       → IsLossBy (lay.shape closed.layout) closed.lost (states_of (lay.shape closed.layout) v.ending.columns) v.ending.lost
-      → HasEnded lay disk closed label asked onto v back
-  ended-so closed label last asked onto v lent back told line is closes first lost = record {
+      → HasEnded lay disk closed label clear asked onto v back
+  ended-so closed label last clear asked onto v lent back told line is closes first lost = record {
     last = last;
     told = told;
     line = line;
-    closes = subst (λ (ds : List (Option D)). ClosesLabelled disk false (closing_label label) last closed.columns.items v.ending.columns ds back v.ending.lost) is closes;
-    first = λ none. subst (λ (ds : List (Option D)). ClosesSettled disk (closing_label label) last closed.columns.items v.ending.columns ds back v.ending.lost) is (first none);
+    closes = subst (λ (ds : List (Option D)). EndsMapped disk clear false (closing_label label) last closed.columns.items v.ending.columns ds back v.ending.lost) is closes;
+    first = λ none. subst (λ (ds : List (Option D)). EndsMappedSettled disk clear (closing_label label) last closed.columns.items v.ending.columns ds back v.ending.lost) is (first none);
     lost = lost;
   }

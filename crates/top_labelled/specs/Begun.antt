@@ -13,8 +13,14 @@ use Rattle.eng_array.specs.Starts.{column_of}
 use Rattle.eng_array.specs.declared.start.Start.{Start}
 use Rattle.eng_array.specs.declared.start.Start.TheVariants as start
 use Rattle.raid_label.specs.declared.label.Label.{Label}
-use Rattle.raid_recon.specs.declared.kind.Sweep.{Sweep}
-use Rattle.top_acts.specs.Begun.{HasBegun, sweep_if}
+use Rattle.raid_recon.specs.declared.kind.Sweep.TheVariants as sweep
+use Rattle.raid_map.specs.Regions.{Marks as Map, region_of}
+use Rattle.raid_map.specs.Sweeping.{marks_stripe}
+use Rattle.raid_map.specs.Union.{IsUnsound, UnionMarks}
+use Rattle.top_acts.specs.Begun.{HasBegun}
+use Rattle.top_acts.specs.Failed.{StaysBegun}
+use Rattle.top_acts.specs.Mapped.{LooksAtMaps, is_any_marked, unmarked}
+use Rattle.top_acts.specs.Sweeps.{Sweeps, Nothing, Over, Marked, Notice, Round, Marks}
 use Rattle.eng_cols.specs.Stripes.{states_of}
 use Rattle.top_close.specs.Ended.{IsLossBy}
 use Rattle.top_close.specs.Settled.{LosesDevice}
@@ -25,9 +31,11 @@ use Rattle.top_run.specs.Ran.{WasInSync, states_in}
 abbrev pub IsDirty : Label → Type 0
 IsDirty newest = newest.clean ≡ 0
 
--- the sweep of its check units then
-abbrev pub sweep_in : Label → Option Sweep
-sweep_in newest = sweep_if (newest.clean == 0)
+-- which check units are rewritten: all then; else those of the stripes that the union of the maps marks, if it marks any
+abbrev pub sweeps_in : Label → Map → Sweeps
+sweeps_in newest union =
+    if newest.clean == 0 then Over sweep.Sync
+    else (if is_any_marked union then Marked (marks_stripe union) else Nothing)
 
 -- ## A rebuild
 
@@ -103,16 +111,48 @@ SameAt b one other = (k : ℕ) → k < 512 → one b k ≡ other b k
 abbrev pub sums_of_others : Shape → Contents → List ColumnState → Blocks
 sums_of_others y contents cols b k = xor_others (λ j. byte_of y contents cols (stripe_of y b) j (offset_of y b) k) (unit_of y b) y.width
 
+-- a map is kept of an array that was closed in order, where one is asked for
+abbrev pub is_kept : Bool → Label → Bool
+is_kept map newest = map && (newest.clean == 1)
+
+-- by what it is announced that sectors of the rows are going to be written: by a map with these marks, where one is kept
+abbrev pub notice_in : Bool → Map → Notice
+notice_in keeps marks = if keeps then Marks marks else Round
+
+-- maps are written in the call, and cleared in the end: one is kept, or the union of those that were read has a mark
+abbrev pub writes_maps : Bool → Map → Bool
+writes_maps keeps union = keeps || is_any_marked union
+
+-- An array that isn't lost is begun; one that is, as its maps were read, is left as it is.
+abbrev pub BeginsUnless : {D : Type 0} → Ghosts D → Option Loss → Notice → Sweeps → Shape → Label → Label → List Column → List Column → List (Option D) → List (Option D) → Option Loss → ℕ → Type 0
+BeginsUnless g None notice sweeps y newest first columns after old new lost n = HasBegun g notice sweeps y newest first columns after old new lost n
+BeginsUnless g (Some loss) notice sweeps y newest first columns after old new lost n = StaysBegun g newest first columns after old new × (lost ≡ Some loss)
+
 module _ {D : Type 0} (g : Ghosts D) (a : Work) (newest : Label) (taken : List (Option D)) where
-  -- the check units fit the data, or the labels say that they may not
-  abbrev pub WasSound : Type 0
-  WasSound = WasInSync g a taken ⊎ IsDirty newest
+  -- The labels say that the array was closed in order, and each stripe that lacks no unit by `columns` and doesn't sum to zero lies in a region that the maps mark of those devices in use that could be read, which the columns `read` have.
+  abbrev pub UnsoundLieInUnion : (columns read : List Column) → Type 0
+  UnsoundLieInUnion columns read = (newest.clean ≡ 1) × ((s : ℕ) → IsUnsound a.layout (states_of a.layout columns) (contents_of g taken) s
+      → UnionMarks a.layout newest.serial (states_of a.layout read) (contents_of g taken) (region_of a.layout.stripes s))
+
+  -- the check units fit the data, or the labels or the maps say which may not
+  abbrev pub WasSound : (columns read : List Column) → Type 0
+  WasSound columns read = WasInSync g a taken ⊎ (IsDirty newest ⊎ UnsoundLieInUnion columns read)
+
+  -- check units are rewritten before a core is opened
+  abbrev pub IsSwept : Map → Type 0
+  IsSwept union = IsDirty newest ⊎ (is_any_marked union ≡ true)
 
   module _ (opened : List (Option D)) (begun : List Column) where
-    -- The array was begun: labels were written in an opening round, and then check units were swept where the newest label said that the array was in use. By the columns that are left the array is lost or isn't.
-    pub record BeginsLabelled (first : Label) (lost : Option Loss) : Type 0 where
+    -- The array was begun: the maps of its devices were read, which left the columns `read` and the devices `looked`; unless it was lost by that, labels were written in an opening round, or, where a map is kept, each device in use got the map `marks` in the place of that; and then check units were swept: all where the newest label said that the array was in use, else those of the stripes that its maps mark. By the columns that are left the array is lost or isn't.
+    pub record BeginsLabelled (keeps : Bool) (first : Label) (lost : Option Loss) : Type 0 where
+      pub looked : List (Option D)
+      pub read : List Column
+      pub unread : Option Loss
+      pub union : Map
+      pub looks : LooksAtMaps g a.layout (unmarked a.layout.stripes newest.serial) union a.columns read taken looked unread
+      pub marks : Map
       pub found : ℕ
-      pub has : HasBegun g (sweep_in newest) a.layout newest first a.columns begun taken opened lost found
+      pub has : BeginsUnless g unread (notice_in keeps marks) (sweeps_in newest union) a.layout newest first read begun looked opened lost found
       pub lost_is : IsLossBy a.layout None (states_of a.layout begun) lost
 
     -- The block's unit was available, and is of a column that has died since; or it stands there, as the unit of a spread one.
@@ -123,12 +163,12 @@ module _ {D : Type 0} (g : Ghosts D) (a : Work) (newest : Label) (taken : List (
       pub dead : slice_get begun col ≡ Some column.Dead
       pub loses : LosesDevice g a.columns taken opened col
 
-    -- the block is what the devices held as they were taken; or, where the labels said that the array was in use and the block's unit was made missing, the sum of the others of its stripe as they were held then
-    abbrev pub IsBlockOf : Blocks → ℕ → Type 0
-    IsBlockOf blocks b = SameAt b blocks (decode a.layout (contents_of g taken) (states_in a))
-        ⊎ (IsDirty newest × IsUnmade b × SameAt b blocks (sums_of_others a.layout (contents_of g taken) (states_in a)))
+    -- the block is what the devices held as they were taken; or, where the labels said that the array was in use, or the union of its maps had marks, and the block's unit was made missing, the sum of the others of its stripe as they were held then
+    abbrev pub IsBlockOf : Map → Blocks → ℕ → Type 0
+    IsBlockOf union blocks b = SameAt b blocks (decode a.layout (contents_of g taken) (states_in a))
+        ⊎ (IsSwept union × IsUnmade b × SameAt b blocks (sums_of_others a.layout (contents_of g taken) (states_in a)))
 
-    -- The array is in sync as the core is opened, once the column is dead that is to be rebuilt, and its blocks are these.
-    pub record HoldsBlocks (start : Blocks) : Type 0 where
-      pub in_sync : g.tells → WasSound → InSync a.layout (contents_of g opened) (states_of a.layout (without a.start begun))
-      pub blocks : g.tells → WasSound → (b : ℕ) → b < blocks_in a.layout → IsBlockOf start b
+    -- Where it was sound by the columns that were left as maps were read, the array is in sync as the core is opened, once the column is dead that is to be rebuilt; and where it was so by all columns, its blocks are these.
+    pub record HoldsBlocks (read : List Column) (union : Map) (start : Blocks) : Type 0 where
+      pub in_sync : g.tells → WasSound read read → InSync a.layout (contents_of g opened) (states_of a.layout (without a.start begun))
+      pub blocks : g.tells → WasSound a.columns read → (b : ℕ) → b < blocks_in a.layout → IsBlockOf union start b

@@ -67,10 +67,10 @@ module _ {L D : Type 0} (lay : LayoutGhosts L) (disk : DiskGhosts D) where
 
   -- a run, or a loss before it
   abbrev pub CameTo : Labelled L D → Outcome → List (Option D) → Type 0
-  CameTo l (outcome.Ran service) back = RanLabelled disk (work_of lay l.setup l.start) l.label l.setup.devices.items (service_seen service) back l.failed
-  CameTo l (outcome.Lost ending) back = IsLostBefore disk (work_of lay l.setup l.start) l.label l.setup.devices.items (end_seen ending) back
+  CameTo l (outcome.Ran service) back = RanLabelled disk (work_of lay l.setup l.start) l.label l.setup.devices.items (service_seen service) back l.failed l.map
+  CameTo l (outcome.Lost ending) back = IsLostBefore disk (work_of lay l.setup l.start) l.label l.setup.devices.items l.map (end_seen ending) back
 
 -- what a run tells can be printed
 abbrev pub OutcomeCanBePrinted : Outcome → Type 0
-OutcomeCanBePrinted (outcome.Ran service) = StandFor service.clients.items service.replies.items service.sectors.items
+OutcomeCanBePrinted (outcome.Ran service) = StandFor service.clients.items service.replies.items service.sectors
 OutcomeCanBePrinted (outcome.Lost ending) = Unit {0}

@@ -1,4 +1,6 @@
 pub mod Begun
+pub mod Marked
+pub mod Maps
 pub mod Ran
 pub mod Given
 pub mod Between

@@ -22,7 +22,8 @@ use Rattle.raid_label.specs.Bytes.{bytes_of}
 use Rattle.top_acts.specs.Begun.{HasSeats, MayBegin}
 use Rattle.top_acts.specs.Closed.{settled_in_end}
 use Rattle.top_acts.specs.Failed.{EndsFailed}
-use Rattle.top_acts.specs.Stages.{AreInTurn, EndInTurn}
+use Rattle.top_acts.specs.Cleared.{AreEndingInTurn, EndsInTurn}
+use Rattle.top_acts.specs.Sweeps.{Notice, rounds_for, wrote_round}
 use Rattle.top_close.specs.Calls.{EndsSettled}
 use Rattle.top_close.specs.Reserved.{IsReserved}
 use Rattle.top_close.specs.Settled.{HasDeviceOn, has_device}
@@ -38,7 +39,8 @@ use Rattle.top_run.specs.Told.{IsToldUnbuilt}
 use Rattle.top_run.specs.Ran.{RisesAt, Ran, WasFailed, states_in}
 use Rattle.top_serve.specs.Setups.{with_start}
 use Rattle.top_serve.specs.Served.{IsKeptAs}
-use Rattle.top_labelled.specs.Begun.{BeginsLabelled, HoldsBlocks, IsAnew, began_of, opened_as, sweep_in, without}
+use Rattle.top_labelled.specs.Begun.{BeginsLabelled, HoldsBlocks, IsAnew, began_of, is_kept, notice_in, opened_as, sweeps_in, without, writes_maps}
+use Rattle.top_labelled.specs.Maps.{IsKeptOrMap, MapsEnd, MapsInOrder}
 
 -- ## The line of a rebuild
 
@@ -86,26 +88,26 @@ module _ {D : Type 0} (g : Ghosts D) (a : Work) (newest : Label) (taken : List (
   -- ## A run
 
   module _ (s : Service) (back : List (Option D)) where
-    -- the sector may have changed: it is the label's or one of the array's rows, on a device that was in a column, or onto which the rebuild goes that began; or the device has no such sector
-    abbrev pub MayChangeLabelled : Option Start → ℕ → ℕ → Type 0
-    MayChangeLabelled began d n = ((((c : ℕ) × HasDevice (states_in a) c d) ⊎ GoesOnto began d) × (IsReserved false n ⊎ IsInRows a.layout n)) ⊎ (size_of g taken d ≤ n)
+    -- the sector may have changed: it is the label's, or the map's where maps are written, or one of the array's rows, on a device that was in a column, or onto which the rebuild goes that began; or the device has no such sector
+    abbrev pub MayChangeLabelled : (mapped : Bool) → Option Start → ℕ → ℕ → Type 0
+    MayChangeLabelled mapped began d n = ((((c : ℕ) × HasDevice (states_in a) c d) ⊎ GoesOnto began d) × (IsReserved mapped n ⊎ IsInRows a.layout n)) ⊎ (size_of g taken d ≤ n)
 
-    -- Devices hold what they do at the run's end, but for labels, and have changed nowhere else since they were taken. `kept` are the columns as the core was closed. Behind the run the device of each that had one was called in turn: label writes, and settles none of which comes right behind another, all of which went well, but that the last failed where the column hasn't it in the end; of a column that was filling on a lost array all may have gone well. Where the array wasn't lost in the run the first is a settle; where it isn't lost in the end the last of a device in use is one. No other device was called.
-    pub record LeavesLabelled (began : Option Start) (kept : List Column) (now : World) : Type 0 where
-      pub contents : g.tells → (d n k : ℕ) → (IsReserved false n → ⊥) → k < 512 → contents_of g back d n k ≡ now.contents d n k
+    -- Devices hold what they do at the run's end, but for labels and maps, and have changed nowhere else since they were taken. `kept` are the columns as the core was closed. Behind the run the device of each that had one was called in turn: label writes, writes of maps where these are cleared, and settles none of which comes right behind another, all of which went well, but that the last failed where the column hasn't it in the end; of a column that was filling on a lost array all may have gone well. Where the array wasn't lost in the run the first is a settle; where it isn't lost in the end the last of a device in use is one. No other device was called.
+    pub record LeavesLabelled (mapped : Bool) (began : Option Start) (kept : List Column) (now : World) : Type 0 where
+      pub contents : g.tells → (d n k : ℕ) → (IsReserved mapped n → ⊥) → k < 512 → contents_of g back d n k ≡ now.contents d n k
       pub calls : (c d : ℕ) (told : List Call) → HasDeviceOn kept c d → calls_of g back d ≡ Some told → (closing : List Call) × (told ≡ now.calls d ++ closing)
-          × (EndInTurn (has_device (slice_get s.ending.columns c)) false closing (settled_in_end s.ending.lost) ⊎ (IsGivenUp s.ending.lost kept c × ((settled : Bool) × AreInTurn false closing settled)))
+          × (EndsInTurn mapped (has_device (slice_get s.ending.columns c)) false closing (settled_in_end s.ending.lost) ⊎ (IsGivenUp s.ending.lost kept c × ((settled : Bool) × AreEndingInTurn mapped false closing settled)))
       pub first : now.lost ≡ None → (c d : ℕ) (told : List Call) → HasDeviceOn kept c d → calls_of g back d ≡ Some told → (good : Bool) × (more : List Call) × (told ≡ now.calls d ++ call_of 2 0 0 good ∷ more)
       pub others : (d : ℕ) (told : List Call) → ((c : ℕ) → HasDeviceOn kept c d → ⊥) → calls_of g back d ≡ Some told → told ≡ now.calls d
       pub settled : s.ending.lost ≡ None → (c d : ℕ) → HasDevice (states_of a.layout s.ending.columns) c d → EndsSettled (calls_of g back d)
-      pub frame : Changes g (MayChangeLabelled began) taken back
+      pub frame : Changes g (MayChangeLabelled mapped began) taken back
 
-    -- Two rounds are named: the label of the last has a counter that is greater by two, and by at most one more for each device whose count of faults rose. It is clean unless the array is lost. It says what the columns of its round were, which are those in the end unless the array is lost; of a lost one no column is filling any more. Each device in use in the end has it. Another device whose count of faults didn't rise has what it had, or, of its own column, the label of the opening round, which is older; that of a column that was filling as the core was closed, on a lost array, may have the label of a round between the two.
-    pub record IsRelabelled (begun kept : List Column) (first last : Label) : Type 0 where
+    -- Two rounds are named, or where a map takes the place of the first one: the label of the last has a counter that is greater by that, and by at most one more for each device whose count of faults rose. It is clean unless the array is lost. It says what the columns of its round were, which are those in the end unless the array is lost; of a lost one no column is filling any more. Each device in use in the end has it. Another device whose count of faults didn't rise has what it had, or, of its own column, the label of the opening round, which is older; that of a column that was filling as the core was closed, on a lost array, may have the label of a round between the two.
+    pub record IsRelabelled (notice : Notice) (begun kept : List Column) (first last : Label) : Type 0 where
       pub rises : List ℕ
       pub failed : HaveFailed g taken back rises
-      pub least : newest.counter + 2 ≤ last.counter
-      pub most : last.counter ≤ newest.counter + 2 + length rises
+      pub least : newest.counter + (rounds_for notice + 1) ≤ last.counter
+      pub most : last.counter ≤ newest.counter + (rounds_for notice + 1) + length rises
       pub later : first.counter + 1 ≤ last.counter
       pub label_is : last ≡ with_round newest last.counter (clean_in_end s.ending.lost 1) (seating_in last)
       pub seating : s.ending.lost ≡ None → seating_in last ≡ seating_of s.ending.columns
@@ -114,7 +116,7 @@ module _ {D : Type 0} (g : Ghosts D) (a : Work) (newest : Label) (taken : List (
       pub held : (c d : ℕ) → HasDeviceOn s.ending.columns c d → HoldsLabel g back last c d
       pub rest : g.tells → (d : ℕ) → 1 ≤ size_of g taken d → ((c : ℕ) → HasDeviceOn s.ending.columns c d → ⊥) → (RisesOn g taken back d → ⊥)
           → (sector_of g back d 0 ≡ sector_of g taken d 0)
-          ⊎ (((c : ℕ) × HasDeviceOn begun c d × (sector_of g back d 0 ≡ bytes_of (for_column first c))) ⊎ ((c : ℕ) × IsGivenUp s.ending.lost kept c × HasDeviceOn kept c d × IsTriedOn g (record first { clean = 1 }) last.counter back c d))
+          ⊎ (((c : ℕ) × (wrote_round notice None ≡ true) × HasDeviceOn begun c d × (sector_of g back d 0 ≡ bytes_of (for_column first c))) ⊎ ((c : ℕ) × IsGivenUp s.ending.lost kept c × HasDeviceOn kept c d × IsTriedOn g (record first { clean = 1 }) last.counter back c d))
 
     -- the device onto which the rebuild goes was the column's own, and has failed as the array was begun
     pub record HasFailedSince (opened : List (Option D)) : Type 0 where
@@ -126,40 +128,43 @@ module _ {D : Type 0} (g : Ghosts D) (a : Work) (newest : Label) (taken : List (
       pub rose : RisesOn g taken opened device
 
     -- The array was begun, and the column was made dead that is to be rebuilt anew; it isn't lost. Its rebuild began, unless the device onto which it goes had failed, be it before, where that is `faulty`. A run of what is asked, over the devices and columns as they were then, tells this and leaves the columns so; then the array was closed. No more has changed since the core was opened. In all a column is kept as what it was, or as its rebuild began, or has died since an item was replied ok by which it failed, its device's count of faults rose, it was to be rebuilt anew and that was stopped, or it was filling as the array was opened and that is lost.
-    pub record RanLabelled (faulty : Bool) : Type 0 where
+    pub record RanLabelled (faulty map : Bool) : Type 0 where
       pub opened : List (Option D)
       pub begun : List Column
       pub first : Label
       pub last : Label
       pub began : Option Start
-      pub begins : BeginsLabelled g a newest taken opened begun first None
+      pub begins : BeginsLabelled g a newest taken opened begun (is_kept map newest) first None
       pub kept : NotLost a.layout (states_of a.layout (without a.start begun))
       pub began_is : began ≡ began_of faulty a.start a.columns begun
       pub unbegun : began ≡ None → (a.start ≡ None) ⊎ ((faulty ≡ true) ⊎ HasFailedSince opened)
       pub run : Ran g (opened_as a (without a.start begun) began) opened s back
       pub line : s.line ≡ line_of a.layout a.start (onto a.start a.columns) run.ends.kept s.ending.lost
-      pub holds : HoldsBlocks g a newest taken opened begun run.start.blocks
-      pub leaves : LeavesLabelled began run.ends.kept run.now
-      pub since : Changes g (MayChangeLabelled began) opened back
-      pub labels : IsRelabelled begun run.ends.kept first last
+      pub holds : HoldsBlocks g a newest taken opened begun begins.read begins.union run.start.blocks
+      pub leaves : LeavesLabelled (writes_maps (is_kept map newest) begins.union) began run.ends.kept run.now
+      pub since : Changes g (MayChangeLabelled (writes_maps (is_kept map newest) begins.union) began) opened back
+      pub maps : MapsEnd g a newest taken s back map begins.read begins.union begins.marks run.graphs run.now
+      pub order : is_kept map newest ≡ true → MapsInOrder g a taken s back
+      pub labels : IsRelabelled (notice_in (is_kept map newest) begins.marks) begun run.ends.kept first last
       pub count : length s.ending.columns ≡ length a.columns
       pub ends : (c : ℕ) → IsKeptAs (slice_get (with_start a.start a.columns) c) (slice_get s.ending.columns c) ⊎ ((slice_get s.ending.columns c ≡ Some column.Dead) × (WasFailed run.now c ⊎ (RisesAt g a taken s back c ⊎ ((IsAnew a.start c × IsToldUnbuilt s c) ⊎ IsGivenUp s.ending.lost a.columns c))))
 
   -- ## No run
 
   -- The array was lost as it was begun, or by the death of the column that is to be rebuilt anew: no core was opened. That column is dead, no column is filling any more, and by the columns in the end the array is lost. Sectors have changed as in the beginning alone; and in all a column is what it was, or it is the one that is to be rebuilt anew, or it was filling, or its device's count of faults rose.
-  pub record IsLostBefore (e : Ending) (back : List (Option D)) : Type 0 where
+  pub record IsLostBefore (map : Bool) (e : Ending) (back : List (Option D)) : Type 0 where
     pub opened : List (Option D)
     pub begun : List Column
     pub first : Label
     pub last : Label
     pub before : Option Loss
-    pub begins : BeginsLabelled g a newest taken opened begun first before
+    pub begins : BeginsLabelled g a newest taken opened begun (is_kept map newest) first before
     pub fails : EndsFailed g before e.lost first last (without a.start begun) e.columns opened back
     pub loss : Loss
     pub lost : e.lost ≡ Some loss
     pub lost_is : IsLost a.layout (states_of a.layout e.columns) loss
     pub named : (c : ℕ) → IsAnew a.start c → slice_get e.columns c ≡ Some column.Dead
-    pub frame : Changes g (MayBegin g (sweep_in newest) a.layout a.columns taken) taken back
+    pub frame : Changes g (MayBegin g (notice_in (is_kept map newest) begins.marks) (sweeps_in newest begins.union) a.layout a.columns taken) taken back
+    pub maps : g.tells → (d : ℕ) → (RisesOn g taken back d → ⊥) → IsKeptOrMap g a newest taken back d
     pub dies : Dies (λ c. IsAnew a.start c ⊎ DiesIn g (Some loss) a.columns taken back c) a.columns e.columns
     pub given_up : IsGivenUpIn e.lost e.columns

@@ -16,7 +16,7 @@ use blk_disk::Disk;
 /// blocks of the opening.
 pub fn a_sweep_comes_client_after_client<D: Disk>()
     ensures opening { (a : Work) (newest : Label) (taken back : List (Option D)) (s : Service)
-        (faulty : Bool) (r : RanLabelled D.Disk a newest taken s back faulty)
+        (faulty map : Bool) (r : RanLabelled D.Disk a newest taken s back faulty map)
         (count ops wide blocks : ℕ)
         → a.start ≡ None → AreApart count ops wide blocks a.clients → blocks ≤ blocks_in a.layout
         → s.ending.lost ≡ None
@@ -25,7 +25,7 @@ pub fn a_sweep_comes_client_after_client<D: Disk>()
 
     // Clients that are drawn from a number over the blocks of the array are such clients.
     ensures seeds { (a : Work) (newest : Label) (taken back : List (Option D)) (s : Service)
-        (faulty : Bool) (r : RanLabelled D.Disk a newest taken s back faulty) (seed clients ops : ℕ)
+        (faulty map : Bool) (r : RanLabelled D.Disk a newest taken s back faulty map) (seed clients ops : ℕ)
         → a.start ≡ None → 0 < clients → 0 < blocks_in a.layout
         → a.clients ≡ drawn seed clients ops (blocks_in a.layout) → s.ending.lost ≡ None
         → SweptInTurn D.Disk (opened_as a (without a.start r.begun) r.began)

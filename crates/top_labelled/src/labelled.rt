@@ -23,6 +23,8 @@ pub struct Labelled<L, D> {
     /// Whether the device onto which that goes has failed in this call already. Then it doesn't
     /// begin, though its column dies.
     pub failed: bool,
+    /// Whether a parity map is kept meanwhile, unless the newest label isn't clean.
+    pub map: bool,
 }
 
 /// What came of it.

@@ -13,11 +13,12 @@ use blk_disk::Disk;
 /// faults rose.
 pub fn what_is_outlived_is_not_lost<D: Disk>()
     ensures ran { (a : Work) (newest : Label) (taken back : List (Option D)) (s : Service)
-        (faulty : Bool)
-        → RanLabelled D.Disk a newest taken s back faulty → OutlivesCall D.Disk a taken back
+        (faulty map : Bool)
+        → RanLabelled D.Disk a newest taken s back faulty map → OutlivesCall D.Disk a taken back
         → s.ending.lost ≡ None }
     ensures begun { (a : Work) (newest : Label) (taken back : List (Option D)) (e : Ending)
-        → IsLostBefore D.Disk a newest taken e back → OutlivesCall D.Disk a taken back → ⊥ }
+        (map : Bool)
+        → IsLostBefore D.Disk a newest taken map e back → OutlivesCall D.Disk a taken back → ⊥ }
 {}
 
 /// In a run that isn't lost each item has the reply that it ought to, and none is replied lost, as
@@ -25,7 +26,7 @@ pub fn what_is_outlived_is_not_lost<D: Disk>()
 /// begun.
 pub fn what_is_not_lost_is_answered<D: Disk>()
     ensures { (a : Work) (newest : Label) (taken back : List (Option D)) (s : Service)
-        (faulty : Bool) (ran : RanLabelled D.Disk a newest taken s back faulty)
+        (faulty map : Bool) (ran : RanLabelled D.Disk a newest taken s back faulty map)
         → s.ending.lost ≡ None
         → AllAnswered D.Disk (opened_as a (without a.start ran.begun) ran.began)
         ran.opened back s ran.run }

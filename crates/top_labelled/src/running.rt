@@ -1,5 +1,5 @@
 //! What is asked is served over an array with labels.
-ghost use Rattle.std.specs.Prelude.{◌≡◌, ◌≤◌, IfOk, IfErr, length};
+ghost use Rattle.std.specs.Prelude.{◌≡◌, ◌≤◌, ◌&&◌, not, is_some, IfOk, IfErr, length};
 ghost use Rattle.top_run.specs.Works.{service_seen};
 ghost use Rattle.top_labelled.specs.Between.{CanServe, HasServed, IsLeftBy};
 ghost use Rattle.top_labelled.specs.Given.{CameTo, CanRunLabelled, OutcomeCanBePrinted};
@@ -7,18 +7,19 @@ ghost use Rattle.top_labelled.specs.Given.{CameTo, CanRunLabelled, OutcomeCanBeP
 use crate::beginning::{Started, begun};
 use crate::closing::ended;
 use crate::labelled::{Labelled, Outcome};
-use blk_disk::Disk;
-use eng_array::{CoreRoom, Setup};
+use blk_disk::StopDisk;
+use eng_array::{CoreRoom, Loss, Setup};
 use lay_core::Layout;
 use raid_progress::Progress;
 use std::alloc::Global;
 use std::sync::Wait;
 use std::thread::Threads;
+use top_acts::Maps;
 use top_close::Ending;
 use top_run::Service;
 use top_serve::{room_for, serve_in};
 
-/// Begins an array with labels, serves the setup's clients with so many workers until each item has
+/// Reads the maps of an array with labels, begins it, serves the setup's clients with so many workers until each item has
 /// its reply and no job is out, and closes the array. The opening round's labels aren't clean; behind
 /// it the check units of a dirty array are swept. At the close each device in use is settled, gets
 /// its label, which is clean, and is settled again; one that fails takes its column along, and the
@@ -34,7 +35,7 @@ use top_serve::{room_for, serve_in};
 /// in then comes back as it was.
 pub fn run_labelled<
     L: Layout + Drop + Send,
-    D: Disk + Drop + Send,
+    D: StopDisk + Drop + Send,
     R: Threads + Wait + Sync,
     P: Progress + Sync,
 >(
@@ -54,7 +55,11 @@ pub fn run_labelled<
     let Some(room) = room_for(alloc, &labelled.setup) else {
         return Err(labelled);
     };
-    let started = begun(labelled, progress);
+    let serial = labelled.label.serial;
+    let Ok(maps) = Maps::open(alloc, &labelled.setup.layout, serial) else {
+        return Err(labelled);
+    };
+    let started = begun(labelled, maps, progress);
     if started.lost.is_some() {
         return Ok(lost(started));
     }
@@ -63,7 +68,7 @@ pub fn run_labelled<
 }
 
 // What came of an array that was lost as it was begun.
-fn lost<L: Layout + Drop, D: Disk + Drop>(started: Started<L, D>) -> (Outcome, Vec<Option<D>>)
+fn lost<L: Layout + Drop, D: StopDisk + Drop>(started: Started<L, D>) -> (Outcome, Vec<Option<D>>)
     ensures { IsLeftBy started result.0 result.1 }
 {
     let Started { setup, lost, .. } = started;
@@ -75,10 +80,17 @@ fn lost<L: Layout + Drop, D: Disk + Drop>(started: Started<L, D>) -> (Outcome, V
     (Outcome::Lost(Ending { columns, lost }), devices)
 }
 
+// Whether maps are cleared, where they are to be: those of an array that was lost are left.
+fn clears_behind(clears: bool, lost: Option<Loss>) -> bool
+    ensures { result ≡ (clears && not (is_some lost)) }
+{
+    clears && lost.is_none()
+}
+
 // What was begun is served in the room, and closed.
 fn served<
     L: Layout + Drop + Send,
-    D: Disk + Drop + Send,
+    D: StopDisk + Drop + Send,
     R: Threads + Wait + Sync,
     P: Progress + Sync,
 >(
@@ -100,8 +112,12 @@ fn served<
         asked,
         device,
         began,
+        mut maps,
+        clears,
         ..
     } = started;
     let closed = serve_in(rt, alloc, setup, room, began, workers, progress);
-    ended(closed, label, judge, asked, device)
+    maps.marks.clear();
+    let clear = clears_behind(clears, closed.lost).then_some(&maps.marks);
+    ended(closed, label, judge, clear, asked, device)
 }

@@ -41,6 +41,11 @@ module _ {L D : Type 0} (lay : LayoutGhosts L) (disk : DiskGhosts D) (setup : Se
   unfolding runs
   runs-now = refl
 
+  -- its graphs are those of the setup
+  pub runs-graphs : runs.graphs ≡ graphs_in setup
+  unfolding runs
+  runs-graphs = refl
+
   -- and its columns as the core was closed are those that came back
   pub runs-kept : runs.ends.kept ≡ closed.columns.items
   unfolding runs

@@ -1,5 +1,5 @@
 -- How the columns end, and the loss.
-use Rattle.std.proofs.Common.{◌≡◌, ◌≢◌, inl, inr, ℕ, List, map, Option, Some, None, option_map, slice_get, refl, sym, ◌∙◌, ap, subst}
+use Rattle.std.proofs.Common.{◌≡◌, inl, inr, ℕ, ◌≤◌, List, map, Bool, true, Option, Some, None, option_map, slice_get, refl, sym, ◌∙◌, ap, subst, arith}
 use Rattle.std.specs.Prelude.{Contains, Vec, slice_index}
 use Rattle.std.specs.declared.alloc.Global.{Global}
 use Rattle.std.proofs.lemmas.Bool.{cases_eq}
@@ -27,6 +27,7 @@ use Rattle.eng_log.specs.Given.{items_in, items_at}
 use Rattle.eng_array.specs.declared.start.Start.{Start}
 use Rattle.raid_script.specs.Asked.{Other, seen}
 use Rattle.top_close.specs.Ended as ended
+use Rattle.top_close.specs.Reserved.{IsReserved}
 use Rattle.top_serve.specs.Setups.{graphs_in}
 use Rattle.top_serve.specs.Served as served
 use Rattle.top_run.specs.Work.{Service}
@@ -55,6 +56,11 @@ pub not-before : (y : Shape) (before lost : Option Loss) (columns : List ColumnS
 not-before y None lost columns h none = refl
 not-before y (Some loss) lost columns h none = let z : Some loss ≡ None = sym h ∙ none in absurd (let u : ⊥ = cc in u)
 
+-- those of labels and maps stand before the rows
+before-rows : (n : ℕ) → 64 ≤ n → IsReserved true n → ⊥
+before-rows n from (inl zero) = omega (arith, from, zero)
+before-rows n from (inr one) = omega (arith, from, one)
+
 module _ {L D : Type 0} (lay : LayoutGhosts L) (disk : DiskGhosts D) (setup : Setup L D) (how : Option Start) (closed : Closed L D) (given : IsSetup lay disk setup) (s : served.IsServed lay disk setup how closed) (v : Service) (back : List (Option D)) (e : EndsSo lay closed disk v back) where
   abbrev y : Shape
   y = lay.shape setup.layout
@@ -65,9 +71,9 @@ module _ {L D : Type 0} (lay : LayoutGhosts L) (disk : DiskGhosts D) (setup : Se
   pub unlost : v.ending.lost ≡ None → closed.lost ≡ None
   unlost none = not-before y closed.lost v.ending.lost (states_of y v.ending.columns) lost-as none
 
-  -- no sector changes at the end but the first
-  pub same-contents : disk.tells → (d n k : ℕ) → n ≢ 0 → contents_of disk back d n k ≡ contents_of disk closed.devices.items d n k
-  same-contents tells d n k other = ap (λ (l : List ℕ). slice_index l k) (changes_sector disk (λ d n. n ≡ 0) closed.devices.items back d n e.frame tells other)
+  -- no sector of the rows changes at the end
+  pub same-contents : disk.tells → (d n k : ℕ) → 64 ≤ n → contents_of disk back d n k ≡ contents_of disk closed.devices.items d n k
+  same-contents tells d n k from = ap (λ (l : List ℕ). slice_index l k) (changes_sector disk (λ d n. IsReserved true n) closed.devices.items back d n e.frame tells (before-rows n from))
 
   stopped-by : (rebuild : Start) → served.IsStoppedBy lay disk setup how closed s.now rebuild → IsStoppedBy disk (work_of lay setup how) setup.devices.items v back s.now rebuild
   stopped-by rebuild (inl lost) = inl lost

@@ -20,6 +20,7 @@ use Rattle.eng_parts.specs.declared.setup.Setup.{Setup}
 use Rattle.eng_parts.specs.declared.setup.Closed.{Closed}
 use Rattle.eng_events.specs.Opened.{IsSetup}
 use Rattle.eng_array.specs.declared.start.Start.{Start}
+use Rattle.top_close.specs.Reserved.{IsReserved}
 use Rattle.top_close.specs.Settled.{HasDeviceOn, LosesDevice}
 use Rattle.top_close.proofs.DyingLaws.{dies_apart, unspread}
 use Rattle.top_close.specs.Stage.{IsGivenUp, IsGivenUpIn}
@@ -170,7 +171,7 @@ module _ {L D : Type 0} (lay : LayoutGhosts L) (disk : DiskGhosts D) (setup : Se
 
     -- so has one that rose before it
     pub rise-before : (d : ℕ) → RisesOn disk setup.devices.items closed.devices.items d → RisesOn disk setup.devices.items back d
-    rise-before d rose = rises-wider disk (λ _ _. ⊥) (λ d n. n ≡ 0) setup.devices.items setup.devices.items closed.devices.items back d (changes-refl disk (λ _ _. ⊥) setup.devices.items) rose e.frame
+    rise-before d rose = rises-wider disk (λ _ _. ⊥) (λ d n. IsReserved true n) setup.devices.items setup.devices.items closed.devices.items back d (changes-refl disk (λ _ _. ⊥) setup.devices.items) rose e.frame
 
     abbrev EndsBy : ℕ → Type 0
     EndsBy c = RisesAt disk (work_of lay setup how) setup.devices.items v back c ⊎ IsGivenUp v.ending.lost closed.columns.items c

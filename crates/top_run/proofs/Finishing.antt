@@ -1,5 +1,5 @@
 -- How a run over an array without labels ends.
-use Rattle.std.proofs.Common.{◌≡◌, ◌⊎◌, inl, ℕ, List, [], ◌∷◌, ◌++◌, Option, Some, None, sym, ◌∙◌, ap, subst}
+use Rattle.std.proofs.Common.{◌≡◌, ◌⊎◌, inl, ℕ, true, List, [], ◌∷◌, ◌++◌, Option, Some, None, sym, ◌∙◌, ap, subst}
 use Rattle.std.specs.Prelude.{option_and_then, slice_get, slice_index}
 use Rattle.blk_disk.specs.declared.disk.Call.{Call}
 use Rattle.blk_disk.specs.declared.disk.Disk.{Ghosts as DiskGhosts}
@@ -12,6 +12,7 @@ use Rattle.eng_events.specs.Opened.{IsSetup}
 use Rattle.eng_state.specs.Shows.{AreTold}
 use Rattle.eng_parts.specs.declared.setup.Setup.{Setup}
 use Rattle.eng_parts.specs.declared.setup.Closed.{Closed}
+use Rattle.top_close.specs.Reserved.{IsReserved}
 use Rattle.top_close.specs.Settled.{LosesDevice, HasDeviceOn, has_device}
 use Rattle.top_close.proofs.SettledLaws.{device_within}
 use Rattle.top_close.specs.Stage.{IsGivenUp}
@@ -36,7 +37,7 @@ none-behind g (Some before) calls told are is = let z : Some before ≡ Some tol
 pub ends-so : {L D : Type 0} (lay : LayoutGhosts L) (closed : Closed L D) (disk : DiskGhosts D) (v : Service) (back : List (Option D)) → NoneFilling closed.columns.items → RunIsEnded lay closed disk v back → EndsSo lay closed disk v back
 ends-so lay closed disk v back none e = record {
   told = e.told ∙ ap (λ line. service_of closed line v.ending) (sym (ap (λ (u : Service). u.line) e.told));
-  frame = changes-more disk (λ _ _. ⊥) (λ d n. n ≡ 0) closed.devices.items back (λ d n never. absurd never) e.settled.frame;
+  frame = changes-more disk (λ _ _. ⊥) (λ d n. IsReserved true n) closed.devices.items back (λ d n never. absurd never) e.settled.frame;
   dies = dies-more (LosesDevice disk closed.columns.items closed.devices.items back) (λ c. LosesDevice disk closed.columns.items closed.devices.items back c ⊎ IsGivenUp v.ending.lost closed.columns.items c) closed.columns.items v.ending.columns (λ c why. inl why) e.settled.dies;
   given_up = none-given v.ending.lost v.ending.columns (none-later (LosesDevice disk closed.columns.items closed.devices.items back) closed.columns.items v.ending.columns e.settled.dies none);
   lost = e.lost;

@@ -182,9 +182,9 @@ module _ {L D : Type 0} (lay : LayoutGhosts L) (disk : DiskGhosts D) (setup : Se
       ap (λ (l : List Item). told.row_sectors (take i l)) (told-items c) ∙ items-before items i in
       let place : 512 * ((region_at (served.handed_in closed) c i).first + b) + k ≡ 512 * told.sectors_before closed.clients.items c + (512 * told.row_sectors (take i (told.items_at closed.clients.items c)) + (512 * b + k)) = omega (arith, first, clients, behind) in
       s.hands.handed tells c i b k is (omega (arith, within, asked, count)) kb
-      ∙ (sector-byte closed.sectors.items ((region_at (served.handed_in closed) c i).first + b) k kb
-      ∙ (ap (λ n. get_or closed.sectors.items n 0) place
-      ∙ sym (item-byte closed.sectors.items (told.items_at closed.clients.items c) (512 * told.sectors_before closed.clients.items c) i (told.item_sectors (slice_index_or (told.items_at closed.clients.items c) i told.no_item)) (512 * b + k) (omega (arith, within, kb)))))
+      ∙ (sector-byte closed.sectors ((region_at (served.handed_in closed) c i).first + b) k kb
+      ∙ (ap (λ n. get_or closed.sectors n 0) place
+      ∙ sym (item-byte closed.sectors (told.items_at closed.clients.items c) (512 * told.sectors_before closed.clients.items c) i (told.item_sectors (slice_index_or (told.items_at closed.clients.items c) i told.no_item)) (512 * b + k) (omega (arith, within, kb)))))
 
   replies-told : (c : ℕ) → c ≢ 16 → told.replies_at service.replies c ≡ (s.now.clients c).replies
   replies-told c other = replies-alike (slice_get closed.replies.items c) ∙ s.tells.replies c other

@@ -32,7 +32,7 @@ module _ {L D : Type 0} (lay : LayoutGhosts L) (disk : DiskGhosts D) (setup : Se
       let was = s.leaves.agrees tells sync (unlost lay disk setup how closed given s v back e none) in
       let blocks = replay s.start.blocks was.0 in
       let dead = still_agrees y (states_of y closed.columns.items) (states_of y v.ending.columns) (columns_die _ y closed.columns.items v.ending.columns e.dies (ending-apart lay disk setup how closed given s v back e) (one-closed lay disk setup how closed given s)) (contents_of disk closed.devices.items) blocks AnyStripe was.2 in
-      (was.0, was.1, agrees_by_devices y (contents_of disk closed.devices.items) (contents_of disk back) (states_of y v.ending.columns) blocks AnyStripe (λ c d n k has from. same-contents lay disk setup how closed given s v back e tells d n k (omega (arith, from))) dead)
+      (was.0, was.1, agrees_by_devices y (contents_of disk closed.devices.items) (contents_of disk back) (states_of y v.ending.columns) blocks AnyStripe (λ c d n k has from. same-contents lay disk setup how closed given s v back e tells d n k from) dead)
 
   pub means : Means disk (work_of lay setup how) setup.devices.items v back s.start s.now
   means = record { legal = s.means.legal; fits = s.means.fits; agrees = agrees }

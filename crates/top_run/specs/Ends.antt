@@ -1,5 +1,5 @@
 -- How what was served comes to its end.
-use Rattle.std.specs.Prelude.{◌≡◌, ◌⊎◌, ◌≤◌, ℕ, false, List, length, Option, None, count_by}
+use Rattle.std.specs.Prelude.{◌≡◌, ◌⊎◌, ◌≤◌, ℕ, true, List, length, Option, None, count_by}
 use Rattle.blk_disk.specs.declared.disk.Disk.{Ghosts as DiskGhosts}
 use Rattle.blk_disk.specs.Devices.{Changes, calls_of}
 use Rattle.lay_core.specs.declared.layout.Layout.{Ghosts as LayoutGhosts}
@@ -30,10 +30,10 @@ module _ {L D : Type 0} (lay : LayoutGhosts L) (closed : Closed L D) where
     pub last : (c d : ℕ) → HasDeviceOn s.ending.columns c d → EndsSettled (calls_of disk back d)
     pub lost : IsLossBy (lay.shape closed.layout) closed.lost (states_of (lay.shape closed.layout) s.ending.columns) s.ending.lost
 
-  -- What was served has ended, whatever its end has called and written into first sectors: what is told but for columns, loss and a rebuild is what was handed back; no other sector has changed; a column has died where its device's count of faults rose, or where it was filling and the array is lost, and of a lost array none is filling in the end; and the loss is that of before, or else of the columns in the end.
+  -- What was served has ended, whatever its end has called and written into the sectors of labels and maps: what is told but for columns, loss and a rebuild is what was handed back; no other sector has changed; a column has died where its device's count of faults rose, or where it was filling and the array is lost, and of a lost array none is filling in the end; and the loss is that of before, or else of the columns in the end.
   pub record EndsSo (disk : DiskGhosts D) (s : Service) (back : List (Option D)) : Type 0 where
     pub told : s ≡ service_of closed s.line s.ending
-    pub frame : Changes disk (λ d n. IsReserved false n) closed.devices.items back
+    pub frame : Changes disk (λ d n. IsReserved true n) closed.devices.items back
     pub dies : Dies (λ c. LosesDevice disk closed.columns.items closed.devices.items back c ⊎ IsGivenUp s.ending.lost closed.columns.items c) closed.columns.items s.ending.columns
     pub given_up : IsGivenUpIn s.ending.lost s.ending.columns
     pub lost : IsLossBy (lay.shape closed.layout) closed.lost (states_of (lay.shape closed.layout) s.ending.columns) s.ending.lost

@@ -26,7 +26,7 @@ module _ {L D : Type 0} where
   service_of closed line ending = record {
     clients = closed.clients.items;
     replies = closed.replies.items;
-    sectors = closed.sectors.items;
+    sectors = closed.sectors;
     history = closed.history.items;
     trace = closed.trace.items;
     line = line;
@@ -38,7 +38,7 @@ abbrev pub service_seen : Printed → Service
 service_seen s = record {
   clients = s.clients.items;
   replies = s.replies.items;
-  sectors = s.sectors.items;
+  sectors = s.sectors;
   history = s.history.items;
   trace = s.trace.items;
   line = s.line;

@@ -51,7 +51,7 @@ pub fn run_clients<
     ensures ran { IfOk result (λ r. RanPlain D.Disk (work_of L.Layout setup None)
         setup.devices.items (service_seen r.0) r.1.items) }
     ensures stands { IfOk result
-        (λ r. StandFor r.0.clients.items r.0.replies.items r.0.sectors.items) }
+        (λ r. StandFor r.0.clients.items r.0.replies.items r.0.sectors) }
     ensures many { IfOk result (λ r. length r.1.items ≡ length setup.devices.items) }
     ensures fault { IfErr result (λ refused. IsServeRefusal L.Layout setup refused.fault) }
     ensures back { IfErr result (λ refused. refused.setup ≡ setup) }

@@ -1,6 +1,7 @@
 //! What is told of a run.
 use blk_plain::OpId;
 use eng_array::{Column, Item, Loss, Reply, Traced};
+use sector_store::Store;
 
 /// What became of the rebuild of a column.
 #[derive(Clone, Copy, Debug, PartialEq, Eq)]
@@ -24,14 +25,14 @@ pub enum Told {
     Stopped,
 }
 
-/// What is told of a run: of each client its items and their replies, the bytes of the sectors of all items, the
+/// What is told of a run: of each client its items and their replies, the sectors of all items, the
 /// history, the trace where it is kept, what became of a rebuild, if one was asked for, the columns in the end, and by
 /// what the array was lost, if it was.
 #[derive(Drop)]
 pub struct Service {
     pub clients: Vec<Vec<Item>>,
     pub replies: Vec<Vec<Reply>>,
-    pub sectors: Vec<u8>,
+    pub sectors: Store,
     pub history: Vec<OpId>,
     pub trace: Vec<Traced>,
     pub line: Option<Line>,

@@ -106,6 +106,7 @@ fn two_columns(
         room,
         start,
         failed,
+        map: false,
     })
 }
 
@@ -198,5 +199,6 @@ pub fn losing(
         room,
         start: None,
         failed: false,
+        map: false,
     })
 }

@@ -1,4 +1,5 @@
 use Rattle.std.proofs.Common.{◌≡◌, List, Option, length, refl, sym, ◌∙◌, ap, subst, arith}
+use Rattle.std.specs.Prelude.{option_map}
 use Rattle.eng_cols.specs.declared.column.Column.{Column}
 use Rattle.top_run.specs.Work.{Service}
 use Rattle.top_run.specs.declared.service.Line.{Line}
@@ -11,19 +12,20 @@ use Rattle.top_labelled.proofs.closing.ended.Goals as goal
 pub returns : goal.returns
 returns g c =
     let devices = c.args.closed.devices in
-    let new = c.end_labelled.new.devices in
-    let lost = c.end_labelled.new.hand.ending.lost in
-    let a : length new ≡ devices.len = omega (arith, c.end_labelled.auto.devices, ap length c.as_mut_slice.ensures.value, c.as_mut_slice.ensures.len) in
+    let new = c.end_mapped.new.devices in
+    let lost = c.end_mapped.new.hand.ending.lost in
+    let a : length new ≡ devices.len = omega (arith, c.end_mapped.auto.devices, ap length c.as_mut_slice-slice.ensures.value, c.as_mut_slice-slice.ensures.len) in
     let kept = subst (λ (cs : List Column). c.line_kept-line.result ≡ line_kept (g.L.Layout.shape c.args.closed.layout) c.args.asked c.args.device cs) c.deref.ensures.value c.line_kept-line.ensures in
     let line = c.line_at_end-line.ensures ∙ ap (λ (l : Option Line). line_at_end lost l) kept in
     let v : Service = record {
       clients = c.args.closed.clients.items;
       replies = c.args.closed.replies.items;
-      sectors = c.args.closed.sectors.items;
+      sectors = c.args.closed.sectors;
       history = c.args.closed.history.items;
       trace = c.args.closed.trace.items;
       line = c.line_at_end-line.result;
-      ending = record { columns = c.end_labelled.new.hand.ending.columns.items; lost = lost };
+      ending = record { columns = c.end_mapped.new.hand.ending.columns.items; lost = lost };
     } in
-    subst (λ back. HasEnded g.L.Layout g.D.Disk c.args.closed c.args.label c.args.asked c.args.device v back) (sym (lent-back devices.items new devices.len a))
-    (ended-so g.L.Layout g.D.Disk c.args.closed c.args.label c.end_labelled.new.label c.args.asked c.args.device v c.as_mut_slice.result.now new refl line c.as_mut_slice.ensures.value c.end_labelled.ensures.closed c.end_labelled.ensures.first c.end_labelled.ensures.lost)
+    let clear = option_map (λ m. m.now) c.args.clear in
+    subst (λ back. HasEnded g.L.Layout g.D.Disk c.args.closed c.args.label clear c.args.asked c.args.device v back) (sym (lent-back devices.items new devices.len a))
+    (ended-so g.L.Layout g.D.Disk c.args.closed c.args.label c.end_mapped.new.label clear c.args.asked c.args.device v c.as_mut_slice-slice.result.now new refl line c.as_mut_slice-slice.ensures.value c.end_mapped.ensures.ends c.end_mapped.ensures.first c.end_mapped.ensures.lost)

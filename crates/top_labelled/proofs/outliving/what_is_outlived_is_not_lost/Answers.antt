@@ -3,6 +3,6 @@ use Rattle.top_labelled.proofs.outliving.what_is_outlived_is_not_lost.Goals as g
 
 pub returns : goal.returns
 returns g c = record {
-  ran = λ a newest taken back s faulty r outlives. outlived g.D.Disk a newest taken s back faulty r outlives;
-  begun = λ a newest taken back e h outlives. not-begun-lost g.D.Disk a newest taken e back h outlives;
+  ran = λ a newest taken back s faulty map r outlives. outlived g.D.Disk a newest taken s back faulty map r outlives;
+  begun = λ a newest taken back e map h outlives. not-begun-lost g.D.Disk a newest taken map e back h outlives;
 }
