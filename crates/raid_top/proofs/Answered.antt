@@ -8,7 +8,9 @@ use Rattle.raid_text.specs.Text.{Text}
 use Rattle.top_duty.specs.Duty.{Admitted, Duty, OnArray, Shows, OneLabel, PrintConf}
 use Rattle.top_duty.specs.Start.{has_failed}
 use Rattle.top_fetch.specs.Told.{Told}
+use Rattle.top_labelled.specs.Begun.{opened_as, without}
 use Rattle.top_open.specs.declared.fronts.Front.{Front}
+use Rattle.top_run.proofs.Outlived.{answered, runs-answered}
 use Rattle.top_status.specs.Status.{status_of_loss}
 use Rattle.top_words.specs.Asked.{profile_of}
 use Rattle.top_words.specs.Judged.{Invocation, Tell, OnArray as OfCommand, Scan, Simulate}
@@ -18,6 +20,7 @@ use Rattle.raid_top.specs.Calls.{CallOutcome, OfArray, OfScan, OfSimulation, OfT
 use Rattle.raid_top.specs.Does.{AreItemsAnswered, Does, DoesDeed, DoesRun, IsDeedAnswered, IsRunAnswered, order_of}
 use Rattle.raid_top.specs.Ends.{EndsWell, Follows, IsAnswered}
 use Rattle.raid_top.specs.Outcome.{Outcome, Ran, Did, Looked, status_of}
+use Rattle.raid_top.specs.Works.{work_of}
 use Rattle.raid_top.specs.declared.array.Order.{Order}
 
 module _ {D : Type 0} (g : Ghosts D) (b : Told D) (words : List Text) where
@@ -28,10 +31,11 @@ module _ {D : Type 0} (g : Ghosts D) (b : Told D) (words : List Text) where
 
   module _ (a : Admitted) (failed : Bool) (old back : List (Option D)) where
     run_answered : (newest : Option Label) (o : Outcome) (h : DoesRun g a failed old back newest o) → EndsWell words (status_of o) → IsRunAnswered g a failed old back newest o h
-    run_answered None (Ran action s) h well = h.1.answered (not_lost s.ending.lost well)
+    run_answered None (Ran action s) h well = answered g (work_of a) old back s h.1.ran (not_lost s.ending.lost well)
     run_answered None (Did act e) h well = absurd h
     run_answered None (Looked text) h well = absurd h
-    run_answered (Some newest) (Ran action s) h well = h.1.answered (not_lost s.ending.lost well)
+    run_answered (Some newest) (Ran action s) h well =
+        runs-answered g (opened_as (work_of a) (without a.start h.1.ran.begun) h.1.ran.began) h.1.ran.opened back s h.1.ran.run (not_lost s.ending.lost well)
     run_answered (Some newest) (Did act e) h well = tt
     run_answered (Some newest) (Looked text) h well = absurd h
 

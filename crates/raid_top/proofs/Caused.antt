@@ -20,13 +20,11 @@ use Rattle.top_acts.specs.declared.done.Done.{Done}
 use Rattle.top_acts.specs.declared.sweeping.Renewal.{Renewal}
 use Rattle.top_acts.specs.declared.sweeping.Renewal.TheVariants as renewal
 use Rattle.top_acts.specs.Checked.{IsChecked}
-use Rattle.top_acts.specs.Failed.{EndsFailed}
-use Rattle.top_acts.specs.Labelled.{IsFirstLabelled, unlabelled}
+use Rattle.top_acts.specs.Labelled.{IsFirstLabelled}
 use Rattle.top_acts.proofs.Having.{has_live}
 use Rattle.top_acts.proofs.Kills.{alive_died, alive_given}
-use Rattle.top_labelled.specs.Begun.{IsAnew, without}
+use Rattle.top_labelled.specs.Begun.{IsAnew}
 use Rattle.top_labelled.specs.Ran.{IsLostBefore, RanLabelled}
-use Rattle.top_labelled.proofs.Without.{without-dies}
 use Rattle.top_open.specs.declared.fronts.Front.{Front}
 use Rattle.top_close.specs.Settled.{LosesDevice}
 use Rattle.top_close.specs.Stage.{DiesIn, IsGivenUp, IsGivenUpIn}
@@ -36,15 +34,15 @@ use Rattle.top_run.specs.Ran.{IsDeadBy, Ran as Run, RanPlain, RisesAt, WasFailed
 use Rattle.top_run.specs.Told.{IsToldFailed, IsToldUnbuilt}
 use Rattle.top_run.specs.Work.{Ending, Service, Work}
 use Rattle.top_run.proofs.Starting.{rebuilds-none}
-use Rattle.top_serve.specs.Served.{IsUnbuilt}
+use Rattle.top_serve.specs.Served.{IsKeptAs, IsUnbuilt}
 use Rattle.top_serve.specs.Setups.{with_start}
-use Rattle.top_words.specs.Asked.{Action, Io, Sweep, Show, Init, Check, Rewrite, Print, Fail, ShowLabel, Label as Labels, Rebuild, Resume}
+use Rattle.top_words.specs.Asked.{Action, Io, Sweep, Show, ShowMap, Init, Check, Rewrite, Print, Fail, ShowLabel, Label as Labels, Rebuild, Resume, profile_of}
 use Rattle.top_duty.specs.Duty.{Admitted, Duty, OnArray, Shows, OneLabel, PrintConf, columns_of, layout_of, states_in}
 use Rattle.top_duty.specs.Opening.{needs_for, needs_of}
 use Rattle.top_duty.specs.Start.{has_failed}
 use Rattle.raid_top.specs.Arrays.{Renews}
 use Rattle.raid_top.specs.Does.{Does, DoesArray, DoesIt, DoesRun}
-use Rattle.raid_top.specs.Losses.{AreCaused, DeathsHaveCauses, EndsForCause, IsCauseOfDeath, columns_due, columns_in_end, loss_of}
+use Rattle.raid_top.specs.Losses.{AreCaused, DeathsHaveCauses, IsCauseOfDeath, columns_due, columns_in_end, loss_of}
 use Rattle.raid_top.specs.Orders.{kill_of}
 use Rattle.raid_top.specs.Outcome.{Outcome, Ran, Did, Looked}
 use Rattle.raid_top.specs.Served.{AreUnfilledIf}
@@ -69,7 +67,7 @@ item_told g a taken back s ran c w = record {
 
 module _ {D : Type 0} (g : Ghosts D) (a : Admitted) (old back : List (Option D)) where
   abbrev Each : Outcome → Type 0
-  Each o = (c : ℕ) → EndsForCause g a old back o c
+  Each o = (c : ℕ) → IsKeptAs (slice_get (columns_due a o) c) (slice_get (columns_in_end o) c) ⊎ ((slice_get (columns_in_end o) c ≡ Some column.Dead) × IsCauseOfDeath g a old back o c)
 
   -- and there are as many columns as there were, of which none is filling where the array is lost
   abbrev Ends : Outcome → Type 0
@@ -92,12 +90,12 @@ module _ {D : Type 0} (g : Ghosts D) (a : Admitted) (old back : List (Option D))
         | inl kept ↦ inl kept
         | inr dead ↦ inr (dead.0, why dead.1)
       ]
-      | inr gave ↦ inr (gave.0, inr (inr (inr (given s.ending.lost gave.1))))
+      | inr gave ↦ inr (gave.0, inr (inr (given s.ending.lost gave.1)))
     ]
       where
         why : IsDeadBy g (work_of a) old s back r.run.now c → Why c
-        why (inl w) = inr (inl (item_told g (work_of a) old back s r.run c w))
-        why (inr (inl rose)) = inr (inr (inl rose))
+        why (inl w) = inl (inr (item_told g (work_of a) old back s r.run c w))
+        why (inr (inl rose)) = inr (inl rose)
         why (inr (inr unbuilt)) = none_unbuilt a.start r.none.0 r.run.now c unbuilt
 
         given : (lost : Option Loss) → IsGivenUp lost (with_start a.start (columns_of a)) c → IsGivenUp lost (columns_of a) c
@@ -106,20 +104,20 @@ module _ {D : Type 0} (g : Ghosts D) (a : Admitted) (old back : List (Option D))
     plain_ends : RanPlain g (work_of a) old s back → Ends (Ran action s)
     plain_ends r = (r.run.causes.count, plain_each r, r.run.ends.given_up)
 
-    labelled_each : (newest : Label) (failed : Bool) → RanLabelled g (work_of a) newest old s back failed → Each (Ran action s)
-    labelled_each newest failed r c = elim (r.ends c) [
+    labelled_each : (newest : Label) (failed map : Bool) → RanLabelled g (work_of a) newest old s back failed map → Each (Ran action s)
+    labelled_each newest failed map r c = elim (r.ends c) [
       | inl kept ↦ inl kept
       | inr dead ↦ inr (dead.0, why dead.1)
     ]
       where
         why : WasFailed r.run.now c ⊎ (RisesAt g (work_of a) old s back c ⊎ ((IsAnew a.start c × IsToldUnbuilt s c) ⊎ IsGivenUp s.ending.lost (columns_of a) c)) → Why c
-        why (inl w) = inr (inl (item_told g _ r.opened back s r.run c w))
-        why (inr (inl rose)) = inr (inr (inl rose))
-        why (inr (inr (inl told))) = inl told
-        why (inr (inr (inr gave))) = inr (inr (inr gave))
+        why (inl w) = inl (inr (item_told g _ r.opened back s r.run c w))
+        why (inr (inl rose)) = inr (inl rose)
+        why (inr (inr (inl told))) = inl (inl told)
+        why (inr (inr (inr gave))) = inr (inr gave)
 
-    labelled_run_ends : (newest : Label) (failed : Bool) → RanLabelled g (work_of a) newest old s back failed → Ends (Ran action s)
-    labelled_run_ends newest failed r = (r.count, labelled_each newest failed r, r.run.ends.given_up)
+    labelled_run_ends : (newest : Label) (failed map : Bool) → RanLabelled g (work_of a) newest old s back failed map → Ends (Ran action s)
+    labelled_run_ends newest failed map r = (r.count, labelled_each newest failed map r, r.run.ends.given_up)
 
   -- ## Without a core
 
@@ -128,32 +126,21 @@ module _ {D : Type 0} (g : Ghosts D) (a : Admitted) (old back : List (Option D))
     may = IsCauseOfDeath g a old back (Did act e)
 
     rises : (c d : ℕ) → HasDevice (states_in a) c d → RisesOn g old back d → may c
-    rises c d had rose = inr (inr (inl (d, had, rose)))
+    rises c d had rose = inr (inl (d, had, rose))
 
     gives : (c : ℕ) → IsGivenUp e.lost (columns_of a) c → may c
-    gives c gave = inr (inr (inr gave))
+    gives c gave = inr (inr gave)
 
     dead_ends : Dies may (columns_of a) e.columns → IsGivenUpIn e.lost e.columns → Ends (Did act e)
     dead_ends dies gave = (dies.count, kept_or_dead may (columns_of a) e.columns dies, gave)
 
-    before_dies : (newest : Label) → IsLostBefore g (work_of a) newest old e back → Dies may (columns_of a) e.columns
-    before_dies newest h = dies-more _ may (columns_of a) e.columns why h.dies
+    before_dies : (newest : Label) (map : Bool) → IsLostBefore g (work_of a) newest old map e back → Dies may (columns_of a) e.columns
+    before_dies newest map h = dies-more _ may (columns_of a) e.columns why h.dies
       where
         why : (c : ℕ) → IsAnew a.start c ⊎ DiesIn g (Some h.loss) (columns_of a) old back c → may c
         why c (inl anew) = inl (named c anew)
         why c (inr (inl lost)) = rises c lost.device (has_live (layout_of a) (columns_of a) c lost.device lost.had) lost.rose
         why c (inr (inr gave)) = gives c (subst (λ (l : Option Loss). IsGivenUp l (columns_of a) c) (sym h.lost) gave)
-
-    before_given : (newest : Label) → IsLostBefore g (work_of a) newest old e back → IsGivenUpIn e.lost e.columns
-    before_given newest h = by h.before h.begins.has.given_up e.lost h.fails
-      where
-        by : (before : Option Loss) → IsGivenUpIn before h.begun → (lost : Option Loss) → EndsFailed g before lost h.first h.last (without a.start h.begun) e.columns h.opened back → IsGivenUpIn lost e.columns
-        by None none None fails = tt
-        by None none (Some loss) fails = fails.rounds.1.given_up
-        by (Some before) none None fails = absurd fails
-        by (Some before) none (Some loss) fails =
-            subst (λ (l : List Column). IsGivenUpIn (Some loss) l) (sym fails.columns_are)
-            (given_after (IsAnew a.start) (Some loss) h.begun (without a.start h.begun) (without-dies a.start h.begun) none)
 
     checked_given : IsChecked g (layout_of a) (columns_of a) e.columns old back e.lost act → IsGivenUpIn e.lost e.columns
     checked_given h = subst (λ (l : List Column). IsGivenUpIn e.lost l) (sym h.after_is) (of e.lost)
@@ -168,12 +155,12 @@ module _ {D : Type 0} (g : Ghosts D) (a : Admitted) (old back : List (Option D))
 
     renewed_given : (kind : Renewal) (newest : Option Label) → AreUnfilledIf newest (columns_of a) → Renews g (layout_of a) (columns_of a) old back act e kind newest → IsGivenUpIn e.lost e.columns
     renewed_given kind None none h = given_after (LosesDevice g (columns_of a) old back) e.lost (columns_of a) e.columns h.dies (unfilled_given e.lost none)
-    renewed_given kind (Some l) none h = h.1.given_up
+    renewed_given kind (Some l) none h = h.2.given_up
 
     labelled_given : (l next : Label) → IsFirstLabelled g (layout_of a) l next (columns_of a) e.columns old back e.lost act → IsGivenUpIn e.lost e.columns
     labelled_given l next h = by e.lost h.rounds
       where
-        by : (lost : Option Loss) → HaveRounds g lost (unlabelled l) next (columns_of a) e.columns old back → IsGivenUpIn lost e.columns
+        by : (lost : Option Loss) → HaveRounds g lost (record l { counter = 0; clean = 0 }) next (columns_of a) e.columns old back → IsGivenUpIn lost e.columns
         by None r = tt
         by (Some loss) r = r.1.given_up
 
@@ -196,8 +183,8 @@ module _ {D : Type 0} (g : Ghosts D) (a : Admitted) (old back : List (Option D))
     run_ends : (newest : Option Label) (o : Outcome) → DoesRun g a failed old back newest o → Ends o
     run_ends None (Ran action s) h = plain_ends action s h.1.ran
     run_ends None (Did act e) h = absurd h
-    run_ends (Some l) (Ran action s) h = labelled_run_ends action s l failed h.1.ran
-    run_ends (Some l) (Did act e) h = dead_ends named act e (before_dies named act e l h.1) (before_given named act e l h.1)
+    run_ends (Some l) (Ran action s) h = labelled_run_ends action s l failed (profile_of a.asked.command.action).map h.1.ran
+    run_ends (Some l) (Did act e) h = dead_ends named act e (before_dies named act e l (profile_of a.asked.command.action).map h.1) h.1.given_up
     run_ends newest (Looked text) h = absurd h
 
     kills : (comp : Option ℕ) (newest : Option Label) (o : Outcome) → (needs_of a.asked).excused ≡ comp → DoesIt g a failed old back (kill_of comp newest) o → Ends o
@@ -210,8 +197,8 @@ module _ {D : Type 0} (g : Ghosts D) (a : Admitted) (old back : List (Option D))
     kills (Some c) (Some l) (Looked text) is h = absurd h
 
     array_ends : (action : Action) (o : Outcome) → a.asked.command.action ≡ action → DoesArray g a failed old back action o → Ends o
-    array_ends (Io beside workers) o same h = run_ends a.opened.newest o h
-    array_ends (Sweep seed clients ops workers) o same h = run_ends a.opened.newest o h
+    array_ends (Io beside workers mapped) o same h = run_ends a.opened.newest o h
+    array_ends (Sweep seed clients ops workers mapped) o same h = run_ends a.opened.newest o h
     array_ends Init (Did act e) same h = dead_ends named act e (renew_dies named act e renewal.Init a.opened.newest h) (renewed_given named act e renewal.Init a.opened.newest none h)
     array_ends Init (Ran action s) same h = absurd h
     array_ends Init (Looked text) same h = absurd h
@@ -226,10 +213,11 @@ module _ {D : Type 0} (g : Ghosts D) (a : Admitted) (old back : List (Option D))
     array_ends (Labels serial) (Ran action s) same h = absurd h
     array_ends (Labels serial) (Looked text) same h = absurd h
     array_ends Show o same h = absurd h
+    array_ends ShowMap o same h = absurd h
     array_ends Print o same h = absurd h
     array_ends (ShowLabel comp) o same h = absurd h
-    array_ends (Rebuild in_place comp limit beside workers) o same h = run_ends a.opened.newest o h
-    array_ends (Resume limit beside workers) o same h = run_ends a.opened.newest o h
+    array_ends (Rebuild in_place comp limit beside workers mapped) o same h = run_ends a.opened.newest o h
+    array_ends (Resume limit beside workers mapped) o same h = run_ends a.opened.newest o h
 
 -- ## All
 

@@ -1,20 +1,22 @@
 -- The array of an action that was done is opened by what was read, so each of its dead columns has its cause.
-use Rattle.std.specs.Prelude.{◌≡◌, ℕ, List, [], Option, Some, None, Result, Ok, Err}
+use Rattle.std.specs.Prelude.{◌≡◌, ℕ, List, [], ◌∷◌, Option, Some, None, Result, Ok, Err, if◌then◌else◌, option_map}
 use Rattle.std.proofs.Common.{refl, sym, ap, subst, ◌∙◌}
 use Rattle.blk_disk.specs.declared.disk.Disk.{Ghosts}
+use Rattle.eng_cols.specs.declared.spot.Loss.{Loss}
 use Rattle.graph_mean.specs.Graph.{View}
 use Rattle.graph_text.specs.Format.{At}
 use Rattle.top_bay.specs.Asked.{Asked, asked_in, names_for}
 use Rattle.top_fetch.specs.Told.{Told}
 use Rattle.top_open.specs.Opening.{Opened}
 use Rattle.top_open.specs.declared.fronts.Front.{Front}
-use Rattle.top_status.specs.Refusals.{Refused, ◌then◌}
-use Rattle.top_words.specs.Asked.{Command}
+use Rattle.top_status.specs.declared.status.Status.TheVariants as status
+use Rattle.top_status.specs.Refusals.{Refused, ◌then◌, only}
+use Rattle.top_words.specs.Asked.{Command, profile_of}
 use Rattle.top_words.specs.declared.profile.Kind.{Kind}
 use Rattle.top_words.specs.declared.profile.Kind.TheVariants as kind
-use Rattle.top_duty.specs.Duty.{Admitted, Duty, OnArray, Shows, OneLabel, PrintConf, IsWanted, admitted_with, asked_of, duty_by, duty_for, duty_in, first_of, judged, judgements, unless, with_joined}
+use Rattle.top_duty.specs.Duty.{Admitted, Duty, OnArray, Shows, OneLabel, PrintConf, IsWanted, admitted_with, asked_of, columns_of, duty_by, duty_for, duty_in, first_of, if_apart, if_past, is_short, judged, lost_by, short_status, unless, with_joined}
 use Rattle.top_duty.specs.Opening.{kind_of, opened_by, sizes_in}
-use Rattle.top_duty.specs.Start.{start_in}
+use Rattle.top_duty.specs.Start.{other_filling, start_in}
 use Rattle.raid_top.specs.Laws.{DeadAsOpened}
 use Rattle.raid_top.specs.Opened.{DeadHaveCauses, IsOpenedFor}
 use Rattle.raid_top.proofs.DeadOpened.{dead_for}
@@ -24,6 +26,14 @@ use Rattle.raid_top.proofs.DeadOpened.{dead_for}
 unless_ok : (o : Option Refused) (x d : Duty) → Ok d ≡ unless o x → x ≡ d
 unless_ok None x d h = cc h
 unless_ok (Some r) x d h = cc h
+
+-- the refusals by which an array is judged
+abbrev refusals : Admitted → Option Loss → Result (List View) At → List (Option Refused)
+refusals a loss joined =
+    option_map (lost_by a) loss
+    ∷ option_map (λ c. only (status.Rebuilding c)) (other_filling a.asked (columns_of a))
+    ∷ (if is_short a then Some (only (short_status (profile_of a.asked.command.action).rebuild)) else None)
+    ∷ if_apart a joined ∷ if_past (with_joined a joined) ∷ []
 
 joined_opened : (a : Admitted) (j : Result (List View) At) → (with_joined a j).opened ≡ a.opened
 joined_opened a (Ok views) = refl
@@ -49,7 +59,7 @@ due_for w d o h of = go w refl
     go : (x : Result Duty Refused) → w ≡ x → IsDueFor w (asked_of d) o
     go (Err r) is = let both : Ok d ≡ (Err r then λ k. judged k h.loss h.joined) = to (Err r) is in cc both
     go (Ok (OnArray a)) is =
-        let same : OnArray (with_joined a h.joined) ≡ d = unless_ok (first_of (judgements a h.loss h.joined)) (OnArray (with_joined a h.joined)) d (to (Ok (OnArray a)) is) in
+        let same : OnArray (with_joined a h.joined) ≡ d = unless_ok (first_of (refusals a h.loss h.joined)) (OnArray (with_joined a h.joined)) d (to (Ok (OnArray a)) is) in
         record {
           due = OnArray a;
           is = is;

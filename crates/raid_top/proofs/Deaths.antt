@@ -100,7 +100,7 @@ module _ {D : Type 0} (g : Ghosts D) (y : Shape) (columns : List Column) (old ba
 
     pub renewed_dies : (kind : Renewal) (newest : Option Label) → Renews g y columns old back act e kind newest → Dies may columns e.columns
     renewed_dies kind None h = dies-more _ may columns e.columns loses h.dies
-    renewed_dies kind (Some l) h = losing e.lost gives e.columns h.1.stage.dies
+    renewed_dies kind (Some l) h = losing e.lost gives e.columns h.2.stage.dies
 
     pub labelled_dies : (l next : Label) → IsFirstLabelled g y l next columns e.columns old back e.lost act → Dies may columns e.columns
     labelled_dies l next h = rounds_die e.lost gives _ next e.columns h.rounds

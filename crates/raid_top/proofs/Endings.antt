@@ -29,7 +29,7 @@ printed_of tells rose ending answer text old new (Err e) ok err puts fault = inr
 pub status_same : (action : Action) (conf : Conf) (c : Came) → status_came c ≡ status_of (outcome_seen action conf c)
 status_same action conf (came.Ran service) = refl
 status_same action conf (came.Did act ending) = refl
-status_same action conf (came.Shows opened sizes fronts) = refl
+status_same action conf (came.Shows shown) = refl
 status_same action conf (came.ShowsLabel front) = refl
 status_same action conf (came.Prints text) = refl
 

@@ -5,9 +5,10 @@ use Rattle.eng_cols.specs.Cols.{is_set_filling, passes}
 use Rattle.eng_cols.specs.declared.column.Column.{Column}
 use Rattle.eng_cols.specs.declared.column.Column.TheVariants as column
 use Rattle.lay_core.specs.Layout.{Shape}
-use Rattle.top_duty.specs.First.{first_of, or_other}
+use Rattle.top_duty.specs.First.{first_of}
 use Rattle.top_duty.specs.Opening.{filling_at, kept_if_large, left_at, stripes_on, without_small}
 use Rattle.top_open.specs.Opening.{kept_if_left}
+use Rattle.std.specs.Option.{option_or}
 
 -- ## It is filling
 
@@ -17,7 +18,7 @@ unfolding first_of
 first_passes p zero j h = absurd (let z : ⊥ = cc h in z)
 first_passes p (suc n) j h = go (λ e. first_passes p n j e) (first_of p n) refl (p n) refl h
   where
-    go : (first_of p n ≡ Some j → p j ≡ true) → (o : Option ℕ) → first_of p n ≡ o → (b : Bool) → p n ≡ b → or_other o (if b then Some n else None) ≡ Some j → p j ≡ true
+    go : (first_of p n ≡ Some j → p j ≡ true) → (o : Option ℕ) → first_of p n ≡ o → (b : Bool) → p n ≡ b → option_or o (if b then Some n else None) ≡ Some j → p j ≡ true
     go rest (Some i) e b f h = rest (e ∙ h)
     go rest None e true f h = let same : n ≡ j = cc h in ap p (sym same) ∙ f
     go rest None e false f h = absurd (let z : ⊥ = cc h in z)

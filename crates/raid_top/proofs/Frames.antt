@@ -7,6 +7,7 @@ use Rattle.blk_disk.proofs.DeviceLaws.{changes-more, changes-refl}
 use Rattle.lay_core.specs.Layout.{Shape}
 use Rattle.eng_cols.specs.declared.column.Column.{Column}
 use Rattle.eng_cols.specs.declared.spot.Loss.{Loss}
+use Rattle.raid_conf.specs.Layouts.{shape_of}
 use Rattle.raid_label.specs.declared.label.Label.{Label}
 use Rattle.top_acts.proofs.Kills.{alive_frame}
 use Rattle.top_acts.specs.declared.done.Done.{Done}
@@ -14,14 +15,18 @@ use Rattle.top_acts.specs.declared.sweeping.Renewal.{Renewal}
 use Rattle.top_rounds.specs.Rounds.{HaveRounds}
 use Rattle.top_run.specs.Work.{Ending}
 use Rattle.top_open.specs.declared.fronts.Front.{Front}
-use Rattle.top_words.specs.Asked.{Action, Io, Sweep, Show, Init, Check, Rewrite, Print, Fail, ShowLabel, Label as Labels, Rebuild, Resume}
+use Rattle.top_open.specs.Opening.{Opened}
+use Rattle.top_bay.specs.Asked.{Asked}
+use Rattle.top_looks.specs.declared.map.Marked.{Marked}
+use Rattle.top_words.specs.Asked.{Action, Io, Sweep, Show, ShowMap, Init, Check, Rewrite, Print, Fail, ShowLabel, Label as Labels, Rebuild, Resume}
 use Rattle.top_duty.specs.Duty.{Admitted, Duty, OnArray, Shows, OneLabel, PrintConf}
 use Rattle.top_duty.specs.Start.{has_failed}
 use Rattle.raid_top.specs.declared.array.Order.{Order}
 use Rattle.raid_top.specs.declared.array.Order.TheVariants as order
 use Rattle.raid_top.specs.Arrays.{DoesOrder, Renews}
-use Rattle.raid_top.specs.Does.{Does, DoesArray, DoesIt, DoesRun, Says, SaysLabel, order_of}
+use Rattle.raid_top.specs.Does.{Does, DoesArray, DoesIt, DoesRun, Says, SaysLabel, ShowsArray, order_of}
 use Rattle.raid_top.specs.Outcome.{Outcome, Ran, Did, Looked}
+use Rattle.raid_top.specs.Shown.{AreMapsFound}
 
 -- any sector may have changed
 abbrev pub AnySector : ℕ → ℕ → Type 0
@@ -41,7 +46,7 @@ module _ {D : Type 0} (g : Ghosts D) where
 
     renewal_moves : (kind : Renewal) (newest : Option Label) → Renews g y columns old back act e kind newest → Moves old back
     renewal_moves kind None h = moved _ old back h.frame
-    renewal_moves kind (Some l) h = moved _ old back (h.1).stage.frame
+    renewal_moves kind (Some l) h = moved _ old back h.2.stage.frame
 
     pub order_moves : (o : Order) → DoesOrder g y columns old back act e o → Moves old back
     order_moves order.Check h = moved _ old back h.frame
@@ -64,9 +69,10 @@ module _ {D : Type 0} (g : Ghosts D) where
     run_moves newest (Looked text) h = absurd h
 
     array_moves : (action : Action) (o : Outcome) → DoesArray g a failed old back action o → Moves old back
-    array_moves (Io beside workers) o h = run_moves a.opened.newest o h
-    array_moves (Sweep seed clients ops workers) o h = run_moves a.opened.newest o h
+    array_moves (Io beside workers mapped) o h = run_moves a.opened.newest o h
+    array_moves (Sweep seed clients ops workers mapped) o h = run_moves a.opened.newest o h
     array_moves Show o h = it_moves (order_of g a failed old back Show) o h
+    array_moves ShowMap o h = it_moves (order_of g a failed old back ShowMap) o h
     array_moves Init o h = it_moves (order_of g a failed old back Init) o h
     array_moves Check o h = it_moves (order_of g a failed old back Check) o h
     array_moves Rewrite o h = it_moves (order_of g a failed old back Rewrite) o h
@@ -74,8 +80,8 @@ module _ {D : Type 0} (g : Ghosts D) where
     array_moves (Fail comp) o h = it_moves (order_of g a failed old back (Fail comp)) o h
     array_moves (ShowLabel comp) o h = it_moves (order_of g a failed old back (ShowLabel comp)) o h
     array_moves (Labels serial) o h = it_moves (order_of g a failed old back (Labels serial)) o h
-    array_moves (Rebuild in_place comp limit beside workers) o h = run_moves a.opened.newest o h
-    array_moves (Resume limit beside workers) o h = run_moves a.opened.newest o h
+    array_moves (Rebuild in_place comp limit beside workers mapped) o h = run_moves a.opened.newest o h
+    array_moves (Resume limit beside workers mapped) o h = run_moves a.opened.newest o h
 
   saying_moves : (old back : List (Option D)) (said : List ℕ) (o : Outcome) → Says g old back said o → Moves old back
   saying_moves old back said (Looked text) h = subst (λ (ds : List (Option D)). Moves old ds) (sym h.1) (changes-refl g AnySector old)
@@ -87,8 +93,15 @@ module _ {D : Type 0} (g : Ghosts D) where
   label_moves old back (front ∷ []) o h = saying_moves old back _ o h
   label_moves old back (front ∷ (other ∷ fronts)) o h = absurd h
 
+  found_moves : (y : Shape) (newest : Option Label) (columns after : List Column) (old back : List (Option D)) (found : Option Marked) → AreMapsFound g y newest columns after old back found → Moves old back
+  found_moves y None columns after old back found h = subst (λ (ds : List (Option D)). Moves old ds) (sym h.1) (changes-refl g AnySector old)
+  found_moves y (Some l) columns after old back found h = moved _ old back h.read.frame
+
+  shown_moves : (k : Asked) (opened : Opened) (fronts : List Front) (old back : List (Option D)) (o : Outcome) → ShowsArray g k opened fronts old back o → Moves old back
+  shown_moves k opened fronts old back o h = found_moves (shape_of k.conf opened.rows) opened.newest opened.columns h.after old back h.map h.found
+
   pub due_moves : (duty : Duty) (fronts : List Front) (old back : List (Option D)) (o : Outcome) → Does g duty fronts old back o → Moves old back
   due_moves (OnArray a) fronts old back o h = array_moves a (has_failed a.start fronts) old back a.asked.command.action o h
-  due_moves (Shows k opened) fronts old back o h = saying_moves old back _ o h
+  due_moves (Shows k opened) fronts old back o h = shown_moves k opened fronts old back o h
   due_moves (OneLabel k) fronts old back o h = label_moves old back fronts o h
   due_moves (PrintConf k) fronts old back o h = saying_moves old back _ o h

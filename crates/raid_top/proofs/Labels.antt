@@ -13,23 +13,25 @@ use Rattle.top_open.proofs.Filled.{filling}
 use Rattle.top_open.specs.Opening.{Opened}
 use Rattle.top_open.specs.Plan.{sectors_for}
 use Rattle.top_open.specs.declared.fronts.Front.{Front}
-use Rattle.top_words.specs.Asked.{Action, Io, Sweep, Show, Init, Check, Rewrite, Print, Fail, ShowLabel, Label as Labels, Rebuild, Resume}
+use Rattle.top_words.specs.Asked.{Action, Io, Sweep, Show, ShowMap, Init, Check, Rewrite, Print, Fail, ShowLabel, Label as Labels, Rebuild, Resume}
 use Rattle.top_duty.proofs.Labels.{has_labels}
 use Rattle.top_duty.proofs.Opens.{Stages, stages}
 use Rattle.top_duty.specs.Opening.{filling_at, needs_for, needs_of, opened_by, plan_of, present_of}
-use Rattle.top_duty.specs.Start.{start_by, start_in}
+use Rattle.top_duty.specs.Start.{start_in}
 use Rattle.raid_top.specs.Served.{AreUnfilledIf}
 use Rattle.raid_top.proofs.Filling.{large_filling, left_filling}
 use Rattle.raid_label.specs.declared.label.Label.{Label}
+use Rattle.top_duty.proofs.Words.{start_by}
 
 -- ## A rebuild needs labels
 
 start_needs : (action : Action) (comp : Option ℕ) (conf : Conf) (o : Opened) (sizes : List ℕ) (fronts : List Front) (s : Start) → start_by action comp conf o sizes fronts ≡ Some s → (needs_for action comp).labels ≡ true
-start_needs (Rebuild in_place name limit beside workers) comp conf o sizes fronts s e = refl
-start_needs (Resume limit beside workers) comp conf o sizes fronts s e = refl
-start_needs (Io beside workers) comp conf o sizes fronts s e = cc e
-start_needs (Sweep seed clients ops workers) comp conf o sizes fronts s e = cc e
+start_needs (Rebuild in_place name limit beside workers mapped) comp conf o sizes fronts s e = refl
+start_needs (Resume limit beside workers mapped) comp conf o sizes fronts s e = refl
+start_needs (Io beside workers mapped) comp conf o sizes fronts s e = cc e
+start_needs (Sweep seed clients ops workers mapped) comp conf o sizes fronts s e = cc e
 start_needs Show comp conf o sizes fronts s e = cc e
+start_needs ShowMap comp conf o sizes fronts s e = cc e
 start_needs Init comp conf o sizes fronts s e = cc e
 start_needs Check comp conf o sizes fronts s e = cc e
 start_needs Rewrite comp conf o sizes fronts s e = cc e

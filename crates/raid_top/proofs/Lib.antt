@@ -18,6 +18,7 @@ mod Labels
 mod Orders
 mod Runs
 mod Keeping
+mod MapsShown
 mod Gone
 mod Losing
 mod Ordered

@@ -64,7 +64,7 @@ module _ {D : Type 0} (g : Ghosts D) where
   module _ (y : Shape) (columns : List Column) (old back : List (Option D)) (act : Done) (e : Ending) where
     renewed_loss : (kind : Renewal) (newest : Option Label) → Renews g y columns old back act e kind newest → LossIsOfGone y (Did act e)
     renewed_loss kind None h loss is = end_loss y e.columns e.lost loss is h.lost_is
-    renewed_loss kind (Some l) h loss is = end_loss y e.columns e.lost loss is h.1.lost_is
+    renewed_loss kind (Some l) h loss is = end_loss y e.columns e.lost loss is h.2.lost_is
 
     order_loss : (o : Order) → DoesOrder g y columns old back act e o → LossIsOfGone y (Did act e)
     order_loss order.Check h loss is = end_loss y e.columns e.lost loss is h.lost_is

@@ -13,7 +13,7 @@ use Rattle.top_fetch.specs.Told.{Told}
 use Rattle.top_open.specs.declared.fault.OpenFault.{OpenFault}
 use Rattle.top_open.specs.declared.fault.OpenFault.TheVariants as fault
 use Rattle.top_open.specs.declared.fronts.Front.{Front}
-use Rattle.top_open.specs.Opening.{Opened, opened_in}
+use Rattle.top_open.specs.Opening.{opened_in}
 use Rattle.top_status.specs.declared.status.Status.{Status}
 use Rattle.top_status.specs.declared.status.Status.TheVariants as status
 use Rattle.top_status.specs.Refusals.{Refused, ◌then◌, only, or_refusal, short_text, text_in}
@@ -21,7 +21,7 @@ use Rattle.top_words.specs.Asked.{Command, Component, Nameless, Column, Device, 
 use Rattle.top_words.specs.declared.profile.Kind.{Kind}
 use Rattle.top_words.specs.declared.profile.Kind.TheVariants as kind
 use Rattle.top_duty.specs.Duty.{OnArray, Shows, admitted_with, duty_by, duty_for, duty_in}
-use Rattle.top_duty.specs.Opening.{as_left, as_opened, fronted_by, kind_of, needs_of, opened_by, or_fault, plan_of, present_of, sizes_in}
+use Rattle.top_duty.specs.Opening.{as_left, as_opened, fronted_by, kind_of, needs_of, opened_by, plan_of, present_of, sizes_in, status_of}
 use Rattle.top_duty.specs.Start.{start_in}
 
 -- another status than that of a loss
@@ -116,17 +116,16 @@ asked_lossless b command =
 
 -- ## The opening
 
-fault_lossless : (r : Result Opened OpenFault) → IsLossless (or_fault r)
-fault_lossless (Ok o) = tt
-fault_lossless (Err (fault.Label c code found wanted)) = λ f s t e. cc e
-fault_lossless (Err (fault.Small c has needs)) = λ f s t e. cc e
-fault_lossless (Err fault.Memory) = λ f s t e. cc e
+fault_lossless : (f : OpenFault) → IsNoLoss (status_of f)
+fault_lossless (fault.Label c code found wanted) = λ f s t e. cc e
+fault_lossless (fault.Small c has needs) = λ f s t e. cc e
+fault_lossless fault.Memory = λ f s t e. cc e
 
 fronted_lossless : (k : Asked) (sizes : List ℕ) (fronts : List Front) → IsLossless (fronted_by k sizes fronts)
 unfolding fronted_by
 fronted_lossless k sizes fronts =
-    then_lossless (or_fault (opened_in (needs_of k) (plan_of k.conf) (present_of k.conf) sizes fronts)) (λ o. Ok (as_opened k sizes o))
-    (fault_lossless (opened_in (needs_of k) (plan_of k.conf) (present_of k.conf) sizes fronts)) (λ o. tt)
+    then_lossless (or_status status_of (opened_in (needs_of k) (plan_of k.conf) (present_of k.conf) sizes fronts)) (λ o. Ok (as_opened k sizes o))
+    (status_lossless status_of (opened_in (needs_of k) (plan_of k.conf) (present_of k.conf) sizes fronts) fault_lossless) (λ o. tt)
 
 opened_lossless : (k : Asked) (sizes : List ℕ) (fronts : List Front) → IsLossless (opened_by k sizes fronts)
 unfolding opened_by

@@ -1,5 +1,5 @@
 -- An array that is refused as lost lacks a unit on both columns of its loss.
-use Rattle.std.specs.Prelude.{◌≡◌, ℕ, Bool, true, false, List, [], ◌∷◌, length, map, Option, Some, None, Result, Ok, Err, if◌then◌else◌}
+use Rattle.std.specs.Prelude.{◌≡◌, ℕ, Bool, true, false, List, [], ◌∷◌, length, map, Option, Some, None, Result, Ok, Err, if◌then◌else◌, option_map}
 use Rattle.std.specs.Option.{option_map_or}
 use Rattle.std.proofs.Common.{inl, inr, refl, sym, ap, subst, length-set, ◌∙◌}
 use Rattle.std.proofs.lemmas.List.{length-map}
@@ -38,7 +38,7 @@ use Rattle.top_words.specs.declared.profile.Kind.TheVariants as kind
 use Rattle.top_words.specs.declared.profile.Rebuilding.{Rebuilding}
 use Rattle.top_words.specs.declared.profile.Rebuilding.TheVariants as rebuilding
 use Rattle.top_words.specs.Asked.{profile_of}
-use Rattle.top_duty.specs.Duty.{Admitted, Duty, OnArray, Shows, OneLabel, PrintConf, IsWanted, admitted_with, beside_dead, columns_of, duty_by, duty_for, duty_in, first_of, if_apart, if_past, if_short, is_past_bound, is_short, judged, judged_states, layout_of, lost_by, refused_beside, short_status, states_in, unless, with_joined, with_killed}
+use Rattle.top_duty.specs.Duty.{Admitted, Duty, OnArray, Shows, OneLabel, PrintConf, IsWanted, admitted_with, beside_dead, columns_of, duty_by, duty_for, duty_in, first_of, if_apart, if_past, is_past_bound, is_short, judged, judged_states, layout_of, lost_by, short_status, states_in, unless, with_joined, with_killed}
 use Rattle.top_duty.specs.Fit.{IsFit}
 use Rattle.top_duty.specs.Opening.{kind_of, needs_of, opened_by, sizes_in, sizes_of}
 use Rattle.top_duty.specs.Start.{start_in}
@@ -78,7 +78,7 @@ module _ (a : Admitted) (r : Refused) (loss : Loss) (lost : r.status ≡ status_
   not_short joined false h = not_apart joined h
 
   not_other : (joined : Result (List View) At) (other : Option ℕ)
-      → Err r ≡ unless (first_of (refused_beside other ∷ if_short a ∷ if_apart a joined ∷ if_past (with_joined a joined) ∷ [])) (OnArray (with_joined a joined)) → ⊥
+      → Err r ≡ unless (first_of (option_map (λ c. only (status.Rebuilding c)) other ∷ (if is_short a then Some (only (short_status (profile_of a.asked.command.action).rebuild)) else None) ∷ if_apart a joined ∷ if_past (with_joined a joined) ∷ [])) (OnArray (with_joined a joined)) → ⊥
   not_other joined None h = not_short joined (is_short a) h
   not_other joined (Some c) h = other_status (only (status.Rebuilding c)) (λ f s t e. cc e) (cc h)
 

@@ -9,7 +9,7 @@ use Rattle.raid_recon.specs.Array.{IsArray}
 use Rattle.top_bay.specs.Asked.{Asked, names_by, names_of}
 use Rattle.top_bay.specs.Views.{IsKnown, IsWithinLimits}
 use Rattle.top_open.specs.Opening.{Opened}
-use Rattle.top_words.specs.Asked.{Action, Io, Sweep, Show, Init, Check, Rewrite, Print, Fail, ShowLabel, Label as Labels, Rebuild, Resume}
+use Rattle.top_words.specs.Asked.{Action, Io, Sweep, Show, ShowMap, Init, Check, Rewrite, Print, Fail, ShowLabel, Label as Labels, Rebuild, Resume, profile_of}
 use Rattle.top_duty.specs.Duty.{Admitted, columns_of, layout_of}
 use Rattle.top_duty.specs.Fit.{IsFit}
 use Rattle.top_duty.specs.Opening.{kind_of, needs_for, needs_of}
@@ -20,7 +20,7 @@ use Rattle.raid_top.specs.declared.came.Came.{Came}
 use Rattle.raid_top.specs.declared.came.Came.TheVariants as came
 use Rattle.raid_top.specs.Arrays.{HasRounds, IsNewest, MayDo}
 use Rattle.raid_top.specs.Does.{DoesArray, DoesIt, DoesRun, order_of}
-use Rattle.raid_top.specs.Orders.{kill_of, order_by}
+use Rattle.raid_top.specs.Orders.{kill_of, order_for}
 use Rattle.raid_top.specs.Outcome.{Outcome}
 use Rattle.raid_top.specs.Served.{ComesOfOrder, IsRun}
 use Rattle.raid_top.specs.Views.{outcome_seen}
@@ -35,10 +35,11 @@ no_kill (Some c) (Some l) at one m two e = cc e
 -- an action on an array that asks for nothing to be done without a core serves clients
 pub serves : (action : Action) (comp : Option ℕ) (newest : Option Label) (conf : Conf) (rows : ℕ)
     → kind_of action ≡ kind_of Init → IsKnown conf action comp → ((needs_for action comp).labels ≡ true → (l : Label) × (newest ≡ Some l))
-    → order_by action comp newest conf rows ≡ None → IsRun action
-serves (Io beside workers) comp newest conf rows kind known labels e = tt
-serves (Sweep seed clients ops workers) comp newest conf rows kind known labels e = tt
+    → order_for (profile_of action).deed comp newest conf rows ≡ None → IsRun action
+serves (Io beside workers mapped) comp newest conf rows kind known labels e = tt
+serves (Sweep seed clients ops workers mapped) comp newest conf rows kind known labels e = tt
 serves Show comp newest conf rows kind known labels e = absurd (let z : ⊥ = cc kind in z)
+serves ShowMap comp newest conf rows kind known labels e = absurd (let z : ⊥ = cc kind in z)
 serves Init comp newest conf rows kind known labels e = absurd (let z : ⊥ = cc e in z)
 serves Check comp newest conf rows kind known labels e = absurd (let z : ⊥ = cc e in z)
 serves Rewrite comp newest conf rows kind known labels e = absurd (let z : ⊥ = cc e in z)
@@ -46,14 +47,15 @@ serves Print comp newest conf rows kind known labels e = absurd (let z : ⊥ = c
 serves (Fail name) comp newest conf rows kind known labels e = let l = labels refl in absurd (no_kill comp newest known.at known.is l.0 l.1 e)
 serves (ShowLabel name) comp newest conf rows kind known labels e = absurd (let z : ⊥ = cc kind in z)
 serves (Labels serial) comp newest conf rows kind known labels e = absurd (let z : ⊥ = cc e in z)
-serves (Rebuild in_place name limit beside workers) comp newest conf rows kind known labels e = tt
-serves (Resume limit beside workers) comp newest conf rows kind known labels e = tt
+serves (Rebuild in_place name limit beside workers mapped) comp newest conf rows kind known labels e = tt
+serves (Resume limit beside workers mapped) comp newest conf rows kind known labels e = tt
 
 -- and such an action writes labels
 pub run_writes : (action : Action) (comp : Option ℕ) → IsRun action → (needs_for action comp).writes ≡ true
-run_writes (Io beside workers) comp is = refl
-run_writes (Sweep seed clients ops workers) comp is = refl
+run_writes (Io beside workers mapped) comp is = refl
+run_writes (Sweep seed clients ops workers mapped) comp is = refl
 run_writes Show comp is = absurd is
+run_writes ShowMap comp is = absurd is
 run_writes Init comp is = absurd is
 run_writes Check comp is = absurd is
 run_writes Rewrite comp is = absurd is
@@ -61,8 +63,8 @@ run_writes Print comp is = absurd is
 run_writes (Fail name) comp is = absurd is
 run_writes (ShowLabel name) comp is = absurd is
 run_writes (Labels serial) comp is = absurd is
-run_writes (Rebuild in_place name limit beside workers) comp is = refl
-run_writes (Resume limit beside workers) comp is = refl
+run_writes (Rebuild in_place name limit beside workers mapped) comp is = refl
+run_writes (Resume limit beside workers mapped) comp is = refl
 
 -- ## What may be done
 
@@ -89,7 +91,7 @@ module _ {D : Type 0} (g : Ghosts D) (k : Asked) (o : Opened) (devices : List (O
       subst (λ (x : Order). MayDo g (shape_of k.conf o.rows) o.columns x devices) (same_order (order.Kill c l) it e)
       (omega (arith, below, here, fit.entries), rounds_of l writes two)
 
-  pub may_do : (action : Action) (it : Order) → k.command.action ≡ action → order_by action k.comp o.newest k.conf o.rows ≡ Some it → MayDo g (shape_of k.conf o.rows) o.columns it devices
+  pub may_do : (action : Action) (it : Order) → k.command.action ≡ action → order_for (profile_of action).deed k.comp o.newest k.conf o.rows ≡ Some it → MayDo g (shape_of k.conf o.rows) o.columns it devices
   may_do Init it same e = subst (λ (x : Order). MayDo g (shape_of k.conf o.rows) o.columns x devices) (same_order _ it e)
       (array, newest_is o.newest (ap (λ (a : Action). (needs_for a k.comp).writes) same) refl)
   may_do Rewrite it same e = subst (λ (x : Order). MayDo g (shape_of k.conf o.rows) o.columns x devices) (same_order _ it e)
@@ -101,13 +103,14 @@ module _ {D : Type 0} (g : Ghosts D) (k : Asked) (o : Opened) (devices : List (O
       may_kill k.comp o.newest it known.at known.is known.within (ap (λ (a : Action). (needs_for a k.comp).writes) same) refl e
   may_do (Labels serial) it same e = subst (λ (x : Order). MayDo g (shape_of k.conf o.rows) o.columns x devices) (same_order _ it e)
       (record { held = record { version = inr refl; clean = omega arith; filling = omega arith; done = λ none. refl; first = λ one. refl }; count = sym fit.entries })
-  may_do (Io beside workers) it same e = absurd (let z : ⊥ = cc e in z)
-  may_do (Sweep seed clients ops workers) it same e = absurd (let z : ⊥ = cc e in z)
+  may_do (Io beside workers mapped) it same e = absurd (let z : ⊥ = cc e in z)
+  may_do (Sweep seed clients ops workers mapped) it same e = absurd (let z : ⊥ = cc e in z)
   may_do Show it same e = absurd (let z : ⊥ = cc e in z)
+  may_do ShowMap it same e = absurd (let z : ⊥ = cc e in z)
   may_do Print it same e = absurd (let z : ⊥ = cc e in z)
   may_do (ShowLabel name) it same e = absurd (let z : ⊥ = cc e in z)
-  may_do (Rebuild in_place name limit beside workers) it same e = absurd (let z : ⊥ = cc e in z)
-  may_do (Resume limit beside workers) it same e = absurd (let z : ⊥ = cc e in z)
+  may_do (Rebuild in_place name limit beside workers mapped) it same e = absurd (let z : ⊥ = cc e in z)
+  may_do (Resume limit beside workers mapped) it same e = absurd (let z : ⊥ = cc e in z)
 
 -- ## What was done
 
@@ -115,7 +118,7 @@ module _ {D : Type 0} (g : Ghosts D) (a : Admitted) (failed : Bool) (old back : 
   comes_it : (it : Order) (action : Action) (conf : Conf) (c : Came) → ComesOfOrder g (layout_of a) (columns_of a) old back it c → DoesIt g a failed old back (Some it) (outcome_seen action conf c)
   comes_it it action conf (came.Did act ending) h = h
   comes_it it action conf (came.Ran service) h = absurd h
-  comes_it it action conf (came.Shows opened sizes fronts) h = absurd h
+  comes_it it action conf (came.Shows shown) h = absurd h
   comes_it it action conf (came.ShowsLabel front) h = absurd h
   comes_it it action conf (came.Prints text) h = absurd h
 
@@ -125,13 +128,14 @@ module _ {D : Type 0} (g : Ghosts D) (a : Admitted) (failed : Bool) (old back : 
   it_does Check o it e h = subst (λ (x : Option Order). DoesIt g a failed old back x o) (sym e) h
   it_does (Fail name) o it e h = subst (λ (x : Option Order). DoesIt g a failed old back x o) (sym e) h
   it_does (Labels serial) o it e h = subst (λ (x : Option Order). DoesIt g a failed old back x o) (sym e) h
-  it_does (Io beside workers) o it e h = absurd (let z : ⊥ = cc e in z)
-  it_does (Sweep seed clients ops workers) o it e h = absurd (let z : ⊥ = cc e in z)
+  it_does (Io beside workers mapped) o it e h = absurd (let z : ⊥ = cc e in z)
+  it_does (Sweep seed clients ops workers mapped) o it e h = absurd (let z : ⊥ = cc e in z)
   it_does Show o it e h = absurd (let z : ⊥ = cc e in z)
+  it_does ShowMap o it e h = absurd (let z : ⊥ = cc e in z)
   it_does Print o it e h = absurd (let z : ⊥ = cc e in z)
   it_does (ShowLabel name) o it e h = absurd (let z : ⊥ = cc e in z)
-  it_does (Rebuild in_place name limit beside workers) o it e h = absurd (let z : ⊥ = cc e in z)
-  it_does (Resume limit beside workers) o it e h = absurd (let z : ⊥ = cc e in z)
+  it_does (Rebuild in_place name limit beside workers mapped) o it e h = absurd (let z : ⊥ = cc e in z)
+  it_does (Resume limit beside workers mapped) o it e h = absurd (let z : ⊥ = cc e in z)
 
   -- what was asked was done
   pub order_does : (action : Action) (conf : Conf) (it : Order) (c : Came) → order_of g a failed old back action ≡ Some it → ComesOfOrder g (layout_of a) (columns_of a) old back it c → DoesArray g a failed old back action (outcome_seen action conf c)
@@ -139,9 +143,10 @@ module _ {D : Type 0} (g : Ghosts D) (a : Admitted) (failed : Bool) (old back : 
 
   -- or clients were served
   pub run_does : (action : Action) (o : Outcome) → IsRun action → DoesRun g a failed old back a.opened.newest o → DoesArray g a failed old back action o
-  run_does (Io beside workers) o is h = h
-  run_does (Sweep seed clients ops workers) o is h = h
+  run_does (Io beside workers mapped) o is h = h
+  run_does (Sweep seed clients ops workers mapped) o is h = h
   run_does Show o is h = absurd is
+  run_does ShowMap o is h = absurd is
   run_does Init o is h = absurd is
   run_does Check o is h = absurd is
   run_does Rewrite o is h = absurd is
@@ -149,16 +154,17 @@ module _ {D : Type 0} (g : Ghosts D) (a : Admitted) (failed : Bool) (old back : 
   run_does (Fail name) o is h = absurd is
   run_does (ShowLabel name) o is h = absurd is
   run_does (Labels serial) o is h = absurd is
-  run_does (Rebuild in_place name limit beside workers) o is h = h
-  run_does (Resume limit beside workers) o is h = h
+  run_does (Rebuild in_place name limit beside workers mapped) o is h = h
+  run_does (Resume limit beside workers mapped) o is h = h
 
 -- ## Names
 
 -- what is done with an array goes by all devices of its configuration
 pub array_names : (conf : Conf) (action : Action) → kind_of action ≡ kind_of Init → names_by conf action ≡ names_of conf
-array_names conf (Io beside workers) e = refl
-array_names conf (Sweep seed clients ops workers) e = refl
+array_names conf (Io beside workers mapped) e = refl
+array_names conf (Sweep seed clients ops workers mapped) e = refl
 array_names conf Show e = refl
+array_names conf ShowMap e = refl
 array_names conf Init e = refl
 array_names conf Check e = refl
 array_names conf Rewrite e = refl
@@ -166,5 +172,5 @@ array_names conf Print e = absurd (let z : ⊥ = cc e in z)
 array_names conf (Fail name) e = refl
 array_names conf (ShowLabel name) e = absurd (let z : ⊥ = cc e in z)
 array_names conf (Labels serial) e = refl
-array_names conf (Rebuild in_place name limit beside workers) e = refl
-array_names conf (Resume limit beside workers) e = refl
+array_names conf (Rebuild in_place name limit beside workers mapped) e = refl
+array_names conf (Resume limit beside workers mapped) e = refl

@@ -41,7 +41,7 @@ use Rattle.top_bay.specs.Asked.{Asked, names_of}
 use Rattle.top_bay.specs.Views.{IsWithinLimits}
 use Rattle.top_open.specs.Opening.{Opened}
 use Rattle.top_open.specs.declared.fronts.Front.{Front}
-use Rattle.top_duty.specs.Duty.{ComesOfJoins, admitted_with, clients_by, rebuilds_by, rebuilds_of, traces, with_dead}
+use Rattle.top_duty.specs.Duty.{ComesOfJoins, admitted_with, clients_by, rebuilds_by, traces, with_dead}
 use Rattle.top_duty.specs.Fit.{IsFit, IsStart, IsStartIf, begun_in}
 use Rattle.top_duty.specs.Opening.{needs_of}
 use Rattle.top_duty.specs.Views.{IsReady, drawn_by, graphs_with}
@@ -61,6 +61,7 @@ use Rattle.raid_top.specs.Served.{MayLabelIf, MayServe}
 use Rattle.raid_top.proofs.Rebuilds.{columns_before, kept_as_opened, may_rebuild}
 use Rattle.graph_text.specs.Format.{Named}
 use Rattle.graph_text.specs.FormatForm.{AreGraphs}
+use Rattle.top_duty.proofs.Words.{rebuilds_of}
 
 -- ## Items
 

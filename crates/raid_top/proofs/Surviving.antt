@@ -63,7 +63,7 @@ module _ {D : Type 0} (g : Ghosts D) (a : Admitted) (taken old back : List (Opti
 
     pub renewed : (kind : Renewal) (newest : Option Label) (e : Ending) (act : Done) → Renews g (layout_of a) (columns_of a) old back act e kind newest → e.lost ≡ None
     renewed kind None e act h = kept e.columns e.lost (renewed_dies g (layout_of a) (columns_of a) old back may rises act e (gives e.lost) kind None h) h.lost_is
-    renewed kind (Some l) e act h = kept e.columns e.lost (renewed_dies g (layout_of a) (columns_of a) old back may rises act e (gives e.lost) kind (Some l) h) h.1.lost_is
+    renewed kind (Some l) e act h = kept e.columns e.lost (renewed_dies g (layout_of a) (columns_of a) old back may rises act e (gives e.lost) kind (Some l) h) h.2.lost_is
 
     -- of those that a death has left one may be filling with fewer stripes
     module _ (c : ℕ) (l next : Label) (e : Ending) (act : Done) (named : (needs_of a.asked).excused ≡ Some c) (h : IsKilled g (layout_of a) c l next (columns_of a) e.columns old back e.lost act) where

@@ -1,5 +1,5 @@
 -- What is wanted is one: a duty, or one refusal.
-use Rattle.std.specs.Prelude.{◌≡◌, ◌&&◌, ℕ, Bool, true, false, List, [], ◌∷◌, length, Option, Some, None, Result, Ok, Err, if◌then◌else◌, is_none}
+use Rattle.std.specs.Prelude.{◌≡◌, ◌&&◌, ℕ, Bool, true, false, List, [], ◌∷◌, length, Option, Some, None, Result, Ok, Err, if◌then◌else◌, is_none, option_map, unwrap_or}
 use Rattle.std.proofs.Common.{refl, sym, ap, subst, ◌∙◌}
 use Rattle.blk_disk.specs.declared.disk.Disk.{Ghosts}
 use Rattle.eng_array.specs.declared.start.Start.{Start}
@@ -18,15 +18,16 @@ use Rattle.top_open.specs.Opening.{Opened}
 use Rattle.top_open.specs.declared.fronts.Front.{Front}
 use Rattle.top_status.specs.declared.status.Status.TheVariants as status
 use Rattle.top_status.specs.Refusals.{Refused, ◌then◌, only}
-use Rattle.top_words.specs.Asked.{Action, Command, Io, Sweep, Show, Init, Check, Rewrite, Print, Fail, ShowLabel, Label as Labels, Rebuild, Resume}
-use Rattle.top_duty.specs.Duty.{Admitted, ComesOfJoins, Duty, OnArray, Shows, OneLabel, PrintConf, IsWanted, WantsMemory, admitted_with, asked_of, beside_dead, columns_of, duty_by, duty_for, duty_in, first_of, if_apart, if_past, if_short, is_past_bound, is_short, judged, judged_states, layout_of, refused_beside, unless, with_joined}
+use Rattle.top_words.specs.Asked.{Action, Command, Io, Sweep, Show, ShowMap, Init, Check, Rewrite, Print, Fail, ShowLabel, Label as Labels, Rebuild, Resume, profile_of}
+use Rattle.top_duty.specs.Duty.{Admitted, ComesOfJoins, Duty, OnArray, Shows, OneLabel, PrintConf, IsWanted, WantsMemory, admitted_with, asked_of, beside_dead, columns_of, duty_by, duty_for, duty_in, first_of, if_apart, if_past, is_past_bound, is_short, judged, judged_states, layout_of, unless, with_joined, short_status}
 use Rattle.top_close.specs.Ended.{IsLossBy}
 use Rattle.top_duty.specs.Opening.{filling_at, kind_of, needs_for, needs_of, opened_by, sizes_in}
-use Rattle.top_duty.specs.Start.{free_spare, has_places, most_by, onto_spare, rebuild_elsewhere, rebuild_further, rebuild_in_place, start_by, start_in}
+use Rattle.top_duty.specs.Start.{free_spare, has_places, onto_spare, rebuild_elsewhere, start_in}
 use Rattle.top_duty.specs.Views.{other_of, short_of}
 use Rattle.top_words.specs.declared.profile.Kind.{Kind}
 use Rattle.top_duty.proofs.Sized.{duty_err}
 use Rattle.top_words.specs.declared.profile.Kind.TheVariants as kind
+use Rattle.top_duty.proofs.Words.{start_by}
 
 -- An array is judged well: it isn't lost by the columns as the action makes them, no other column is filling, there is somewhere to rebuild a column to that is to be, or something to go on with, graphs are joined, and its trace has room.
 record IsKept (a : Admitted) (d : Duty) : Type 0 where
@@ -72,7 +73,7 @@ module _ (a : Admitted) (d : Duty) (joined : Result (List View) At) (loss : IsLo
   short_or alone comes false is r h = apart_or a d loss alone is joined (comes is) h
 
   other_or : (other_of a ≡ None → is_short a ≡ false → ComesOfJoins a joined) → (other : Option ℕ) → other_of a ≡ other
-      → Ok d ≡ unless (first_of (refused_beside other ∷ if_short a ∷ if_apart a joined ∷ if_past (with_joined a joined) ∷ [])) (OnArray (with_joined a joined)) → IsKept a d
+      → Ok d ≡ unless (first_of (option_map (λ c. only (status.Rebuilding c)) other ∷ (if is_short a then Some (only (short_status (profile_of a.asked.command.action).rebuild)) else None) ∷ if_apart a joined ∷ if_past (with_joined a joined) ∷ [])) (OnArray (with_joined a joined)) → IsKept a d
   other_or comes None is h = short_or is (comes is) (is_short a) refl (only (short_of a)) h
   other_or comes (Some c) is h = absurd (let z : ⊥ = cc h in z)
 
@@ -143,7 +144,7 @@ module _ (a : Admitted) (d : Duty) (r : Refused) (kept : IsKept a d) where
   refused_short joined is false found x h = refused_apart joined is h
 
   refused_other : (joined : Result (List View) At) → Ok kept.views ≡ joined → (other : Option ℕ) → other ≡ None
-      → Err r ≡ unless (first_of (refused_beside other ∷ if_short a ∷ if_apart a joined ∷ if_past (with_joined a joined) ∷ [])) (OnArray (with_joined a joined)) → ⊥
+      → Err r ≡ unless (first_of (option_map (λ c. only (status.Rebuilding c)) other ∷ (if is_short a then Some (only (short_status (profile_of a.asked.command.action).rebuild)) else None) ∷ if_apart a joined ∷ if_past (with_joined a joined) ∷ [])) (OnArray (with_joined a joined)) → ⊥
   refused_other joined is (Some c) alone h = cc alone
   refused_other joined is None alone h = refused_short joined is (is_short a) kept.found (only (short_of a)) h
 
@@ -254,23 +255,24 @@ onto_named columns most c None false s e = absurd (let z : ⊥ = cc e in z)
 
 elsewhere_named : (limit : Option ℕ) (conf : Conf) (o : Opened) (sizes : List ℕ) (fronts : List Front) (comp : Option ℕ) (s : Start) → rebuild_elsewhere limit conf o sizes fronts comp ≡ Some s → IsNamedFor comp o.columns s
 elsewhere_named limit conf o sizes fronts None s e = absurd (let z : ⊥ = cc e in z)
-elsewhere_named limit conf o sizes fronts (Some c) s e = onto_named o.columns (most_by limit) c (free_spare conf o sizes fronts) (is_none limit && has_places conf o.columns) s e
+elsewhere_named limit conf o sizes fronts (Some c) s e = onto_named o.columns (unwrap_or limit 4294967295) c (free_spare conf o sizes fronts) (is_none limit && has_places conf o.columns) s e
 
-in_place_named : (columns : List Column) (limit comp : Option ℕ) (s : Start) → rebuild_in_place limit comp ≡ Some s → IsNamedFor comp columns s
+in_place_named : (columns : List Column) (limit comp : Option ℕ) (s : Start) → option_map (λ i. start.Fill i i (unwrap_or limit 4294967295)) comp ≡ Some s → IsNamedFor comp columns s
 in_place_named columns limit None s e = absurd (let z : ⊥ = cc e in z)
-in_place_named columns limit (Some c) s e = let same : start.Fill c c (most_by limit) ≡ s = cc e in subst (IsNamedFor (Some c) columns) same refl
+in_place_named columns limit (Some c) s e = let same : start.Fill c c (unwrap_or limit 4294967295) ≡ s = cc e in subst (IsNamedFor (Some c) columns) same refl
 
-further_named : (excused : Option ℕ) (columns : List Column) (limit filling : Option ℕ) (s : Start) → filling_at columns ≡ filling → rebuild_further limit filling ≡ Some s → IsNamedFor excused columns s
+further_named : (excused : Option ℕ) (columns : List Column) (limit filling : Option ℕ) (s : Start) → filling_at columns ≡ filling → option_map (λ i. start.Resume i (unwrap_or limit 4294967295)) filling ≡ Some s → IsNamedFor excused columns s
 further_named excused columns limit None s is e = absurd (let z : ⊥ = cc e in z)
-further_named excused columns limit (Some c) s is e = let same : start.Resume c (most_by limit) ≡ s = cc e in subst (IsNamedFor excused columns) same is
+further_named excused columns limit (Some c) s is e = let same : start.Resume c (unwrap_or limit 4294967295) ≡ s = cc e in subst (IsNamedFor excused columns) same is
 
 start_named : (action : Action) (comp : Option ℕ) (conf : Conf) (o : Opened) (sizes : List ℕ) (fronts : List Front) (s : Start) → start_by action comp conf o sizes fronts ≡ Some s → IsNamedFor (needs_for action comp).excused o.columns s
-start_named (Rebuild true name limit beside workers) comp conf o sizes fronts s e = in_place_named o.columns limit comp s e
-start_named (Rebuild false name limit beside workers) comp conf o sizes fronts s e = elsewhere_named limit conf o sizes fronts comp s e
-start_named (Resume limit beside workers) comp conf o sizes fronts s e = further_named None o.columns limit (filling_at o.columns) s refl e
-start_named (Io beside workers) comp conf o sizes fronts s e = absurd (let z : ⊥ = cc e in z)
-start_named (Sweep seed clients ops workers) comp conf o sizes fronts s e = absurd (let z : ⊥ = cc e in z)
+start_named (Rebuild true name limit beside workers mapped) comp conf o sizes fronts s e = in_place_named o.columns limit comp s e
+start_named (Rebuild false name limit beside workers mapped) comp conf o sizes fronts s e = elsewhere_named limit conf o sizes fronts comp s e
+start_named (Resume limit beside workers mapped) comp conf o sizes fronts s e = further_named None o.columns limit (filling_at o.columns) s refl e
+start_named (Io beside workers mapped) comp conf o sizes fronts s e = absurd (let z : ⊥ = cc e in z)
+start_named (Sweep seed clients ops workers mapped) comp conf o sizes fronts s e = absurd (let z : ⊥ = cc e in z)
 start_named Show comp conf o sizes fronts s e = absurd (let z : ⊥ = cc e in z)
+start_named ShowMap comp conf o sizes fronts s e = absurd (let z : ⊥ = cc e in z)
 start_named Init comp conf o sizes fronts s e = absurd (let z : ⊥ = cc e in z)
 start_named Check comp conf o sizes fronts s e = absurd (let z : ⊥ = cc e in z)
 start_named Rewrite comp conf o sizes fronts s e = absurd (let z : ⊥ = cc e in z)

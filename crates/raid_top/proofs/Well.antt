@@ -17,16 +17,18 @@ use Rattle.top_acts.specs.declared.sweeping.Renewal.TheVariants as renewal
 use Rattle.top_acts.specs.Labelled.{alive}
 use Rattle.top_labelled.proofs.Outlived as labelled_laws
 use Rattle.top_open.specs.declared.fronts.Front.{Front}
+use Rattle.top_open.specs.Opening.{Opened}
+use Rattle.top_bay.specs.Asked.{Asked}
 use Rattle.top_run.specs.Outliving.{MayDie as MayDieOf, OutlivesCall}
 use Rattle.top_run.proofs.Outlived.{outlived}
 use Rattle.top_status.specs.Status.{status_of_loss}
-use Rattle.top_words.specs.Asked.{Action, Io, Sweep, Show, Init, Check, Rewrite, Print, Fail, ShowLabel, Label as Labels, Rebuild, Resume, Command}
+use Rattle.top_words.specs.Asked.{Action, Io, Sweep, Show, ShowMap, Init, Check, Rewrite, Print, Fail, ShowLabel, Label as Labels, Rebuild, Resume, Command, profile_of}
 use Rattle.top_duty.specs.Duty.{Admitted, Duty, OnArray, Shows, OneLabel, PrintConf, asked_of, columns_of, layout_of}
 use Rattle.top_duty.specs.Opening.{needs_for, needs_of}
 use Rattle.top_duty.specs.Start.{has_failed}
 use Rattle.top_run.specs.Work.{Ending}
 use Rattle.raid_top.specs.Arrays.{Renews}
-use Rattle.raid_top.specs.Does.{Does, DoesArray, DoesIt, DoesRun, Says, SaysLabel}
+use Rattle.raid_top.specs.Does.{Does, DoesArray, DoesIt, DoesRun, Says, SaysLabel, ShowsArray}
 use Rattle.raid_top.specs.Acted.{CommandEndsWell, MayEndDead, SurvivesCall}
 use Rattle.raid_top.specs.Orders.{kill_of}
 use Rattle.raid_top.specs.Outcome.{Outcome, Ran, Did, Looked, status_of, status_of_done}
@@ -60,8 +62,8 @@ module _ {D : Type 0} (g : Ghosts D) (command : Command) where
     ran_well : (newest : Option Label) (o : Outcome) → DoesRun g a failed old back newest o → CommandEndsWell command (status_of o)
     ran_well None (Ran action s) h = run_well s.ending.lost (outlived g (work_of a) old back s h.1.ran outlives)
     ran_well None (Did act e) h = absurd h
-    ran_well (Some l) (Ran action s) h = run_well s.ending.lost (labelled_laws.outlived g (work_of a) l old s back failed h.1.ran outlives)
-    ran_well (Some l) (Did act e) h = absurd (labelled_laws.not-begun-lost g (work_of a) l old e back h.1 outlives)
+    ran_well (Some l) (Ran action s) h = run_well s.ending.lost (labelled_laws.outlived g (work_of a) l old s back failed (profile_of a.asked.command.action).map h.1.ran outlives)
+    ran_well (Some l) (Did act e) h = absurd (labelled_laws.not-begun-lost g (work_of a) l old (profile_of a.asked.command.action).map e back h.1 outlives)
     ran_well newest (Looked text) h = absurd h
 
     kill_well : (comp : Option ℕ) (newest : Option Label) (o : Outcome) → (needs_of a.asked).excused ≡ comp → DoesIt g a failed old back (kill_of comp newest) o → CommandEndsWell command (status_of o)
@@ -74,12 +76,12 @@ module _ {D : Type 0} (g : Ghosts D) (command : Command) where
     renewed_well : (newest : Option Label) (kind : Renewal) (e : Ending) (act : Done) → Renews g (layout_of a) (columns_of a) old back act e kind newest → CommandEndsWell command (status_of_done act e.lost)
     renewed_well None renewal.Init e act h = done_well command e.lost act (done.Init h.found) refl (renewed g a taken old back read survives renewal.Init None e act h) h.told
     renewed_well None renewal.Rewrite e act h = done_well command e.lost act (done.Rewrite h.found) refl (renewed g a taken old back read survives renewal.Rewrite None e act h) h.told
-    renewed_well (Some l) renewal.Init e act h = done_well command e.lost act (done.Init h.1.found) refl (renewed g a taken old back read survives renewal.Init (Some l) e act h) h.1.told
-    renewed_well (Some l) renewal.Rewrite e act h = done_well command e.lost act (done.Rewrite h.1.found) refl (renewed g a taken old back read survives renewal.Rewrite (Some l) e act h) h.1.told
+    renewed_well (Some l) renewal.Init e act h = done_well command e.lost act (done.Init h.2.found) refl (renewed g a taken old back read survives renewal.Init (Some l) e act h) h.2.told
+    renewed_well (Some l) renewal.Rewrite e act h = done_well command e.lost act (done.Rewrite h.2.found) refl (renewed g a taken old back read survives renewal.Rewrite (Some l) e act h) h.2.told
 
     array_well : (action : Action) (o : Outcome) → a.asked.command.action ≡ action → DoesArray g a failed old back action o → CommandEndsWell command (status_of o)
-    array_well (Io beside workers) o same h = ran_well a.opened.newest o h
-    array_well (Sweep seed clients ops workers) o same h = ran_well a.opened.newest o h
+    array_well (Io beside workers mapped) o same h = ran_well a.opened.newest o h
+    array_well (Sweep seed clients ops workers mapped) o same h = ran_well a.opened.newest o h
     array_well Init (Did act e) same h = renewed_well a.opened.newest renewal.Init e act h
     array_well Init (Ran action s) same h = absurd h
     array_well Init (Looked text) same h = absurd h
@@ -94,10 +96,11 @@ module _ {D : Type 0} (g : Ghosts D) (command : Command) where
     array_well (Labels serial) (Ran action s) same h = absurd h
     array_well (Labels serial) (Looked text) same h = absurd h
     array_well Show o same h = absurd h
+    array_well ShowMap o same h = absurd h
     array_well Print o same h = absurd h
     array_well (ShowLabel comp) o same h = absurd h
-    array_well (Rebuild in_place comp limit beside workers) o same h = ran_well a.opened.newest o h
-    array_well (Resume limit beside workers) o same h = ran_well a.opened.newest o h
+    array_well (Rebuild in_place comp limit beside workers mapped) o same h = ran_well a.opened.newest o h
+    array_well (Resume limit beside workers mapped) o same h = ran_well a.opened.newest o h
 
   said_well : (old back : List (Option D)) (said : List ℕ) (o : Outcome) → Says g old back said o → CommandEndsWell command (status_of o)
   said_well old back said (Looked text) h = tt
@@ -109,9 +112,12 @@ module _ {D : Type 0} (g : Ghosts D) (command : Command) where
   label_well old back (front ∷ []) o h = said_well old back _ o h
   label_well old back (front ∷ (other ∷ fronts)) o h = absurd h
 
+  shown_well : (k : Asked) (opened : Opened) (fronts : List Front) (old back : List (Option D)) (o : Outcome) → ShowsArray g k opened fronts old back o → CommandEndsWell command (status_of o)
+  shown_well k opened fronts old back o h = subst (λ (x : Outcome). CommandEndsWell command (status_of x)) (sym h.said) tt
+
   pub due_well : (duty : Duty) (fronts : List Front) (taken old back : List (Option D)) (o : Outcome) → Changes g NoSector taken old → SurvivesCall g duty taken back → (asked_of duty).command ≡ command → IsNamed duty
       → Does g duty fronts old back o → CommandEndsWell command (status_of o)
   due_well (OnArray a) fronts taken old back o read survives command_is named h = array_well a (has_failed a.start fronts) taken old back read survives command_is named a.asked.command.action o refl h
-  due_well (Shows k opened) fronts taken old back o read survives command_is named h = said_well old back _ o h
+  due_well (Shows k opened) fronts taken old back o read survives command_is named h = shown_well k opened fronts old back o h
   due_well (OneLabel k) fronts taken old back o read survives command_is named h = label_well old back fronts o h
   due_well (PrintConf k) fronts taken old back o read survives command_is named h = said_well old back _ o h

@@ -1,5 +1,5 @@
 -- What is done to an array without a core.
-use Rattle.std.specs.Prelude.{◌≤◌, ◌<◌, ◌+◌, ◌*◌, ◌^◌, List, length, Option, Some, None}
+use Rattle.std.specs.Prelude.{◌≤◌, ◌<◌, ◌+◌, ◌*◌, ◌^◌, ◌≡◌, List, length, Option, Some, None}
 use Rattle.blk_disk.specs.declared.disk.Disk.{Ghosts}
 use Rattle.lay_core.specs.Layout.{Shape}
 use Rattle.lay_core.specs.declared.layout.Layout.{Ghosts as LayoutGhosts}
@@ -12,7 +12,10 @@ use Rattle.top_rounds.specs.Passes.{CanBeLabelled}
 use Rattle.eng_cols.specs.Settable.{IsSettable}
 use Rattle.top_acts.specs.Checked.{IsChecked}
 use Rattle.top_acts.specs.Killed.{IsKilled}
+use Rattle.raid_map.specs.Regions.{Marks}
 use Rattle.top_acts.specs.Labelled.{IsFirstLabelled}
+use Rattle.top_acts.specs.Mapped.{AreUnmarked, unmarked}
+use Rattle.top_acts.specs.declared.maps.Maps.{Maps}
 use Rattle.top_acts.specs.Renewed.{IsRenewed, IsRenewedPlain}
 use Rattle.top_acts.specs.declared.done.Done.{Done}
 use Rattle.top_acts.specs.declared.sweeping.Renewal.{Renewal}
@@ -42,6 +45,18 @@ pub record IsSoundArray {L D P : Type 0} (lay : LayoutGhosts L) (g : Ghosts D) (
   pub judge : IsFor (lay.shape a.layout) a.hand.judge
   pub room : 1024 * (lay.shape a.layout).unit_sectors ≤ a.room
 
+-- an array with labels has maps of its layout, without marks
+abbrev pub HaveMaps : Shape → Option Label → Option Maps → Type 0
+HaveMaps y None maps = Unit {0}
+HaveMaps y (Some l) maps = (m : Maps) × (maps ≡ Some m) × AreUnmarked y l.serial m
+
+-- where its check units are renewed
+abbrev pub HaveMapsFor : Shape → Order → Option Maps → Type 0
+HaveMapsFor y order.Check maps = Unit {0}
+HaveMapsFor y (order.Renew kind newest) maps = HaveMaps y newest maps
+HaveMapsFor y (order.Kill c l) maps = Unit {0}
+HaveMapsFor y (order.Label l) maps = Unit {0}
+
 module _ {D : Type 0} (g : Ghosts D) (y : Shape) (columns : List Column) where
   -- this may be done: for what goes over the stripes the devices are large enough, and labels have room for their rounds
   abbrev pub MayDo : Order → List (Option D) → Type 0
@@ -53,7 +68,7 @@ module _ {D : Type 0} (g : Ghosts D) (y : Shape) (columns : List Column) where
   module _ (old back : List (Option D)) (act : Done) (e : Ending) where
     abbrev pub Renews : Renewal → Option Label → Type 0
     Renews kind None = IsRenewedPlain g kind y columns e.columns old back e.lost act
-    Renews kind (Some l) = (next : Label) × IsRenewed g kind y l next columns e.columns old back e.lost act
+    Renews kind (Some l) = (next : Label) × (union : Marks) × IsRenewed g kind y l next columns e.columns old back e.lost act (unmarked y.stripes l.serial) union
 
     -- it was done, and this is how it was done; `next` is the label that was written last
     abbrev pub DoesOrder : Order → Type 0

@@ -5,7 +5,12 @@ use Rattle.blk_disk.specs.declared.disk.Disk.{Ghosts}
 use Rattle.eng_array.specs.declared.start.Start.{Start}
 use Rattle.eng_cols.specs.Contents.{decode}
 use Rattle.raid_conf.specs.Form.{conf_text}
+use Rattle.eng_cols.specs.declared.column.Column.{Column}
+use Rattle.raid_conf.specs.Layouts.{shape_of}
 use Rattle.raid_label.specs.declared.label.Label.{Label}
+use Rattle.top_bay.specs.Asked.{Asked}
+use Rattle.top_looks.specs.declared.map.Marked.{Marked}
+use Rattle.top_open.specs.Opening.{Opened}
 use Rattle.top_acts.specs.declared.done.Done.TheVariants as done
 use Rattle.top_open.specs.declared.fronts.Front.{Front}
 use Rattle.top_words.specs.Asked.{Action, Sweep, profile_of}
@@ -22,10 +27,10 @@ use Rattle.top_run.specs.Work.{Service}
 use Rattle.top_labelled.specs.Begun.{opened_as, without}
 use Rattle.top_labelled.specs.Ran.{IsLostBefore, RanLabelled}
 use Rattle.top_looks.specs.Labels.{label_text}
-use Rattle.top_looks.specs.Show.{show_text}
 use Rattle.raid_top.specs.Arrays.{DoesOrder}
-use Rattle.raid_top.specs.Orders.{order_by}
+use Rattle.raid_top.specs.Orders.{order_for}
 use Rattle.raid_top.specs.Outcome.{Outcome, Ran, Did, Looked}
+use Rattle.raid_top.specs.Shown.{AreMapsFound, shown_text}
 use Rattle.raid_top.specs.Works.{work_of}
 use Rattle.raid_top.specs.declared.array.Order.{Order}
 
@@ -33,20 +38,18 @@ use Rattle.raid_top.specs.declared.array.Order.{Order}
 module _ {D : Type 0} (g : Ghosts D) where
   -- whether the device onto which a column is rebuilt has failed before
   module _ (a : Admitted) (failed : Bool) (old back : List (Option D)) where
-    -- The clients were served over an array without labels. Each item is one that a script may have. Where the array isn't lost, each item has the reply that it ought to have, and clients that were drawn leave, and are replied, what they would one after another.
+    -- The clients were served over an array without labels. Each item is one that a script may have. Where the array isn't lost, clients that were drawn leave, and are replied, what they would one after another.
     pub record RunsPlain (s : Service) : Type 0 where
       pub ran : run.RanPlain g (work_of a) old s back
       pub asks : run.AsksAsScripts (work_of a)
-      pub answered : s.ending.lost ≡ None → AllAnswered g (work_of a) old back s ran.run
-      pub in_turn : (seed clients ops workers : ℕ) → a.asked.command.action ≡ Sweep seed clients ops workers → s.ending.lost ≡ None
+      pub in_turn : (seed clients ops workers : ℕ) (mapped : Bool) → a.asked.command.action ≡ Sweep seed clients ops workers mapped → s.ending.lost ≡ None
           → SweptInTurn g (work_of a) old s back (decode (layout_of a) (contents_of g old) (states_in a))
 
     -- The same over an array whose newest label is this one, by its columns and devices as the core was opened; beside them a column is rebuilt, if one is to be, unless the device onto which that goes has failed before. Where that is done its column's units are there again.
     pub record RunsLabelled (newest : Label) (s : Service) : Type 0 where
-      pub ran : RanLabelled g (work_of a) newest old s back failed
+      pub ran : RanLabelled g (work_of a) newest old s back failed (profile_of a.asked.command.action).map
       pub asks : run.AsksAsScripts (work_of a)
-      pub answered : s.ending.lost ≡ None → AllAnswered g (opened_as (work_of a) (without a.start ran.begun) ran.began) ran.opened back s ran.run
-      pub in_turn : (seed clients ops workers : ℕ) → a.asked.command.action ≡ Sweep seed clients ops workers → s.ending.lost ≡ None
+      pub in_turn : (seed clients ops workers : ℕ) (mapped : Bool) → a.asked.command.action ≡ Sweep seed clients ops workers mapped → s.ending.lost ≡ None
           → SweptInTurn g (opened_as (work_of a) (without a.start ran.begun) ran.began) ran.opened s back ran.run.start.blocks
       pub rebuilt : (how : Start) → rebuilding.RebuildIsDone g (opened_as (work_of a) (without a.start ran.begun) ran.began) ran.opened back s ran.run how
           → rebuilding.IsWorth g (opened_as (work_of a) (without a.start ran.begun) ran.began) ran.opened back s ran.run how
@@ -56,7 +59,7 @@ module _ {D : Type 0} (g : Ghosts D) where
     DoesRun None (Ran action s) = (action ≡ a.asked.command.action) × RunsPlain s
     DoesRun None (Did act e) = ⊥
     DoesRun (Some newest) (Ran action s) = (action ≡ a.asked.command.action) × RunsLabelled newest s
-    DoesRun (Some newest) (Did act e) = (act ≡ done.Nothing) × IsLostBefore g (work_of a) newest old e back
+    DoesRun (Some newest) (Did act e) = (act ≡ done.Nothing) × IsLostBefore g (work_of a) newest old (profile_of a.asked.command.action).map e back
     DoesRun newest (Looked text) = ⊥
 
     -- something was done without a core
@@ -65,7 +68,7 @@ module _ {D : Type 0} (g : Ghosts D) where
     DoesIt order o = ⊥
 
     abbrev pub order_of : Action → Option Order
-    order_of action = order_by action a.asked.comp a.opened.newest a.asked.conf a.opened.rows
+    order_of action = order_for (profile_of action).deed a.asked.comp a.opened.newest a.asked.conf a.opened.rows
 
     -- the one or the other, by the deed
     abbrev pub DoesDeed : Deed → Option Order → Outcome → Type 0
@@ -91,6 +94,13 @@ module _ {D : Type 0} (g : Ghosts D) where
   Says old back said (Looked text) = (text ≡ said) × (back ≡ old)
   Says old back said o = ⊥
 
+  -- The maps of the devices in use were read, where the array has labels, and the array or its parity map is shown as it is by that.
+  pub record ShowsArray (k : Asked) (opened : Opened) (fronts : List Front) (old back : List (Option D)) (o : Outcome) : Type 0 where
+    pub after : List Column
+    pub map : Option Marked
+    pub found : AreMapsFound g (shape_of k.conf opened.rows) opened.newest opened.columns after old back map
+    pub said : o ≡ Looked (shown_text (profile_of k.command.action).map k.conf (record opened { columns = after }) (sizes_of g.size old) fronts map)
+
   -- the front of the one device that was looked at
   abbrev pub SaysLabel : (old back : List (Option D)) → List Front → Outcome → Type 0
   SaysLabel old back (front ∷ []) o = Says old back (label_text front) o
@@ -99,7 +109,7 @@ module _ {D : Type 0} (g : Ghosts D) where
   -- what is due was done
   abbrev pub Does : Duty → List Front → (old back : List (Option D)) → Outcome → Type 0
   Does (OnArray a) fronts old back o = DoesArray a (has_failed a.start fronts) old back a.asked.command.action o
-  Does (Shows k opened) fronts old back o = Says old back (show_text k.conf opened (sizes_of g.size old) fronts) o
+  Does (Shows k opened) fronts old back o = ShowsArray k opened fronts old back o
   Does (OneLabel k) fronts old back o = SaysLabel old back fronts o
   Does (PrintConf k) fronts old back o = Says old back (conf_text k.conf) o
 

@@ -6,6 +6,7 @@ pub mod Orders
 pub mod Works
 pub mod Does
 pub mod Views
+pub mod Shown
 pub mod Served
 pub mod Losses
 pub mod Acted

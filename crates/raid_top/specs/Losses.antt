@@ -35,21 +35,11 @@ loss_of (Looked text) = None
 
 -- ## Causes
 
--- an item by which the column fails was replied ok; only a run has items
-abbrev pub WasAskedToFail : Outcome → ℕ → Type 0
-WasAskedToFail (Ran action s) c = IsToldFailed s c
-WasAskedToFail (Did act e) c = ⊥
-WasAskedToFail (Looked text) c = ⊥
-
--- The action names the column: to fail it; or to rebuild it anew, and it is told neither to be done nor to be paused.
-abbrev pub WasNamed : Admitted → Outcome → ℕ → Type 0
-WasNamed a (Ran action s) c = IsAnew a.start c × IsToldUnbuilt s c
-WasNamed a (Did act e) c = (needs_of a.asked).excused ≡ Some c
-WasNamed a (Looked text) c = ⊥
-
--- it was filling as the array was opened, and the array is lost in the end
-abbrev pub WasGivenUp : Admitted → Outcome → ℕ → Type 0
-WasGivenUp a o c = IsGivenUp (loss_of o) (columns_of a) c
+-- The action names the column, to fail it; or to rebuild it anew, and it is told neither to be done nor to be paused; or an item by which it fails was replied ok. Only a run has items.
+abbrev pub WasAsked : Admitted → Outcome → ℕ → Type 0
+WasAsked a (Ran action s) c = (IsAnew a.start c × IsToldUnbuilt s c) ⊎ IsToldFailed s c
+WasAsked a (Did act e) c = (needs_of a.asked).excused ≡ Some c
+WasAsked a (Looked text) c = ⊥
 
 -- the columns as they are kept if none dies: as the array was opened, and one that a run rebuilds as its rebuild begins
 abbrev pub columns_due : Admitted → Outcome → List Column
@@ -64,16 +54,9 @@ states_due a (Did act e) = states_in a
 states_due a (Looked text) = states_in a
 
 module _ {D : Type 0} (g : Ghosts D) (a : Admitted) (old back : List (Option D)) (o : Outcome) where
-  -- its device's count of faults rose
-  abbrev pub HasRisen : ℕ → Type 0
-  HasRisen c = (d : ℕ) × HasDevice (states_due a o) c d × RisesOn g old back d
-
+  -- It was asked for; its device's count of faults rose; or it was filling as the array was opened, and the array is lost in the end.
   abbrev pub IsCauseOfDeath : ℕ → Type 0
-  IsCauseOfDeath c = WasNamed a o c ⊎ (WasAskedToFail o c ⊎ (HasRisen c ⊎ WasGivenUp a o c))
-
-  -- it is kept as what it is if none dies, or it is dead for a cause
-  abbrev pub EndsForCause : ℕ → Type 0
-  EndsForCause c = IsKeptAs (slice_get (columns_due a o) c) (slice_get (columns_in_end o) c) ⊎ ((slice_get (columns_in_end o) c ≡ Some column.Dead) × IsCauseOfDeath c)
+  IsCauseOfDeath c = WasAsked a o c ⊎ (((d : ℕ) × HasDevice (states_due a o) c d × RisesOn g old back d) ⊎ IsGivenUp (loss_of o) (columns_of a) c)
 
 -- ## A loss
 
@@ -90,7 +73,8 @@ pub record IsLostByDead (y : Shape) (cols : List Column) (loss : Loss) : Type 0 
 -- Whatever was done and however it came to a loss: in the end each column is kept as what it is if none dies, or is dead for a cause; of a lost array no column is filling any more; and both columns of a loss are dead, or spread over a dead one.
 pub record DeathsHaveCauses {D : Type 0} (g : Ghosts D) (a : Admitted) (old back : List (Option D)) (o : Outcome) : Type 0 where
   pub count : length (columns_in_end o) ≡ length (columns_of a)
-  pub each : (c : ℕ) → EndsForCause g a old back o c
+  pub each : (c : ℕ) → IsKeptAs (slice_get (columns_due a o) c) (slice_get (columns_in_end o) c)
+      ⊎ ((slice_get (columns_in_end o) c ≡ Some column.Dead) × IsCauseOfDeath g a old back o c)
   pub given_up : IsGivenUpIn (loss_of o) (columns_in_end o)
   pub lost : (loss : Loss) → loss_of o ≡ Some loss → IsLostByDead (layout_of a) (columns_in_end o) loss
 

@@ -4,7 +4,6 @@ use Rattle.raid_conf.specs.declared.conf.Conf.{Conf}
 use Rattle.raid_label.specs.declared.label.Label.{Label}
 use Rattle.top_acts.specs.declared.sweeping.Renewal.TheVariants as renewal
 use Rattle.top_duty.specs.Opening.{plan_of}
-use Rattle.top_words.specs.Asked.{Action, profile_of}
 use Rattle.top_words.specs.declared.profile.Deed.{Deed}
 use Rattle.top_words.specs.declared.profile.Deed.TheVariants as deed
 use Rattle.raid_top.specs.declared.array.Order.{Order}
@@ -48,6 +47,3 @@ order_for deed.Rewrites comp newest conf rows = Some (order.Renew renewal.Rewrit
 order_for deed.Kills comp newest conf rows = kill_of comp newest
 order_for (deed.Labels serial) comp newest conf rows =
     Some (order.Label (first_label conf rows serial))
-
-abbrev pub order_by : Action → Option ℕ → Option Label → Conf → ℕ → Option Order
-order_by action comp newest conf rows = order_for (profile_of action).deed comp newest conf rows

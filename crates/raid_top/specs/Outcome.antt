@@ -15,6 +15,7 @@ use Rattle.top_run.specs.Work.{Ending, Service}
 use Rattle.top_words.specs.Asked.{Action, profile_of}
 use Rattle.top_words.specs.declared.profile.Drawing.{Drawing}
 use Rattle.raid_top.specs.Rebuilt.{rebuild_text}
+use Rattle.std.specs.Option.{option_map_or}
 
 -- A script was run, or items that were drawn; or something was done to the array without a core, or
 -- it was lost before the core was opened; or it was looked at, and this is what is said of it.
@@ -47,30 +48,13 @@ status_of (Looked text) = status.Ok
 abbrev pub script_text : Service → List ℕ
 script_text s = replies_text s.clients s.replies s.sectors ++ history_text s.history ++ trace_text s.trace
 
--- what is told of a sweep: its sums, and nothing where the array was lost
-abbrev pub sweep_text : Service → Option Loss → List ℕ
-sweep_text s None = summary_text s.clients s.replies s.sectors
-sweep_text s (Some loss) = []
-
--- what is told of a run, but for its end: where clients were drawn, their sums; else of a script,
--- and behind that of a rebuild, if there was one
+-- what is told of a run, but for its end: where clients were drawn, their sums, and nothing where the array was lost; else of a script, and behind that of a rebuild, if there was one
 abbrev pub run_text : Option Drawing → Service → List ℕ
 run_text None s = script_text s ++ rebuild_text s.line
-run_text (Some drawing) s = sweep_text s s.ending.lost
+run_text (Some drawing) s = option_map_or (λ loss. []) s.ending.lost (summary_text s.clients s.replies s.sectors)
 
-abbrev pub service_text : Action → Service → List ℕ
-service_text action s = run_text (profile_of action).drawn s
-
--- all that is printed of a run: what it tells, the columns that are dead in the end, and the status
-abbrev pub ran_text : Action → Service → List ℕ
-ran_text action s = service_text action s ++ ending_text s.ending.columns (status_of_loss s.ending.lost)
-
--- and of what was done without a core: its line, if it has one, the columns that are dead in the end, and the status
-abbrev pub did_text : Done → Ending → List ℕ
-did_text act e = done_text act ++ ending_text e.columns (status_of_done act e.lost)
-
--- all that is printed
+-- all that is printed: what a run tells, or the line of what was done, if it has one, the columns that are dead in the end, and the status
 abbrev pub outcome_text : Outcome → List ℕ
-outcome_text (Ran action s) = ran_text action s
-outcome_text (Did act e) = did_text act e
+outcome_text (Ran action s) = run_text (profile_of action).drawn s ++ ending_text s.ending.columns (status_of_loss s.ending.lost)
+outcome_text (Did act e) = done_text act ++ ending_text e.columns (status_of_done act e.lost)
 outcome_text (Looked text) = text ++ status_text status.Ok

@@ -65,15 +65,15 @@ abbrev pub ComesPlain : {D : Type 0} → Ghosts D → Work → (old back : List 
 ComesPlain g work old back (came.Ran service) = run.RanPlain g work old (service_seen service) back
 ComesPlain g work old back _ = ⊥
 
--- The same of an array with labels: it was served, or was lost before that. Whether the device onto which a column is rebuilt has failed before.
-abbrev pub ComesLabelled : {D : Type 0} → Ghosts D → Work → Label → (failed : Bool) → (old back : List (Option D)) → Came → Type 0
-ComesLabelled g work newest failed old back (came.Ran service) = RanLabelled g work newest old (service_seen service) back failed
-ComesLabelled g work newest failed old back (came.Did act ending) = (act ≡ done.Nothing) × IsLostBefore g work newest old (ending_seen ending) back
-ComesLabelled g work newest failed old back _ = ⊥
+-- The same of an array with labels: it was served, or was lost before that. Whether the device onto which a column is rebuilt has failed before, and whether a map is asked for.
+abbrev pub ComesLabelled : {D : Type 0} → Ghosts D → Work → Label → (failed map : Bool) → (old back : List (Option D)) → Came → Type 0
+ComesLabelled g work newest failed map old back (came.Ran service) = RanLabelled g work newest old (service_seen service) back failed map
+ComesLabelled g work newest failed map old back (came.Did act ending) = (act ≡ done.Nothing) × IsLostBefore g work newest old map (ending_seen ending) back
+ComesLabelled g work newest failed map old back _ = ⊥
 
-abbrev pub CameOf : {D : Type 0} → Ghosts D → Work → Option Label → (failed : Bool) → (old back : List (Option D)) → Came → Type 0
-CameOf g work None failed old back c = ComesPlain g work old back c
-CameOf g work (Some newest) failed old back c = ComesLabelled g work newest failed old back c
+abbrev pub CameOf : {D : Type 0} → Ghosts D → Work → Option Label → (failed map : Bool) → (old back : List (Option D)) → Came → Type 0
+CameOf g work None failed map old back c = ComesPlain g work old back c
+CameOf g work (Some newest) failed map old back c = ComesLabelled g work newest failed map old back c
 
 -- it was this that was done without a core
 abbrev pub ComesOfOrder : {D : Type 0} → Ghosts D → Shape → List Column → (old back : List (Option D)) → Order → Came → Type 0

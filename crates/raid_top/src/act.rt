@@ -18,6 +18,7 @@ ghost use Rattle.raid_top.specs.Bays.{told_of};
 use crate::came::Ended;
 use crate::performing::{Performed, perform};
 use crate::running::Served;
+use blk_disk::StopDisk;
 use raid_bay::Bay;
 use raid_progress::Progress;
 use std::alloc::Global;
@@ -37,7 +38,7 @@ fn end<'a, B: Bay, R: Threads + Wait + Sync, P: Progress + Sync>(
     progress: &P,
 ) -> Result<Ended<'a>, Refusal>
 where
-    B::D: Send + Drop,
+    B::D: StopDisk + Send + Drop,
     requires admitted { IsAdmitted B.D.Disk admitted }
     requires fronts { length admitted.fronts.items ≡ length admitted.devices.items }
     requires many { length admitted.devices.items ≡ length (names_for (asked_seen admitted.asked)) }
@@ -77,7 +78,7 @@ pub(crate) fn act<'a, B: Bay, R: Threads + Wait + Sync, P: Progress + Sync>(
     progress: &P,
 ) -> Result<Ended<'a>, Refusal>
 where
-    B::D: Send + Drop,
+    B::D: StopDisk + Send + Drop,
     requires { AreNumbersInRange (action_seen command.action) }
     ensures acted { IfOk result (λ e. Acted B.D.Disk (told_of B.Bay bay.old bay.new)
         (command_seen command.entry) (outcome_seen (action_seen e.action) e.conf e.came)) }

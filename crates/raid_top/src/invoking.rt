@@ -10,6 +10,7 @@ ghost use Rattle.raid_top.specs.Bays.{told_of};
 
 use crate::act::act;
 use crate::finished::Finished;
+use blk_disk::StopDisk;
 use raid_bay::{Bay, Name};
 use raid_progress::Progress;
 use sim_queue::Queue;
@@ -30,7 +31,7 @@ fn act_on<'a, B: Bay, R: Threads + Wait + Sync, P: Progress + Sync>(
     progress: &P,
 ) -> Result<Finished<'a>, Refusal>
 where
-    B::D: Send + Drop,
+    B::D: StopDisk + Send + Drop,
     requires { AreNumbersInRange (action_seen command.action) }
     ensures followed { IfOk result (λ f. Follows B.D.Disk (told_of B.Bay bay.old bay.new)
         (OnArray (command_seen command.entry)) (finished_seen f)) }
@@ -89,7 +90,7 @@ fn follow<'a, B: Bay, R: Threads + Wait + Sync, P: Progress + Sync>(
     progress: &P,
 ) -> Result<Finished<'a>, Refusal>
 where
-    B::D: Send + Drop,
+    B::D: StopDisk + Send + Drop,
     requires { IsInRange (invocation_seen invocation) }
     ensures followed { IfOk result (λ f. Follows B.D.Disk (told_of B.Bay bay.old bay.new)
         (invocation_seen invocation.entry) (finished_seen f)) }
@@ -126,7 +127,7 @@ pub(crate) fn invoke<'a, B: Bay, R: Threads + Wait + Sync, P: Progress + Sync>(
     progress: &P,
 ) -> Result<Finished<'a>, Refusal>
 where
-    B::D: Send + Drop,
+    B::D: StopDisk + Send + Drop,
     ensures followed { IfOk result (λ f. Followed B.D.Disk (told_of B.Bay bay.old bay.new)
         words.entry.now (finished_seen f)) }
     ensures told { IfOk result CanBeTold }

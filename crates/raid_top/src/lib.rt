@@ -24,6 +24,7 @@ mod printing;
 mod rebuilt;
 mod running;
 mod setup;
+mod showing;
 mod top;
 
 pub use laws::{

@@ -1,8 +1,9 @@
 //! What an action asks to be done to an array without a core.
 ghost use Rattle.std.specs.Prelude.{◌≡◌};
 ghost use Rattle.raid_conf.specs.Form.{IsConf};
+ghost use Rattle.top_words.specs.Asked.{profile_of};
 ghost use Rattle.top_words.specs.Views.{action_seen};
-ghost use Rattle.raid_top.specs.Orders.{first_label, kill_of, order_by, order_for};
+ghost use Rattle.raid_top.specs.Orders.{first_label, kill_of, order_for};
 
 use crate::array::Order;
 use raid_conf::Conf;
@@ -77,7 +78,8 @@ pub(crate) fn order_of(
     rows: u32,
 ) -> Option<Order>
     requires { IsConf conf.now }
-    ensures { result ≡ order_by (action_seen action.entry) comp newest conf.now rows }
+    ensures { result ≡ order_for (profile_of (action_seen action.entry)).deed comp newest
+        conf.now rows }
 {
     order_for(action.profile().deed, comp, newest, conf, rows)
 }

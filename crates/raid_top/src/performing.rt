@@ -1,5 +1,5 @@
 //! What is due is done.
-ghost use Rattle.std.specs.Prelude.{◌≡◌, List, [], ◌∷◌, length, IfOk, IfErr, OnErr};
+ghost use Rattle.std.specs.Prelude.{◌≡◌, List, [], ◌∷◌, length, Some, IfOk, IfErr, OnErr};
 ghost use Rattle.raid_conf.specs.Form.{IsConf};
 ghost use Rattle.top_bay.specs.Asked.{names_for, names_of};
 ghost use Rattle.top_bay.specs.Views.{IsWithinLimits, asked_seen};
@@ -10,18 +10,21 @@ ghost use Rattle.top_duty.specs.Views.{IsDutyOver, IsFitFor, IsPrepared, admitte
 ghost use Rattle.top_open.specs.Opening.{opened_seen};
 ghost use Rattle.top_status.specs.Refusals.{only};
 ghost use Rattle.top_open.specs.declared.fronts.Front.{Front};
-ghost use Rattle.top_words.specs.Asked.{Init};
+ghost use Rattle.top_words.specs.Asked.{Init, profile_of};
 ghost use Rattle.top_words.specs.Views.{action_seen};
-ghost use Rattle.raid_top.specs.Does.{Does, DoesArray, DoesRun};
+ghost use Rattle.raid_top.specs.Does.{Does, DoesArray, DoesRun, ShowsArray};
+ghost use Rattle.raid_top.specs.Orders.{order_for};
 ghost use Rattle.raid_top.specs.Served.{IsMemory, IsRun};
 ghost use Rattle.raid_top.specs.Views.{CanBePrinted, PrintsConf, outcome_seen};
 
+use crate::array::Order;
 use crate::came::Came;
-use crate::changing::change;
+use crate::changing::{change, maps_for};
 use crate::order::order_of;
 use crate::running::{Served, serve};
 use crate::setup::{Unserved, work_of, workers_of};
-use blk_disk::Disk;
+use crate::showing::{empty_map, show};
+use blk_disk::{Disk, StopDisk};
 use raid_conf::Conf;
 use raid_progress::Progress;
 use std::alloc::Global;
@@ -30,7 +33,7 @@ use std::thread::Threads;
 use top_bay::Asked;
 use top_duty::{Admitted, Duty, Ready};
 use top_looks::printed_conf;
-use top_open::Front;
+use top_open::{Front, Opened};
 use top_status::{Refusal, Status};
 use top_words::Action;
 
@@ -42,7 +45,7 @@ pub(crate) struct Performed<'a, D> {
 }
 
 // Serves the clients that are asked for.
-fn run_array<'a, D: Disk + Drop + Send, R: Threads + Wait + Sync, P: Progress + Sync>(
+fn run_array<'a, D: StopDisk + Drop + Send, R: Threads + Wait + Sync, P: Progress + Sync>(
     rt: &R,
     alloc: Global,
     asked: Asked<'a>,
@@ -95,8 +98,43 @@ fn run_array<'a, D: Disk + Drop + Send, R: Threads + Wait + Sync, P: Progress + 
     }
 }
 
+// Does something to the array.
+fn alter_array<'a, D: StopDisk + Drop, P: Progress>(
+    alloc: Global,
+    order: Order,
+    asked: Asked<'a>,
+    ready: Ready,
+    devices: Vec<Option<D>>,
+    progress: &P,
+) -> Performed<'a, D>
+    requires within { IsWithinLimits (asked_seen asked) }
+    requires ready { (fronts : List Front)
+        × IsPrepared (asked_seen asked) (sizes_of D.size devices.items) fronts ready }
+    requires kind { kind_of (action_seen asked.command.action) ≡ kind_of Init }
+    requires fit { IsFit D.Disk (asked_seen asked) (opened_seen ready.opened) devices.items }
+    requires order { order_for (profile_of (action_seen asked.command.action)).deed asked.comp
+        ready.opened.newest asked.conf ready.opened.rows ≡ Some order }
+    ensures action { result.action ≡ asked.entry.command.action }
+    ensures conf { result.conf ≡ asked.entry.conf }
+    ensures does { IfOk result.served.came (λ came. DoesArray D.Disk
+        (admitted_by (asked_seen asked.entry) ready)
+        ready.failed devices.items result.served.devices.items (action_seen result.action)
+        (outcome_seen (action_seen result.action) result.conf came)) }
+    ensures printed { IfOk result.served.came CanBePrinted }
+    ensures memory { IfErr result.served.came (λ r. r ≡ beside_dead
+        (admitted_by (asked_seen asked.entry) ready) Status.Memory) }
+    ensures same { OnErr result.served.came (result.served.devices ≡ devices) }
+{
+    let Ok(maps) = maps_for(alloc, &order, &ready.layout) else {
+        let came = Err(Refusal::beside(ready.opened.columns, Status::Memory));
+        return say(asked, came, devices);
+    };
+    let (came, devices) = change(order, ready, maps, devices, progress);
+    say(asked, Ok(came), devices)
+}
+
 // Does something to the array, or serves the clients that are asked for.
-fn act_on_array<'a, D: Disk + Drop + Send, R: Threads + Wait + Sync, P: Progress + Sync>(
+fn act_on_array<'a, D: StopDisk + Drop + Send, R: Threads + Wait + Sync, P: Progress + Sync>(
     rt: &R,
     alloc: Global,
     asked: Asked<'a>,
@@ -126,22 +164,12 @@ fn act_on_array<'a, D: Disk + Drop + Send, R: Threads + Wait + Sync, P: Progress
     let action = asked.command.action;
     let opened = &ready.opened;
     match order_of(action, asked.comp, opened.newest, &asked.conf, opened.rows) {
-        Some(order) => {
-            let (came, devices) = change(order, ready, devices, progress);
-            Performed {
-                action,
-                conf: asked.conf,
-                served: Served {
-                    came: Ok(came),
-                    devices,
-                },
-            }
-        }
+        Some(order) => alter_array(alloc, order, asked, ready, devices, progress),
         None => run_array(rt, alloc, asked, ready, devices, progress),
     }
 }
 
-// What came of a command for which no device is called.
+// What came of a command, and what is kept of it, with the devices.
 fn say<'a, D>(
     asked: Asked<'a>,
     came: Result<Came, Refusal>,
@@ -169,6 +197,35 @@ fn only_front(mut fronts: Vec<Front>) -> Front
     }
 }
 
+// What is shown of an array, or that memory was wanted for that.
+fn show_array<'a, D: Disk>(
+    alloc: Global,
+    asked: Asked<'a>,
+    opened: Opened,
+    sizes: Vec<u64>,
+    fronts: Vec<Front>,
+    mut devices: Vec<Option<D>>,
+) -> Performed<'a, D>
+    requires within { IsWithinLimits (asked_seen asked) }
+    requires fit { IsFit D.Disk (asked_seen asked) (opened_seen opened) devices.items }
+    requires sizes { sizes.items ≡ sizes_of D.size devices.items }
+    ensures action { result.action ≡ asked.entry.command.action }
+    ensures conf { result.conf ≡ asked.entry.conf }
+    ensures does { IfOk result.served.came (λ came. ShowsArray D.Disk (asked_seen asked.entry)
+        (opened_seen opened) fronts.items devices.items result.served.devices.items
+        (outcome_seen (action_seen result.action) result.conf came)) }
+    ensures printed { IfOk result.served.came CanBePrinted }
+    ensures memory { IfErr result.served.came (λ r. r ≡ only Status.Memory) }
+    ensures same { OnErr result.served.came (result.served.devices ≡ devices) }
+{
+    let Ok(map) = empty_map(alloc, &asked.conf, &opened) else {
+        return say(asked, Err(Refusal::only(alloc, Status::Memory)), devices);
+    };
+    let slice = devices.as_mut_slice();
+    let shown = show(map, opened, sizes, fronts, slice);
+    say(asked, Ok(Came::Shows(shown)), devices)
+}
+
 // The text of the configuration, or that memory was wanted for it.
 fn print_conf(alloc: Global, conf: &Conf) -> Result<Came, Refusal>
     requires { IsConf conf.now }
@@ -182,7 +239,7 @@ fn print_conf(alloc: Global, conf: &Conf) -> Result<Came, Refusal>
 }
 
 /// Does what is due. The only refusal is want of memory, and the devices are then what they were.
-pub(crate) fn perform<'a, D: Disk + Drop + Send, R: Threads + Wait + Sync, P: Progress + Sync>(
+pub(crate) fn perform<'a, D: StopDisk + Drop + Send, R: Threads + Wait + Sync, P: Progress + Sync>(
     rt: &R,
     alloc: Global,
     admitted: Admitted<'a, D>,
@@ -217,7 +274,7 @@ pub(crate) fn perform<'a, D: Disk + Drop + Send, R: Threads + Wait + Sync, P: Pr
     } = admitted;
     match duty {
         Duty::OnArray(ready) => act_on_array(rt, alloc, asked, ready, devices, progress),
-        Duty::Shows(opened) => say(asked, Ok(Came::Shows(opened, sizes, fronts)), devices),
+        Duty::Shows(opened) => show_array(alloc, asked, opened, sizes, fronts, devices),
         Duty::OneLabel => say(asked, Ok(Came::ShowsLabel(only_front(fronts))), devices),
         Duty::PrintConf => {
             let came = print_conf(alloc, &asked.conf);

@@ -1,21 +1,24 @@
 //! What is printed of an outcome.
-ghost use Rattle.std.specs.Prelude.{◌≡◌, ◌≤◌, ◌++◌, length, is_ok, OnErr};
+ghost use Rattle.std.specs.Prelude.{◌≡◌, ◌≤◌, ◌++◌, length, is_ok, OnErr, []};
 ghost use Rattle.blk_disk.specs.Disk.{Rose};
 ghost use Rattle.raid_bay.specs.Sink.{Puts};
 ghost use Rattle.raid_conf.specs.Form.{IsConf};
 ghost use Rattle.raid_script.specs.Replies.{StandFor};
 ghost use Rattle.top_looks.specs.Labels.{label_text};
-ghost use Rattle.top_looks.specs.Show.{show_text};
 ghost use Rattle.top_open.specs.Opening.{opened_seen};
 ghost use Rattle.top_run.specs.Works.{service_seen};
 ghost use Rattle.top_status.specs.Status.{status_of_loss, status_text};
+ghost use Rattle.top_words.specs.Asked.{profile_of};
 ghost use Rattle.top_words.specs.Views.{action_seen};
 ghost use Rattle.raid_top.specs.Arrays.{ending_seen};
-ghost use Rattle.raid_top.specs.Outcome.{did_text, outcome_text, ran_text, run_text, script_text, service_text, status_of_act, status_of_done, sweep_text};
+ghost use Rattle.raid_top.specs.Outcome.{Ran, Did, outcome_text, run_text, script_text, status_of_act, status_of_done};
 ghost use Rattle.raid_top.specs.Rebuilt.{rebuild_text};
-ghost use Rattle.raid_top.specs.Views.{CanBePrinted, outcome_seen, status_came};
+ghost use Rattle.raid_top.specs.Shown.{is_any_marked, shown_text};
+ghost use Rattle.raid_top.specs.Views.{CanBePrinted, outcome_seen, shown_of, status_came};
+ghost use Rattle.std.specs.Option.{option_map_or};
+ghost use Rattle.raid_script.specs.Summary.{summary_text};
 
-use crate::came::{Came, Ended};
+use crate::came::{Came, Ended, Shown};
 use crate::rebuilt::put_rebuilt;
 use blk_disk::Failed;
 use eng_cols::Loss;
@@ -24,8 +27,8 @@ use raid_conf::Conf;
 use raid_script::{put_history, put_replies, put_summary, put_trace};
 use top_acts::{Done, put_done};
 use top_close::Ending;
-use top_looks::{put_label, put_show};
-use top_open::{Front, Opened};
+use top_looks::{Marked, put_label, put_map, put_show};
+use top_open::Front;
 use top_run::Service;
 use top_status::{Status, put_ending, put_status};
 use top_words::{Action, Drawing};
@@ -33,7 +36,7 @@ use top_words::{Action, Drawing};
 // Prints replies, history and trace.
 fn put_script<K: Sink>(service: &Service, out: &mut K) -> Result<(), Failed>
     requires { StandFor service.now.clients.items service.now.replies.items
-        service.now.sectors.items }
+        service.now.sectors }
     ensures output { K.tells → Puts (is_ok result) (K.output out.old)
         (script_text (service_seen service.now)) (K.output out.new) }
     ensures later { K.faults out.old ≤ K.faults out.new }
@@ -48,9 +51,11 @@ fn put_script<K: Sink>(service: &Service, out: &mut K) -> Result<(), Failed>
 fn put_sweep<K: Sink>(service: &Service, out: &mut K) -> Result<(), Failed>
     requires few { length service.now.clients.items ≤ 16 }
     requires stand { StandFor
-        service.now.clients.items service.now.replies.items service.now.sectors.items }
+        service.now.clients.items service.now.replies.items service.now.sectors }
     ensures output { K.tells → Puts (is_ok result) (K.output out.old)
-        (sweep_text (service_seen service.now) service.now.lost) (K.output out.new) }
+        (option_map_or (λ loss. []) service.now.lost (summary_text
+        (service_seen service.now).clients (service_seen service.now).replies
+        (service_seen service.now).sectors)) (K.output out.new) }
     ensures later { K.faults out.old ≤ K.faults out.new }
     ensures cause { OnErr result (Rose (K.faults out.old) (K.faults out.new)) }
 {
@@ -63,7 +68,7 @@ fn put_sweep<K: Sink>(service: &Service, out: &mut K) -> Result<(), Failed>
 // Prints what is told of a script, and of a rebuild, if there was one.
 fn put_clients<K: Sink>(service: &Service, out: &mut K) -> Result<(), Failed>
     requires { StandFor service.now.clients.items service.now.replies.items
-        service.now.sectors.items }
+        service.now.sectors }
     ensures output { K.tells → Puts (is_ok result) (K.output out.old)
         (script_text (service_seen service.now) ++ rebuild_text service.now.line)
         (K.output out.new) }
@@ -78,7 +83,7 @@ fn put_clients<K: Sink>(service: &Service, out: &mut K) -> Result<(), Failed>
 fn put_run_of<K: Sink>(drawn: Option<Drawing>, service: &Service, out: &mut K) -> Result<(), Failed>
     requires few { length service.now.clients.items ≤ 16 }
     requires stand { StandFor
-        service.now.clients.items service.now.replies.items service.now.sectors.items }
+        service.now.clients.items service.now.replies.items service.now.sectors }
     ensures output { K.tells → Puts (is_ok result) (K.output out.old)
         (run_text drawn (service_seen service.now)) (K.output out.new) }
     ensures later { K.faults out.old ≤ K.faults out.new }
@@ -94,9 +99,10 @@ fn put_run_of<K: Sink>(drawn: Option<Drawing>, service: &Service, out: &mut K) -
 fn put_service<K: Sink>(action: Action<'_>, service: &Service, out: &mut K) -> Result<(), Failed>
     requires few { length service.now.clients.items ≤ 16 }
     requires stand { StandFor
-        service.now.clients.items service.now.replies.items service.now.sectors.items }
+        service.now.clients.items service.now.replies.items service.now.sectors }
     ensures output { K.tells → Puts (is_ok result) (K.output out.old)
-        (service_text (action_seen action.entry) (service_seen service.now)) (K.output out.new) }
+        (run_text (profile_of (action_seen action.entry)).drawn (service_seen service.now))
+        (K.output out.new) }
     ensures later { K.faults out.old ≤ K.faults out.new }
     ensures cause { OnErr result (Rose (K.faults out.old) (K.faults out.new)) }
 {
@@ -112,10 +118,11 @@ fn put_run<K: Sink>(
 ) -> Result<(), Failed>
     requires few { length service.now.clients.items ≤ 16 }
     requires stand { StandFor
-        service.now.clients.items service.now.replies.items service.now.sectors.items }
+        service.now.clients.items service.now.replies.items service.now.sectors }
     requires status { status.now ≡ status_of_loss service.now.lost }
     ensures output { K.tells → Puts (is_ok result) (K.output out.old)
-        (ran_text (action_seen action.entry) (service_seen service.now)) (K.output out.new) }
+        (outcome_text (Ran (action_seen action.entry) (service_seen service.now)))
+        (K.output out.new) }
     ensures later { K.faults out.old ≤ K.faults out.new }
     ensures cause { OnErr result (Rose (K.faults out.old) (K.faults out.new)) }
 {
@@ -127,7 +134,7 @@ fn put_run<K: Sink>(
 fn put_act<K: Sink>(act: &Done, ending: &Ending, status: &Status, out: &mut K) -> Result<(), Failed>
     requires status { status.now ≡ status_of_done act.now ending.now.lost }
     ensures output { K.tells → Puts (is_ok result) (K.output out.old)
-        (did_text act.now (ending_seen ending.now)) (K.output out.new) }
+        (outcome_text (Did act.now (ending_seen ending.now))) (K.output out.new) }
     ensures later { K.faults out.old ≤ K.faults out.new }
     ensures cause { OnErr result (Rose (K.faults out.old) (K.faults out.new)) }
 {
@@ -135,23 +142,52 @@ fn put_act<K: Sink>(act: &Done, ending: &Ending, status: &Status, out: &mut K) -
     put_ending(&ending.columns, status, out)
 }
 
-// Prints how an array was opened, and the status.
-fn put_opened<K: Sink>(
+fn is_any_marked(map: Option<Marked>) -> bool
+    ensures { result ≡ is_any_marked map }
+{
+    match map {
+        Some(map) => map.marked > 0,
+        None => false,
+    }
+}
+
+// Prints the parity map of an array, where that is asked for, else how it was opened.
+fn put_looked<K: Sink>(map: bool, conf: &Conf, shown: &Shown, out: &mut K) -> Result<(), Failed>
+    requires conf { IsConf conf.now }
+    ensures output { K.tells → Puts (is_ok result) (K.output out.old)
+        (shown_text map conf.now (opened_seen shown.now.opened) shown.now.sizes.items
+        shown.now.fronts.items shown.now.map) (K.output out.new) }
+    ensures later { K.faults out.old ≤ K.faults out.new }
+    ensures cause { OnErr result (Rose (K.faults out.old) (K.faults out.new)) }
+{
+    if map {
+        return put_map(shown.map, out);
+    }
+    let Shown {
+        opened,
+        sizes,
+        fronts,
+        map,
+    } = shown;
+    put_show(conf, opened, sizes, fronts, is_any_marked(*map), out)
+}
+
+// Prints what is shown of an array, and the status.
+fn put_shown<K: Sink>(
+    action: Action<'_>,
     conf: &Conf,
-    opened: &Opened,
-    sizes: &[u64],
-    fronts: &[Front],
+    shown: &Shown,
     status: &Status,
     out: &mut K,
 ) -> Result<(), Failed>
     requires conf { IsConf conf.now }
     ensures output { K.tells → Puts (is_ok result) (K.output out.old)
-        (show_text conf.now (opened_seen opened.now) sizes.now fronts.now ++ status_text status.now)
+        (shown_of (action_seen action.entry) conf.now shown.now ++ status_text status.now)
         (K.output out.new) }
     ensures later { K.faults out.old ≤ K.faults out.new }
     ensures cause { OnErr result (Rose (K.faults out.old) (K.faults out.new)) }
 {
-    put_show(conf, opened, sizes, fronts, out)?;
+    put_looked(action.profile().map, conf, shown, out)?;
     put_status(status, out)
 }
 
@@ -201,7 +237,7 @@ pub(crate) fn status_of(came: &Came) -> Status
     match came {
         Came::Ran(service) => Status::of_loss(service.lost),
         Came::Did(act, ending) => status_of_done(*act, ending.lost),
-        Came::Shows(_, _, _) | Came::ShowsLabel(_) | Came::Prints(_) => Status::Ok,
+        Came::Shows(_) | Came::ShowsLabel(_) | Came::Prints(_) => Status::Ok,
     }
 }
 
@@ -222,9 +258,7 @@ pub(crate) fn put_ended<K: Sink>(
     match &ended.came {
         Came::Ran(service) => put_run(ended.action, service, status, out),
         Came::Did(act, ending) => put_act(act, ending, status, out),
-        Came::Shows(opened, sizes, fronts) => {
-            put_opened(&ended.conf, opened, sizes, fronts, status, out)
-        }
+        Came::Shows(shown) => put_shown(ended.action, &ended.conf, shown, status, out),
         Came::ShowsLabel(front) => put_front(front, status, out),
         Came::Prints(text) => put_text(text, status, out),
     }

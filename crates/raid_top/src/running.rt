@@ -9,7 +9,7 @@ ghost use Rattle.raid_top.specs.Views.{CanBePrinted, came_from};
 
 use crate::came::Came;
 use crate::setup::Work;
-use blk_disk::Disk;
+use blk_disk::StopDisk;
 use eng_array::Setup;
 use eng_cols::Cols;
 use lay_core::Layout;
@@ -42,7 +42,7 @@ fn status_of(fault: ServeFault) -> Status
 // Serves the clients over an array without labels.
 fn run_plain<
     L: Layout + Drop + Send,
-    D: Disk + Drop + Send,
+    D: StopDisk + Drop + Send,
     R: Threads + Wait + Sync,
     P: Progress + Sync,
 >(rt: &R, alloc: Global, setup: Setup<L, D>, judge: Cols, workers: u32, progress: &P) -> Served<D>
@@ -81,7 +81,7 @@ fn came_of(outcome: Outcome) -> Came
 
 fn run_with_labels<
     L: Layout + Drop + Send,
-    D: Disk + Drop + Send,
+    D: StopDisk + Drop + Send,
     R: Threads + Wait + Sync,
     P: Progress + Sync,
 >(rt: &R, alloc: Global, labelled: Labelled<L, D>, workers: u32, progress: &P) -> Served<D>
@@ -91,7 +91,7 @@ fn run_with_labels<
     requires judge { IsFor (shape_in L.Layout labelled.setup) labelled.judge }
     requires room { 1024 * (shape_in L.Layout labelled.setup).unit_sectors ≤ labelled.room }
     ensures came { IfOk result.came (ComesLabelled D.Disk
-        (work_of L.Layout labelled.setup labelled.start) labelled.label labelled.failed
+        (work_of L.Layout labelled.setup labelled.start) labelled.label labelled.failed labelled.map
         labelled.setup.devices.items result.devices.items) }
     ensures printed { IfOk result.came CanBePrinted }
     ensures memory { IfErr result.came (λ r. r
@@ -111,7 +111,7 @@ fn run_with_labels<
 }
 
 /// Serves the clients, with so many workers. The only refusal is want of memory, and the devices are then what they were.
-pub(crate) fn serve<D: Disk + Drop + Send, R: Threads + Wait + Sync, P: Progress + Sync>(
+pub(crate) fn serve<D: StopDisk + Drop + Send, R: Threads + Wait + Sync, P: Progress + Sync>(
     rt: &R,
     alloc: Global,
     work: Work<D>,
@@ -125,7 +125,7 @@ pub(crate) fn serve<D: Disk + Drop + Send, R: Threads + Wait + Sync, P: Progress
     requires judge { IsFor (shape_in ⟦<AnyLayout as Layout>⟧ work.setup) work.judge }
     requires room { 1024 * (shape_in ⟦<AnyLayout as Layout>⟧ work.setup).unit_sectors ≤ work.room }
     ensures came { IfOk result.came (CameOf D.Disk
-        (work_of ⟦<AnyLayout as Layout>⟧ work.setup work.start) work.newest work.failed
+        (work_of ⟦<AnyLayout as Layout>⟧ work.setup work.start) work.newest work.failed work.map
         work.setup.devices.items result.devices.items) }
     ensures printed { IfOk result.came CanBePrinted }
     ensures memory { IfErr result.came
@@ -139,6 +139,7 @@ pub(crate) fn serve<D: Disk + Drop + Send, R: Threads + Wait + Sync, P: Progress
         room,
         start,
         failed,
+        map,
     } = work;
     match newest {
         None => run_plain(rt, alloc, setup, judge, workers, progress),
@@ -150,6 +151,7 @@ pub(crate) fn serve<D: Disk + Drop + Send, R: Threads + Wait + Sync, P: Progress
                 room,
                 start,
                 failed,
+                map,
             };
             run_with_labels(rt, alloc, labelled, workers, progress)
         }

@@ -1,6 +1,6 @@
 //! What is served, as it is handed to the core.
 ghost use Rattle.std.specs.Prelude.{◌≡◌, ◌≤◌, ◌++◌, ℕ, map, IfOk, IfErr, IfSome};
-ghost use Rattle.top_words.specs.Asked.{AreNumbersInRange};
+ghost use Rattle.top_words.specs.Asked.{AreNumbersInRange, profile_of};
 ghost use Rattle.top_words.specs.Views.{action_seen};
 ghost use Rattle.top_duty.specs.Duty.{clients_by, traces};
 ghost use Rattle.top_duty.specs.Views.{drawn_by, items_seen, views_of};
@@ -17,7 +17,7 @@ use top_duty::{Ready, choose, traces};
 use top_words::Action;
 
 /// What is handed to the core, and what the labels of the array take, the newest of which this is, where it has any. How a
-/// column is rebuilt, if one is, and whether the device onto which it goes has failed before.
+/// column is rebuilt, if one is, and whether the device onto which it goes has failed before. Whether a parity map is kept.
 pub(crate) struct Work<D> {
     pub setup: Setup<AnyLayout, D>,
     pub newest: Option<Label>,
@@ -25,6 +25,7 @@ pub(crate) struct Work<D> {
     pub room: Room,
     pub start: Option<Start>,
     pub failed: bool,
+    pub map: bool,
 }
 
 /// What is left where there is no memory for what is handed to the core.
@@ -71,6 +72,7 @@ pub(crate) fn work_of<D>(
         (λ w. (w.newest ≡ ready.opened.newest) × (w.judge ≡ ready.judge) × (w.room ≡ ready.room)) }
     ensures start { IfOk result (λ w. w.start ≡ ready.start) }
     ensures failed { IfOk result (λ w. w.failed ≡ ready.failed) }
+    ensures map { IfOk result (λ w. w.map ≡ (profile_of (action_seen action.entry)).map) }
     ensures columns_left { IfErr result (λ u. u.columns ≡ ready.opened.columns) }
     ensures devices_left { IfErr result (λ u. u.devices ≡ devices) }
 {
@@ -105,6 +107,7 @@ pub(crate) fn work_of<D>(
         room,
         start,
         failed,
+        map: action.profile().map,
     })
 }
 

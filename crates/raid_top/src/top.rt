@@ -1,13 +1,13 @@
 //! The run of the words, and what it prints.
 ghost use Rattle.std.specs.Prelude.{◌≡◌, ◌≤◌, OnOk, OnErr};
 ghost use Rattle.blk_disk.specs.Disk.{Rose};
-ghost use Rattle.raid_top.specs.Ends.{Answers, IsDone, IsRight};
+ghost use Rattle.raid_top.specs.Ends.{Answers};
 ghost use Rattle.raid_top.specs.Bays.{told_of};
 
 use crate::finished::status_finished;
 use crate::invoking::invoke;
 use crate::paging::Telling;
-use blk_disk::Failed;
+use blk_disk::{Failed, StopDisk};
 use put_line::{page_room, put_by_pages};
 use raid_bay::{Bay, Name, Sink};
 use raid_progress::Progress;
@@ -34,6 +34,8 @@ fn answer_of(status: Status, printed: Result<(), Failed>) -> Status
 ///
 /// `progress` is told how far it is, by numbers alone: nothing that is done or printed rests on that.
 ///
+/// What is right isn't refused: see [`what_is_right_is_answered`](crate::what_is_right_is_answered), which is so of every answer.
+///
 /// Memory that is wanted behind the opening of the core is wanted before any device is written. On every path each device
 /// that was taken is put back.
 pub fn run<B: Bay, K: Sink, R: Threads + Wait + Sync, P: Progress + Sync>(
@@ -45,14 +47,9 @@ pub fn run<B: Bay, K: Sink, R: Threads + Wait + Sync, P: Progress + Sync>(
     progress: &P,
 ) -> Status
 where
-    B::D: Send + Drop,
+    B::D: StopDisk + Send + Drop,
     ensures answer { Answers B.D.Disk (told_of B.Bay bay.old bay.new) words.now K.tells
         (Rose (K.faults out.old) (K.faults out.new)) result (K.output out.old) (K.output out.new) }
-    ensures complete { B.tells → IsRight B.D.Disk (told_of B.Bay bay.old bay.new) words.now
-        → ¬ Rose (B.faults bay.old) (B.faults bay.new)
-        → ¬ Rose (K.faults out.old) (K.faults out.new)
-        → IsDone B.D.Disk (told_of B.Bay bay.old bay.new) words.now K.tells result
-        (K.output out.old) (K.output out.new) }
     ensures bay_later { B.faults bay.old ≤ B.faults bay.new }
     ensures sink_later { K.faults out.old ≤ K.faults out.new }
 {

@@ -10,9 +10,10 @@ use Rattle.eng_cols.proofs.Lists.{count_at_most}
 use Rattle.raid_conf.specs.declared.conf.Conf.{Conf}
 use Rattle.top_open.specs.declared.fronts.Front.{Front}
 use Rattle.top_open.specs.Opening.{Opened}
-use Rattle.top_duty.specs.First.{first_of, or_other}
+use Rattle.top_duty.specs.First.{first_of}
 use Rattle.top_duty.specs.Opening.{filling_at}
 use Rattle.top_duty.specs.Start.{free_spare, is_free}
+use Rattle.std.specs.Option.{option_or}
 
 -- one that was found passes
 pub first_is : (p : ℕ → Bool) (n j : ℕ) → first_of p n ≡ Some j → (p j ≡ true) × (j < n)
@@ -20,7 +21,7 @@ unfolding first_of
 first_is p zero j h = absurd (let z : ⊥ = cc h in z)
 first_is p (suc n) j h = go (λ e. first_is p n j e) (first_of p n) refl (p n) refl h
   where
-    go : (first_of p n ≡ Some j → (p j ≡ true) × (j < n)) → (o : Option ℕ) → first_of p n ≡ o → (b : Bool) → p n ≡ b → or_other o (if b then Some n else None) ≡ Some j → (p j ≡ true) × (j < suc n)
+    go : (first_of p n ≡ Some j → (p j ≡ true) × (j < n)) → (o : Option ℕ) → first_of p n ≡ o → (b : Bool) → p n ≡ b → option_or o (if b then Some n else None) ≡ Some j → (p j ≡ true) × (j < suc n)
     go rest (Some i) e b f h = let r = rest (e ∙ h) in (r.0, omega (arith, r.1))
     go rest None e true f h = let same : n ≡ j = cc h in (ap p (sym same) ∙ f, omega (arith, same))
     go rest None e false f h = absurd (let z : ⊥ = cc h in z)
@@ -33,7 +34,7 @@ first_zero p = refl
 -- and none of one more, which doesn't
 first_suc : (p : ℕ → Bool) (n : ℕ) → first_of p n ≡ None → p n ≡ false → first_of p (suc n) ≡ None
 unfolding first_of
-first_suc p n none e = ap (λ (o : Option ℕ). or_other o (if p n then Some n else None)) none ∙ ap (λ (b : Bool). if b then Some n else None) e
+first_suc p n none e = ap (λ (o : Option ℕ). option_or o (if p n then Some n else None)) none ∙ ap (λ (b : Bool). if b then Some n else None) e
 
 pub first_more : (p : ℕ → Bool) (n : ℕ) → first_of p n ≡ None → p n ≡ false → first_of p (n + 1) ≡ None
 first_more p n none e = let next : n + 1 ≡ suc n = omega arith in ap (first_of p) next ∙ first_suc p n none e
@@ -41,11 +42,11 @@ first_more p n none e = let next : n + 1 ≡ suc n = omega arith in ap (first_of
 -- the one behind those of which none does
 first_here : (p : ℕ → Bool) (j : ℕ) → first_of p j ≡ None → p j ≡ true → first_of p (suc j) ≡ Some j
 unfolding first_of
-first_here p j none e = ap (λ (o : Option ℕ). or_other o (if p j then Some j else None)) none ∙ ap (λ (b : Bool). if b then Some j else None) e
+first_here p j none e = ap (λ (o : Option ℕ). option_or o (if p j then Some j else None)) none ∙ ap (λ (b : Bool). if b then Some j else None) e
 
 first_stays : (p : ℕ → Bool) (n j : ℕ) → first_of p n ≡ Some j → first_of p (suc n) ≡ Some j
 unfolding first_of
-first_stays p n j h = ap (λ (o : Option ℕ). or_other o (if p n then Some n else None)) h
+first_stays p n j h = ap (λ (o : Option ℕ). option_or o (if p n then Some n else None)) h
 
 first_at : (p : ℕ → Bool) (n j : ℕ) → first_of p j ≡ None → p j ≡ true → j < n → first_of p n ≡ Some j
 first_at p zero j none e lt = absurd (omega (arith, lt))
@@ -72,7 +73,7 @@ first_none p (suc n) j h lt = go (λ e less. first_none p n j e less) (first_of 
       ]
     ]
 
-    go : (first_of p n ≡ None → j < n → p j ≡ false) → (o : Option ℕ) → first_of p n ≡ o → (b : Bool) → p n ≡ b → or_other o (if b then Some n else None) ≡ None → p j ≡ false
+    go : (first_of p n ≡ None → j < n → p j ≡ false) → (o : Option ℕ) → first_of p n ≡ o → (b : Bool) → p n ≡ b → option_or o (if b then Some n else None) ≡ None → p j ≡ false
     go rest (Some i) e b f h = absurd (let z : ⊥ = cc h in z)
     go rest None e true f h = absurd (let z : ⊥ = cc h in z)
     go rest None e false f h = here false f refl rest e

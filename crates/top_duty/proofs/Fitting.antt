@@ -103,6 +103,6 @@ fit_for g k devices fronts (duty.OnArray r) within over =
     let o = opened_seen r.opened in
     let ready : IsReady k (sizes_of g.size devices) fronts o r.start (views_of r.joined.items) = over.1.ready in
     (is_fit g k o devices fronts within.conf ready.opened, may_start g k o devices fronts within ready.opened r.start ready.starts ready.may.alone)
-fit_for g k devices fronts (duty.Shows o) within over = tt
+fit_for g k devices fronts (duty.Shows o) within over = is_fit g k (opened_seen o) devices fronts within.conf over.1
 fit_for g k devices fronts duty.OneLabel within over = tt
 fit_for g k devices fronts duty.PrintConf within over = tt

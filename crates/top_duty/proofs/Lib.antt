@@ -1,3 +1,4 @@
+pub mod Words
 mod MapsMore
 mod Setting
 mod Losing

@@ -24,10 +24,11 @@ use Rattle.top_status.specs.Refusals.{Refused, ◌then◌, only}
 use Rattle.top_words.specs.Asked.{Action, Component, Nameless, Column, Device, profile_of}
 use Rattle.top_words.specs.declared.profile.Kind.{Kind}
 use Rattle.top_words.specs.declared.profile.Kind.TheVariants as kind
-use Rattle.top_duty.specs.Opening.{AreTableRows, as_left, as_opened, excused_by, filling_at, fronted_by, is_named, kind_of, left_at, needs_of, opened_by, or_fault, plan_of, present_of, status_of, stripes_on}
+use Rattle.top_duty.specs.Opening.{AreTableRows, as_left, as_opened, excused_by, filling_at, fronted_by, is_named, kind_of, left_at, needs_of, opened_by, plan_of, present_of, status_of, stripes_on}
 use Rattle.top_duty.proofs.Deadened.{left_few, left_fewer, left_get, left_length, small_fewer, small_length}
 use Rattle.top_duty.proofs.Firsts.{filling_found}
 use Rattle.top_duty.proofs.Tables.{plan_is, stripes-most}
+use Rattle.top_fetch.specs.Fetched.{or_status}
 
 -- what the fronts say, of which the column that the action fails may be dead
 pub was_fronted : (k : Asked) (sizes : List ℕ) (fronts : List Front) (o : Opened) → fronted_by k sizes fronts ≡ Ok o
@@ -35,7 +36,7 @@ pub was_fronted : (k : Asked) (sizes : List ℕ) (fronts : List Front) (o : Open
 unfolding fronted_by
 was_fronted k sizes fronts o h = go (opened_in (needs_of k) (plan_of k.conf) (present_of k.conf) sizes fronts) refl h
   where
-    go : (r : Result Opened OpenFault) → opened_in (needs_of k) (plan_of k.conf) (present_of k.conf) sizes fronts ≡ r → (or_fault r then λ x. Ok (as_opened k sizes x)) ≡ Ok o
+    go : (r : Result Opened OpenFault) → opened_in (needs_of k) (plan_of k.conf) (present_of k.conf) sizes fronts ≡ r → (or_status status_of r then λ x. Ok (as_opened k sizes x)) ≡ Ok o
         → (b : Opened) × (opened_in (needs_of k) (plan_of k.conf) (present_of k.conf) sizes fronts ≡ Ok b) × (as_opened k sizes b ≡ o)
     go (Ok b) e h = (b, e, cc h)
     go (Err f) e h = cc h

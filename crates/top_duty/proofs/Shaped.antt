@@ -1,5 +1,5 @@
 -- A label of the configuration's shape is that of an array of so many columns.
-use Rattle.std.proofs.Common.{◌≡◌, refl, ℕ, ◌==◌, Bool, true, false, Option, Some, None}
+use Rattle.std.proofs.Common.{◌≡◌, refl, ℕ, ◌==◌, Bool, true, false, Option, Some, None, option_map}
 use Rattle.std.specs.Prelude.{if◌then◌else◌}
 use Rattle.std.proofs.lemmas.Bool.{eqb-true}
 use Rattle.raid_label.specs.Judged.{fault_in, fault_unless_same, or_fault, shape_fault}
@@ -9,15 +9,15 @@ use Rattle.raid_label.specs.declared.label.Label.{Label}
 use Rattle.top_open.specs.declared.fault.OpenFault.{OpenFault}
 use Rattle.top_open.specs.declared.fault.OpenFault.TheVariants as fault
 use Rattle.top_open.specs.declared.plan.Plan.{Plan}
-use Rattle.top_open.specs.First.{or_refusal}
-use Rattle.top_open.specs.Labels.{configured, refusal_of_option, shape_refusal}
+use Rattle.top_open.specs.Labels.{configured, shape_refusal, refusal_of}
 use Rattle.top_open.specs.Plan.{are_rows}
+use Rattle.std.specs.Option.{option_or}
 
-or_none : (a b : Option OpenFault) → or_refusal a b ≡ None → a ≡ None
+or_none : (a b : Option OpenFault) → option_or a b ≡ None → a ≡ None
 or_none None b h = refl
 or_none (Some f) b h = cc h
 
-option_none : (c : ℕ) (a : Option LabelFault) → refusal_of_option c a ≡ None → a ≡ None
+option_none : (c : ℕ) (a : Option LabelFault) → option_map (refusal_of c) a ≡ None → a ≡ None
 option_none c None h = refl
 option_none c (Some f) h = cc h
 
@@ -54,5 +54,5 @@ shape_columns p n l h =
     same_columns l w
     (fault_none (shape_fault l w) (or_fault (fault_unless_same Serial l.serial l.serial) (fault_unless_same Column l.column l.column))
     (option_none l.column (or_fault (shape_fault l w) (or_fault (fault_unless_same Serial l.serial l.serial) (fault_unless_same Column l.column l.column)))
-    (or_none (refusal_of_option l.column (or_fault (shape_fault l w) (or_fault (fault_unless_same Serial l.serial l.serial) (fault_unless_same Column l.column l.column))))
+    (or_none (option_map (refusal_of l.column) (or_fault (shape_fault l w) (or_fault (fault_unless_same Serial l.serial l.serial) (fault_unless_same Column l.column l.column))))
     (if are_rows p l.rows then None else Some (fault.Label l.column 4 l.rows p.step)) h)))

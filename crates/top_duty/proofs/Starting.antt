@@ -1,5 +1,5 @@
 -- A rebuild that is begun may be.
-use Rattle.std.specs.Prelude.{◌≡◌, ◌⊎◌, ◌<◌, ◌≤◌, ◌+◌, ◌*◌, ◌==◌, ◌&&◌, ◌||◌, ℕ, zero, suc, Bool, true, false, not, List, [], ◌∷◌, length, cond, count_by, Option, Some, None, Ok, if◌then◌else◌, is_none, nat_le, slice_get, slice_index, option_map}
+use Rattle.std.specs.Prelude.{◌≡◌, ◌⊎◌, ◌<◌, ◌≤◌, ◌+◌, ◌*◌, ◌==◌, ◌&&◌, ◌||◌, ℕ, zero, suc, Bool, true, false, not, List, [], ◌∷◌, length, cond, count_by, Option, Some, None, Ok, if◌then◌else◌, is_none, nat_le, slice_get, slice_index, option_map, unwrap_or}
 use Rattle.std.specs.List.{list_any}
 use Rattle.std.proofs.Common.{arith, refl, sym, ap, subst, inl, inr, ◌∙◌}
 use Rattle.std.proofs.lemmas.Bool.{eq-eqb, eqb-true, leb-true}
@@ -23,12 +23,12 @@ use Rattle.top_open.specs.Opening.{Opened, labelled_in}
 use Rattle.top_open.specs.Plan.{sectors_for}
 use Rattle.top_open.specs.Seats.{is_unread}
 use Rattle.top_open.proofs.Filled.{WasJudged}
-use Rattle.top_words.specs.Asked.{Action, Io, Sweep, Show, Init, Check, Rewrite, Print, Fail, ShowLabel, Label as Labels, Rebuild, Resume, profile_of}
+use Rattle.top_words.specs.Asked.{Action, Io, Sweep, Show, ShowMap, Init, Check, Rewrite, Print, Fail, ShowLabel, Label as Labels, Rebuild, Resume, profile_of}
 use Rattle.top_duty.specs.Duty.{with_dead}
 use Rattle.top_duty.specs.First.{first_of}
 use Rattle.top_duty.specs.Fit.{HaveSparePlaces, IsStart, IsTarget, MayGo, IsStartIf}
 use Rattle.top_duty.specs.Opening.{filling_at, needs_for, needs_of, opened_by, plan_of, present_of, sizes_of}
-use Rattle.top_duty.specs.Start.{free_spare, has_places, is_free, is_on, most_by, onto_spare, other_filling, other_with, rebuild_elsewhere, rebuild_further, rebuild_in_place, start_by, start_in, unless_named}
+use Rattle.top_duty.specs.Start.{free_spare, has_places, is_free, is_on, onto_spare, other_filling, other_with, rebuild_elsewhere, start_in, unless_named}
 use Rattle.top_duty.proofs.Deadened.{dead_fewer}
 use Rattle.top_duty.proofs.Few.{GoesOn, few_rebuilds}
 use Rattle.top_duty.proofs.Firsts.{filling_found, filling_is, first_is}
@@ -39,6 +39,7 @@ use Rattle.top_duty.proofs.Places.{spare_by}
 use Rattle.top_duty.proofs.Sized.{size_at}
 use Rattle.top_duty.proofs.Stages.{had, judged, judged_rows, seats_are}
 use Rattle.top_duty.proofs.Tables.{plan_is}
+use Rattle.top_duty.proofs.Words.{start_by}
 
 -- ## Lists
 
@@ -169,12 +170,12 @@ module _ {D : Type 0} (g : Ghosts D) (k : Asked) (o : Opened) (devices : List (O
     -- ### Of a column anew
 
     module _ (c : ℕ) (excused : (needs_of k).excused ≡ Some c) (lt : c < k.conf.columns) (alone : (e d m : ℕ) → slice_get o.columns e ≡ Some (column.Filling d m) → e ≡ c) where
-      spare_is : (limit free : Option ℕ) → free_spare k.conf o sizes fronts ≡ free → (places : Bool) → (is_none limit && has_places k.conf o.columns) ≡ places → (s : Start) → onto_spare (most_by limit) c free places ≡ Some s
+      spare_is : (limit free : Option ℕ) → free_spare k.conf o sizes fronts ≡ free → (places : Bool) → (is_none limit && has_places k.conf o.columns) ≡ places → (s : Start) → onto_spare (unwrap_or limit 4294967295) c free places ≡ Some s
           → IsStart g k o devices s
       unfolding free_spare
       spare_is limit (Some device) e places f s h =
-          let same : start.Fill c device (most_by limit) ≡ s = cc h in
-          subst (λ (x : Start). IsStart g k o devices x) same (all_of (start.Fill c device (most_by limit)) lt alone (excused, found (first_of p k.conf.spares) refl e) tt)
+          let same : start.Fill c device (unwrap_or limit 4294967295) ≡ s = cc h in
+          subst (λ (x : Start). IsStart g k o devices x) same (all_of (start.Fill c device (unwrap_or limit 4294967295)) lt alone (excused, found (first_of p k.conf.spares) refl e) tt)
         where
           p : ℕ → Bool
           p j = is_free (64 + o.rows * k.conf.unit) sizes fronts o.seats (k.conf.columns + j)
@@ -193,22 +194,22 @@ module _ {D : Type 0} (g : Ghosts D) (k : Asked) (o : Opened) (devices : List (O
       elsewhere_is : (limit : Option ℕ) (s : Start) → rebuild_elsewhere limit k.conf o sizes fronts (Some c) ≡ Some s → IsStart g k o devices s
       elsewhere_is limit s h = spare_is limit (free_spare k.conf o sizes fronts) refl (is_none limit && has_places k.conf o.columns) refl s h
 
-      in_place_is : (limit : Option ℕ) (s : Start) → (needs_of k).own ≡ true → rebuild_in_place limit (Some c) ≡ Some s → IsStart g k o devices s
+      in_place_is : (limit : Option ℕ) (s : Start) → (needs_of k).own ≡ true → option_map (λ i. start.Fill i i (unwrap_or limit 4294967295)) (Some c) ≡ Some s → IsStart g k o devices s
       in_place_is limit s own h =
-          let same : start.Fill c c (most_by limit) ≡ s = cc h in
-          subst (λ (x : Start). IsStart g k o devices x) same (all_of (start.Fill c c (most_by limit)) lt alone (excused, in_place by.0 by.1 c own excused lt) tt)
+          let same : start.Fill c c (unwrap_or limit 4294967295) ≡ s = cc h in
+          subst (λ (x : Start). IsStart g k o devices x) same (all_of (start.Fill c c (unwrap_or limit 4294967295)) lt alone (excused, in_place by.0 by.1 c own excused lt) tt)
 
     -- ### Of the column that is filling
 
     module _ (excused : (needs_of k).excused ≡ None) where
-      further_is : (limit filling : Option ℕ) → filling_at o.columns ≡ filling → (s : Start) → rebuild_further limit filling ≡ Some s → IsStart g k o devices s
+      further_is : (limit filling : Option ℕ) → filling_at o.columns ≡ filling → (s : Start) → option_map (λ i. start.Resume i (unwrap_or limit 4294967295)) filling ≡ Some s → IsStart g k o devices s
       further_is limit None e s h = absurd (let z : ⊥ = cc h in z)
       further_is limit (Some c) e s h =
-          let same : start.Resume c (most_by limit) ≡ s = cc h in
+          let same : start.Resume c (unwrap_or limit 4294967295) ≡ s = cc h in
           let is = filling_is o.columns c e in
           let left : slice_get (with_dead (needs_of k).excused o.columns) c ≡ Some (column.Filling is.1 is.2) = ap (λ (x : Option ℕ). slice_get (with_dead x o.columns) c) excused ∙ is.3 in
           subst (λ (x : Start). IsStart g k o devices x) same
-          (all_of (start.Resume c (most_by limit)) (omega (arith, is.0, columns_are)) (λ i d m at. alone i (filling_found o.columns i d m one_filling at)) (excused, is.1, is.2, is.3) (is.1, is.2, left))
+          (all_of (start.Resume c (unwrap_or limit 4294967295)) (omega (arith, is.0, columns_are)) (λ i d m at. alone i (filling_found o.columns i d m one_filling at)) (excused, is.1, is.2, is.3) (is.1, is.2, left))
         where
           alone : (i : ℕ) → filling_at o.columns ≡ Some i → i ≡ c
           alone i found = let z : Some i ≡ Some c = sym found ∙ e in cc z
@@ -225,19 +226,20 @@ module _ {D : Type 0} (g : Ghosts D) (k : Asked) (o : Opened) (devices : List (O
 
   by_action : (action : Action) → k.command.action ≡ action → IsKnown k.conf action k.comp → (s : Start) → start_by action k.comp k.conf o sizes fronts ≡ Some s
       → other_with (profile_of action).rebuild k.comp (filling_at o.columns) ≡ None → IsStart g k o devices s
-  by_action (Rebuild true name limit beside workers) e known s h alone =
+  by_action (Rebuild true name limit beside workers mapped) e known s h alone =
       in_place_is (ap (λ (a : Action). (needs_for a k.comp).labels) e) known.at (ap (λ (a : Action). (needs_for a k.comp).excused) e ∙ known.is) known.within
       (named_alone known.at (sym (ap (λ (c : Option ℕ). unless_named c (filling_at o.columns)) known.is) ∙ alone))
-      limit s (ap (λ (a : Action). (needs_for a k.comp).own) e) (sym (ap (λ (c : Option ℕ). rebuild_in_place limit c) known.is) ∙ h)
-  by_action (Rebuild false name limit beside workers) e known s h alone =
+      limit s (ap (λ (a : Action). (needs_for a k.comp).own) e) (sym (ap (λ (c : Option ℕ). option_map (λ i. start.Fill i i (unwrap_or limit 4294967295)) c) known.is) ∙ h)
+  by_action (Rebuild false name limit beside workers mapped) e known s h alone =
       elsewhere_is (ap (λ (a : Action). (needs_for a k.comp).labels) e) known.at (ap (λ (a : Action). (needs_for a k.comp).excused) e ∙ known.is) known.within
       (named_alone known.at (sym (ap (λ (c : Option ℕ). unless_named c (filling_at o.columns)) known.is) ∙ alone))
       limit s (sym (ap (λ (c : Option ℕ). rebuild_elsewhere limit k.conf o sizes fronts c) known.is) ∙ h)
-  by_action (Resume limit beside workers) e known s h alone =
+  by_action (Resume limit beside workers mapped) e known s h alone =
       further_is (ap (λ (a : Action). (needs_for a k.comp).labels) e) (ap (λ (a : Action). (needs_for a k.comp).excused) e) limit (filling_at o.columns) refl s h
-  by_action (Io beside workers) e known s h alone = absurd (let z : ⊥ = cc h in z)
-  by_action (Sweep seed clients ops workers) e known s h alone = absurd (let z : ⊥ = cc h in z)
+  by_action (Io beside workers mapped) e known s h alone = absurd (let z : ⊥ = cc h in z)
+  by_action (Sweep seed clients ops workers mapped) e known s h alone = absurd (let z : ⊥ = cc h in z)
   by_action Show e known s h alone = absurd (let z : ⊥ = cc h in z)
+  by_action ShowMap e known s h alone = absurd (let z : ⊥ = cc h in z)
   by_action Init e known s h alone = absurd (let z : ⊥ = cc h in z)
   by_action Check e known s h alone = absurd (let z : ⊥ = cc h in z)
   by_action Rewrite e known s h alone = absurd (let z : ⊥ = cc h in z)

@@ -12,7 +12,7 @@ use Rattle.graph_text.specs.Format.{At}
 use Rattle.raid_conf.specs.Layouts.{shape_of}
 use Rattle.raid_script.specs.Asked.{Asked as Item}
 use Rattle.top_bound.specs.Bound.{rebuilds_sum, trace_sum}
-use Rattle.top_words.specs.Asked.{Action, Io, Sweep, Show, Init, Check, Rewrite, Print, Fail, ShowLabel, Label, Rebuild, Resume}
+use Rattle.top_words.specs.Asked.{Action, Io, Sweep, Show, ShowMap, Init, Check, Rewrite, Print, Fail, ShowLabel, Label, Rebuild, Resume}
 use Rattle.top_bay.specs.Asked.{Asked, names_of}
 use Rattle.top_open.specs.declared.fronts.Front.{Front}
 use Rattle.top_open.specs.Opening.{Opened, opened_seen}
@@ -25,12 +25,13 @@ use Rattle.top_duty.specs.declared.duty.Duty as declared_duty
 use Rattle.top_duty.specs.declared.duty.Duty.TheVariants as duty
 use Rattle.top_words.specs.declared.profile.Kind.{Kind}
 use Rattle.top_words.specs.declared.profile.Kind.TheVariants as kind
-use Rattle.top_duty.specs.Duty.{Admitted, ComesOfJoins, Duty, OnArray, Shows, OneLabel, PrintConf, IsWanted, WantsMemory, admitted_with, beside_dead, clients_by, columns_of, duty_by, duty_for, is_past, is_past_bound, is_short, judged_states, layout_of, lost_by, rebuilds_by, rebuilds_of, traces, with_dead, with_killed}
+use Rattle.top_duty.specs.Duty.{Admitted, ComesOfJoins, Duty, OnArray, Shows, OneLabel, PrintConf, IsWanted, WantsMemory, admitted_with, beside_dead, clients_by, columns_of, duty_by, duty_for, is_past, is_past_bound, is_short, judged_states, layout_of, lost_by, rebuilds_by, traces, with_dead, with_killed}
 use Rattle.top_close.specs.Ended.{IsLossBy}
 use Rattle.top_duty.specs.Opening.{kind_of, needs_of, opened_by, status_of}
 use Rattle.top_duty.specs.Start.{IsNamedBy, other_filling, start_in}
 use Rattle.top_duty.specs.Views.{ComesOver, GoesIf, IsDutyOver, IsReady, MayBeDone, RefusedAfter, RefusedHere, RefusedIf, RefusedScript, dead_beside, duty_seen, graphs_with, other_of, short_of, views_of}
 use Rattle.top_duty.proofs.Counting.{rebuilds_dead, rebuilds_none}
+use Rattle.top_duty.proofs.Words.{rebuilds_of}
 
 ok_same : (r : Result Duty Refused) (a b : Admitted) → r ≡ Ok (OnArray a) → r ≡ Ok (OnArray b) → a ≡ b
 ok_same r a b one two = cc (one, two)
@@ -150,9 +151,10 @@ refused_after w a (status.LongText n) e h = absurd h
 past_same : (y : Shape) (graphs : List View) (n count : ℕ) (action : Action) (scripted : List (List Item)) (blocks : ℕ)
     → (traces action && nat_lt 1048576 (trace_sum y graphs n (clients_by action scripted blocks) + rebuilds_sum y n count)) ≡ (traces action && nat_lt 1048576 (trace_sum y graphs n scripted + rebuilds_sum y n count))
 unfolding clients_by
-past_same y graphs n count (Io beside workers) scripted blocks = refl
-past_same y graphs n count (Sweep seed clients ops workers) scripted blocks = refl
+past_same y graphs n count (Io beside workers mapped) scripted blocks = refl
+past_same y graphs n count (Sweep seed clients ops workers mapped) scripted blocks = refl
 past_same y graphs n count Show scripted blocks = refl
+past_same y graphs n count ShowMap scripted blocks = refl
 past_same y graphs n count Init scripted blocks = refl
 past_same y graphs n count Check scripted blocks = refl
 past_same y graphs n count Rewrite scripted blocks = refl
@@ -160,8 +162,8 @@ past_same y graphs n count Print scripted blocks = refl
 past_same y graphs n count (Fail comp) scripted blocks = refl
 past_same y graphs n count (ShowLabel comp) scripted blocks = refl
 past_same y graphs n count (Label serial) scripted blocks = refl
-past_same y graphs n count (Rebuild in_place comp limit beside workers) scripted blocks = refl
-past_same y graphs n count (Resume limit beside workers) scripted blocks = refl
+past_same y graphs n count (Rebuild in_place comp limit beside workers mapped) scripted blocks = refl
+past_same y graphs n count (Resume limit beside workers mapped) scripted blocks = refl
 
 -- its rebuilds are those of the columns as they are opened
 rebuilds_are : (k : Asked) (o : Opened) (start : Option Start) → ForSome start (IsNamedBy (needs_of k).excused)

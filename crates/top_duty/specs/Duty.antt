@@ -1,6 +1,6 @@
 -- What is to be done, or which refusal comes first: by texts, names, sizes, and sector 0 of the
 -- devices.
-use Rattle.std.specs.Prelude.{◌≡◌, ◌&&◌, ◌+◌, ◌-◌, ◌++◌, ℕ, Bool, false, List, [], ◌∷◌, length, map, Option, Some, None, is_none, Result, Ok, Err, if◌then◌else◌, nat_le, nat_lt, slice_set, unwrap_or}
+use Rattle.std.specs.Prelude.{◌≡◌, ◌&&◌, ◌+◌, ◌-◌, ◌++◌, ℕ, Bool, false, List, [], ◌∷◌, length, map, Option, Some, None, is_none, Result, Ok, Err, if◌then◌else◌, nat_le, nat_lt, option_map, slice_set, unwrap_or}
 use Rattle.std.specs.Option.{option_map_or}
 use Rattle.lay_core.specs.Layout.{Shape, blocks_in}
 use Rattle.graph_mean.specs.Graph.{View}
@@ -77,15 +77,12 @@ abbrev pub with_dead : Option ℕ → List Column → List Column
 with_dead None columns = columns
 with_dead (Some c) columns = slice_set columns c column.Dead
 
--- the columns as the action makes them; and with what is done on them, by which it is judged whether the array is lost
-abbrev pub judged_columns : Admitted → List Column
-judged_columns a = with_dead (needs_of a.asked).excused (columns_of a)
-
 -- a column dies, if one is to; what is done on the others stays so
 abbrev pub with_killed : Option ℕ → List ColumnState → List ColumnState
 with_killed None states = states
 with_killed (Some c) states = killed states c
 
+-- the columns as the action makes them, with what is done on them, by which it is judged whether the array is lost
 abbrev pub judged_states : Admitted → List ColumnState
 judged_states a = with_killed (needs_of a.asked).excused (states_in a)
 
@@ -133,12 +130,7 @@ beside_dead a s = record { status = s; dead = dead_columns (columns_of a) }
 
 -- that of a lost array prints those that are dead as the action makes them, and one that was filling
 abbrev pub lost_by : Admitted → Loss → Refused
-lost_by a loss = record { status = status.Lost loss.first loss.second loss.stripe; dead = dead_columns (given_up (judged_columns a)) }
-
--- the array may not be lost
-abbrev pub if_lost : Admitted → Option Loss → Option Refused
-if_lost a None = None
-if_lost a (Some loss) = Some (lost_by a loss)
+lost_by a loss = record { status = status.Lost loss.first loss.second loss.stripe; dead = dead_columns (given_up (with_dead (needs_of a.asked).excused (columns_of a))) }
 
 -- a column is to be rebuilt, and there is nowhere to, or nothing to go on with
 abbrev pub is_short : Admitted → Bool
@@ -151,19 +143,7 @@ short_status (Some rebuilding.Elsewhere) = status.NoSpare
 short_status (Some rebuilding.InPlace) = status.NoSpare
 short_status (Some rebuilding.Further) = status.NoRebuild
 
--- that is refused, and no column is printed dead
-abbrev pub if_short : Admitted → Option Refused
-if_short a = if is_short a then Some (only (short_status (profile_of a.asked.command.action).rebuild)) else None
-
--- so is the rebuild of a column beside another that is filling
-abbrev pub refused_beside : Option ℕ → Option Refused
-refused_beside None = None
-refused_beside (Some c) = Some (only (status.Rebuilding c))
-
-abbrev pub if_other : Admitted → Option Refused
-if_other a = refused_beside (other_filling a.asked (columns_of a))
-
--- so are graphs that can't be joined
+-- graphs that can't be joined are refused
 abbrev pub if_apart : Admitted → Result (List View) At → Option Refused
 if_apart a (Ok views) = None
 if_apart a (Err at) = Some (beside_dead a (status.Script at.line at.code))
@@ -188,24 +168,17 @@ unfoldable pub rebuilds_by : Shape → List Column → Option Start → ℕ
 rebuilds_by y columns None = 0
 rebuilds_by y columns (Some how) = if nat_le (left_by y columns how) (most_of how) then left_by y columns how else most_of how
 
-abbrev pub rebuilds_of : Admitted → ℕ
-rebuilds_of a = rebuilds_by (layout_of a) (judged_columns a) a.start
-
 -- so many items of clients by these graphs, and so many rebuilds: more events may come than a trace that is kept has room for
 abbrev pub is_past : Shape → Asked → List View → List (List Item) → ℕ → Bool
 is_past y asked graphs clients rebuilds = traces asked.command.action
     && nat_lt 1048576 (trace_sum y graphs (length (names_of asked.conf)) clients + rebuilds_sum y (length (names_of asked.conf)) rebuilds)
 
 abbrev pub is_past_bound : Admitted → Bool
-is_past_bound a = is_past (layout_of a) a.asked (graphs_of a) a.clients (rebuilds_of a)
+is_past_bound a = is_past (layout_of a) a.asked (graphs_of a) a.clients (rebuilds_by (layout_of a) (with_dead (needs_of a.asked).excused (columns_of a)) a.start)
 
 -- a trace that is kept has room for all events
 abbrev pub if_past : Admitted → Option Refused
 if_past a = if is_past_bound a then Some (beside_dead a (status.Script 0 8)) else None
-
--- an array that something is done with isn't lost, no other column is filling, it has somewhere to rebuild to or something to go on with, its graphs are joined, and its trace has room
-abbrev pub judgements : Admitted → Option Loss → Result (List View) At → List (Option Refused)
-judgements a loss joined = if_lost a loss ∷ if_other a ∷ if_short a ∷ if_apart a joined ∷ if_past (with_joined a joined) ∷ []
 
 -- the first refusal, if there is one
 abbrev pub first_of : List (Option Refused) → Option Refused
@@ -217,9 +190,13 @@ abbrev pub unless : Option Refused → Duty → Result Duty Refused
 unless None d = Ok d
 unless (Some r) d = Err r
 
--- nothing else is judged
+-- An array that something is done with isn't lost, no other column is filling beside one that is rebuilt, it has somewhere to rebuild to or something to go on with, its graphs are joined, and its trace has room. Nothing else is judged.
 abbrev pub judged : Duty → Option Loss → Result (List View) At → Result Duty Refused
-judged (OnArray a) loss joined = unless (first_of (judgements a loss joined)) (OnArray (with_joined a joined))
+judged (OnArray a) loss joined =
+    unless (first_of (option_map (lost_by a) loss
+    ∷ option_map (λ c. only (status.Rebuilding c)) (other_filling a.asked (columns_of a))
+    ∷ (if is_short a then Some (only (short_status (profile_of a.asked.command.action).rebuild)) else None)
+    ∷ if_apart a joined ∷ if_past (with_joined a joined) ∷ [])) (OnArray (with_joined a joined))
 judged (Shows k o) loss joined = Ok (Shows k o)
 judged (OneLabel k) loss joined = Ok (OneLabel k)
 judged (PrintConf k) loss joined = Ok (PrintConf k)

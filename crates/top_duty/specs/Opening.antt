@@ -1,5 +1,5 @@
 -- How an array is opened: by what is asked, by the sizes of its devices, and by their labels.
-use Rattle.std.specs.Prelude.{ℕ, Bool, true, false, List, [], ◌∷◌, length, map, replicate, Option, Some, None, Result, Ok, Err, if◌then◌else◌, nat_le, slice_get, slice_index, slice_index_or, slice_set}
+use Rattle.std.specs.Prelude.{ℕ, Bool, true, false, List, [], ◌∷◌, length, map, Option, Some, None, Result, Ok, if◌then◌else◌, nat_le, slice_get, slice_index, slice_index_or, slice_set}
 use Rattle.std.specs.Option.{option_map_or}
 use Rattle.blk_disk.specs.Devices.{at_home}
 use Rattle.eng_cols.specs.declared.column.Column.{Column}
@@ -16,18 +16,18 @@ use Rattle.top_duty.specs.First.{first_of}
 use Rattle.top_open.specs.declared.fault.OpenFault.{OpenFault}
 use Rattle.top_open.specs.declared.fault.OpenFault.TheVariants as fault
 use Rattle.top_open.specs.declared.fronts.Front.{Front}
-use Rattle.top_open.specs.declared.fronts.Front.TheVariants as front
 use Rattle.top_open.specs.declared.plan.Plan.{Plan}
 use Rattle.top_open.specs.declared.plan.Needs.{Needs}
 use Rattle.top_open.specs.Plan.{AreWholeTables, sectors_for}
 use Rattle.top_open.specs.Opening.{Opened, kept_if_left, opened_in}
 use Rattle.top_status.specs.declared.status.Status.{Status}
 use Rattle.top_status.specs.declared.status.Status.TheVariants as status
-use Rattle.top_status.specs.Refusals.{Refused, ◌then◌, only}
+use Rattle.top_status.specs.Refusals.{Refused, ◌then◌}
 use Rattle.top_words.specs.Asked.{Action, Component, Nameless, Column as OfColumn, Device, profile_of}
 use Rattle.top_words.specs.declared.profile.Kind.{Kind}
 use Rattle.top_words.specs.declared.profile.Rebuilding.{Rebuilding}
 use Rattle.top_words.specs.declared.profile.Rebuilding.TheVariants as rebuilding
+use Rattle.top_fetch.specs.Fetched.{or_status}
 
 -- ## What is asked
 
@@ -102,20 +102,12 @@ sizes_of size ds = map (λ x. option_map_or size x 0) ds
 unfoldable pub sizes_in : {D : Type 0} → (D → ℕ) → (Text → Option D) → List Text → List ℕ
 sizes_in size home names = map (λ name. option_map_or size (at_home home (Some name)) 0) names
 
--- nothing is read of so many devices
-abbrev pub unread : ℕ → List Front
-unread n = replicate n front.Away
-
 -- ## The opening
 
 abbrev pub status_of : OpenFault → Status
 status_of (fault.Label column code found wanted) = status.Label column code found wanted
 status_of (fault.Small column has needs) = status.Small column has needs
 status_of fault.Memory = status.Memory
-
-abbrev pub or_fault : Result Opened OpenFault → Result Opened Refused
-or_fault (Ok opened) = Ok opened
-or_fault (Err fault) = Err (only (status_of fault))
 
 -- a column stays so where its device has so many sectors
 abbrev pub kept_if_large : List ℕ → ℕ → Column → Column
@@ -153,7 +145,7 @@ as_left k o = record o { columns = left_at (shape_of k.conf o.rows) o.columns (f
 
 -- rows, columns and the newest label by sizes and fronts of the devices, or why the array is refused; of a column that is filling it isn't judged how many stripes it has
 unfoldable pub fronted_by : Asked → List ℕ → List Front → Result Opened Refused
-fronted_by k sizes fronts = or_fault (opened_in (needs_of k) (plan_of k.conf) (present_of k.conf) sizes fronts) then λ o. Ok (as_opened k sizes o)
+fronted_by k sizes fronts = or_status status_of (opened_in (needs_of k) (plan_of k.conf) (present_of k.conf) sizes fronts) then λ o. Ok (as_opened k sizes o)
 
 -- and with that
 unfoldable pub opened_by : Asked → List ℕ → List Front → Result Opened Refused

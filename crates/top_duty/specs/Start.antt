@@ -1,5 +1,5 @@
 -- How a column is rebuilt: onto its own disk, onto a spare, or into the spare places of the other columns; or the one that is filling goes on.
-use Rattle.std.specs.Prelude.{◌≡◌, ℕ, ◌+◌, ◌*◌, ◌==◌, ◌&&◌, Bool, true, false, not, List, Option, Some, None, if◌then◌else◌, is_none, is_some, nat_le, option_map, slice_get, slice_index}
+use Rattle.std.specs.Prelude.{◌≡◌, ℕ, ◌+◌, ◌*◌, ◌==◌, ◌&&◌, Bool, true, false, not, List, Option, Some, None, if◌then◌else◌, is_none, is_some, nat_le, option_map, slice_get, slice_index, unwrap_or}
 use Rattle.std.specs.List.{list_any}
 use Rattle.eng_array.specs.declared.start.Start.{Start}
 use Rattle.eng_array.specs.declared.start.Start.TheVariants as start
@@ -40,11 +40,6 @@ free_spare conf o sizes fronts = option_map (λ j. conf.columns + j) (first_of (
 abbrev pub has_places : Conf → List Column → Bool
 has_places conf columns = (conf.level == 68) && not (list_any is_set_spread columns)
 
--- how many stripes are rebuilt at most
-abbrev pub most_by : Option ℕ → ℕ
-most_by None = 4294967295
-most_by (Some limit) = limit
-
 -- onto this spare, if there is one; else into the spare places, if they may be used
 abbrev pub onto_spare : ℕ → ℕ → Option ℕ → Bool → Option Start
 onto_spare most c (Some device) places = Some (start.Fill c device most)
@@ -54,31 +49,17 @@ onto_spare most c None false = None
 -- the rebuild of a column elsewhere: into spare places only without a limit
 abbrev pub rebuild_elsewhere : Option ℕ → Conf → Opened → List ℕ → List Front → Option ℕ → Option Start
 rebuild_elsewhere limit conf o sizes fronts None = None
-rebuild_elsewhere limit conf o sizes fronts (Some c) = onto_spare (most_by limit) c (free_spare conf o sizes fronts) (is_none limit && has_places conf o.columns)
-
--- onto its own disk
-abbrev pub rebuild_in_place : Option ℕ → Option ℕ → Option Start
-rebuild_in_place limit None = None
-rebuild_in_place limit (Some c) = Some (start.Fill c c (most_by limit))
-
--- and further, of the column that is filling
-abbrev pub rebuild_further : Option ℕ → Option ℕ → Option Start
-rebuild_further limit None = None
-rebuild_further limit (Some c) = Some (start.Resume c (most_by limit))
+rebuild_elsewhere limit conf o sizes fronts (Some c) = onto_spare (unwrap_or limit 4294967295) c (free_spare conf o sizes fronts) (is_none limit && has_places conf o.columns)
 
 -- how the action begins a rebuild, or goes on with one, by the array as it is opened; None where it does neither, or where there is nowhere to rebuild to, or nothing to go on with
 abbrev pub start_with : Option Rebuilding → Option ℕ → Option ℕ → Conf → Opened → List ℕ → List Front → Option Start
 start_with None limit comp conf o sizes fronts = None
 start_with (Some rebuilding.Elsewhere) limit comp conf o sizes fronts = rebuild_elsewhere limit conf o sizes fronts comp
-start_with (Some rebuilding.InPlace) limit comp conf o sizes fronts = rebuild_in_place limit comp
-start_with (Some rebuilding.Further) limit comp conf o sizes fronts = rebuild_further limit (filling_at o.columns)
-
-abbrev pub start_by : Action → Option ℕ → Conf → Opened → List ℕ → List Front → Option Start
-start_by action comp conf o sizes fronts =
-    start_with (profile_of action).rebuild (profile_of action).limit comp conf o sizes fronts
+start_with (Some rebuilding.InPlace) limit comp conf o sizes fronts = option_map (λ c. start.Fill c c (unwrap_or limit 4294967295)) comp
+start_with (Some rebuilding.Further) limit comp conf o sizes fronts = option_map (λ c. start.Resume c (unwrap_or limit 4294967295)) (filling_at o.columns)
 
 abbrev pub start_in : Asked → Opened → List ℕ → List Front → Option Start
-start_in k o sizes fronts = start_by k.command.action k.comp k.conf o sizes fronts
+start_in k o sizes fronts = start_with (profile_of k.command.action).rebuild (profile_of k.command.action).limit k.comp k.conf o sizes fronts
 
 -- the action rebuilds a column
 abbrev pub rebuilds : Action → Bool

@@ -1,5 +1,5 @@
 -- The devices that were taken, and how they were looked at before anything was done with them.
-use Rattle.std.specs.Prelude.{◌≡◌, ◌⊎◌, Bool, true, false, List, length, Option, Ok, Err, Contains}
+use Rattle.std.specs.Prelude.{◌≡◌, ◌⊎◌, Bool, true, false, List, length, Option, Ok, Err, Contains, replicate}
 use Rattle.blk_disk.specs.Devices.{AreNamed, Changes}
 use Rattle.blk_disk.specs.declared.disk.Disk.{Ghosts}
 use Rattle.raid_text.specs.Text.{Text}
@@ -12,12 +12,13 @@ use Rattle.top_open.specs.Fronts.{AreFronts, AreReadOnce}
 use Rattle.top_status.specs.declared.status.Status.TheVariants as status
 use Rattle.top_status.specs.Refusals.{Refused, only}
 use Rattle.top_duty.specs.Duty.{IsWanted, WantsMemory, duty_by, duty_in}
-use Rattle.top_duty.specs.Opening.{reads_fronts, sizes_of, unread}
+use Rattle.top_duty.specs.Opening.{reads_fronts, sizes_of}
+use Rattle.top_open.specs.declared.fronts.Front.TheVariants.{Away}
 
 -- Sector 0 of each device that has one was read, once, and no sector has changed; or nothing was read.
 abbrev pub Reads : {D : Type 0} → Ghosts D → Bool → List (Option D) → List (Option D) → List Front → Type 0
 Reads g true old new fronts = AreFronts g old new fronts × AreReadOnce g old new fronts × Changes g (λ _ _. ⊥) old new
-Reads g false old new fronts = (new ≡ old) × (fronts ≡ unread (length old))
+Reads g false old new fronts = (new ≡ old) × (fronts ≡ replicate (length old) Away)
 
 module _ {D : Type 0} (g : Ghosts D) (b : Told D) where
   -- The devices of the names that are asked for were taken as they were at home, and looked at, and they are out now. No other was taken.

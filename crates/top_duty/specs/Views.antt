@@ -112,10 +112,10 @@ IsDutyOver k sizes fronts (duty.Shows o) = (kind_of k.command.action ≡ kind.Sh
 IsDutyOver k sizes fronts duty.OneLabel = kind_of k.command.action ≡ kind.Label
 IsDutyOver k sizes fronts duty.PrintConf = kind_of k.command.action ≡ kind.Conf
 
--- and the array that something is done with is fit for it, and for the rebuild of a column, if one is rebuilt
+-- and the array that something is done with, or that is shown, is fit for it, and for the rebuild of a column, if one is rebuilt
 abbrev pub IsFitFor : {D : Type 0} → Ghosts D → Asked → List (Option D) → declared_duty.Duty → Type 0
 IsFitFor g k devices (duty.OnArray r) = IsFit g k (opened_seen r.opened) devices × IsStartIf g k (opened_seen r.opened) devices r.start
-IsFitFor g k devices (duty.Shows o) = Unit {0}
+IsFitFor g k devices (duty.Shows o) = IsFit g k (opened_seen o) devices
 IsFitFor g k devices duty.OneLabel = Unit {0}
 IsFitFor g k devices duty.PrintConf = Unit {0}
 

@@ -22,7 +22,7 @@ fn memory_of(fault: AnyFault) -> Status
 }
 
 /// The layout over so many rows, which are those of whole tables: so there may be want of memory alone.
-pub(crate) fn layout_of(alloc: Global, conf: &Conf, rows: u32) -> Result<AnyLayout, Status>
+pub fn layout_of(alloc: Global, conf: &Conf, rows: u32) -> Result<AnyLayout, Status>
     requires conf { IsConf conf.now }
     requires rows { AreTableRows conf.now rows }
     ensures shape { IfOk result

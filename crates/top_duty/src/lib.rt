@@ -26,4 +26,5 @@ pub use admitting::{Admitted, admit};
 pub use clients::choose;
 pub use duty::{Duty, Ready};
 pub use judge::traces;
+pub use layouts::layout_of;
 pub use plan::plan_of;

@@ -2,7 +2,7 @@
 ghost use Rattle.std.specs.Prelude.{◌≡◌, ℕ, length, map, replicate, slice_index, IfOk};
 ghost use Rattle.std.specs.Option.{option_map_or};
 ghost use Rattle.raid_conf.specs.Form.{IsConf};
-ghost use Rattle.top_duty.specs.Opening.{is_named, plan_of, present_of, sizes_of, unread};
+ghost use Rattle.top_duty.specs.Opening.{is_named, plan_of, present_of, sizes_of};
 
 use blk_disk::Disk;
 use raid_conf::{Conf, design_parameters, table_rows, table_stripes};
@@ -82,7 +82,7 @@ pub(crate) fn size_at(sizes: &[u64], device: u32) -> u64
 
 /// Nothing is read of so many devices.
 pub(crate) fn unread(alloc: Global, count: usize) -> Result<Vec<Front>, AllocError>
-    ensures { IfOk result (λ fronts. fronts.items ≡ unread count) }
+    ensures { IfOk result (λ fronts. fronts.items ≡ replicate count Front.Away) }
 {
     let mut fronts = Vec::new(alloc);
     for _ in 0..count {

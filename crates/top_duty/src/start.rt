@@ -1,5 +1,5 @@
 //! How a column is rebuilt.
-ghost use Rattle.std.specs.Prelude.{◌≡◌, ◌≤◌, ◌+◌, ◌*◌, ◌==◌, ◌&&◌, not, is_none, length, slice_get, slice_index};
+ghost use Rattle.std.specs.Prelude.{◌≡◌, ◌≤◌, ◌+◌, ◌*◌, ◌==◌, ◌&&◌, not, is_none, length, slice_get, slice_index, option_map, unwrap_or};
 ghost use Rattle.std.specs.List.{list_any};
 ghost use Rattle.eng_cols.specs.Cols.{is_set_spread};
 ghost use Rattle.raid_conf.specs.Form.{IsConf};
@@ -7,7 +7,7 @@ ghost use Rattle.top_bay.specs.Views.{asked_seen};
 ghost use Rattle.top_open.specs.Opening.{opened_seen};
 ghost use Rattle.top_open.specs.Seats.{is_unread};
 ghost use Rattle.top_words.specs.Views.{action_seen};
-ghost use Rattle.top_duty.specs.Start.{free_spare, has_failed, has_places, is_free, is_on, most_by, other_filling, rebuild_elsewhere, rebuild_further, rebuild_in_place, rebuilds, start_in, start_with, unless_named};
+ghost use Rattle.top_duty.specs.Start.{free_spare, has_failed, has_places, is_free, is_on, other_filling, rebuild_elsewhere, rebuilds, start_in, start_with, unless_named};
 
 use crate::opening::filling_at;
 use crate::plan::size_at;
@@ -91,7 +91,7 @@ fn has_places(conf: &Conf, columns: &[Column]) -> bool
 
 // How many stripes are rebuilt at most.
 fn most_by(limit: Option<u32>) -> u32
-    ensures { result ≡ most_by limit }
+    ensures { result ≡ unwrap_or limit 4294967295 }
 {
     match limit {
         Some(limit) => limit,
@@ -138,7 +138,8 @@ fn elsewhere(
 
 // The rebuild of a column onto its own disk.
 fn in_place(limit: Option<u32>, comp: Option<u32>) -> Option<Start>
-    ensures { result ≡ rebuild_in_place limit comp }
+    ensures { result
+        ≡ option_map (λ c. Start.Fill c c (unwrap_or limit 4294967295)) comp }
 {
     match comp {
         Some(column) => Some(Start::Fill {
@@ -152,7 +153,8 @@ fn in_place(limit: Option<u32>, comp: Option<u32>) -> Option<Start>
 
 // The rebuild goes on of the column that is filling.
 fn further(limit: Option<u32>, filling: Option<u32>) -> Option<Start>
-    ensures { result ≡ rebuild_further limit filling }
+    ensures { result
+        ≡ option_map (λ c. Start.Resume c (unwrap_or limit 4294967295)) filling }
 {
     match filling {
         Some(column) => Some(Start::Resume {

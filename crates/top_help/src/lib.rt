@@ -36,6 +36,7 @@ Components:
 
 Parity:
   -i              writes the parity of all stripes
+  -m              prints how many regions of the parity map are marked
   -p              checks parity
   -P              checks parity, and rewrites it where it is wrong
 
@@ -50,6 +51,8 @@ Options:
   --trace         prints each event too, with --io
   -w N            serves with N workers, 0 to 16, else with 4;
                   with --io, --sweep, -F, -R and --resume
+  --map           keeps a parity map: after a stop only the regions are swept
+                  that were written; with --io, --sweep, -F, -R and --resume
   --limit M       rebuilds at most M stripes, and onto a device alone;
                   with -F, -R and --resume
   --clients C     draws C clients, 1 to 16, with --sweep

@@ -1,3 +1,4 @@
 pub mod Show
+pub mod Maps
 pub mod Labels
 pub mod Laws

@@ -12,14 +12,6 @@ use Rattle.top_open.specs.declared.fronts.Front.{Front}
 use Rattle.top_open.specs.Opening.{Opened}
 use Rattle.top_open.specs.Seats.{is_unread}
 
--- the lines of so many, from that of 0 on
-abbrev pub lines_of : (ℕ → List ℕ) → ℕ → List ℕ
-lines_of line n = flat_map line (range_with_len 0 n)
-
--- the name that stands at a place
-abbrev pub name_at : List Text → ℕ → Text
-name_at names i = unwrap_or (slice_get names i) []
-
 -- ## The columns
 
 -- a device below n serves its own column, for the columns' disks are numbered as these; behind them come the spares
@@ -44,11 +36,11 @@ column_line n c name column = line (codes "column " ∷ decimal c ∷ codes " " 
 
 -- that of column c, where the columns' disks have these names
 abbrev pub column_text : List Text → List Column → ℕ → List ℕ
-column_text disks columns c = column_line (length disks) c (disk_word (name_at disks c)) (slice_get columns c)
+column_text disks columns c = column_line (length disks) c (disk_word (unwrap_or (slice_get disks c) [])) (slice_get columns c)
 
 -- those of all columns
 unfoldable pub columns_text : List Text → List Column → List ℕ
-columns_text disks columns = lines_of (column_text disks columns) (length disks)
+columns_text disks columns = flat_map (column_text disks columns) (range_with_len 0 (length disks))
 
 -- ## The spares
 
@@ -59,19 +51,11 @@ is_seat_of device column.Spread = false
 is_seat_of device column.Dead = false
 is_seat_of device (column.Filling of done) = of == device
 
--- there are labels, and that of this device couldn't be read
-abbrev pub is_unread_in : Opened → List Front → ℕ → Bool
-is_unread_in o fronts device = not (is_none o.newest) && is_unread (slice_get fronts device)
-
--- a device has fewer sectors than so many rows need
-abbrev pub is_small : List ℕ → ℕ → ℕ → ℕ → Bool
-is_small sizes rows unit device = nat_lt (slice_index sizes device) (64 + rows * unit)
-
--- how a spare stands that is this device: the first of these that holds
+-- how a spare stands that is this device: the first that holds of these, a column has it, there are labels and its own couldn't be read, and it has fewer sectors than the rows need
 unfoldable pub spare_state : ℕ → Opened → List ℕ → List Front → ℕ → List ℕ
 spare_state unit o sizes fronts device = if list_any (is_seat_of device) o.seats then codes "used"
-    else (if is_unread_in o fronts device then codes "failed"
-    else (if is_small sizes o.rows unit device then codes "small"
+    else (if not (is_none o.newest) && is_unread (slice_get fronts device) then codes "failed"
+    else (if nat_lt (slice_index sizes device) (64 + o.rows * unit) then codes "small"
     else codes "free"))
 
 -- `spare J NAME STATE`
@@ -80,19 +64,20 @@ spare_line j name state = line (codes "spare " ∷ decimal j ∷ codes " " ∷ n
 
 -- that of spare j, which is a device behind the columns' disks
 abbrev pub spare_text : Conf → Opened → List ℕ → List Front → ℕ → List ℕ
-spare_text conf o sizes fronts j = spare_line j (name_at conf.spare_names j) (spare_state conf.unit o sizes fronts (length conf.disks + j))
+spare_text conf o sizes fronts j = spare_line j (unwrap_or (slice_get conf.spare_names j) []) (spare_state conf.unit o sizes fronts (length conf.disks + j))
 
 -- those of all spares
 unfoldable pub spares_text : Conf → Opened → List ℕ → List Front → List ℕ
-spares_text conf o sizes fronts = lines_of (spare_text conf o sizes fronts) (length conf.spare_names)
+spares_text conf o sizes fronts = flat_map (spare_text conf o sizes fronts) (range_with_len 0 (length conf.spare_names))
 
 -- ## The whole
 
--- what the newest label says of the parity
-abbrev pub parity_line : Option Label → List ℕ
-parity_line None = codes "parity unlabelled\n"
-parity_line (Some l) = if l.clean == 1 then codes "parity clean\n" else codes "parity dirty\n"
+-- what the newest label says of the parity, and whether the parity map marks a region
+abbrev pub parity_line : Option Label → Bool → List ℕ
+parity_line None marked = codes "parity unlabelled\n"
+parity_line (Some l) marked = if l.clean == 1 && not marked then codes "parity clean\n" else codes "parity dirty\n"
 
--- the columns, the spares and the parity of an array as it was opened, by the sizes and fronts of its devices
-unfoldable pub show_text : Conf → Opened → List ℕ → List Front → List ℕ
-show_text conf o sizes fronts = (columns_text conf.disks o.columns ++ spares_text conf o sizes fronts) ++ parity_line o.newest
+-- the columns, the spares and the parity of an array as it was opened, by the sizes and fronts of its devices, and by whether its parity map marks a region
+unfoldable pub show_text : Conf → Opened → List ℕ → List Front → Bool → List ℕ
+show_text conf o sizes fronts marked =
+    (columns_text conf.disks o.columns ++ spares_text conf o sizes fronts) ++ parity_line o.newest marked

@@ -14,11 +14,11 @@ use raid_conf::Conf;
 use raid_label::Label;
 use top_open::{Front, Opened};
 
-fn parity_line(newest: &Option<Label>) -> &'static [u8]
-    ensures { result.now ≡ parity_line newest.now }
+fn parity_line(newest: &Option<Label>, marked: bool) -> &'static [u8]
+    ensures { result.now ≡ parity_line newest.now marked }
 {
     match newest {
-        Some(label) if label.clean == 1 => b"parity clean\n",
+        Some(label) if label.clean == 1 && !marked => b"parity clean\n",
         Some(_) => b"parity dirty\n",
         None => b"parity unlabelled\n",
     }
@@ -33,8 +33,8 @@ fn parity_line(newest: &Option<Label>) -> &'static [u8]
 /// spare places of the other columns serve it, else `failed`.
 /// `spare J NAME STATE` has the first that holds of `used`, the labels name it for a column;
 /// `failed`, its label couldn't be read; `small`, it has fewer sectors than the rows need; and
-/// else `free`. Without labels no spare is used, nor failed. The parity is `clean` or `dirty` by
-/// the newest label, or `unlabelled`.
+/// else `free`. Without labels no spare is used, nor failed. The parity is `clean` where the newest
+/// label is and the parity map has no region `marked`, else `dirty`; or it is `unlabelled`.
 ///
 /// Sizes and fronts are those of the columns' disks and then of the spares. One that isn't there
 /// counts as size 0, or as read. Failed, only where the sink's count of faults rose, has put a
@@ -45,15 +45,17 @@ pub fn put_show<K: Sink>(
     opened: &Opened,
     sizes: &[u64],
     fronts: &[Front],
+    marked: bool,
     out: &mut K,
 ) -> Result<(), Failed>
     requires { IsConf conf.now }
     ensures output { K.tells → Puts (is_ok result) (K.output out.old)
-        (show_text conf.now (opened_seen opened.now) sizes.now fronts.now) (K.output out.new) }
+        (show_text conf.now (opened_seen opened.now) sizes.now fronts.now marked)
+        (K.output out.new) }
     ensures later { K.faults out.old ≤ K.faults out.new }
     ensures cause { OnErr result (Rose (K.faults out.old) (K.faults out.new)) }
 {
     put_columns(&conf.disks, &opened.columns, out)?;
     put_spares(conf, opened, sizes, fronts, out)?;
-    out.put(parity_line(&opened.newest))
+    out.put(parity_line(&opened.newest, marked))
 }

@@ -1,11 +1,12 @@
 //! How the spares stand.
-ghost use Rattle.std.specs.Prelude.{◌≡◌, ◌≤◌, ◌<◌, is_ok, length, OnErr};
+ghost use Rattle.std.specs.Prelude.{◌≡◌, ◌≤◌, ◌<◌, is_ok, length, OnErr, not, is_none, ◌&&◌, slice_get, slice_index, nat_lt, ◌+◌, ◌*◌};
 ghost use Rattle.std.specs.List.{list_any};
 ghost use Rattle.blk_disk.specs.Disk.{Rose};
 ghost use Rattle.raid_bay.specs.Sink.{Puts};
 ghost use Rattle.raid_conf.specs.Form.{IsConf};
 ghost use Rattle.top_open.specs.Opening.{opened_seen};
-ghost use Rattle.top_looks.specs.Show.{is_seat_of, is_small, is_unread_in, spare_line, spare_state, spare_text, spares_text};
+ghost use Rattle.top_looks.specs.Show.{is_seat_of, spare_line, spare_state, spare_text, spares_text};
+ghost use Rattle.top_open.specs.Seats.{is_unread};
 
 use blk_disk::{DATA_SECTOR, Failed};
 use eng_cols::Column;
@@ -32,7 +33,8 @@ fn is_used(seats: &[Column], device: u32) -> bool
 
 // Whether there are labels, and that of this device couldn't be read.
 fn is_unread(opened: &Opened, fronts: &[Front], device: u32) -> bool
-    ensures { result ≡ is_unread_in (opened_seen opened.now) fronts.now device }
+    ensures { result
+        ≡ (not (is_none opened.now.newest) && is_unread (slice_get fronts.now device)) }
 {
     opened.newest.is_some() && matches!(fronts.get(device as usize), Some(Front::Unread))
 }
@@ -40,7 +42,7 @@ fn is_unread(opened: &Opened, fronts: &[Front], device: u32) -> bool
 // Whether a device has fewer sectors than so many rows need, of units of so many sectors.
 fn is_small(sizes: &[u64], rows: u32, unit: u32, device: u32) -> bool
     requires { unit ≤ 128 }
-    ensures { result ≡ is_small sizes.now rows unit device }
+    ensures { result ≡ nat_lt (slice_index sizes.now device) (64 + rows * unit) }
 {
     let has = sizes.get(device as usize).copied().unwrap_or(0);
     has < DATA_SECTOR + u64::from(rows) * u64::from(unit)

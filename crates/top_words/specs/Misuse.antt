@@ -4,7 +4,7 @@ use Rattle.std.specs.Option.{option_map_or, option_or}
 use Rattle.clap.specs.Words.{Kinds}
 use Rattle.raid_text.specs.Text.{Text}
 use Rattle.top_words.specs.App.{refusals, rows_in}
-use Rattle.top_words.specs.Asked.{actions_of, has_one_action, has_limit_apart, has_sweep_alone, has_workers_apart, number_within}
+use Rattle.top_words.specs.Asked.{actions_of, has_one_action, has_limit_apart, has_map_apart, has_sweep_alone, has_workers_apart, number_within}
 use Rattle.top_words.specs.Given.{Given, given_of}
 use Rattle.top_words.specs.Judged.{queue_of}
 use Rattle.top_words.specs.Unknown.{unknown_in}
@@ -43,7 +43,8 @@ apart_in g =
     else (if is_some g.ops && not (is_some g.sweep) then lone (codes "--ops") (codes "--sweep")
     else (if has_sweep_alone g then lone (codes "--sweep") (codes "--clients and --ops")
     else (if has_limit_apart g then lone (codes "--limit") (codes "-F, -R or --resume")
-    else None))))))
+    else (if has_map_apart g then lone (codes "--map") (codes "--io, --sweep, -F, -R or --resume")
+    else None)))))))
 
 -- the word behind an option, where it isn't a number of that range
 unfoldable pub wrong : Text → Option Text → ℕ → ℕ → Option Misuse

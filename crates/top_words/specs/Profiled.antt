@@ -25,4 +25,5 @@ profile_seen p = record {
   beside = option_map beside_seen p.beside;
   drawn = p.drawn;
   workers = p.workers;
+  map = p.map;
 }

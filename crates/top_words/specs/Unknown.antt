@@ -4,10 +4,10 @@ use Rattle.std.specs.List.{before_first, list_any}
 use Rattle.std.specs.Str.{bytes_eq}
 use Rattle.raid_text.specs.Text.{Text}
 
--- the options behind two dashes: of scripts, of loads that are drawn, of rebuilds in parts, and others; two dashes alone are none
+-- the options behind two dashes: of runs, of loads that are drawn, of rebuilds in parts, and others; two dashes alone are none
 unfoldable pub is_of_scripts : Text → Bool
 is_of_scripts option = bytes_eq option (codes "--io") || (bytes_eq option (codes "--graphs")
-    || bytes_eq option (codes "--trace"))
+    || (bytes_eq option (codes "--trace") || bytes_eq option (codes "--map")))
 
 unfoldable pub is_of_sweeps : Text → Bool
 is_of_sweeps option = bytes_eq option (codes "--sweep") || (bytes_eq option (codes "--clients")
@@ -22,7 +22,7 @@ is_of_others option = bytes_eq option (codes "--scan") || (bytes_eq option (code
 
 -- the letters behind one
 unfoldable pub is_letter : ℕ → Bool
-is_letter letter = list_any (λ x. x == letter) (codes "wsipPGfgIFR")
+is_letter letter = list_any (λ x. x == letter) (codes "wsmipPGfgIFR")
 
 -- what stands behind an equals sign is the value of an option
 abbrev pub option_of : Text → Text

@@ -6,8 +6,8 @@ ghost use Rattle.top_words.specs.Views.{given_seen, misuse_seen, text_of};
 use crate::app;
 use crate::given::{Given, given_by};
 use crate::judge::{
-    actions, has_limit_apart, has_one_action, has_sweep_alone, has_workers_apart, number_within,
-    queue_of, stands,
+    actions, has_limit_apart, has_map_apart, has_one_action, has_sweep_alone, has_workers_apart,
+    number_within, queue_of, stands,
 };
 use crate::unknown::unknown_in;
 use blk_plain::limits;
@@ -137,6 +137,9 @@ fn apart<'a>(given: Given<'a>) -> Option<Misuse<'a>>
     }
     if has_limit_apart(given) {
         return lone("--limit", "-F, -R or --resume");
+    }
+    if has_map_apart(given) {
+        return lone("--map", "--io, --sweep, -F, -R or --resume");
     }
     None
 }

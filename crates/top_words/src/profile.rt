@@ -99,6 +99,9 @@ pub struct Profile<'a> {
     /// With how many workers clients are served, the caller among them: at most 16, and 0 where it
     /// does all.
     pub workers: u32,
+    /// A parity map is kept while clients are served, or it is what is shown of the array. For both
+    /// that has to have labels.
+    pub map: bool,
 }
 
 // The array is looked at, and nothing else is asked.
@@ -118,6 +121,7 @@ fn looking<'a>(kind: Kind) -> Profile<'a>
         beside: None,
         drawn: None,
         workers: 0,
+        map: false,
     }
 }
 
@@ -148,9 +152,15 @@ impl<'a> Action<'a> {
         ensures { profile_seen result ≡ profile_of (action_seen self.entry) }
     {
         match self {
-            Action::Io { beside, workers } => Profile {
+            Action::Io {
+                beside,
+                workers,
+                map,
+            } => Profile {
+                labels: map,
                 beside: Some(beside),
                 workers,
+                map,
                 ..doing(Deed::Serves, true)
             },
             Action::Sweep {
@@ -158,12 +168,20 @@ impl<'a> Action<'a> {
                 clients,
                 ops,
                 workers,
+                map,
             } => Profile {
+                labels: map,
                 drawn: Some(Drawing { seed, clients, ops }),
                 workers,
+                map,
                 ..doing(Deed::Serves, true)
             },
             Action::Show => looking(Kind::Shown),
+            Action::ShowMap => Profile {
+                labels: true,
+                map: true,
+                ..looking(Kind::Shown)
+            },
             Action::Init => doing(Deed::Inits, true),
             Action::Check => doing(Deed::Checks, false),
             Action::Rewrite => doing(Deed::Rewrites, true),
@@ -191,6 +209,7 @@ impl<'a> Action<'a> {
                 limit,
                 beside,
                 workers,
+                map,
             } => Profile {
                 component: Component::Column { name: comp },
                 labels: true,
@@ -198,18 +217,21 @@ impl<'a> Action<'a> {
                 limit,
                 beside,
                 workers,
+                map,
                 ..doing(Deed::Serves, true)
             },
             Action::Resume {
                 limit,
                 beside,
                 workers,
+                map,
             } => Profile {
                 labels: true,
                 rebuild: Some(Rebuilding::Further),
                 limit,
                 beside,
                 workers,
+                map,
                 ..doing(Deed::Serves, true)
             },
         }

@@ -5,12 +5,12 @@ ghost use Rattle.top_words.specs.Views.{text_of};
 
 use raid_bay::Name;
 
-// An option of scripts, behind two dashes.
+// An option of runs, behind two dashes.
 #[tactic(auto, unfolding(crate::specs::Unknown::is_of_scripts))]
 fn is_of_scripts(option: &str) -> bool
     ensures { result ≡ is_of_scripts option.now }
 {
-    matches!(option, "--io" | "--graphs" | "--trace")
+    matches!(option, "--io" | "--graphs" | "--trace" | "--map")
 }
 
 // An option of loads that are drawn.
@@ -42,7 +42,7 @@ fn is_of_others(option: &str) -> bool
 fn is_letter(letter: u8) -> bool
     ensures { result ≡ is_letter letter }
 {
-    b"wsipPGfgIFR".contains(&letter)
+    b"wsmipPGfgIFR".contains(&letter)
 }
 
 // The word as far as an equals sign, behind which the value of an option stands.

@@ -14,6 +14,7 @@ use Rattle.top_duty.specs.Fit.{IsFit, IsStartIf}
 use Rattle.top_duty.specs.Opening.{sizes_of}
 use Rattle.top_open.specs.Opening.{opened_seen}
 use Rattle.top_run.specs.Works as run_works
+use Rattle.top_words.specs.Asked.{profile_of}
 use Rattle.top_words.specs.Views.{action_seen}
 use Rattle.raid_top.specs.Served.{AreUnfilledIf, CameOf, MayLabelIf}
 use Rattle.raid_top.proofs.Orders.{run_writes}
@@ -82,6 +83,7 @@ returns-clause-does g c =
     let p = c.requires.ready.1 in
     let back = c.serve.result.devices.items in
     let graphs = length k.book + length k.joins in
+    let asked = (profile_of k.command.action).map in
     let same = work_same any.ghosts setup work.start (admitted_by k c.args.ready)
     (ap (λ l. any.ghosts.shape l) made.layout ∙ p.made.shape)
     (ap (λ v. v.items) made.columns)
@@ -95,7 +97,8 @@ returns-clause-does g c =
     (either_asked k.conf.columns graphs k.command.action k.clients (blocks_in (shape_of k.conf o.rows)) c.requires.within.asked
     (subst (λ rows. All (All (IsAsked k.conf.columns graphs)) rows) p.made.drawn (p.made.asked k.conf.columns graphs))))
     o.newest (action_seen c.args.asked.command.action) c.args.asked.conf x refl
-    (subst (λ w. CameOf g.D.Disk w o.newest c.args.ready.failed c.args.devices.items back x) same
-    (subst (λ f. CameOf g.D.Disk (run_works.work_of any.ghosts setup work.start) o.newest f c.args.devices.items back x) made.failed
-    (subst (λ n. CameOf g.D.Disk (run_works.work_of any.ghosts setup work.start) n work.failed c.args.devices.items back x) made.parts.0
-    (subst (λ ds. CameOf g.D.Disk (run_works.work_of any.ghosts setup work.start) work.newest work.failed ds.items back x) made.devices h))))) c.serve.ensures.came
+    (subst (λ w. CameOf g.D.Disk w o.newest c.args.ready.failed asked c.args.devices.items back x) same
+    (subst (λ m. CameOf g.D.Disk (run_works.work_of any.ghosts setup work.start) o.newest c.args.ready.failed m c.args.devices.items back x) made.map
+    (subst (λ f. CameOf g.D.Disk (run_works.work_of any.ghosts setup work.start) o.newest f work.map c.args.devices.items back x) made.failed
+    (subst (λ n. CameOf g.D.Disk (run_works.work_of any.ghosts setup work.start) n work.failed work.map c.args.devices.items back x) made.parts.0
+    (subst (λ ds. CameOf g.D.Disk (run_works.work_of any.ghosts setup work.start) work.newest work.failed work.map ds.items back x) made.devices h)))))) c.serve.ensures.came

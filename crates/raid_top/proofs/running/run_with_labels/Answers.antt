@@ -10,7 +10,7 @@ pub returns-in-Ok-clause-came : goal.returns-in-Ok-clause-came
 returns-in-Ok-clause-came g c =
     let l = c.args.labelled in
     let back = c.in-Ok.devices.items in
-    subst (λ (x : Came). ComesLabelled g.D.Disk (work_of g.L.Layout l.setup l.start) l.label l.failed l.setup.devices.items back x) (sym c.came_of.ensures)
+    subst (λ (x : Came). ComesLabelled g.D.Disk (work_of g.L.Layout l.setup l.start) l.label l.failed l.map l.setup.devices.items back x) (sym c.came_of.ensures)
     (came_so g.L.Layout g.D.Disk l c.in-Ok.outcome back c.in-Ok.ensures.came)
 
 pub returns-in-Ok-clause-printed : goal.returns-in-Ok-clause-printed

@@ -3,7 +3,6 @@ use Rattle.blk_disk.specs.Disk.{Rose}
 use Rattle.top_status.specs.Refusals.{refusal_text}
 use Rattle.raid_top.specs.Calls.{Refuses, call_text}
 use Rattle.raid_top.specs.Finished.{finished_seen}
-use Rattle.raid_top.proofs.Completing.{complete_of}
 use Rattle.raid_top.proofs.Endings.{acts_of, finished_status, printed_of}
 use Rattle.raid_top.proofs.top.run.Goals as goal
 
@@ -30,9 +29,3 @@ returns-in-Err-clause-answer g c =
       ends = record { outcome = Refuses refusal; status = c.into_status.ensures; text = refl; acts = c.in-Err.ensures.refused };
       printed = printed_of K.tells (Rose (K.faults c.args.out.now) (K.faults c.put_refusal-printed.new.out)) ending c.answer_of-in-Err.result (refusal_text refusal) (K.output c.args.out.now) (K.output c.put_refusal-printed.new.out) c.put_refusal-printed.result c.answer_of-in-Err.ensures.ok c.answer_of-in-Err.ensures.err c.put_refusal-printed.ensures.output c.put_refusal-printed.ensures.cause;
     }
-
-pub returns-in-Ok-clause-complete : goal.returns-in-Ok-clause-complete
-returns-in-Ok-clause-complete g c = λ told right sound quiet. complete_of _ _ _ told sound right _ _ _ _ _ (returns-in-Ok-clause-answer g c) quiet
-
-pub returns-in-Err-clause-complete : goal.returns-in-Err-clause-complete
-returns-in-Err-clause-complete g c = λ told right sound quiet. complete_of _ _ _ told sound right _ _ _ _ _ (returns-in-Err-clause-answer g c) quiet
