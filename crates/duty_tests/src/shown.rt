@@ -145,8 +145,18 @@ fn fronts() -> [Front; 10] {
 
 // The array of six spares is printed; whether it was wholly.
 fn puts(alloc: Global, opened: &Opened, out: &mut MemSink) -> Result<bool, Fail> {
+    puts_marked(alloc, opened, false, out)
+}
+
+// The same where the maps mark something, or don't.
+fn puts_marked(
+    alloc: Global,
+    opened: &Opened,
+    marked: bool,
+    out: &mut MemSink,
+) -> Result<bool, Fail> {
     let conf = conf(alloc, SPARED)?;
-    Ok(put_show(&conf, opened, &SIZES, &fronts(), out).is_ok())
+    Ok(put_show(&conf, opened, &SIZES, &fronts(), marked, out).is_ok())
 }
 
 fn shows(rt: &impl Abort, alloc: Global, opened: &Opened, wanted: &[u8]) -> Result<(), Fail> {
@@ -164,6 +174,44 @@ parity clean\n";
 #[test]
 fn columns_and_spares_stand_so(rt: HostRuntime) -> Result<(), Fail> {
     shows(&rt, rt.alloc(), &with_labels(rt.alloc())?, STANDS)
+}
+
+// What is marked may not be in sync, though the labels are clean. Without labels there are no marks.
+#[test]
+fn a_marked_array_is_dirty(rt: HostRuntime) -> Result<(), Fail> {
+    let alloc = rt.alloc();
+    let bare = spared(alloc, None, &ONE_DEAD, &TWO_DEAD)?;
+    for (opened, ending) in [
+        (with_labels(alloc)?, b"\nparity dirty\n" as &[u8]),
+        (bare, b"\nparity unlabelled\n"),
+    ] {
+        let mut out = MemSink::new(alloc, 1000, Vec::new(alloc))?;
+        holds(&rt, puts_marked(alloc, &opened, true, &mut out)?);
+        holds(&rt, out.bytes().ends_with(ending));
+    }
+    Ok(())
+}
+
+// The line of a map, by one call; none where no device has a map.
+#[test]
+fn a_map_is_printed(rt: HostRuntime) -> Result<(), Fail> {
+    let mut out = MemSink::new(rt.alloc(), 1000, Vec::new(rt.alloc()))?;
+    let marked = Marked {
+        regions: 3968,
+        marked: 17,
+    };
+    for map in [Some(marked), None] {
+        holds(&rt, put_map(map, &mut out).is_ok());
+    }
+    same(
+        &rt,
+        out.bytes(),
+        b"map regions 3968 marked 17\nmap none\n" as &[u8],
+    );
+    let mut broken = MemSink::new(rt.alloc(), 1000, vec![in rt.alloc(); 0]?)?;
+    holds(&rt, put_map(Some(marked), &mut broken).is_err());
+    same(&rt, broken.bytes(), b"" as &[u8]);
+    Ok(())
 }
 
 // A sink that fails call k has the k lines before it, and no other.
@@ -253,7 +301,7 @@ fn a_column_was_failed(rt: HostRuntime) -> Result<(), Fail> {
     let mut out = MemSink::new(alloc, 1000, Vec::new(alloc))?;
     holds(
         &rt,
-        put_show(&conf, &opened, &[128; 3], &fronts, &mut out).is_ok(),
+        put_show(&conf, &opened, &[128; 3], &fronts, false, &mut out).is_ok(),
     );
     holds(&rt, put_label(&fronts[0], &mut out).is_ok());
     let wanted: &[u8] =

@@ -1,6 +1,6 @@
-//! Commands on a bay in memory of which one call fails, and what each of them prints and leaves.
+//! Commands on a bay in memory of which one call fails, or whose power stops, and what each of them prints and leaves.
 use crate::judging::same_at;
-use blk_disk::{MemDisk, SECTOR};
+use blk_disk::{MemDisk, SECTOR, StopDisk};
 use raid_bay::{MemBay, MemSink, Name};
 use raid_progress::Silent;
 use raid_top::run;
@@ -15,6 +15,7 @@ mod cuts;
 mod devices;
 mod realistic;
 mod spreading;
+mod stops;
 
 /// A component by its number, and the number of its call that fails.
 type Fault = (usize, u32);
@@ -106,10 +107,10 @@ fn sink(alloc: Global) -> Result<MemSink, Fail> {
 }
 
 // The exit number of these words.
-fn ended<R: Threads + Wait + Sync>(
+fn ended<D: StopDisk + Drop + Send, R: Threads + Wait + Sync>(
     rt: &R,
     alloc: Global,
-    bay: &mut MemBay<MemDisk>,
+    bay: &mut MemBay<D>,
     words: &str,
     out: &mut MemSink,
 ) -> Result<u8, Fail> {

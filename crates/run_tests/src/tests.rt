@@ -1,6 +1,6 @@
 //! Sessions: commands on a bay in memory, and what each of them prints and leaves.
 use crate::judging::same_at;
-use blk_disk::{Call, Disk, MemDisk, SECTOR};
+use blk_disk::{Call, MemDisk, SECTOR, StopDisk};
 use raid_bay::{Bay, MemBay, MemSink, Name};
 use raid_progress::{Progress, Silent};
 use raid_top::run;
@@ -16,6 +16,7 @@ mod join_lines;
 mod joined;
 mod letters;
 mod levels;
+mod maps;
 mod ordered;
 mod parts;
 mod progress;
@@ -54,6 +55,8 @@ enum Step {
     Copy(&'static str, &'static str),
     /// Its sector of this number is filled with this byte.
     Spoil(&'static str, u16, u8),
+    /// Its sector 1 is replaced by a map of this serial number, which marks these of the first eight regions.
+    Mark(&'static str, u16, u8),
     /// Its byte of this number is replaced by this one.
     Put(&'static str, u16, u8),
     /// The bay has it no more.
@@ -131,7 +134,7 @@ fn names_of(alloc: Global, words: &str) -> Result<Vec<Name>, Fail> {
 }
 
 // The exit number of these words, and what they print; this is told how far they are.
-fn answer_telling<D: Disk + Drop + Send, R: Threads + Wait + Sync, P: Progress + Sync>(
+fn answer_telling<D: StopDisk + Drop + Send, R: Threads + Wait + Sync, P: Progress + Sync>(
     rt: &R,
     alloc: Global,
     bay: &mut MemBay<D>,
@@ -145,7 +148,7 @@ fn answer_telling<D: Disk + Drop + Send, R: Threads + Wait + Sync, P: Progress +
 }
 
 // The same, where nobody is told.
-fn answer<D: Disk + Drop + Send, R: Threads + Wait + Sync>(
+fn answer<D: StopDisk + Drop + Send, R: Threads + Wait + Sync>(
     rt: &R,
     alloc: Global,
     bay: &mut MemBay<D>,
@@ -155,7 +158,7 @@ fn answer<D: Disk + Drop + Send, R: Threads + Wait + Sync>(
 }
 
 // These words end with this number, and print this.
-fn says<D: Disk + Drop + Send, R: Abort + Threads + Wait + Sync>(
+fn says<D: StopDisk + Drop + Send, R: Abort + Threads + Wait + Sync>(
     rt: &R,
     alloc: Global,
     bay: &mut MemBay<D>,
@@ -327,6 +330,7 @@ fn act_out<R: Abort + Threads + Wait + Sync>(
         Step::Resize(name, sectors) => resize(alloc, bay, name, sectors)?,
         Step::Copy(from, to) => copy(alloc, bay, from, to)?,
         Step::Spoil(name, sector, byte) => spoil(alloc, bay, name, sector, byte)?,
+        Step::Mark(name, serial, marks) => maps::marked_by_hand(alloc, bay, name, serial, marks)?,
         Step::Put(name, place, byte) => put(alloc, bay, name, place, byte)?,
         Step::Lose(name) => lose(alloc, bay, name)?,
     }

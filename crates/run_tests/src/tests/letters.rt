@@ -12,9 +12,9 @@ const WIDE_FOREIGN: &str =
 const FOREIGN: &str = "START array\n1 3 0\nSTART disks\nd0\nd1\nd3\nSTART layout\n1 1 1 5\n";
 
 // On five columns the check unit of stripe s is on column 3 where s is 1 modulo 5, which 13 of 64 stripes are. So d3 gets its
-// label by its call 0; by its calls from 1 on its parity is initialised: a read of its first sector, a label, a unit for each
-// stripe, a settle, a label, a settle; and in the run its calls from 70 on are a read of its first sector, a label, and the
-// write of sectors 64 to 95, which fails. Nothing says that its label is old but the counter. Then its column is rebuilt onto
+// label by its call 0; by its calls from 1 on its parity is initialised: a read of its first sector and one of its map, a label,
+// a unit for each stripe, a settle, a label, a settle; and in the run its calls from 71 on are a read of its first sector and
+// one of its map, a label, and the write of sectors 64 to 95, which fails. Nothing says that its label is old but the counter. Then its column is rebuilt onto
 // the spare. At last d2 is replaced: without a label it is refused, and its column is rebuilt on it.
 #[test]
 fn an_array_is_labelled_and_run_and_rebuilt(rt: HostRuntime) -> Result<(), Fail> {
@@ -22,7 +22,7 @@ fn an_array_is_labelled_and_run_and_rebuilt(rt: HostRuntime) -> Result<(), Fail>
         conf: WIDE,
         script: "0 write 64 256 5a\n0 read 64 256\n",
         sectors: 2112,
-        fails: &[("d3", 72)],
+        fails: &[("d3", 74)],
         steps: &[
             Step::Run("r5 -I 1001", 0, "labels written 5\nstatus ok\n"),
             Step::Begins(
@@ -180,7 +180,7 @@ fn an_array_goes_by_its_labels(rt: HostRuntime) -> Result<(), Fail> {
             ..PLAIN
         },
         Session {
-            fails: &[("d0", 2), ("d1", 2)],
+            fails: &[("d0", 3), ("d1", 3)],
             steps: &[
                 Step::Run("r5 -I 7", 0, "labels written 3\nstatus ok\n"),
                 Step::Run("r5 --io s1 -w 0", 8, "dead 0\ndead 1\nstatus lost 0 1 0\n"),

@@ -159,7 +159,7 @@ fn a_rebuild_in_part_is_refused(rt: HostRuntime) -> Result<(), Fail> {
             ..PLAIN
         },
         Session {
-            fails: &[("d0", 2), ("d1", 2)],
+            fails: &[("d0", 3), ("d1", 3)],
             steps: &[
                 LABELLED,
                 Step::Run("r5 --io s1 -w 0", 8, "dead 0\ndead 1\nstatus lost 0 1 0\n"),

@@ -200,9 +200,9 @@ fn a_rebuild_goes_on_beside_a_dead_column(rt: HostRuntime) -> Result<(), Fail> {
 }
 
 // By its calls from 0 on the spare's first sector is read by `-i` and by `-F`, 20 units are written, and it is settled, labelled
-// and settled; by those from 25 on its first sector is read, and its label is written. It fails at a unit; at its label of the
-// closing round, when 20 stripes are rebuilt; as a client writes on it, by its call 27; as it is read again; and at its label
-// of the opening round. By its call 92 the disk of column 0 fails, as the array is closed: then it is lost, and nothing is
+// and settled; by those from 25 on its first sector and its map are read, and its label is written. It fails at a unit; at its
+// label of the closing round, when 20 stripes are rebuilt; as a client writes on it, by its call 28; as it is read again; and
+// at its label of the opening round. By its call 94 the disk of column 0 fails, as the array is closed: then it is lost, and nothing is
 // paused.
 #[test]
 fn a_column_that_is_half_rebuilt_dies(rt: HostRuntime) -> Result<(), Fail> {
@@ -243,7 +243,7 @@ fn a_column_that_is_half_rebuilt_dies(rt: HostRuntime) -> Result<(), Fail> {
             conf: SPARED,
             script: "0 write 1 1 a5\n0 write 127 1 b6\n",
             other: "0 read 1 1\n0 read 127 1\n",
-            fails: &[("s0", 27)],
+            fails: &[("s0", 28)],
             steps: &[
                 LABELLED,
                 INITIALISED,
@@ -281,7 +281,7 @@ fn a_column_that_is_half_rebuilt_dies(rt: HostRuntime) -> Result<(), Fail> {
         },
         Session {
             conf: SPARED,
-            fails: &[("s0", 26)],
+            fails: &[("s0", 27)],
             steps: &[
                 LABELLED,
                 INITIALISED,
@@ -297,7 +297,7 @@ fn a_column_that_is_half_rebuilt_dies(rt: HostRuntime) -> Result<(), Fail> {
         },
         Session {
             conf: SPARED,
-            fails: &[("d0", 92)],
+            fails: &[("d0", 94)],
             steps: &[
                 LABELLED,
                 INITIALISED,
