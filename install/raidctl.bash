@@ -43,7 +43,7 @@ _raidctl() {
     --sweep | --ops | --limit | -I) return ;;
     *)
         if [ -n "$(_raidctl_conf)" ] || [[ $word == -* ]]; then
-            words='-s -p -P -i -I -f -F -R -g -G -w --resume --limit --io --graphs --trace --sweep --clients --ops --scan --sim --help --version'
+            words='-s -m -p -P -i -I -f -F -R -g -G -w --resume --limit --map --io --graphs --trace --sweep --clients --ops --scan --sim --help --version'
         fi
         ;;
     esac
