@@ -202,20 +202,6 @@ leased_place a b c d e = ap place e
     place (Free at) = 0
     place (Leased first at) = at
 
--- seats with these owners, the first n of a list
-abbrev pub Owned : ℕ → List SeatView → List ℕ → Type 0
-Owned first seats l = (i : ℕ) → i < length l → (get_or l i 0 < length seats) × ((seat_at seats (get_or l i 0)).owner ≡ Leased first i)
-
-pub owned_push : (first : ℕ) (seats : List SeatView) (l : List ℕ) (k at : ℕ) → k < length seats → (seat_at seats k).owner ≡ Free at → Owned first seats l → Owned first (claim first (length l) k seats) (l ++ k ∷ [])
-owned_push first seats l k at inside free o i h = elim (cases_eq i (length l)) [
-  | inl e ↦ let is = get_or_push l k 0 i (sym e) in let long = length-set seats k (record (seat_at seats k) { owner = Leased first (length l) }) in
-      (omega arith, ap owner_of (here seats k _ inside (get_or (l ++ k ∷ []) i 0) is) ∙ ap (Leased first) (sym e))
-  | inr e ↦ let m = length_push l k in let less : i < length l = omega (arith, e) in let old = o i less in let same = get_or_append_left l (k ∷ []) 0 i less in let long = length-set seats k (record (seat_at seats k) { owner = Leased first (length l) }) in
-      let owner : (seat_at seats (get_or (l ++ k ∷ []) i 0)).owner ≡ Leased first i = ap (λ (j : ℕ). (seat_at seats j).owner) same ∙ old.1 in
-      let apart : get_or (l ++ k ∷ []) i 0 ≢ k = λ a. leased_not_free first i at (sym owner ∙ (ap (λ (j : ℕ). (seat_at seats j).owner) a ∙ free)) in
-      (omega (arith, old.0, same, long), ap owner_of (else_ seats k _ inside (get_or (l ++ k ∷ []) i 0) apart) ∙ owner)
-]
-
 -- a seat that changes and stays its owner's leaves each lease one
 module _ (p : PoolView) (k : ℕ) (w : SeatView) (same : w.owner ≡ (seat_at p.seats k).owner) where
   owner_stays : (j : ℕ) → j < length p.seats → (seat_at (set p.seats k w) j).owner ≡ (seat_at p.seats j).owner

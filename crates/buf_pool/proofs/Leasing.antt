@@ -1,12 +1,11 @@
 -- The loops that fill a lease and that empty it.
-use Rattle.std.proofs.Common.{◌≡◌, ◌≢◌, ℕ, ◌+◌, ◌<◌, ◌≤◌, List, [], ◌∷◌, ◌++◌, length, get_or, Bool, false, Contains, arith, sym, ap, ◌∙◌, subst, refl, inl, inr}
+use Rattle.std.proofs.Common.{◌≡◌, ◌≢◌, ℕ, ◌+◌, ◌-◌, ◌<◌, ◌≤◌, List, [], ◌∷◌, ◌++◌, length, get_or, take, drop, Bool, false, Contains, arith, sym, ap, ◌∙◌, subst, refl, inl, inr}
 use Rattle.std.proofs.lemmas.Bool.{cases_eq}
-use Rattle.std.proofs.lemmas.List.{length_push, length-set, get_or-set_same, get_or-set_other, get_or_append_left, get_or_push, get_or_default}
-use Rattle.std.proofs.lemmas.List.Elements.{Contains-push, Contains-append_left}
-use Rattle.buf_pool.specs.Pool.{SeatView, PoolView, IsLease, AllHome, AreApart, IsFree, Leases, StandsApart, Returns, KeepsOthers, claim, release, seat_at, nowhere, leased, leased_in}
+use Rattle.std.proofs.lemmas.List.{length_push, length-set, get_or-set_same, get_or-set_other, get_or_append_left, get_or_push, get_or_default, get_or-drop, take_more, take_all, append-nil, append_assoc}
+use Rattle.buf_pool.specs.Pool.{SeatView, PoolView, IsLease, IsPool, AllHome, AreApart, IsFree, Leases, StandsApart, Returns, KeepsOthers, claim, release, seat_at, nowhere, leased, leased_in}
 use Rattle.buf_pool.specs.declared.seat.Owner.{Owner}
 use Rattle.buf_pool.specs.declared.seat.Owner.TheVariants.{Free, Leased}
-use Rattle.buf_pool.proofs.Keeps.{Owned, owned_push, leased_place, leased_not_free}
+use Rattle.buf_pool.proofs.Keeps.{leased_place, leased_not_free, releases}
 
 abbrev owner_of : SeatView → Owner
 owner_of v = v.owner
@@ -23,94 +22,97 @@ is_among l j k h e = (j, h, get_or_default l j k 0 h ∙ e)
 
 -- ---- a lease fills
 
--- the first i seats of the lease were given to it
+-- the last i seats of the lease, which are the last of the free ones, were given to it
 pub record Gives (old : PoolView) (first : ℕ) (l : List ℕ) (now : PoolView) (i : ℕ) : Type 0 where
-  pub count : length l ≡ i
   pub unit : now.unit ≡ old.unit
   pub free : length old.free ≡ length now.free + i
+  pub front : (j : ℕ) → j < length now.free → get_or now.free j 0 ≡ get_or old.free j 0
   pub seats : length now.seats ≡ length old.seats
-  pub owned : Owned first now.seats l
-  pub all_home : AllHome now l
-  pub were_free : (j : ℕ) → j < length l → IsFree (seat_at old.seats (get_or l j 0))
-  pub bytes : (j : ℕ) → j < length l → (seat_at now.seats (get_or l j 0)).bytes ≡ (seat_at old.seats (get_or l j 0)).bytes
-  pub others : (k : ℕ) → ¬ Contains l k → seat_at now.seats k ≡ seat_at old.seats k
-  pub begun : i ≡ 0 → now.free ≡ old.free
-  pub is_first : 0 < i → first ≡ get_or l 0 0
+  pub owned : (j : ℕ) → length l ≤ j + i → j < length l → (get_or l j 0 < length now.seats) × ((seat_at now.seats (get_or l j 0)).owner ≡ Leased first j)
+  pub all_home : (j : ℕ) → length l ≤ j + i → j < length l → (seat_at now.seats (get_or l j 0)).out ≡ false
+  pub were_free : (j : ℕ) → length l ≤ j + i → j < length l → IsFree (seat_at old.seats (get_or l j 0))
+  pub bytes : (j : ℕ) → length l ≤ j + i → j < length l → (seat_at now.seats (get_or l j 0)).bytes ≡ (seat_at old.seats (get_or l j 0)).bytes
+  pub others : (k : ℕ) → ((j : ℕ) → length l ≤ j + i → j < length l → get_or l j 0 ≢ k) → seat_at now.seats k ≡ seat_at old.seats k
 
-pub starts : (old : PoolView) (first : ℕ) (l : List ℕ) → l ≡ [] → Gives old first l old 0
-starts old first l e = subst (λ (k : List ℕ). Gives old first k old 0) (sym e) (record {
-  count = refl;
+pub starts : (old : PoolView) (first : ℕ) (l : List ℕ) → Gives old first l old 0
+starts old first l = record {
   unit = refl;
   free = omega arith;
+  front = λ j h. refl;
   seats = refl;
-  owned = λ i h. absurd (omega arith);
-  all_home = λ i h. absurd (omega arith);
-  were_free = λ i h. absurd (omega arith);
-  bytes = λ i h. absurd (omega arith);
-  others = λ k absent. refl;
-  begun = λ z. refl;
-  is_first = λ h. absurd (omega arith);
-})
+  owned = λ j a h. absurd (omega arith);
+  all_home = λ j a h. absurd (omega arith);
+  were_free = λ j a h. absurd (omega arith);
+  bytes = λ j a h. absurd (omega arith);
+  others = λ k apart. refl;
+}
 
--- one more seat is given
-module _ (old now new : PoolView) (first i k : ℕ) (l : List ℕ) (unit : new.unit ≡ now.unit) (free : now.free ≡ new.free ++ k ∷ []) (seats : new.seats ≡ claim first i k now.seats)
+-- one more seat is given, from the end of the free ones
+module _ (old now new : PoolView) (first i k place : ℕ) (l : List ℕ) (last : place + i + 1 ≡ length l) (part : l ≡ drop (length old.free - length l) old.free) (enough : length l ≤ length old.free)
+    (unit : new.unit ≡ now.unit) (free : now.free ≡ new.free ++ k ∷ []) (seats : new.seats ≡ claim first place k now.seats)
     (inside : k < length now.seats) (at : ℕ) (was : (seat_at now.seats k).owner ≡ Free at) (home : (seat_at now.seats k).out ≡ false) (g : Gives old first l now i) where
-  new_here : seat_at new.seats k ≡ record (seat_at now.seats k) { owner = Leased first i }
-  new_here = ap (λ (s : List SeatView). seat_at s k) seats ∙ get_or-set_same now.seats k (record (seat_at now.seats k) { owner = Leased first i }) nowhere inside
+  many : length now.free ≡ length new.free + 1
+  many = ap length free ∙ length_push new.free k
+
+  here_old : length new.free ≡ (length old.free - length l) + place
+  here_old = let m = many in let f = g.free in omega arith
+
+  is : get_or l place 0 ≡ k
+  is =
+      let m = many in
+      let in_part : get_or l place 0 ≡ get_or (drop (length old.free - length l) old.free) place 0 = ap (λ (x : List ℕ). get_or x place 0) part in
+      in_part ∙ (get_or-drop (length old.free - length l) old.free place 0 ∙ (ap (λ (x : ℕ). get_or old.free x 0) (sym here_old)
+      ∙ (sym (g.front (length new.free) (omega arith)) ∙ (ap (λ (x : List ℕ). get_or x (length new.free) 0) free ∙ get_or_push new.free k 0 (length new.free) refl))))
+
+  new_here : seat_at new.seats k ≡ record (seat_at now.seats k) { owner = Leased first place }
+  new_here = ap (λ (s : List SeatView). seat_at s k) seats ∙ get_or-set_same now.seats k (record (seat_at now.seats k) { owner = Leased first place }) nowhere inside
 
   new_else : (x : ℕ) → x ≢ k → seat_at new.seats x ≡ seat_at now.seats x
-  new_else x apart = ap (λ (s : List SeatView). seat_at s x) seats ∙ get_or-set_other now.seats k x (record (seat_at now.seats k) { owner = Leased first i }) nowhere apart
+  new_else x apart = ap (λ (s : List SeatView). seat_at s x) seats ∙ get_or-set_other now.seats k x (record (seat_at now.seats k) { owner = Leased first place }) nowhere apart
 
-  away : (j : ℕ) → j < length l → get_or l j 0 ≢ k
-  away j h e = leased_not_free first j at (sym (g.owned j h).1 ∙ (ap (λ (x : ℕ). (seat_at now.seats x).owner) e ∙ was))
+  long : length new.seats ≡ length now.seats
+  long = ap length seats ∙ length-set now.seats k (record (seat_at now.seats k) { owner = Leased first place })
 
-  absent : ¬ Contains l k
-  absent has = away has.0 has.1 (get_or_default l has.0 0 k has.1 ∙ has.2)
+  away : (j : ℕ) → length l ≤ j + i → j < length l → get_or l j 0 ≢ k
+  away j a h e = leased_not_free first j at (sym (g.owned j a h).1 ∙ (ap (λ (x : ℕ). (seat_at now.seats x).owner) e ∙ was))
 
-  front : (j : ℕ) → j < length l → seat_at new.seats (get_or l j 0) ≡ seat_at now.seats (get_or l j 0)
-  front j h = new_else (get_or l j 0) (away j h)
+  back : (j : ℕ) → length l ≤ j + i → j < length l → seat_at new.seats (get_or l j 0) ≡ seat_at now.seats (get_or l j 0)
+  back j a h = new_else (get_or l j 0) (away j a h)
 
-  each : (P : ℕ → Type 0) → ((j : ℕ) → j < length l → P (get_or l j 0)) → P k → (j : ℕ) → j < length (l ++ k ∷ []) → P (get_or (l ++ k ∷ []) j 0)
-  each P before last j h = elim (cases_eq j (length l)) [
-    | inl e ↦ subst P (sym (get_or_push l k 0 j (sym e))) last
-    | inr e ↦ let m = length_push l k in let less : j < length l = omega (arith, e, m, h) in subst P (sym (get_or_append_left l (k ∷ []) 0 j less)) (before j less)
+  each : (P : ℕ → ℕ → Type 0) → ((j : ℕ) → length l ≤ j + i → j < length l → P j (get_or l j 0)) → P place k → (j : ℕ) → length l ≤ j + (i + 1) → j < length l → P j (get_or l j 0)
+  each P before mine j a h = elim (cases_eq j place) [
+    | inl e ↦ subst (λ (x : ℕ). P x (get_or l x 0)) (sym e) (subst (P place) (sym is) mine)
+    | inr e ↦ before j (omega (arith, e, a, last)) h
   ]
 
-  first_is : ((xs : List ℕ) (n : ℕ) → old.free ≡ xs ++ n ∷ [] → first ≡ n) → (y : List ℕ) → length y ≡ i → (0 < i → first ≡ get_or y 0 0) → first ≡ get_or (y ++ k ∷ []) 0 0
-  first_is next [] c p = next new.free k (sym (g.begun (sym c)) ∙ free)
-  first_is next (x ∷ y) c p = p (omega arith)
+  was_same : seat_at now.seats k ≡ seat_at old.seats k
+  was_same = g.others k away
 
-  pub more : ((xs : List ℕ) (n : ℕ) → old.free ≡ xs ++ n ∷ [] → first ≡ n) → Gives old first (l ++ k ∷ []) new (i + 1)
-  more next = record {
-    count = length_push l k ∙ ap (λ (n : ℕ). n + 1) g.count;
+  pub more : Gives old first l new (i + 1)
+  more = record {
     unit = unit ∙ g.unit;
-    free = let a = ap length free in let b = length_push new.free k in let c = g.free in omega arith;
-    seats = ap length seats ∙ (length-set now.seats k (record (seat_at now.seats k) { owner = Leased first i }) ∙ g.seats);
-    owned = subst (λ (s : List SeatView). Owned first s (l ++ k ∷ [])) (sym (seats ∙ ap (λ (n : ℕ). claim first n k now.seats) (sym g.count))) (owned_push first now.seats l k at inside was g.owned);
-    all_home = each (λ x. (seat_at new.seats x).out ≡ false) (λ j h. ap out_of (front j h) ∙ g.all_home j h) (ap out_of new_here ∙ home);
-    were_free = each (λ x. IsFree (seat_at old.seats x)) g.were_free (ap leased_in (sym (g.others k absent)) ∙ ap leased was);
-    bytes = each (λ x. (seat_at new.seats x).bytes ≡ (seat_at old.seats x).bytes) (λ j h. ap bytes_of (front j h) ∙ g.bytes j h) (ap bytes_of new_here ∙ ap bytes_of (g.others k absent));
-    others = λ x out. new_else x (λ e. out (subst (λ (y : ℕ). Contains (l ++ k ∷ []) y) (sym e) (Contains-push l k))) ∙ g.others x (λ has. out (Contains-append_left l (k ∷ []) x has));
-    begun = λ z. absurd (omega arith);
-    is_first = λ h. first_is next l g.count g.is_first;
+    free = let m = many in let f = g.free in omega arith;
+    front = λ j h. let m = many in sym (ap (λ (x : List ℕ). get_or x j 0) free ∙ get_or_append_left new.free (k ∷ []) 0 j h) ∙ g.front j (omega arith);
+    seats = long ∙ g.seats;
+    owned = each (λ j x. (x < length new.seats) × ((seat_at new.seats x).owner ≡ Leased first j)) (λ j a h. let o = g.owned j a h in let m = long in (let inside_then = o.0 in omega arith, ap owner_of (back j a h) ∙ o.1)) (let m = long in omega arith, ap owner_of new_here);
+    all_home = each (λ j x. (seat_at new.seats x).out ≡ false) (λ j a h. ap out_of (back j a h) ∙ g.all_home j a h) (ap out_of new_here ∙ home);
+    were_free = each (λ j x. IsFree (seat_at old.seats x)) g.were_free (ap leased_in (sym was_same) ∙ ap leased was);
+    bytes = each (λ j x. (seat_at new.seats x).bytes ≡ (seat_at old.seats x).bytes) (λ j a h. ap bytes_of (back j a h) ∙ g.bytes j a h) (ap bytes_of new_here ∙ ap bytes_of was_same);
+    others = λ x apart. new_else x (λ e. apart place (omega (arith, last)) (omega (arith, last)) (is ∙ sym e)) ∙ g.others x (λ j a h. apart j (omega (arith, a)) h);
   }
 
-pub ends : (old now : PoolView) (first i n : ℕ) (l : List ℕ) → i ≡ n → Gives old first l now i → Leases old n l now
-ends old now first i n l e g = record {
-  count = g.count ∙ e;
+pub ends : (old now : PoolView) (first i n : ℕ) (l : List ℕ) → i ≡ n → length l ≡ n → first ≡ get_or l 0 0 → Gives old first l now i → Leases old n l now
+ends old now first i n l e many named g = record {
+  count = many;
   unit = g.unit;
   free = let f = g.free in omega arith;
   seats = g.seats;
-  is_lease = by_first l g.count g.is_first g.owned;
-  all_home = g.all_home;
-  were_free = g.were_free;
-  bytes = g.bytes;
-  others = g.others;
+  is_lease = λ j h. let o = g.owned j (omega arith) h in (o.0, o.1 ∙ ap (λ (f : ℕ). Leased f j) named);
+  all_home = λ j h. g.all_home j (omega arith) h;
+  were_free = λ j h. g.were_free j (omega arith) h;
+  bytes = λ j h. g.bytes j (omega arith) h;
+  others = λ k absent. g.others k (λ j a h e. absent (is_among l j k h e));
 }
-  where
-    by_first : (y : List ℕ) → length y ≡ i → (0 < i → first ≡ get_or y 0 0) → Owned first now.seats y → IsLease now y
-    by_first [] c p o = λ j h. absurd (omega arith)
-    by_first (x ∷ y) c p o = subst (λ (f : ℕ). Owned f now.seats (x ∷ y)) (p (omega arith)) o
 
 -- the other leases stay, and have no seat of the new one
 pub stands_apart : (old new : PoolView) (n : ℕ) (l : List ℕ) → Leases old n l new → StandsApart old l new
@@ -189,6 +191,61 @@ module _ (old now new : PoolView) (l : List ℕ) (i k : ℕ) (in_l : i < length 
     left = λ j later h. freed_else (get_or l j 0) (other_place j h (λ e. absurd (omega arith))) ∙ f.left j (omega arith) h;
     others = λ x absent. freed_else x (λ e. absent (is_among l i x in_l (sym is ∙ sym e))) ∙ f.others x absent;
   }
+
+-- the pool as it were, had the first i seats of the lease come back one by one: the list of free seats has all of them from the start
+abbrev pub so_far : PoolView → List ℕ → List SeatView → ℕ → PoolView
+so_far old l seats i = record { unit = old.unit; free = old.free ++ take i l; seats = seats }
+
+pub record Empties (old : PoolView) (l : List ℕ) (seats : List SeatView) (i : ℕ) : Type 0 where
+  pub pool : IsPool (so_far old l seats i)
+  pub frees : Frees old l (so_far old l seats i) i
+
+pub empties : (old : PoolView) (l : List ℕ) → IsPool old → Empties old l old.seats 0
+empties old l h = record {
+  pool = subst (λ (f : List ℕ). IsPool (record { unit = old.unit; free = f; seats = old.seats })) (sym (append-nil old.free)) h;
+  frees = subst (λ (f : List ℕ). Frees old l (record { unit = old.unit; free = f; seats = old.seats }) 0) (sym (append-nil old.free)) (begins old l);
+}
+
+module _ (old : PoolView) (l : List ℕ) (now new : List SeatView) (i k at : ℕ) (in_l : i < length l) (is : k ≡ get_or l i 0) (lease : IsLease old l) (home : AllHome old l)
+    (place : at ≡ length old.free + i) (seats : new ≡ release at k now) (e : Empties old l now i) where
+  abbrev p : PoolView
+  p = so_far old l now i
+
+  more_free : old.free ++ take (i + 1) l ≡ (old.free ++ take i l) ++ k ∷ []
+  more_free = ap (λ (x : List ℕ). old.free ++ x) (take_more l i 0 in_l ∙ ap (λ (x : ℕ). take i l ++ x ∷ []) (sym is)) ∙ sym (append_assoc old.free (take i l) (k ∷ []))
+
+  as_before : seat_at now k ≡ seat_at old.seats k
+  as_before = ap (λ (x : ℕ). seat_at now x) is ∙ (e.frees.left i (omega arith) in_l ∙ ap (λ (x : ℕ). seat_at old.seats x) (sym is))
+
+  to_end : new ≡ release (length p.free) k now
+  to_end = seats ∙ ap (λ (x : ℕ). release x k now) (place ∙ sym e.frees.free)
+
+  in_now : k < length now
+  in_now = let a = (lease i in_l).0 in let b = e.frees.seats in omega arith
+
+  mine : leased_in (seat_at now k) ≡ 1
+  mine = ap leased_in (as_before ∙ ap (λ (x : ℕ). seat_at old.seats x) is) ∙ ap leased (lease i in_l).1
+
+  at_home : (seat_at now k).out ≡ false
+  at_home = ap out_of (as_before ∙ ap (λ (x : ℕ). seat_at old.seats x) is) ∙ home i in_l
+
+  pub empties_more : Empties old l new (i + 1)
+  empties_more = record {
+    pool = subst (λ (s : List SeatView). IsPool (so_far old l s (i + 1))) (sym to_end)
+        (subst (λ (f : List ℕ). IsPool (record { unit = old.unit; free = f; seats = release (length p.free) k now })) (sym more_free) (releases p k in_now mine at_home e.pool));
+    frees = shrinks old p (so_far old l new (i + 1)) l i k in_l is lease refl more_free to_end e.frees;
+  }
+
+-- all have come back
+module _ (old now : PoolView) (l : List ℕ) (seats : List SeatView) (i : ℕ) (all : i ≡ length l) (e : Empties old l seats i) (is : record { unit = old.unit; free = old.free ++ l; seats = seats } ≡ now) where
+  whole : so_far old l seats (length l) ≡ now
+  whole = ap (λ (f : List ℕ). record { unit = old.unit; free = old.free ++ f; seats = seats }) (take_all (length l) l (omega arith)) ∙ is
+
+  pub emptied_pool : IsPool now
+  emptied_pool = subst IsPool whole (subst (λ (n : ℕ). IsPool (so_far old l seats n)) all e.pool)
+
+  pub emptied : Frees old l now (length l)
+  emptied = subst (λ (q : PoolView). Frees old l q (length l)) whole (subst (λ (n : ℕ). Frees old l (so_far old l seats n) n) all e.frees)
 
 pub returned : (old now : PoolView) (l : List ℕ) (i : ℕ) → i ≡ length l → AllHome old l → Frees old l now i → Returns old l now
 returned old now l i e home f = record {

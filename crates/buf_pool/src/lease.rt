@@ -1,5 +1,5 @@
 //! A lease of some of a pool's buffers.
-ghost use Rattle.std.specs.Prelude.{◌≡◌, ◌<◌, ◌++◌, [], ◌∷◌, length, get_or};
+ghost use Rattle.std.specs.Prelude.{◌≡◌, ◌<◌, ◌≤◌, [], length, get_or};
 
 use std::marker::Model;
 
@@ -48,12 +48,13 @@ impl Lease {
         self.count = 0;
     }
 
-    pub(crate) fn push(&mut self, seat: u32)
-        requires { length self.old < 2048 }
-        ensures { self.new ≡ self.old ++ seat ∷ [] }
+    /// It has these seats, and no others.
+    pub(crate) fn fill(&mut self, seats: &[u32])
+        requires { length seats.now ≤ 2048 }
+        ensures { self.new ≡ seats.now }
     {
-        self.seats[self.count as usize] = seat;
-        self.count += 1;
+        self.seats[..seats.len()].copy_from_slice(seats);
+        self.count = seats.len() as u32;
     }
 
     pub(crate) fn count(&self) -> u32
@@ -62,10 +63,27 @@ impl Lease {
         self.count
     }
 
+    /// Its seats.
+    pub(crate) fn seats(&self) -> &[u32]
+        ensures { result.now ≡ self.now }
+    {
+        &self.seats[..self.count as usize]
+    }
+
     pub(crate) fn seat(&self, i: u32) -> u32
         requires { i < length self.now }
         ensures { result ≡ get_or self.now i 0 }
     {
         self.seats[i as usize]
+    }
+
+    /// Its first seat, by which a pool names it.
+    pub(crate) fn first(&self) -> u32
+        ensures { result ≡ get_or self.now 0 0 }
+    {
+        if self.count == 0 {
+            return 0;
+        }
+        self.seat(0)
     }
 }

@@ -1,6 +1,6 @@
 //! The pool.
-ghost use Rattle.std.specs.Prelude.{◌≡◌, ◌<◌, ◌≤◌, ◌+◌, ◌++◌, ◌↔◌, [], ◌∷◌, ℕ, List, length, get_or, IfOk, OnOk, OnErr, IsErr, IsTrue, replicate, true, false};
-ghost use Rattle.buf_pool.specs.Pool.{PoolView, IsLease, AllHome, Leases, StandsApart, Returns, KeepsOthers, KeepsLeases, IsPool, claim, release, seat_at, taken, put, leased_in, leased_count, IsFresh};
+ghost use Rattle.std.specs.Prelude.{◌≡◌, ◌<◌, ◌≤◌, ◌+◌, ◌++◌, ◌↔◌, [], ◌∷◌, ℕ, List, length, get_or, IfOk, OnOk, OnErr, IsErr, IsTrue, map, vec_len, vec_capacity, true, false};
+ghost use Rattle.buf_pool.specs.Pool.{PoolView, IsLease, AllHome, Leases, StandsApart, Returns, KeepsOthers, KeepsLeases, IsPool, claim, release, seen, seat_at, taken, put, leased_in, leased_count, IsFresh};
 
 use crate::buffer::{Buffer, Memory};
 use crate::lease::{Full, Lease};
@@ -87,30 +87,6 @@ impl Pool {
         seat
     }
 
-    // A lease's seat is free again.
-    fn release(&mut self, seat: u32)
-        requires inside { seat < length self.old.seats }
-        requires leased { leased_in (seat_at self.old.seats seat) ≡ 1 }
-        requires home { (seat_at self.old.seats seat).out ≡ false }
-        ensures unit { self.new.unit ≡ self.old.unit }
-        ensures free { self.new.free ≡ self.old.free ++ seat ∷ [] }
-        ensures seats { self.new.seats ≡ release (length self.old.free) seat self.old.seats }
-    {
-        let at = self.free.len() as u32;
-        self.free.push_reserved(seat);
-        self.seats[seat as usize].owner = Snapshot::of(&Owner::Free(at));
-    }
-
-    // The free seat that is given next.
-    fn next(&self) -> u32
-        ensures { (xs : List ℕ) (k : ℕ) → self.now.free ≡ xs ++ k ∷ [] → result ≡ k }
-    {
-        match self.free.last() {
-            Some(seat) => *seat,
-            None => 0,
-        }
-    }
-
     /// Leases that many buffers, each with the bytes that it has. It looks at these alone, and
     /// never searches the pool.
     ///
@@ -140,11 +116,13 @@ impl Pool {
         if n > self.free() {
             return Err(Full);
         }
-        let first = self.next();
-        lease.clear();
+        let from = self.free.len() - n as usize;
+        lease.fill(&self.free.as_slice()[from..]);
+        let first = lease.first();
+        // Their numbers are copied at once. No byte is written to tell contracts whose a seat is, so of
+        // the turns of this loop there is left how many fewer are free.
         for i in 0..n {
-            let seat = self.claim(first, i);
-            lease.push(seat);
+            self.claim(first, n - 1 - i);
         }
         Ok(())
     }
@@ -166,9 +144,11 @@ impl Pool {
         ensures freed { Returns self.old lease.now self.new }
         ensures others { KeepsOthers self.old lease.now self.new }
     {
+        let at = self.free.len() as u32;
         for i in 0..lease.count() {
-            self.release(lease.seat(i));
+            release(self.seats.as_mut_slice(), lease.seat(i), at + i);
         }
+        put_back(&mut self.free, lease.seats());
     }
 
     /// Whether the lease's buffer of that number is at home, and not out.
@@ -217,4 +197,22 @@ impl Pool {
     {
         self.seats[lease.seat(i) as usize].place = Place::Home(Zeroed::of(buffer.bytes));
     }
+}
+
+// A lease's seat is free again, at this place of the list of free seats. Contracts alone are told.
+fn release(seats: &mut [Seat], seat: u32, at: u32)
+    requires { seat < length seats.old }
+    ensures { map seen seats.new ≡ release at seat (map seen seats.old) }
+{
+    seats[seat as usize].owner = Snapshot::of(&Owner::Free(at));
+}
+
+// These seats are listed as free again.
+fn put_back(free: &mut Vec<u32>, seats: &[u32])
+    requires { vec_len free.old + length seats.now ≤ vec_capacity free.old }
+    ensures items { free.new.items ≡ free.old.items ++ seats.now }
+    ensures room { vec_capacity free.old ≤ vec_capacity free.new }
+{
+    let back = free.extend_from_slice(seats).is_ok();
+    prove!(back);
 }
