@@ -1,5 +1,5 @@
 //! Which event is done next.
-ghost use Rattle.std.specs.Prelude.{◌≡◌, ◌≤◌, MatchOption, IfSome};
+ghost use Rattle.std.specs.Prelude.{◌≡◌, ◌≤◌, ◌%◌, MatchOption, IfSome};
 ghost use Rattle.eng_clients.specs.Desk.{desk_at};
 ghost use Rattle.eng_world.specs.World.{World};
 ghost use Rattle.eng_state.specs.Out.{IsOut};
@@ -28,6 +28,17 @@ fn client_of(event: Event) -> u32
     match event {
         Event::Begin { client } | Event::Take { client } | Event::Back { client } => client,
         Event::Fire { client, .. } | Event::Skip { client, .. } => client,
+    }
+}
+
+// The number's place in the ring. Most are their own.
+fn wrapped(number: u32) -> u32
+    ensures { result ≡ number % 17 }
+{
+    if number < CLIENTS {
+        number
+    } else {
+        number % CLIENTS
     }
 }
 
@@ -144,14 +155,29 @@ fn pick_among<L: Layout, D: Disk>(array: &Array<L, D>, from: u32, to: u32) -> Op
     None
 }
 
+// The first event of the first client that has one, of those from this number on. Where none of them may have something
+// to do, as most often where one client alone is served, that is seen at once.
+fn pick_behind<L: Layout, D: Disk>(array: &Array<L, D>, from: u32) -> Option<Event>
+    requires sound { IsSound L.Layout D.Disk array.now }
+    requires stands { Stands L.Layout array.now }
+    requires from { from ≤ 17 }
+    ensures { MatchOption result (CanNothingAmong L.Layout array.now from 17)
+        (IsFirstAmong L.Layout array.now from 17) }
+{
+    match array.clients.busy_from(from) {
+        None => None,
+        Some(_) => pick_among(array, from, CLIENTS),
+    }
+}
+
 // The first event of the first client in the ring that has one.
 fn pick_first<L: Layout, D: Disk>(array: &Array<L, D>) -> Option<Event>
     requires sound { IsSound L.Layout D.Disk array.now }
     requires stands { Stands L.Layout array.now }
     ensures { MatchOption result (IsStuck L.Layout array.now) (IsPicked L.Layout array.now) }
 {
-    let next = array.next % CLIENTS;
-    let event = pick_among(array, next, CLIENTS);
+    let next = wrapped(array.next);
+    let event = pick_behind(array, next);
     if event.is_some() {
         return event;
     }
@@ -175,7 +201,7 @@ pub fn pick<L: Layout, D: Disk>(array: &mut Array<L, D>) -> Option<Event>
 {
     let event = pick_first(array);
     if let Some(event) = event {
-        array.next = (client_of(event) + 1) % CLIENTS;
+        array.next = wrapped(client_of(event) + 1);
     }
     event
 }

@@ -1,6 +1,7 @@
 //! The fronts of buffers.
-ghost use Rattle.std.specs.Prelude.{◌≡◌, ◌≤◌, ◌<◌, ◌*◌, ◌↔◌, ℕ, IsTrue, All, drop, take, length, slice_index, bit_xor};
+ghost use Rattle.std.specs.Prelude.{◌≡◌, ◌≤◌, ◌<◌, ◌*◌, ◌↔◌, ℕ, IsTrue, All, drop, take, length, slice_index, bit_xor, true};
 ghost use Rattle.eng_job.specs.Performed.{byte_at, sum_at, AreLong};
+ghost use Rattle.eng_job.specs.declared.job.Source.{Source};
 
 use crate::job::Source;
 use blk_disk::SECTOR;
@@ -64,7 +65,48 @@ fn copy_front(to: &mut [u8], from: &[u8], count: u32)
     to[..bytes].copy_from_slice(&from[..bytes]);
 }
 
-// Makes the first bytes those of the first source, if there is one and it counts, and else 0. How many sources that is.
+// Makes each byte the sum of those of three slices that are as long.
+fn sum_bytes(to: &mut [u8], one: &[u8], two: &[u8], three: &[u8])
+    requires one { length one.now ≡ length to.old }
+    requires two { length two.now ≡ length to.old }
+    requires three { length three.now ≡ length to.old }
+    ensures sum { (k : ℕ) → k < length to.old → slice_index to.new k
+        ≡ bit_xor (slice_index one.now k)
+        (bit_xor (slice_index two.now k) (slice_index three.now k)) }
+    ensures long { length to.new ≡ length to.old }
+{
+    for k in 0..to.len() {
+        to[k] = one[k] ^ (two[k] ^ three[k]);
+    }
+}
+
+// Whether each of the sources counts.
+fn do_count(from: &[Source]) -> bool
+    ensures { IsTrue result ↔ All (λ (s : Source). s.counts ≡ true) from.now }
+{
+    from.iter().all(|source| source.counts)
+}
+
+// Makes the first bytes the sum of those of three sources that count. The target is written once, and not read.
+fn sum_three(to: &mut [u8], from: &[Source], count: u32)
+    requires to { 512 * count ≤ length to.old }
+    requires from { AreLong count from.now }
+    requires three { length from.now ≡ 3 }
+    requires counts { All (λ (s : Source). s.counts ≡ true) from.now }
+    ensures sum { (k : ℕ) → k < 512 * count → slice_index to.new k ≡ sum_at from.now k }
+    ensures rest { drop (512 * count) to.new ≡ drop (512 * count) to.old }
+{
+    let bytes = SECTOR * count as usize;
+    sum_bytes(
+        &mut to[..bytes],
+        &from[0].buffer.bytes()[..bytes],
+        &from[1].buffer.bytes()[..bytes],
+        &from[2].buffer.bytes()[..bytes],
+    );
+}
+
+// Makes the first bytes the sum of those of the first sources that are added at once: three where there are so many and
+// all of them count, as in a small write; else the first, if there is one and it counts; else 0. How many these are.
 fn begin_front(to: &mut [u8], from: &[Source], count: u32) -> usize
     requires to { 512 * count ≤ length to.old }
     requires from { AreLong count from.now }
@@ -73,6 +115,10 @@ fn begin_front(to: &mut [u8], from: &[Source], count: u32) -> usize
         → slice_index to.new k ≡ sum_at (take result from.now) k }
     ensures rest { drop (512 * count) to.new ≡ drop (512 * count) to.old }
 {
+    if from.len() >= 3 && do_count(&from[..3]) {
+        sum_three(to, &from[..3], count);
+        return 3;
+    }
     if !from.is_empty() && from[0].counts {
         copy_front(to, from[0].buffer.bytes(), count);
         return 1;

@@ -7,7 +7,8 @@ use Rattle.lay_core.specs.Layout.{Shape, block_of}
 use Rattle.graph_mean.specs.Steps.{Covers, stripe_of}
 use Rattle.blk_plain.specs.declared.op.Patch.{Patch}
 use Rattle.blk_plain.specs.declared.op.Op.{Op}
-use Rattle.blk_plain.specs.Plain.{patched_sector, zero_sector}
+use Rattle.blk_plain.specs.declared.op.Op.TheVariants.{Write, Writes, Read, Rebuild, Sync}
+use Rattle.blk_plain.specs.Plain.{sector_of, patched_sector, zero_sector}
 use Rattle.eng_world.specs.Planning.{fresh}
 
 -- byte k of a buffer at an offset that it covers
@@ -21,6 +22,14 @@ bytes_of p l b = (seat_at p.seats (get_or l b 0)).bytes
 -- the pool where the buffer at seat k has these bytes
 abbrev pub stored : PoolView → ℕ → List ℕ → PoolView
 stored p k bytes = record p { seats = slice_set p.seats k (record (seat_at p.seats k) { bytes = bytes }) }
+
+-- the sector of an operation that writes the same to each of its blocks, or of zeros
+abbrev pub same_sector : Op → List ℕ
+same_sector (Write span pattern) = sector_of pattern
+same_sector (Writes patches) = zero_sector
+same_sector (Read span) = zero_sector
+same_sector (Rebuild stripe) = zero_sector
+same_sector (Sync stripe) = zero_sector
 
 -- the lease has a buffer at home for each of the graph's, long enough for its sectors
 pub record HasBuffers (g : View) (p : PoolView) (l : List ℕ) : Type 0 where

@@ -1,5 +1,5 @@
 //! The buffers of new data.
-ghost use Rattle.std.specs.Prelude.{◌≡◌, ◌≢◌, ◌≤◌, ◌<◌, ◌+◌, ◌-◌, ◌*◌, ℕ, Some, None, length, get_or, slice_index, false};
+ghost use Rattle.std.specs.Prelude.{◌≡◌, ◌≢◌, ◌≤◌, ◌<◌, ◌+◌, ◌-◌, ◌*◌, ℕ, Some, None, length, take, get_or, slice_index, false};
 ghost use Rattle.blk_disk.specs.Disk.{sector_at};
 ghost use Rattle.blk_disk.specs.Sectors.{put};
 ghost use Rattle.buf_pool.specs.Pool.{IsLease, seat_at};
@@ -9,7 +9,7 @@ ghost use Rattle.blk_plain.specs.declared.op.Patches.{Patches};
 ghost use Rattle.blk_plain.specs.Plain.{sector_of, zero_sector};
 ghost use Rattle.eng_world.specs.Plain.{filled};
 ghost use Rattle.eng_world.specs.Planning.{fresh, span_count};
-ghost use Rattle.eng_log.specs.Filled.{HasBuffers, FillsAlone, Filled, bytes_of, stored};
+ghost use Rattle.eng_log.specs.Filled.{HasBuffers, FillsAlone, Filled, bytes_of, stored, same_sector};
 
 use crate::patched::fill_patches;
 use blk_disk::SECTOR;
@@ -37,16 +37,17 @@ pub(crate) fn zeros() -> [u8; SECTOR]
     [0; SECTOR]
 }
 
-// A sector of what an operation writes that writes the same to each of its blocks, or of zeros.
-fn same_sector(op: &Op) -> [u8; SECTOR]
-    requires { (patches : Patches) → op.now ≡ Op.Writes patches → ⊥ }
-    ensures { (block k : ℕ) → k < 512 → slice_index result k ≡ fresh op.now block k }
+// Whether a graph has a buffer of new data.
+fn has_new(graph: &Graph) -> bool
+    ensures { result ≡ false → (b : ℕ) → b < length graph.now.drawn.bufs
+        → (buf_at graph.now.drawn b).new_of ≡ None }
 {
-    match op {
-        Op::Write { pattern, .. } => written(pattern),
-        Op::Writes { .. } => unreachable!(),
-        Op::Read { .. } | Op::Rebuild { .. } | Op::Sync { .. } => zeros(),
+    for b in 0..graph.bufs() {
+        if graph.buf(b).new_of.is_some() {
+            return true;
+        }
     }
+    false
 }
 
 /// Fills each buffer of new data with what the operation writes to its blocks. The other buffers keep their bytes.
@@ -63,23 +64,27 @@ pub fn fill_fresh<L: Layout>(
     ensures { Filled (L.shape layout.now) stripes.now graph.now.drawn op.now lease.now pool.old
         pool.new }
 {
+    if !has_new(graph) {
+        return;
+    }
     match op {
         Op::Writes { patches } => fill_patches(layout, stripes, graph, pool, lease, patches),
-        Op::Write { .. } | Op::Read { .. } | Op::Rebuild { .. } | Op::Sync { .. } => {
-            let sector = same_sector(op);
-            fill_new(graph, pool, lease, &sector);
-        }
+        Op::Write { .. } | Op::Read { .. } | Op::Rebuild { .. } | Op::Sync { .. } => fill_new(
+            graph, pool, lease, op,
+        ),
     }
 }
 
-// Fills each buffer of new data with this sector. The other buffers keep their bytes.
-fn fill_new(graph: &Graph, pool: &mut Pool, lease: &Lease, sector: &[u8])
+// Fills each buffer of new data with what an operation writes that writes the same to each of its blocks, or with zeros.
+// The other buffers keep their bytes.
+fn fill_new(graph: &Graph, pool: &mut Pool, lease: &Lease, op: &Op)
     requires buffers { HasBuffers graph.now.drawn pool.old lease.now }
-    requires sector { length sector.now ≡ 512 }
-    ensures filled { (b u o : ℕ) → (buf_at graph.now.drawn b).new_of ≡ Some u →
-        Covers graph.now.drawn b o →
-        sector_at (bytes_of pool.new lease.now b) (o - (buf_at graph.now.drawn b).from)
-        ≡ sector.now }
+    requires same { (patches : Patches) → op.now ≡ Op.Writes patches → ⊥ }
+    ensures filled { (b u o block k : ℕ) → (buf_at graph.now.drawn b).new_of ≡ Some u →
+        Covers graph.now.drawn b o → k < 512 →
+        slice_index
+        (sector_at (bytes_of pool.new lease.now b) (o - (buf_at graph.now.drawn b).from))
+        k ≡ fresh op.now block k }
     ensures others { (b : ℕ) → b < length graph.now.drawn.bufs →
         (buf_at graph.now.drawn b).new_of ≡ None →
         bytes_of pool.new lease.now b ≡ bytes_of pool.old lease.now b }
@@ -87,18 +92,18 @@ fn fill_new(graph: &Graph, pool: &mut Pool, lease: &Lease, sector: &[u8])
     ensures buffers { HasBuffers graph.now.drawn pool.new lease.now }
 {
     for b in 0..graph.bufs() {
-        fill_one(graph, pool, lease, sector, b);
+        fill_one(graph, pool, lease, op, b);
     }
 }
 
 // Fills a buffer, if it is one of new data.
-fn fill_one(graph: &Graph, pool: &mut Pool, lease: &Lease, sector: &[u8], b: u32)
+fn fill_one(graph: &Graph, pool: &mut Pool, lease: &Lease, op: &Op, b: u32)
     requires buffers { HasBuffers graph.now.drawn pool.old lease.now }
     requires b { b < length graph.now.drawn.bufs }
-    requires sector { length sector.now ≡ 512 }
+    requires same { (patches : Patches) → op.now ≡ Op.Writes patches → ⊥ }
     ensures filled { (u j : ℕ) → (buf_at graph.now.drawn b).new_of ≡ Some u →
         j < (buf_at graph.now.drawn b).count →
-        sector_at (bytes_of pool.new lease.now b) j ≡ sector.now }
+        sector_at (bytes_of pool.new lease.now b) j ≡ same_sector op.now }
     ensures old { (buf_at graph.now.drawn b).new_of ≡ None → pool.new ≡ pool.old }
     ensures others { (c : ℕ) → c < length graph.now.drawn.bufs → c ≢ b →
         bytes_of pool.new lease.now c ≡ bytes_of pool.old lease.now c }
@@ -106,25 +111,25 @@ fn fill_one(graph: &Graph, pool: &mut Pool, lease: &Lease, sector: &[u8], b: u32
 {
     let range = graph.buf(b);
     match range.new_of {
-        Some(_) => repeat_in(pool, lease, b, sector, range.count),
+        Some(_) => repeat_in(pool, lease, b, op, range.count),
         None => {}
     }
 }
 
-// Makes each of the first sectors of a buffer this one.
-fn repeat_in(pool: &mut Pool, lease: &Lease, buf: u32, sector: &[u8], count: u32)
+// Makes each of the first sectors of a buffer the operation's.
+fn repeat_in(pool: &mut Pool, lease: &Lease, buf: u32, op: &Op, count: u32)
     requires lease { IsLease pool.old lease.now }
     requires buf { buf < length lease.now }
     requires home { (seat_at pool.old.seats (get_or lease.now buf 0)).out ≡ false }
-    requires sector { length sector.now ≡ 512 }
+    requires same { (patches : Patches) → op.now ≡ Op.Writes patches → ⊥ }
     requires room { 512 * count ≤ pool.old.unit }
     ensures stored { pool.new ≡
         stored pool.old (get_or lease.now buf 0) (bytes_of pool.new lease.now buf) }
     ensures bytes { (j : ℕ) → j < count →
-        sector_at (bytes_of pool.new lease.now buf) j ≡ sector.now }
+        sector_at (bytes_of pool.new lease.now buf) j ≡ same_sector op.now }
 {
     let mut buffer = pool.take(lease, buf);
-    repeat(buffer.bytes_mut(), sector, count);
+    fill_front(buffer.bytes_mut(), op, count);
     pool.put(lease, buf, buffer);
 }
 
@@ -138,12 +143,86 @@ pub(crate) fn put_at(bytes: &mut [u8], first: usize, from: &[u8])
     part.copy_from_slice(from);
 }
 
-fn repeat(bytes: &mut [u8], sector: &[u8], count: u32)
-    requires sector { length sector.now ≡ 512 }
-    requires room { 512 * count ≤ length bytes.old }
-    ensures { (j : ℕ) → j < count → sector_at bytes.new j ≡ sector.now }
+// Makes each byte of the first sector this one.
+fn set_first(bytes: &mut [u8], byte: u8)
+    requires { 512 ≤ length bytes.old }
+    ensures bytes { (k : ℕ) → k < 512 → slice_index bytes.new k ≡ byte }
+    ensures long { length bytes.new ≡ length bytes.old }
 {
-    for j in 0..count as usize {
-        put_at(bytes, j, sector);
+    for k in 0..SECTOR {
+        bytes[k] = byte;
+    }
+}
+
+// Makes the first sector the pattern's.
+fn begin_pattern(bytes: &mut [u8], pattern: &Pattern)
+    requires { 512 ≤ length bytes.old }
+    ensures sector { sector_at bytes.new 0 ≡ sector_of pattern.now }
+    ensures long { length bytes.new ≡ length bytes.old }
+{
+    if pattern.len == 1 {
+        set_first(bytes, pattern.bytes[0]);
+    } else {
+        put_at(bytes, 0, &written(pattern));
+    }
+}
+
+// Makes the first sector zeros.
+fn begin_zeros(bytes: &mut [u8])
+    requires { 512 ≤ length bytes.old }
+    ensures sector { sector_at bytes.new 0 ≡ zero_sector }
+    ensures long { length bytes.new ≡ length bytes.old }
+{
+    set_first(bytes, 0);
+}
+
+// Makes the first sector the operation's.
+fn begin(bytes: &mut [u8], op: &Op)
+    requires room { 512 ≤ length bytes.old }
+    requires same { (patches : Patches) → op.now ≡ Op.Writes patches → ⊥ }
+    ensures sector { sector_at bytes.new 0 ≡ same_sector op.now }
+    ensures long { length bytes.new ≡ length bytes.old }
+{
+    match op {
+        Op::Write { pattern, .. } => begin_pattern(bytes, pattern),
+        Op::Writes { .. } => unreachable!(),
+        Op::Read { .. } | Op::Rebuild { .. } | Op::Sync { .. } => begin_zeros(bytes),
+    }
+}
+
+// Puts the first so many sectors in the place of those from another on.
+fn copy_front(bytes: &mut [u8], to: usize, count: usize)
+    requires apart { count ≤ to }
+    requires room { 512 * to + 512 * count ≤ length bytes.old }
+    ensures { bytes.new ≡ put bytes.old to (take (512 * count) bytes.old) }
+{
+    let (front, back) = bytes.split_at_mut(SECTOR * to);
+    back[..SECTOR * count].copy_from_slice(&front[..SECTOR * count]);
+}
+
+// Makes each of the first so many sectors the first one. Those that are so already are copied at once.
+fn spread(bytes: &mut [u8], count: u32)
+    requires some { 1 ≤ count }
+    requires room { 512 * count ≤ length bytes.old }
+    ensures { (j : ℕ) → j < count → sector_at bytes.new j ≡ sector_at bytes.old 0 }
+{
+    let count = count as usize;
+    let mut done = 1;
+    while done < count {
+        let more = done.min(count - done);
+        copy_front(bytes, done, more);
+        done += more;
+    }
+}
+
+// Makes each of the first so many sectors the operation's.
+fn fill_front(bytes: &mut [u8], op: &Op, count: u32)
+    requires room { 512 * count ≤ length bytes.old }
+    requires same { (patches : Patches) → op.now ≡ Op.Writes patches → ⊥ }
+    ensures { (j : ℕ) → j < count → sector_at bytes.new j ≡ same_sector op.now }
+{
+    if count > 0 {
+        begin(bytes, op);
+        spread(bytes, count);
     }
 }

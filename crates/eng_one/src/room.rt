@@ -8,9 +8,8 @@ pub(crate) fn refill<T: Copy + Drop>(items: &mut Vec<T>, item: T, count: u32)
     ensures room { vec_capacity items.old ≤ vec_capacity items.new }
 {
     items.clear();
-    for _ in 0..count {
-        append(items, item);
-    }
+    let filled = items.resize(count as usize, item).is_ok();
+    prove!(filled);
 }
 
 // Appends to a vector with room to spare.
@@ -19,6 +18,5 @@ pub(crate) fn append<T: Copy + Drop>(items: &mut Vec<T>, item: T)
     ensures items { items.new.items ≡ items.old.items ++ item ∷ [] }
     ensures room { vec_capacity items.old ≤ vec_capacity items.new }
 {
-    let done = items.push(item).is_ok();
-    prove!(done);
+    items.push_reserved(item);
 }

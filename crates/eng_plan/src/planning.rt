@@ -1,5 +1,5 @@
 //! What an operation is planned to be: its stripes, its task, the units that are missing, and its graph.
-ghost use Rattle.std.specs.Prelude.{◌≡◌, ◌<◌, ◌≤◌, ℕ, Some, length, map, vec_capacity, All};
+ghost use Rattle.std.specs.Prelude.{◌≡◌, ◌<◌, ◌≤◌, ℕ, Some, None, true, length, map, vec_capacity, All};
 ghost use Rattle.graph_mean.specs.Task.{HasUnitBelow};
 ghost use Rattle.eng_cols.specs.Cols.{IsFor};
 ghost use Rattle.eng_cols.specs.Lost.{missing_of as missing_unit};
@@ -87,7 +87,23 @@ pub fn mode_by(op: Op) -> Mode
     }
 }
 
-fn missing_unit<L: Layout>(layout: &L, cols: &Cols, stripe: u32) -> Option<u8>
+// Whether the stripe is done on each column, and none is spread. Then no unit of it is missing.
+fn is_whole<L: Layout>(layout: &L, cols: &Cols, stripe: u32) -> bool
+    requires fit { IsFor (L.shape layout.now) cols.now }
+    requires stripe { stripe < cols.now.stripes }
+    ensures { result ≡ true
+        → missing_unit (L.shape layout.now) cols.now.states stripe ≡ None }
+{
+    for column in 0..layout.columns() {
+        if cols.is_spread(column) || !cols.is_done(column, stripe) {
+            return false;
+        }
+    }
+    true
+}
+
+// The first unit of the stripe that stands nowhere.
+fn find_missing<L: Layout>(layout: &L, cols: &Cols, stripe: u32) -> Option<u8>
     requires fit { IsFor (L.shape layout.now) cols.now }
     requires stripe { stripe < cols.now.stripes }
     ensures { result ≡ missing_unit (L.shape layout.now) cols.now.states stripe }
@@ -98,6 +114,18 @@ fn missing_unit<L: Layout>(layout: &L, cols: &Cols, stripe: u32) -> Option<u8>
         }
     }
     None
+}
+
+// The same. Where can be none, which is most often so, no unit is looked at.
+fn missing_unit<L: Layout>(layout: &L, cols: &Cols, stripe: u32) -> Option<u8>
+    requires fit { IsFor (L.shape layout.now) cols.now }
+    requires stripe { stripe < cols.now.stripes }
+    ensures { result ≡ missing_unit (L.shape layout.now) cols.now.states stripe }
+{
+    if is_whole(layout, cols, stripe) {
+        return None;
+    }
+    find_missing(layout, cols, stripe)
 }
 
 // The missing unit, where it has a target.

@@ -1,7 +1,7 @@
 use Rattle.std.specs.Prelude.{not}
 use Rattle.std.proofs.Common.{sym, ap, ◌∙◌, arith, ◌<◌}
 use Rattle.eng_plan.proofs.Lacking.{first-found}
-use Rattle.eng_plan.proofs.planning.missing_unit.Goals as goal
+use Rattle.eng_plan.proofs.planning.find_missing.Goals as goal
 
 pub returns-then-is_none : goal.returns-then-is_none
 returns-then-is_none g c =
