@@ -1,5 +1,5 @@
 //! The events of one turn, and what they give to do outside.
-ghost use Rattle.std.specs.Prelude.{◌≡◌, ◌≤◌, ◌⊎◌, None, Some, false};
+ghost use Rattle.std.specs.Prelude.{◌≡◌, ◌≤◌, ◌⊎◌, None, Some, false, true};
 ghost use Rattle.eng_state.specs.Doing.{CanDo};
 ghost use Rattle.eng_state.specs.Out.{IsOut};
 ghost use Rattle.eng_array.specs.Progress.{left_of, Falls};
@@ -92,6 +92,14 @@ fn has_work<D>(job: &Job<D>) -> bool
     }
 }
 
+// Whether a job is to be performed outside the turn in which it was fired.
+fn goes_out<D>(job: &Job<D>, at_once: bool) -> bool
+    ensures at_once { at_once ≡ true → result ≡ false }
+    ensures work { at_once ≡ false → result ≡ false → job.now.work ≡ Work.Nothing }
+{
+    !at_once && has_work(job)
+}
+
 // A job is performed in the turn in which it was fired, and its node ends.
 fn end_at_once<L: Layout, D: Disk>(core: &mut Core<L, D>, mut job: Job<D>)
     requires steady { IsSteady L.Layout D.Disk core.old.array }
@@ -103,9 +111,9 @@ fn end_at_once<L: Layout, D: Disk>(core: &mut Core<L, D>, mut job: Job<D>)
     core.finish(job, outcome);
 }
 
-// One event, if there is one but the end of a job; and the end of the node that it fired, where that has no work. Else
-// its job.
-fn go_by<L: Layout, D: Disk>(core: &mut Core<L, D>) -> (Found, Option<Job<D>>)
+// One event, if there is one but the end of a job; and the end of the node that it fired, where that has no work, or work
+// that is to be done at once. Else its job.
+fn go_by<L: Layout, D: Disk>(core: &mut Core<L, D>, at_once: bool) -> (Found, Option<Job<D>>)
     requires { IsSteady L.Layout D.Disk core.old.array }
     ensures turned { TurnsTo L.Layout D.Disk core.old None core.new result.1 }
     ensures steady { IsSteady L.Layout D.Disk core.new.array }
@@ -116,7 +124,7 @@ fn go_by<L: Layout, D: Disk>(core: &mut Core<L, D>) -> (Found, Option<Job<D>>)
     let Some(job) = ticket else {
         return (found, None)
     };
-    if has_work(&job) {
+    if goes_out(&job, at_once) {
         return (found, Some(job));
     }
     end_at_once(core, job);
@@ -124,15 +132,19 @@ fn go_by<L: Layout, D: Disk>(core: &mut Core<L, D>) -> (Found, Option<Job<D>>)
 }
 
 /// Events, one after another, until a node is fired that has work, or there is no event but the end of a job; and the
-/// job of that node.
-pub(crate) fn go_far<L: Layout, D: Disk + Drop>(core: &mut Core<L, D>) -> (Found, Option<Job<D>>)
+/// job of that node. As often as is said, such work is done at once, and the node ends.
+pub(crate) fn go_far<L: Layout, D: Disk + Drop>(
+    core: &mut Core<L, D>,
+    at_once: u32,
+) -> (Found, Option<Job<D>>)
     requires { IsSteady L.Layout D.Disk core.old.array }
     ensures turned { TurnsTo L.Layout D.Disk core.old None core.new result.1 }
     ensures idle { (result.0 ≡ Found.Event) ⊎ ((result.1 ≡ None) × IsIdle L.Layout core.new.array) }
 {
+    let mut left = at_once;
     loop {
-        match go_by(core) {
-            (Found::Event, None) => {}
+        match go_by(core, left != 0) {
+            (Found::Event, None) => left = left.saturating_sub(1),
             (found, ticket) => return (found, ticket),
         }
     }

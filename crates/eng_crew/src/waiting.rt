@@ -1,29 +1,84 @@
-//! How a worker that found nothing to do lets time pass before it looks again.
-use std::hint::spin_loop;
+//! How a worker that isn't needed lets time pass before it looks again.
+use eng_turn::{Turn, TurnRule};
 use std::sync::Wait;
-use std::thread;
 use std::thread::Parker;
 use std::time::Duration;
 
-// So many times in a row it only pauses the processor, twice as long each time,
-const SPINS: u32 = 6;
+// A worker sleeps so many microseconds, and twice as long each time that it found nothing again,
+const SHORTEST: u32 = 25;
 
-// up to this time in a row it lets other threads run,
-const YIELDS: u32 = 16;
+// up to so many,
+const LONG: u32 = 200;
 
-// and from then on it sleeps, a microsecond longer each time up to so many.
-const LONGEST: u32 = 50;
+// or up to so many where the others were quick without it.
+const LONGEST: u32 = 1_000;
 
-/// Lets time pass: more, the more times in a row there was nothing to do. Nobody needs to wake the thread.
-pub(crate) fn back_off<W: Wait>(rt: &W, idle: &Parker, empty: u32) {
-    if empty <= SPINS {
-        for _ in 0..1u32 << empty {
-            spin_loop();
+// What a sleep takes beside its microseconds, roughly.
+const WAKING: u32 = 60;
+
+// The others are quick where a turn takes them so many microseconds or fewer.
+const QUICK: u64 = 5;
+
+// A worker steps back once it found the core taken so many times more often than free.
+const CROWD: u32 = 6;
+
+/// How a worker sleeps, and how often it found others at the core.
+#[derive(Drop)]
+pub(crate) struct Pace {
+    idle: Parker,
+    lull: u32,
+    crowd: u32,
+}
+
+impl Pace {
+    pub(crate) fn new() -> Pace {
+        Pace {
+            idle: Parker::new(),
+            lull: SHORTEST,
+            crowd: 0,
         }
-    } else if empty <= YIELDS {
-        thread::yield_now();
-    } else {
-        let micros = (empty - YIELDS).min(LONGEST);
-        idle.park_timeout(rt, Duration::from_micros(u64::from(micros)));
+    }
+
+    /// It had something to do, and will sleep less.
+    pub(crate) fn worked(&mut self) {
+        self.lull = (self.lull / 2).max(SHORTEST);
+    }
+
+    /// It comes to a core that is taken or free: whether there are workers enough without it. Then it will sleep long.
+    pub(crate) fn is_crowded(&mut self, taken: bool) -> bool {
+        if !taken {
+            self.crowd = self.crowd.saturating_sub(1);
+            return false;
+        }
+        self.crowd = self.crowd.saturating_add(1);
+        if self.crowd < CROWD {
+            return false;
+        }
+        self.crowd = 0;
+        self.lull = LONGEST;
+        true
+    }
+
+    // Sleeps once. Nobody needs to wake the thread. Whether the others were quick meanwhile, by how many turns they had.
+    fn sleep<R: TurnRule, W: Wait>(&mut self, rt: &W, turn: &Turn<R>) -> bool {
+        let before = turn.turns();
+        let micros = self.lull;
+        self.idle
+            .park_timeout(rt, Duration::from_micros(u64::from(micros)));
+        let turns = turn.turns().wrapping_sub(before);
+        let quick = turns >= u64::from(micros.saturating_add(WAKING)) / QUICK;
+        let most = if quick { LONGEST } else { LONG };
+        self.lull = micros.saturating_mul(2).min(most);
+        quick
+    }
+
+    /// Sleeps while the others are quick, longer each time: then one more at the core costs more than it does.
+    pub(crate) fn wait<R: TurnRule, W: Wait>(&mut self, rt: &W, turn: &Turn<R>) {
+        for _ in rt.forever() {
+            if !self.sleep(rt, turn) {
+                return;
+            }
+        }
+        unreachable!()
     }
 }

@@ -6,13 +6,12 @@ ghost use Rattle.eng_crew.specs.Idle.{IsReady, HasIdleMark};
 use crate::entries::{look, turn_by};
 use crate::rule::CrewRule;
 use crate::turns::{Found, LOOK};
-use crate::waiting::back_off;
+use crate::waiting::Pace;
 use blk_disk::Disk;
 use eng_turn::{Pass, Turn};
 use lay_core::Layout;
 use raid_progress::Progress;
 use std::sync::Wait;
-use std::thread::Parker;
 
 // A worker ends after so many turns in a row in which there was nothing to do.
 const EMPTY: u32 = 1_048_576;
@@ -36,7 +35,7 @@ pub fn work<L: Layout + Drop, D: Disk + Drop, W: Wait, P: Progress>(
     ensures share { share_of pass.new ≡ share_of pass.old }
     ensures idle { HasIdleMark L.Layout D.Disk (opening_of turn.now) pass.new }
 {
-    let idle = Parker::new();
+    let mut pace = Pace::new();
     let mut held = None;
     let mut empty = 0;
     let mut turns: u32 = 0;
@@ -45,17 +44,24 @@ pub fn work<L: Layout + Drop, D: Disk + Drop, W: Wait, P: Progress>(
         if turns % LOOK == 0 {
             progress.tell(look(rt, turn, pass, &held), all);
         }
-        let (found, job) = turn_by(rt, turn, pass, held);
+        let Some((found, job)) = turn_by(rt, turn, pass, held, &mut pace) else {
+            held = None;
+            pace.wait(rt, turn);
+            continue;
+        };
         held = job;
         match found {
-            Found::Event => empty = 0,
+            Found::Event => {
+                empty = 0;
+                pace.worked();
+            }
             Found::Rest => return,
             Found::Nothing => {
                 empty += 1;
                 if empty == EMPTY {
                     return;
                 }
-                back_off(rt, &idle, empty);
+                pace.wait(rt, turn);
             }
         }
     }

@@ -86,8 +86,8 @@ module _ (R V T : RattleType) (g : TurnGhosts R.Denot V.Denot T.Denot) (v : IsSe
 
   pub turn_send : IsSend (turn.the_row R V T g)
   turn_send = declared_send (turn.the_type R V T g)
-      (table_send (option.the_row (resting.the_row V T)) (view.the_row V T) (snapshot.the_row V) (table_rule.the_row R) global.the_row kept _ (content_send V T v) heap_send frees, (as_row_send atomic.the_field atomic_send, tt))
+      (table_send (option.the_row (resting.the_row V T)) (view.the_row V T) (snapshot.the_row V) (table_rule.the_row R) global.the_row kept _ (content_send V T v) heap_send frees, (as_row_send atomic.the_field atomic_send, (as_row_send atomic.the_field atomic_send, tt)))
 
   pub turn_sync : IsSync (turn.the_row R V T g)
   turn_sync = declared_sync (turn.the_type R V T g)
-      (table_sync (option.the_row (resting.the_row V T)) (view.the_row V T) (snapshot.the_row V) (table_rule.the_row R) global.the_row kept _ (content_send V T v) heap_send frees heap_sync, (as_row_sync atomic.the_field atomic_sync, tt))
+      (table_sync (option.the_row (resting.the_row V T)) (view.the_row V T) (snapshot.the_row V) (table_rule.the_row R) global.the_row kept _ (content_send V T v) heap_send frees heap_sync, (as_row_sync atomic.the_field atomic_sync, (as_row_sync atomic.the_field atomic_sync, tt)))

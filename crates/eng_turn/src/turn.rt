@@ -21,8 +21,8 @@ pub struct Memory;
 /// A value that one pass at a time has.
 ///
 /// It is one word and one slot. The word is twice the number of passes, plus 1 while a pass has the value; the slot
-/// holds the value while none has. Beside them stands how many passes are parked, or about to be: it only saves wakes
-/// of nobody, so no rule speaks of it.
+/// holds the value while none has. Beside them stands how many passes are parked, or about to be, which only saves wakes
+/// of nobody, and how many turns there were, which only helps to choose when to enter: so no rule speaks of either.
 #[derive(Drop)]
 pub struct Turn<R: TurnRule> {
     table: Table<
@@ -33,6 +33,7 @@ pub struct Turn<R: TurnRule> {
         Global,
     >,
     parked: AtomicU64,
+    turns: AtomicU64,
     ghost shape: { (table.shared.table_id.words ≡ 1) × (table.shared.table_id.slots ≡ 1) },
 }
 

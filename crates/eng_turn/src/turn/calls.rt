@@ -15,11 +15,14 @@ use std::sync::Wait;
 use std::sync::atomic::{AtomicU64, Ordering};
 
 // A pass that finds the value away pauses so many times before it is counted, and parks.
-const PAUSES: u32 = 5;
+const PAUSES: u32 = 7;
+
+// The word is below this where there is one pass, which may have the value.
+const SEVERAL: u64 = 4;
 
 // Pauses the processor, twice as long for each look that there was.
 fn pause(looks: u32)
-    requires { looks < 5 }
+    requires { looks < 7 }
 {
     for _ in 0..1u32 << looks {
         spin_loop();
@@ -55,8 +58,12 @@ impl<R: TurnRule> Turn<R> {
         }
         match Table::new(alloc, &[2], slots, &about) {
             Ok((table, seat)) => {
-                let parked = AtomicU64::new(0);
-                Ok((Turn { table, parked }, Pass { seat }))
+                let turn = Turn {
+                    table,
+                    parked: AtomicU64::new(0),
+                    turns: AtomicU64::new(0),
+                };
+                Ok((turn, Pass { seat }))
             }
             Err(mut refused) => {
                 let Some(Some(resting)) = refused.slots.pop() else {
@@ -151,8 +158,24 @@ impl<R: TurnRule> Turn<R> {
             ticket: Some(copy),
         };
         let _none = self.table.shared.exchange(&mut pass.seat, 0, Some(resting));
+        self.turns.fetch_add(1, Ordering::SeqCst);
         self.table.shared.fetch_sub::<Give>(&mut pass.seat, 0, 1);
         self.wake();
+    }
+
+    /// How many turns there were, as far as is known, modulo 2^64. It is for choosing when to enter: nothing rests on it.
+    pub fn turns(&self) -> u64 {
+        self.turns.load(Ordering::SeqCst)
+    }
+
+    /// Whether a pass had the value a moment ago. As `turns`.
+    pub fn is_taken(&self) -> bool {
+        self.table.shared.peek(0) % 2 == 1
+    }
+
+    /// Whether there was one pass alone a moment ago. As `turns`.
+    pub fn is_single(&self) -> bool {
+        self.table.shared.peek(0) < SEVERAL
     }
 
     /// A new pass, outside, with the empty ticket and this pass's mark, to which this pass gives up one share. This

@@ -21,6 +21,15 @@ pub leave-requires-clause-step : goal.leave-requires-clause-step
 leave-requires-clause-step g c =
     let v = c.enter-core.result in
     let m = c.finish.new.self in
+    let t = ticket_of c.enter-core.new.pass in
+    let home = come-home g.L.Layout g.D.Disk v.array m.array t c.args.job c.perform-outcome.new.self c.perform-outcome.result (c.enter-core.ensures.ticket ∙ c.requires.ticket) c.perform-outcome.ensures (ended_by v.array c.perform-outcome.new.self c.perform-outcome.result) c.finish.ensures.happens c.finish.ensures.end c.finish.ensures.gets in
+    let turn = turns-once g.L.Layout g.D.Disk v m t None home in
+    (v, c.enter-core.ensures.inside, turn, turns-keep g.L.Layout g.D.Disk (opening_of c.args.turn.now) v m t None turn)
+
+pub leave-requires-2-clause-step : goal.leave-requires-2-clause-step
+leave-requires-2-clause-step g c =
+    let v = c.enter-core.result in
+    let m = c.finish.new.self in
     let w = c.go_far-found.new.core in
     let t = ticket_of c.enter-core.new.pass in
     let u = c.go_far-found.result.1 in
@@ -40,6 +49,6 @@ returns-clause-idle g c =
       | inl e ↦ inl e
       | inr h ↦ inr (
         h.0,
-        (w, c.leave.ensures.mark, h.1, after_later g.L.Layout g.D.Disk (opening_of c.args.turn.now) v w c.enter-core.ensures.fits.2.after (after_step g.L.Layout g.D.Disk v w t c.go_far-found.result.1 turn)),
+        (w, c.leave-2.ensures.mark, h.1, after_later g.L.Layout g.D.Disk (opening_of c.args.turn.now) v w c.enter-core.ensures.fits.2.after (after_step g.L.Layout g.D.Disk v w t c.go_far-found.result.1 turn)),
       )
     ]

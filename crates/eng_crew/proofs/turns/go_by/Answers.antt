@@ -19,14 +19,14 @@ returns-in_default-clause-turned g c =
 pub returns-in_default-clause-steady : goal.returns-in_default-clause-steady
 returns-in_default-clause-steady g c = turned-steady g.L.Layout g.D.Disk c.args.core.now.array c.go_on-found.new.core.array None c.go_on-found.result.1 c.go_on-found.ensures.turned c.requires
 
-pub returns-then-has_work-clause-turned : goal.returns-then-has_work-clause-turned
-returns-then-has_work-clause-turned g c =
+pub returns-then-goes_out-clause-turned : goal.returns-then-goes_out-clause-turned
+returns-then-goes_out-clause-turned g c =
     let v = c.args.core.now in
     let w = c.go_on-found.new.core in
     turns-once g.L.Layout g.D.Disk v w None (Some c.in-Some.job) (subst (λ (u : Option (Job g.row.D.Denot)). Turned g.L.Layout g.D.Disk v.array None w.array u) c.in-Some.is c.go_on-found.ensures.turned)
 
-pub returns-then-has_work-clause-steady : goal.returns-then-has_work-clause-steady
-returns-then-has_work-clause-steady g c = turned-steady g.L.Layout g.D.Disk c.args.core.now.array c.go_on-found.new.core.array None c.go_on-found.result.1 c.go_on-found.ensures.turned c.requires
+pub returns-then-goes_out-clause-steady : goal.returns-then-goes_out-clause-steady
+returns-then-goes_out-clause-steady g c = turned-steady g.L.Layout g.D.Disk c.args.core.now.array c.go_on-found.new.core.array None c.go_on-found.result.1 c.go_on-found.ensures.turned c.requires
 
 pub returns-clause-turned : goal.returns-clause-turned
 returns-clause-turned g c =
