@@ -10,6 +10,7 @@ use Rattle.eng_cols.specs.declared.column.Column.{Column}
 use Rattle.eng_cols.specs.declared.spot.Loss.{Loss}
 use Rattle.eng_cols.specs.Cols.{InOrder, is_set_filling}
 use Rattle.eng_cols.specs.Deaths.{Dies}
+use Rattle.eng_cols.specs.Lost.{NotLost}
 use Rattle.raid_label.specs.declared.label.Label.{Label}
 use Rattle.eng_cols.specs.Stripes.{states_of}
 use Rattle.raid_map.specs.Regions.{IsBytesOf}
@@ -17,6 +18,7 @@ use Rattle.top_rounds.specs.Calls.{IsLabelWrite}
 use Rattle.top_rounds.specs.Labels.{seating_in, with_round}
 use Rattle.top_rounds.specs.Passes.{IsFirstInUse}
 use Rattle.raid_recon.proofs.Backs.{Back}
+use Rattle.top_close.specs.Ended.{IsLossBy}
 use Rattle.top_close.specs.Settled.{HasDeviceOn}
 use Rattle.top_close.specs.Stage.{DiesIn, IsGivenUpIn, IsStage}
 use Rattle.top_rounds.specs.Rounds.{CountsRounds, HaveRounds, clean_in_end}
@@ -25,7 +27,9 @@ use Rattle.top_rounds.proofs.RoundLaws.{counts-none, counts-then, counts_few, ro
 use Rattle.top_acts.specs.Stages.{AreStaged}
 use Rattle.top_acts.specs.Begun.{AreLast, HasBegun, HasSeats, MayBegin, MaySweep, SweepHas}
 use Rattle.top_acts.specs.Marking.{AreNotice}
-use Rattle.top_acts.specs.Sweeping.{SweepsLabelled}
+use Rattle.top_acts.specs.Behind.{SweepsLabelled}
+use Rattle.top_acts.specs.Failed.{EndsFailed}
+use Rattle.top_acts.specs.Sweeping.{DoesSweeps, SweepsBehind}
 use Rattle.top_acts.specs.Sweeps.{Sweeps, Nothing, Over, Marked, Notice, Round, Marks, wrote_round}
 use Rattle.top_acts.proofs.Announced.{AreAnnounced, IsAnnounced, MayAnnounce, no_bool}
 use Rattle.top_acts.proofs.Backs.{died}
@@ -65,9 +69,9 @@ module _ {D : Type 0} (g : Ghosts D) (y : Shape) where
   quiet_in_use columns old new h = changes-more g (IsFirstInUse columns) (λ d n. n < 64) old new (λ d n f. omega (arith, f.first)) h
 
   -- behind which the array isn't lost
-  pub sweeps_kept : (sweep : Sweeps) (label : Label) (columns after : List Column) (old new : List (Option D)) (lost : Option Loss) (n : ℕ) → lost ≡ None → DidSweep g y sweep columns after old new n
+  pub sweeps_kept : (sweep : Sweeps) (label : Label) (columns after : List Column) (old new : List (Option D)) (lost : Option Loss) (n : ℕ) → lost ≡ None → IsLossBy y None (states_of y after) lost → DoesSweeps g sweep y columns after old new n → DidSweep g y sweep columns after old new n
       → SweepsLabelled g sweep y label label columns after old new lost n
-  sweeps_kept sweep label columns after old new lost n kept s = record {
+  sweeps_kept sweep label columns after old new lost n kept is does s = record {
     rounds = 0;
     few = omega arith;
     none = λ e. refl;
@@ -81,13 +85,22 @@ module _ {D : Type 0} (g : Ghosts D) (y : Shape) where
     same = λ e. refl;
     alone = λ e. s.frame;
     swept = s.has;
+    behind = record {
+      mid = after;
+      dev = new;
+      behind = lost;
+      does = does;
+      behind_is = is;
+      lost_is = refl;
+      ends = subst (λ o. EndsFailed g None o label label after after new new) (sym kept) (record { label_is = refl; columns_are = refl; devices_are = refl });
+    };
   }
 
   -- by which it is lost, and which has one round behind it
-  pub sweeps_lost : (sweep : Sweeps) (label next : Label) (columns mid after : List Column) (old dev new : List (Option D)) (lost : Option Loss) (n : ℕ) → count_by is_set_filling mid ≤ 1 → is_some lost ≡ true → DidSweep g y sweep columns mid old dev n
+  pub sweeps_lost : (sweep : Sweeps) (label next : Label) (columns mid after : List Column) (old dev new : List (Option D)) (lost behind : Option Loss) (n : ℕ) → count_by is_set_filling mid ≤ 1 → is_some lost ≡ true → is_some behind ≡ true → IsLossBy y None (states_of y mid) behind → DoesSweeps g sweep y columns mid old dev n → DidSweep g y sweep columns mid old dev n
       → next ≡ with_round label next.counter 0 (seating_in next) → HaveRounds g lost label next mid after dev new → SweepsLabelled g sweep y label next columns after old new lost n
-  sweeps_lost sweep label next columns mid after old dev new None n few some s is h = no_loss some
-  sweeps_lost sweep label next columns mid after old dev new (Some loss) n few some s is h =
+  sweeps_lost sweep label next columns mid after old dev new None behind n few some was behind_is does s is h = no_loss some
+  sweeps_lost sweep label next columns mid after old dev new (Some loss) behind n few some was behind_is does s is h =
       let r = h.1 in
       let last = counted_rounds g (Some loss) label next mid h.0 after dev new r in
       let dies = loses_of g y None columns mid old dev s.dies in
@@ -108,6 +121,7 @@ module _ {D : Type 0} (g : Ghosts D) (y : Shape) where
         same = λ e. no_none e;
         alone = λ e. no_none e;
         swept = has_later g y sweep columns mid after old dev new n (died (DiesIn g (Some loss) mid dev new) y mid after last.stage.dies (apart_in g (Some loss) mid after dev new last.stage.dies) few) (quiet_in_use mid dev new r.frame) s.has;
+        behind = record { mid = mid; dev = dev; behind = behind; does = does; behind_is = behind_is; lost_is = sym was; ends = record { label_is = is; rounds = h } };
       }
 
   -- ## What announces it
@@ -128,10 +142,16 @@ module _ {D : Type 0} (g : Ghosts D) (y : Shape) where
   quiet_announced : (notice : Notice) (columns : List Column) (old new : List (Option D)) → Changes g (MayAnnounce notice columns) old new → Quiet g y old new
   quiet_announced notice columns old new h = changes-more g (MayAnnounce notice columns) (λ d n. n < 64) old new (low_announced notice columns) h
 
+  -- where none is swept
+  none_behind : (sweep : Sweeps) (label : Label) (columns : List Column) (ds : List (Option D)) → sweep ≡ Nothing → NotLost y (states_of y columns) → SweepsBehind g sweep y label label columns columns ds ds None 0
+  none_behind Nothing label columns ds e is = record { mid = columns; dev = ds; behind = None; does = (refl, (refl, refl)); behind_is = is; lost_is = refl; ends = record { label_is = refl; columns_are = refl; devices_are = refl } }
+  none_behind (Over kind) label columns ds e is = absurd (let u : ⊥ = cc in u)
+  none_behind (Marked marks) label columns ds e is = absurd (let u : ⊥ = cc in u)
+
   -- and nothing behind it
-  pub begun_only : (notice : Notice) (sweep : Sweeps) (label next : Label) (columns after : List Column) (old new : List (Option D)) (lost : Option Loss) → length columns ≤ 32 → count_by is_set_filling columns ≤ 1 → (lost ≡ None → sweep ≡ Nothing)
+  pub begun_only : (notice : Notice) (sweep : Sweeps) (label next : Label) (columns after : List Column) (old new : List (Option D)) (lost : Option Loss) → length columns ≤ 32 → count_by is_set_filling columns ≤ 1 → (lost ≡ None → sweep ≡ Nothing) → IsLossBy y None (states_of y after) lost
       → IsAnnounced g notice label next columns after old new lost → HasBegun g notice sweep y label next columns after old new lost 0
-  begun_only notice sweep label next columns after old new lost many few none a =
+  begun_only notice sweep label next columns after old new lost many few none is a =
       let stage = stage_as g (MayAnnounce notice columns) (MayBegin g notice sweep y columns old) (λ d. AreAnnounced notice lost) (λ d. AreStaged (AreNotice notice) (AreLast lost) sweep y (states_of y columns) d) lost columns after old new
       (announced_may notice sweep columns old)
       (λ d calls h. subst (AreStaged (AreNotice notice) (AreLast lost) sweep y (states_of y columns) d) (sym h.all) (staged-around (AreNotice notice) (AreLast lost) sweep y (states_of y columns) d h.front h.back h.at_first h.at_last)) a.stage in
@@ -157,7 +177,10 @@ module _ {D : Type 0} (g : Ghosts D) (y : Shape) where
         first = next;
         opened = lost;
         opens = a.opens;
+        opened_is = is;
         stays = λ some. refl;
+        unswept = λ some. (refl, record { label_is = refl; columns_are = refl; devices_are = refl });
+        sweeps = λ e. subst (λ o. SweepsBehind g sweep y next next after after new new o 0) (sym e) (none_behind sweep next after new (none e) (subst (IsLossBy y None (states_of y after)) e is));
         behind = told-others g after new new (λ d none. refl);
         since = changes-refl g (λ d n. ((is_some lost ≡ true) × (n ≡ 0)) ⊎ MaySweep g sweep y columns old d n) new;
         lives = λ c d h. h;
@@ -165,7 +188,7 @@ module _ {D : Type 0} (g : Ghosts D) (y : Shape) where
 
   -- and a sweep behind it
   module _ (layout : IsLayout y) (notice : Notice) (sweep : Sweeps) (some : sweep ≡ Nothing → ⊥) (label first next : Label) (columns mid after : List Column) (old dev new : List (Option D)) (lost : Option Loss) (n : ℕ) (order : InOrder (states_of y columns)) (many : length columns ≤ 32) (few : count_by is_set_filling columns ≤ 1) (fewer : count_by is_set_filling mid ≤ 1)
-      (a : IsAnnounced g notice label first columns mid old dev None) (s : SweepsLabelled g sweep y first next mid after dev new lost n) where
+      (is : NotLost y (states_of y mid)) (a : IsAnnounced g notice label first columns mid old dev None) (s : SweepsLabelled g sweep y first next mid after dev new lost n) where
     back : Back y (states_of y mid) (states_of y columns)
     back = died (DiesIn g None columns old dev) y columns mid a.stage.dies (apart_in g None columns mid old dev a.stage.dies) few
 
@@ -263,7 +286,10 @@ module _ {D : Type 0} (g : Ghosts D) (y : Shape) where
       first = first;
       opened = None;
       opens = a.opens;
-      stays = λ is. no_loss is;
+      opened_is = is;
+      stays = λ some. no_loss some;
+      unswept = λ some. no_loss some;
+      sweeps = λ e. s.behind;
       behind = s.stage.uncalled;
       since = followed lost refl;
       lives = before_it;

@@ -11,7 +11,7 @@ use Rattle.blk_disk.proofs.DeviceLaws.{changes-refl, changes_sector, changes_siz
 use Rattle.lay_core.specs.Layout.{Shape}
 use Rattle.eng_cols.specs.declared.column.Column.{Column}
 use Rattle.eng_cols.specs.declared.spot.Loss.{Loss}
-use Rattle.eng_cols.specs.Cols.{device_set}
+use Rattle.eng_cols.specs.Cols.{ColumnState, device_set}
 use Rattle.eng_cols.specs.Deaths.{Dies}
 use Rattle.eng_cols.specs.Stripes.{states_of}
 use Rattle.raid_label.specs.declared.label.Label.{Label}
@@ -29,8 +29,9 @@ use Rattle.top_rounds.specs.Passes.{HoldsLabel, IsFirstInUse}
 use Rattle.top_rounds.specs.Rounds.{CountsRounds, HoldsTried, clean_in_end}
 use Rattle.top_rounds.proofs.RoundLaws.{any_death, counts-none, counts-then, counts_few, given_kept, round_again, tried-then}
 use Rattle.top_acts.specs.Begun.{HasSeats}
-use Rattle.top_acts.specs.Cleared.{EndCleared, EndingCalls, EndsMapped, EndsMappedSettled, HoldsOr, IsEndingCall, TriesToClear}
+use Rattle.top_acts.specs.Cleared.{ClearsIn, EndCleared, EndingCalls, EndsInSteps, EndsMapped, EndsMappedSettled, HoldsOr, IsEndingCall, TriesToClear}
 use Rattle.top_acts.specs.Closed.{ClosesLabelled, ClosesSettled, settled_in_end}
+use Rattle.top_acts.specs.Failed.{IsLeftLost}
 use Rattle.top_acts.specs.Marking.{HoldsMap, IsKeptInUse, MarksAll}
 use Rattle.top_acts.specs.Stages.{IsClosing}
 use Rattle.top_acts.proofs.Endings.{calls_ending, endings-then, marked_ending}
@@ -385,6 +386,24 @@ module _ {D : Type 0} (g : Ghosts D) where
   pub lost_anew : (y : Shape) (was before lost : Option Loss) (columns after : List Column) → before ≡ None → IsLossBy y was (states_of y columns) before → IsLossBy y None (states_of y after) lost → IsLossBy y was (states_of y after) lost
   lost_anew y None before lost columns after none was is = is
   lost_anew y (Some loss) before lost columns after none was is = let z : None ≡ Some loss = sym none ∙ was in absurd (let u : ⊥ = cc in u)
+
+  -- whatever comes of the tries from here on comes of all
+  abbrev pub AllSteps : (blank : Map) (y : Shape) (was : Option Loss) (label first : Label) (columns mid : List Column) (old dev : List (Option D)) (behind : Option Loss) → Type 0
+  AllSteps blank y was label first columns mid old dev behind =
+      (n : ℕ) (next : Label) (after : List Column) (new : List (Option D)) (lost : Option Loss) → ClearsIn g n y blank first next mid after dev new behind lost → EndsInSteps g (Some blank) y was label next columns after old new lost
+
+  -- what was lost before is so still
+  pub kept_by : (y : Shape) (cols : List ColumnState) (was lost : Option Loss) → IsLossBy y was cols lost → (loss : Loss) → was ≡ Some loss → lost ≡ Some loss
+  kept_by y cols None lost is loss e = absurd (let u : ⊥ = cc in u)
+  kept_by y cols (Some old) lost is loss e = is ∙ e
+
+  -- and its maps aren't cleared
+  pub left_last : (blank : Map) (loss : Loss) (label first next : Label) (columns mid after : List Column) (old dev new : List (Option D)) (before lost : Option Loss) → before ≡ Some loss → IsLeftLost g loss label first columns mid old dev → TriesToClear g blank first next mid after dev new before lost true → IsLeftLost g loss label next columns after old new
+  left_last blank loss label first next columns mid after old dev new None lost e was h = absurd (let u : ⊥ = cc in u)
+  left_last blank loss label first next columns mid after old dev new (Some other) lost e was h =
+      subst (λ ds. IsLeftLost g loss label next columns after old ds) (sym h.3)
+      (subst (λ cs. IsLeftLost g loss label next columns cs old dev) (sym h.2)
+      (subst (λ (l : Label). IsLeftLost g loss label l columns mid old dev) (sym h.1) was))
 
   -- ## What can be done with what is left
 

@@ -22,6 +22,7 @@ use Rattle.top_close.specs.Stage.{DiesIn, IsGivenUp}
 use Rattle.top_rounds.specs.Rounds.{AreRounds, HaveRounds, HoldsTried, clean_in_end}
 use Rattle.top_rounds.proofs.RoundLaws.{counts-none, counts-then, given_kept}
 use Rattle.top_acts.specs.Closed.{AreCounted, CallInTurn, ClosesLabelled}
+use Rattle.top_acts.specs.Failed.{IsLeftLost}
 use Rattle.top_acts.proofs.Counted.{counted-then, counted_rounds}
 use Rattle.top_acts.proofs.InTurn.{AreApart, in_turn-then, in_turn-writes}
 use Rattle.top_acts.proofs.Seated.{seats-then, seats_of_rounds}
@@ -92,6 +93,14 @@ module _ {D : Type 0} (g : Ghosts D) where
         given = given_settled label next columns mid h.0 after old dev new loss was still rounds;
         each = in_turn-then g (Some loss) (DiesIn g None columns old dev) (DiesIn g (Some loss) mid dev new) a b false columns mid after old dev new apart was.stage.dies last.stage.dies turns rounds.others (in_turn-writes g (Some loss) b mid after dev new rounds.each);
       }
+
+  -- an array that was lost before has its one round
+  pub left_lost : (y : Shape) (cols : List ColumnState) (label next : Label) (columns after : List Column) (old new : List (Option D)) (before lost : Option Loss) → IsLossBy y before cols lost → next ≡ with_round label next.counter (clean_in_end lost label.clean) (seating_in next)
+      → HaveRounds g lost label next columns after old new → (loss : Loss) → before ≡ Some loss → IsLeftLost g loss label next columns after old new
+  left_lost y cols label next columns after old new None lost is round h loss e = absurd (let u : ⊥ = cc in u)
+  left_lost y cols label next columns after old new (Some was) lost is round h loss e =
+      let now : lost ≡ Some loss = is ∙ e in
+      record { label_is = round ∙ ap (λ o. with_round label next.counter (clean_in_end o label.clean) (seating_in next)) now; rounds = subst (λ o. HaveRounds g o label next columns after old new) now h }
 
   -- devices were settled, and no round was written
   abbrev pub counted_settled : (label : Label) (columns after : List Column) (old new : List (Option D)) → AreSettled g (length columns) columns after old new → AreCounted g None 0 label label columns after old new

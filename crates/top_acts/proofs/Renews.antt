@@ -34,7 +34,7 @@ use Rattle.top_acts.specs.declared.done.Done.{Done}
 use Rattle.top_acts.specs.declared.done.Done.TheVariants as done
 use Rattle.top_acts.specs.declared.sweeping.Renewal.{Renewal}
 use Rattle.top_acts.specs.Begun.{AreLast, HasBegun, HasSwept, MayBegin, MaySweep}
-use Rattle.top_acts.specs.Cleared.{EndsMapped, EndsMappedSettled, IsEndingCall, MayEnd}
+use Rattle.top_acts.specs.Cleared.{EndsInSteps, EndsMapped, EndsMappedSettled, IsEndingCall, MayEnd}
 use Rattle.top_acts.specs.Done.{unless_lost}
 use Rattle.top_acts.specs.Mapped.{IsMapRead, LooksAtMaps, ReadsMap, clear_of, is_any_marked}
 use Rattle.top_acts.specs.Marking.{AreNotice}
@@ -197,7 +197,7 @@ module _ {D : Type 0} (g : Ghosts D) (kind : Renewal) (y : Shape) (blank union :
 
     -- it was closed
     module _ (label first before next : Label) (mid after : List Column) (dev new : List (Option D)) (ended : Option Loss) (n : ℕ) (result : Done) (fewer : count_by is_set_filling mid ≤ 1) (clean : before ≡ with_round first first.counter 1 (seating_in first)) (clean_is : before ≡ record first { clean = 1 }) (told : result ≡ unless_lost ended (renewed kind n))
-        (is : IsLossBy y None (states_of y after) ended) (b : HasBegun g Round (Over (sweep_of kind)) y label first read mid looked dev None n) (k : EndsMapped g (clear_of blank union) false before next mid after dev new ended) (settles : EndsMappedSettled g (clear_of blank union) before next mid after dev new ended) where
+        (is : IsLossBy y None (states_of y after) ended) (b : HasBegun g Round (Over (sweep_of kind)) y label first read mid looked dev None n) (k : EndsMapped g (clear_of blank union) false before next mid after dev new ended) (settles : EndsMappedSettled g (clear_of blank union) before next mid after dev new ended) (steps : EndsInSteps g (clear_of blank union) y None before next mid after dev new ended) where
       abbrev was : IsStage g May (λ d. AreStaged (ReadsMap (All IsLabelWrite)) AreNone (Over (sweep_of kind)) y (states_of y columns) d) None columns mid old dev
       was = begun label first mid dev None n b
 
@@ -265,7 +265,7 @@ module _ {D : Type 0} (g : Ghosts D) (kind : Renewal) (y : Shape) (blank union :
             (subst (λ x. MoreOn (SettlesFirstOf x) (calls_of g dev d) (calls_of g new d)) clears (first_settled g (clear_of blank union) before next mid after dev new ended settles c d (live_before (DiesIn g ended mid dev new) mid after c d k.stage.dies h)));
         lost_is = is;
         map = second;
-        renews = (mid, dev, first, None, b, subst (λ (l : Label). EndsMappedSettled g (clear_of blank union) l next mid after dev new ended) clean_is settles);
+        renews = (mid, dev, first, None, b, (subst (λ (l : Label). EndsMappedSettled g (clear_of blank union) l next mid after dev new ended) clean_is settles, subst (λ (l : Label). EndsInSteps g (clear_of blank union) y None l next mid after dev new ended) clean_is steps));
       }
 
 module _ {D : Type 0} (g : Ghosts D) (kind : Renewal) (y : Shape) where

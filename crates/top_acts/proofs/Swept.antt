@@ -1,5 +1,5 @@
 -- What one sweep did, be it over all stripes or over those that are marked.
-use Rattle.std.proofs.Common.{ℕ, ◌≤◌, List, Option, sym, subst, inl, inr, arith}
+use Rattle.std.proofs.Common.{ℕ, ◌≤◌, Bool, List, Option, sym, subst, inl, inr, arith}
 use Rattle.std.proofs.lemmas.Bool.{cases_eq}
 use Rattle.blk_disk.specs.declared.disk.Disk.{Ghosts}
 use Rattle.blk_disk.specs.Devices.{Changes, calls_of}
@@ -10,8 +10,7 @@ use Rattle.eng_cols.specs.declared.spot.Loss.{Loss}
 use Rattle.eng_cols.specs.Deaths.{Dies}
 use Rattle.eng_cols.proofs.DeathLaws.{dies-refl}
 use Rattle.eng_cols.specs.Stripes.{states_of}
-use Rattle.raid_map.specs.Regions.{Marks as Map}
-use Rattle.raid_map.specs.Sweeping.{marks_stripe, MayRewrite as MayRewriteMarked}
+use Rattle.raid_map.specs.Sweeping.{MayRewrite as MayRewriteMarked}
 use Rattle.raid_recon.specs.declared.kind.Sweep.{Sweep}
 use Rattle.raid_recon.specs.Array.{Failed}
 use Rattle.raid_recon.specs.Ends.{MayRewrite}
@@ -62,11 +61,11 @@ module _ {D : Type 0} (g : Ghosts D) (y : Shape) where
 
   -- ## Over those that are marked
 
-  module _ (map : Map) (columns after : List Column) (old new : List (Option D)) (n : ℕ) (most : y.checks ≤ 1) (s : SweepsMarked g y map columns after old new n) where
-    marked_frame : Changes g (MaySweep g (Marked (marks_stripe map)) y columns old) old new
+  module _ (marks : ℕ → Bool) (columns after : List Column) (old new : List (Option D)) (n : ℕ) (most : y.checks ≤ 1) (s : SweepsMarked g y marks columns after old new n) where
+    marked_frame : Changes g (MaySweep g (Marked marks) y columns old) old new
     marked_frame = elim (cases_eq y.checks 1) [
-      | inl one ↦ changes-more g (MayRewriteMarked g y (marks_stripe map) columns old y.stripes) (MaySweep g (Marked (marks_stripe map)) y columns old) old new (λ d m h. (one, h)) (s.swept one).frame
-      | inr ne ↦ subst (λ l. Changes g (MaySweep g (Marked (marks_stripe map)) y columns old) old l) (sym (s.none (omega (arith, most, ne))).1.1) (changes-refl g (MaySweep g (Marked (marks_stripe map)) y columns old) old)
+      | inl one ↦ changes-more g (MayRewriteMarked g y marks columns old y.stripes) (MaySweep g (Marked marks) y columns old) old new (λ d m h. (one, h)) (s.swept one).frame
+      | inr ne ↦ subst (λ l. Changes g (MaySweep g (Marked marks) y columns old) old l) (sym (s.none (omega (arith, most, ne))).1.1) (changes-refl g (MaySweep g (Marked marks) y columns old) old)
     ]
 
     marked_dies : Dies (Failed g (states_of y columns) old new) columns after
@@ -75,11 +74,11 @@ module _ {D : Type 0} (g : Ghosts D) (y : Shape) where
       | inr ne ↦ subst (Dies (Failed g (states_of y columns) old new) columns) (sym (s.none (omega (arith, most, ne))).1.0) (dies-refl (Failed g (states_of y columns) old new) columns)
     ]
 
-    pub did_marked : DidSweep (Marked (marks_stripe map)) columns after old new n
+    pub did_marked : DidSweep (Marked marks) columns after old new n
     did_marked = record {
       frame = marked_frame;
       dies = marked_dies;
-      told = λ d. staged-marked (marks_stripe map) y (states_of y columns) d (calls_of g old d) (calls_of g new d) (s.calls d);
-      uncalled = told-marked g y (marks_stripe map) columns old new s.calls;
+      told = λ d. staged-marked marks y (states_of y columns) d (calls_of g old d) (calls_of g new d) (s.calls d);
+      uncalled = told-marked g y marks columns old new s.calls;
       has = record { counted = s.counted; none = λ e. (s.none e).0; checks = s.checks; in_sync = s.in_sync };
     }

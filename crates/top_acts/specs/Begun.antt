@@ -13,6 +13,7 @@ use Rattle.raid_recon.specs.declared.kind.Sweep.{Sweep}
 use Rattle.eng_cols.specs.Stripes.{states_of}
 use Rattle.raid_recon.specs.Array.{IsArray}
 use Rattle.raid_recon.specs.Ends.{MayRewrite, ChecksHold, IsCounted}
+use Rattle.top_close.specs.Ended.{IsLossBy}
 use Rattle.top_close.specs.Settled.{HasDeviceOn, LosesDevice}
 use Rattle.top_rounds.specs.Calls.{IsLabelWrite}
 use Rattle.top_rounds.specs.Labels.{seating_in, seating_of, with_round}
@@ -22,9 +23,10 @@ use Rattle.top_rounds.specs.Rounds.{HaveRounds, CountsRounds}
 use Rattle.raid_map.specs.Regions.{Marks as Map}
 use Rattle.raid_map.specs.Sweeping.{MayRewrite as MayRewriteMarked, IsCountedTo, UnsoundAreMarked}
 use Rattle.eng_cols.specs.Settable.{IsSettable}
-use Rattle.top_acts.specs.Failed.{IsLeftLost}
+use Rattle.top_acts.specs.Failed.{IsLeftLost, StaysBegun}
 use Rattle.top_acts.specs.Marking.{AreNotice, HoldsMap, IsKeptInUse, MarksAll}
 use Rattle.top_acts.specs.Stages.{AreStaged}
+use Rattle.top_acts.specs.Sweeping.{SweepsBehind}
 use Rattle.top_acts.specs.Sweeps.{Sweeps, Nothing, Over, Marked, Notice, Round, Marks, rounds_for, wrote_round}
 
 -- label writes, and none where the array isn't lost
@@ -78,7 +80,7 @@ module _ {D : Type 0} (g : Ghosts D) where
   Opens (Marks map) (Some loss) label first columns after old new = (mid : List Column) × (dev : List (Option D))
       × MarksAll g map columns mid old dev × IsLeftLost g loss label first mid after dev new
 
-  -- The opening round was written, whose labels aren't clean, or maps on each device in use in the place of that; then, where that didn't lose the array, it was swept; and where the array is lost by that, the one round of a lost array was written. Where a round was written each device in use in the end has the label of the last one, which says what the columns were then; else the label stays the newest's; and each device in use has the map, where maps were written. `left`, `dev`, `first` and `opened` are the columns, the devices, the label and the loss that the round or the maps left: what was lost then stays lost by that, no column has a device in the end that it hadn't then, no device that they left out of use was called behind them, and no sector has changed behind them but those of the sweep, and those of labels, where the array is lost. All else is said by the columns and devices as they were before; n is what the sweep counted.
+  -- The opening round was written, whose labels aren't clean, or maps on each device in use in the place of that; then, where that didn't lose the array, it was swept; and where the array is lost by that, the one round of a lost array was written. Where a round was written each device in use in the end has the label of the last one, which says what the columns were then; else the label stays the newest's; and each device in use has the map, where maps were written. `left`, `dev`, `first` and `opened` are the columns, the devices, the label and the loss, by those columns, that the round or the maps left: what was lost then stays lost by that, and nothing else was called; what wasn't was swept, and has its one round behind that where it is lost by it; no column has a device in the end that it hadn't then, no device that they left out of use was called behind them, and no sector has changed behind them but those of the sweep, and those of labels, where the array is lost. All else is said by the columns and devices as they were before; n is what the sweep counted.
   pub record HasBegun (notice : Notice) (sweep : Sweeps) (y : Shape) (label next : Label) (columns after : List Column) (old new : List (Option D)) (lost : Option Loss) (n : ℕ) : Type 0 where
     pub rounds : ℕ
     pub some : rounds_for notice ≤ rounds
@@ -101,7 +103,10 @@ module _ {D : Type 0} (g : Ghosts D) where
     pub first : Label
     pub opened : Option Loss
     pub opens : Opens notice opened label first columns left old dev
+    pub opened_is : IsLossBy y None (states_of y left) opened
     pub stays : is_some opened ≡ true → lost ≡ opened
+    pub unswept : is_some opened ≡ true → (n ≡ 0) × StaysBegun g first next left after dev new
+    pub sweeps : opened ≡ None → SweepsBehind g sweep y first next left after dev new lost n
     pub behind : ToldNothing g left dev new
     pub since : Changes g (λ d n. ((is_some lost ≡ true) × (n ≡ 0)) ⊎ MaySweep sweep y columns old d n) dev new
     pub lives : (c d : ℕ) → HasDeviceOn after c d → HasDeviceOn left c d

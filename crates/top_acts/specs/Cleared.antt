@@ -1,14 +1,17 @@
 -- The end of an array whose maps are cleared behind its last labels.
-use Rattle.std.specs.Prelude.{◌≡◌, ◌⊎◌, ◌≤◌, ℕ, suc, List, [], ◌∷◌, ◌++◌, All, length, Bool, true, false, Option, Some, None, is_some, slice_get}
+use Rattle.std.specs.Prelude.{◌≡◌, ◌⊎◌, ◌≤◌, ℕ, zero, suc, List, [], ◌∷◌, ◌++◌, All, length, Bool, true, false, Option, Some, None, is_some, slice_get}
 use Rattle.blk_disk.specs.declared.disk.Call.{Call}
 use Rattle.blk_disk.specs.declared.disk.Disk.{Ghosts}
 use Rattle.blk_disk.specs.Disk.{call_of}
 use Rattle.blk_disk.specs.Devices.{RisesOn, calls_of, sector_of}
 use Rattle.eng_cols.specs.declared.column.Column.{Column}
 use Rattle.eng_cols.specs.declared.spot.Loss.{Loss}
+use Rattle.eng_cols.specs.Stripes.{states_of}
+use Rattle.lay_core.specs.Layout.{Shape}
 use Rattle.raid_label.specs.declared.label.Label.{Label}
 use Rattle.raid_map.specs.Regions.{Marks as Map, IsBytesOf}
 use Rattle.top_close.specs.Calls.{EndsSettled, MoreOn}
+use Rattle.top_close.specs.Ended.{IsLossBy}
 use Rattle.top_close.specs.Settled.{AreSettled, HasDeviceOn, has_device}
 use Rattle.top_close.specs.Stage.{IsGivenUp, IsGivenUpIn, IsStage, IsUncalled, device_count}
 use Rattle.top_rounds.specs.Labels.{seating_in, seating_of, with_round}
@@ -94,3 +97,26 @@ module _ {D : Type 0} (g : Ghosts D) where
     pub dev : List (Option D)
     pub settles : AreSettled g (length columns) columns mid old dev
     pub ends : EndsMapped clear true label next mid after dev new lost
+
+  -- ## Step by step
+
+  -- So many tries to clear the maps were broken off, each by a device that failed, and what the array is lost by behind each is told by the columns that it left; then came the last.
+  abbrev pub ClearsIn : ℕ → Shape → Map → Label → Label → List Column → List Column → List (Option D) → List (Option D) → (before lost : Option Loss) → Type 0
+  ClearsIn zero y blank label next columns after old new before lost = TriesToClear blank label next columns after old new before lost true
+  ClearsIn (suc n) y blank label next columns after old new before lost = (mid : List Column) × (dev : List (Option D)) × (first : Label) × (between : Option Loss)
+      × TriesToClear blank label first columns mid old dev before between false × IsLossBy y None (states_of y mid) between × ClearsIn n y blank first next mid after dev new between lost
+
+  -- where maps are cleared; else nothing is done
+  abbrev pub ClearsBehind : Option Map → Shape → Label → Label → List Column → List Column → List (Option D) → List (Option D) → (before lost : Option Loss) → Type 0
+  ClearsBehind None y label next columns after old new before lost = (next ≡ label) × (after ≡ columns) × (new ≡ old) × (lost ≡ before)
+  ClearsBehind (Some blank) y label next columns after old new before lost = (tries : ℕ) × ClearsIn tries y blank label next columns after old new before lost
+
+  -- The array was closed, as one is whose maps aren't cleared, which left the columns `mid`, the devices `dev`, the label `first` and the loss `behind`: by that it stays lost that was lost before, by `was`, and else it is lost by those columns, if it is. Then the maps were cleared, if they are to be: of an array that is lost by then none is.
+  pub record EndsInSteps (clear : Option Map) (y : Shape) (was : Option Loss) (label next : Label) (columns after : List Column) (old new : List (Option D)) (lost : Option Loss) : Type 0 where
+    pub mid : List Column
+    pub dev : List (Option D)
+    pub first : Label
+    pub behind : Option Loss
+    pub closes : ClosesLabelled g false label first columns mid old dev behind
+    pub behind_is : IsLossBy y was (states_of y mid) behind
+    pub clears : ClearsBehind clear y first next mid after dev new behind lost

@@ -1,4 +1,5 @@
 pub mod Begun
+pub mod Behind
 pub mod Checked
 pub mod Cleared
 pub mod Closed

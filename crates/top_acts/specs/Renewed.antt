@@ -27,7 +27,7 @@ use Rattle.top_acts.specs.Begun.{HasBegun, HasSwept, MaySweep}
 use Rattle.top_acts.specs.Done.{unless_lost}
 use Rattle.raid_map.specs.Regions.{Marks as Map, IsBytesOf}
 use Rattle.top_acts.specs.Failed.{StaysBegun}
-use Rattle.top_acts.specs.Cleared.{EndsMappedSettled, IsEndingCall, MayEnd}
+use Rattle.top_acts.specs.Cleared.{EndsInSteps, EndsMappedSettled, IsEndingCall, MayEnd}
 use Rattle.top_acts.specs.Mapped.{LooksAtMaps, ReadsMap, clear_of, is_any_marked}
 use Rattle.top_acts.specs.Stages.{StagesOn, AreStaged}
 use Rattle.top_acts.specs.Sweeping.{DoesSweep}
@@ -44,14 +44,14 @@ SettlesFirstOf clears calls = (good : Bool) × (more : List Call) × (calls ≡ 
 
 module _ {D : Type 0} (g : Ghosts D) where
   -- An array that isn't lost was closed, with labels that say so, and its maps were cleared, if they are to be; one that is was left as it was begun, and stays lost by that.
-  abbrev pub ClosesBegun : Option Map → Option Loss → Label → Label → List Column → List Column → List (Option D) → List (Option D) → Option Loss → Type 0
-  ClosesBegun clear None first next columns after old new lost = EndsMappedSettled g clear (record first { clean = 1 }) next columns after old new lost
-  ClosesBegun clear (Some loss) first next columns after old new lost = StaysBegun g first next columns after old new × (lost ≡ Some loss)
+  abbrev pub ClosesBegun : Option Map → Shape → Option Loss → Label → Label → List Column → List Column → List (Option D) → List (Option D) → Option Loss → Type 0
+  ClosesBegun clear y None first next columns after old new lost = EndsMappedSettled g clear (record first { clean = 1 }) next columns after old new lost × EndsInSteps g clear y None (record first { clean = 1 }) next columns after old new lost
+  ClosesBegun clear y (Some loss) first next columns after old new lost = StaysBegun g first next columns after old new × (lost ≡ Some loss)
 
   -- what isn't lost as its maps are read is begun, and closed; else it is left as it is
   abbrev pub RenewsUnless : Option Map → Option Loss → Sweep → Shape → Label → Label → List Column → List Column → List (Option D) → List (Option D) → Option Loss → ℕ → Type 0
   RenewsUnless clear None kind y label next columns after old new lost n = (mid : List Column) × (dev : List (Option D)) × (first : Label) × (before : Option Loss)
-      × HasBegun g Round (Over kind) y label first columns mid old dev before n × ClosesBegun clear before first next mid after dev new lost
+      × HasBegun g Round (Over kind) y label first columns mid old dev before n × ClosesBegun clear y before first next mid after dev new lost
   RenewsUnless clear (Some loss) kind y label next columns after old new lost n = StaysBegun g label next columns after old new × (lost ≡ Some loss)
 
   -- sector n of device d is that of the label on a device in use, or of the map, where maps are cleared; or one of a check unit that is renewed

@@ -3,9 +3,9 @@ ghost use Rattle.std.specs.Prelude.{◌≡◌, ◌≤◌, ◌<◌, ◌+◌, ◌*
 ghost use Rattle.eng_cols.specs.Cols.{IsFor};
 ghost use Rattle.raid_map.specs.Sweeping.{marks_stripe};
 ghost use Rattle.top_acts.specs.Begun.{CanAct, HasBegun, Opens};
+ghost use Rattle.top_acts.specs.Behind.{SweepsLabelled};
 ghost use Rattle.top_acts.specs.Mapped.{FitsLayout, IsOpeningFor};
 ghost use Rattle.top_acts.specs.Sweeps.{Marked, Marks, Over, notice_seen, sweep_of, sweeps_seen, wrote_round};
-ghost use Rattle.top_acts.specs.Sweeping.{SweepsLabelled};
 ghost use Rattle.eng_cols.specs.Stripes.{states_of};
 ghost use Rattle.top_close.specs.Ended.{IsLossBy};
 ghost use Rattle.top_rounds.specs.Labels.{IsLabelFor, seating_in, with_round};

@@ -3,9 +3,11 @@ ghost use Rattle.std.specs.Prelude.{◌≡◌, ◌<◌, ◌+◌, ◌^◌, Some, 
 ghost use Rattle.eng_cols.specs.Cols.{IsFor};
 ghost use Rattle.eng_cols.specs.Settable.{IsSettable};
 ghost use Rattle.eng_cols.specs.Stripes.{states_of};
+ghost use Rattle.eng_cols.specs.declared.spot.Loss.{Loss};
 ghost use Rattle.raid_map.specs.Marking.{CanBeMarked};
-ghost use Rattle.top_acts.specs.Cleared.{EndsMapped, EndsMappedSettled, TriesToClear};
+ghost use Rattle.top_acts.specs.Cleared.{EndsInSteps, EndsMapped, EndsMappedSettled, TriesToClear};
 ghost use Rattle.top_acts.specs.Closed.{ClosesLabelled};
+ghost use Rattle.top_acts.specs.Failed.{IsLeftLost};
 ghost use Rattle.top_close.specs.Ended.{IsLossBy};
 ghost use Rattle.top_rounds.specs.Labels.{IsLabelFor};
 ghost use Rattle.top_rounds.specs.Passes.{CanBeLabelled};
@@ -86,7 +88,8 @@ fn try_clear<L: Layout, D: StopDisk>(
 /// Ends what was done to a labelled array, as [`end_labelled`] does it, and then, unless it is lost,
 /// writes this map without marks on each device in use, which is settled behind that. A device that
 /// fails makes its column dead, and rounds of labels and settles begin anew, and maps are cleared
-/// behind them again; where the array is lost by that, its one round is written.
+/// behind them again; where the array is lost by that, its one round is written. No map of a lost array
+/// is cleared: of one that was lost before the one round is written, and nothing else is called.
 ///
 /// All else is as in [`end_labelled`].
 pub fn end_and_clear<L: Layout, D: StopDisk>(
@@ -108,6 +111,12 @@ pub fn end_and_clear<L: Layout, D: StopDisk>(
     ensures first { hand.old.ending.lost ≡ None → EndsMappedSettled D.Disk (Some blank.now)
         label.old label.new hand.old.ending.columns.items hand.new.ending.columns.items
         devices.old devices.new hand.new.ending.lost }
+    ensures left { (loss : Loss) → hand.old.ending.lost ≡ Some loss
+        → IsLeftLost D.Disk loss label.old label.new hand.old.ending.columns.items
+        hand.new.ending.columns.items devices.old devices.new }
+    ensures steps { EndsInSteps D.Disk (Some blank.now) (L.shape layout.now)
+        hand.old.ending.lost label.old label.new hand.old.ending.columns.items
+        hand.new.ending.columns.items devices.old devices.new hand.new.ending.lost }
     ensures lost { IsLossBy (L.shape layout.now) hand.old.ending.lost
         (states_of (L.shape layout.now) hand.new.ending.columns.items) hand.new.ending.lost }
     ensures judge { IsFor (L.shape layout.now) hand.new.judge }
@@ -138,6 +147,12 @@ pub fn end_mapped<L: Layout, D: StopDisk>(
         (option_map (λ m. m.now) clear.entry) label.old label.new
         hand.old.ending.columns.items hand.new.ending.columns.items
         devices.old devices.new hand.new.ending.lost }
+    ensures left { (loss : Loss) → hand.old.ending.lost ≡ Some loss
+        → IsLeftLost D.Disk loss label.old label.new hand.old.ending.columns.items
+        hand.new.ending.columns.items devices.old devices.new }
+    ensures steps { EndsInSteps D.Disk (option_map (λ m. m.now) clear.entry) (L.shape layout.now)
+        hand.old.ending.lost label.old label.new hand.old.ending.columns.items
+        hand.new.ending.columns.items devices.old devices.new hand.new.ending.lost }
     ensures lost { IsLossBy (L.shape layout.now) hand.old.ending.lost
         (states_of (L.shape layout.now) hand.new.ending.columns.items) hand.new.ending.lost }
     ensures judge { IsFor (L.shape layout.now) hand.new.judge }

@@ -1,9 +1,11 @@
 //! The end of what was done to a labelled array, lost or not.
-ghost use Rattle.std.specs.Prelude.{◌≡◌, ◌<◌, ◌+◌, ◌^◌, true, false, None, is_some};
+ghost use Rattle.std.specs.Prelude.{◌≡◌, ◌<◌, ◌+◌, ◌^◌, true, false, Some, None, is_some};
 ghost use Rattle.eng_cols.specs.Cols.{IsFor};
 ghost use Rattle.eng_cols.specs.Settable.{IsSettable};
 ghost use Rattle.top_acts.specs.Closed.{ClosesLabelled, ClosesSettled};
 ghost use Rattle.eng_cols.specs.Stripes.{states_of};
+ghost use Rattle.eng_cols.specs.declared.spot.Loss.{Loss};
+ghost use Rattle.top_acts.specs.Failed.{IsLeftLost};
 ghost use Rattle.top_close.specs.Ended.{IsLossBy};
 ghost use Rattle.top_rounds.specs.Labels.{IsLabelFor, seating_in, with_round};
 ghost use Rattle.top_rounds.specs.Passes.{CanBeLabelled};
@@ -81,7 +83,8 @@ fn settle_and_end<L: Layout, D: Disk>(
 /// Ends what was done to a labelled array whose opening round has been written. Each device in use
 /// is settled, and then the array is closed, as [`close`] does it. Where the array is lost, before
 /// this or as it is settled, one round is written in place of that, which isn't clean and whose
-/// failed writes are passed over, and nothing is settled behind it.
+/// failed writes are passed over, and nothing is settled behind it; of one that was lost before nothing
+/// else is called.
 ///
 /// `label` is the label that was written last, with the clean field that the closing round is to
 /// have. An array that was lost before stays lost by what it was lost; else it is lost, if it is,
@@ -102,6 +105,9 @@ pub fn end_labelled<L: Layout, D: Disk>(
     ensures first { hand.old.ending.lost ≡ None →
         ClosesSettled D.Disk label.old label.new hand.old.ending.columns.items
         hand.new.ending.columns.items devices.old devices.new hand.new.ending.lost }
+    ensures left { (loss : Loss) → hand.old.ending.lost ≡ Some loss
+        → IsLeftLost D.Disk loss label.old label.new hand.old.ending.columns.items
+        hand.new.ending.columns.items devices.old devices.new }
     ensures held { IsLabelFor hand.new.ending.columns.items label.new }
     ensures lost { IsLossBy (L.shape layout.now) hand.old.ending.lost
         (states_of (L.shape layout.now) hand.new.ending.columns.items) hand.new.ending.lost }

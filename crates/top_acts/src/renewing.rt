@@ -66,6 +66,7 @@ pub fn renew<L: Layout, D: StopDisk, P: Progress>(
         maps.old.union maps.new.union }
     ensures room { room.new ≡ room.old }
     ensures maps { AreMaps (L.shape layout.now) maps.new }
+    ensures kept { (maps.new.marks ≡ maps.old.marks) × (maps.new.room ≡ maps.old.room) }
     ensures judge { IsFor (L.shape layout.now) hand.new.judge }
 {
     deaths_bring_no_unit_back();

@@ -3,6 +3,7 @@ ghost use Rattle.std.specs.Prelude.{◌≡◌, ◌≤◌, ◌*◌, None};
 ghost use Rattle.eng_cols.specs.Cols.{IsFor};
 ghost use Rattle.raid_recon.specs.Array.{IsArray};
 ghost use Rattle.eng_cols.specs.Settable.{IsSettable};
+ghost use Rattle.raid_map.specs.Sweeping.{marks_stripe};
 ghost use Rattle.top_acts.specs.Sweeps.{sweep_of};
 ghost use Rattle.top_acts.specs.Begun.{CanAct};
 ghost use Rattle.top_acts.specs.Marking.{MarksAll};
@@ -91,7 +92,7 @@ pub(crate) fn sweep_marks_and_judge<L: Layout, D: StopDisk>(
     requires map { map.now.stripes ≡ (L.shape layout.now).stripes }
     requires room { 1024 * (L.shape layout.now).unit_sectors ≤ room.old }
     requires judge { IsFor (L.shape layout.now) hand.old.judge }
-    ensures swept { SweepsMarked D.Disk (L.shape layout.now) map.now
+    ensures swept { SweepsMarked D.Disk (L.shape layout.now) (marks_stripe map.now)
         hand.old.ending.columns.items hand.new.ending.columns.items devices.old devices.new result }
     ensures lost { IsLossBy (L.shape layout.now) None
         (states_of (L.shape layout.now) hand.new.ending.columns.items) hand.new.ending.lost }

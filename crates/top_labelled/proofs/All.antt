@@ -111,10 +111,10 @@ module _ {L D : Type 0} (lay : LayoutGhosts L) (disk : DiskGhosts D) (old : Setu
   RunOver cs = (run : Ran disk (opened_as a cs began) devices.items v back) × (run.now ≡ s.now) × (run.ends.kept ≡ closed.columns.items) × (run.graphs ≡ graphs_in setup)
 
   abbrev by-columns : Ran disk (opened_as a columns.items began) devices.items v back
-  by-columns = runs lay disk setup began closed given few s v back so
+  by-columns = runs lay disk setup began closed given few s v back so layout
 
   run-over : RunOver (without asked begun)
-  run-over = subst RunOver named (by-columns, runs-now lay disk setup began closed given few s v back so, runs-kept lay disk setup began closed given few s v back so, runs-graphs lay disk setup began closed given few s v back so)
+  run-over = subst RunOver named (by-columns, runs-now lay disk setup began closed given few s v back so layout, runs-kept lay disk setup began closed given few s v back so layout, runs-graphs lay disk setup began closed given few s v back so layout)
 
   abbrev run : Ran disk (opened_as a (without asked begun) began) devices.items v back
   run = run-over.0

@@ -1,6 +1,6 @@
 -- What an array that was begun, served and closed leaves on its devices.
 use Rattle.std.proofs.Common.{◌≡◌, ◌⊎◌, inl, inr, ℕ, suc, ◌≤◌, ◌*◌, List, [], ◌∷◌, ◌++◌, Bool, true, false, Option, Some, None, refl, sym, ◌∙◌, ap, subst, arith}
-use Rattle.std.specs.Prelude.{Vec, count_by, is_some, option_and_then, slice_get, slice_index}
+use Rattle.std.specs.Prelude.{All, Vec, count_by, is_some, option_and_then, slice_get, slice_index}
 use Rattle.std.specs.declared.alloc.Global.{Global}
 use Rattle.std.proofs.Math.Nat.{mul-le-mul_right}
 use Rattle.blk_disk.specs.declared.disk.Call.{Call}
@@ -11,6 +11,7 @@ use Rattle.blk_disk.proofs.DeviceLaws.{changes-more, changes-refl, changes-then,
 use Rattle.lay_core.specs.Layout.{Shape, IsLayout}
 use Rattle.lay_core.specs.declared.layout.Layout.{Ghosts as LayoutGhosts}
 use Rattle.eng_cols.specs.declared.column.Column.{Column}
+use Rattle.eng_cols.specs.declared.spot.Loss.{Loss}
 use Rattle.eng_cols.specs.Cols.{HasDevice, device_set, is_set_filling}
 use Rattle.eng_cols.specs.Deaths.{Dies}
 use Rattle.eng_cols.specs.Stripes.{states_of}
@@ -39,6 +40,7 @@ use Rattle.top_acts.proofs.Later.{of_check}
 use Rattle.top_acts.proofs.Named.{live_of, only_lose}
 use Rattle.top_acts.proofs.Staged.{settles-ending}
 use Rattle.top_close.specs.Calls.{MoreOn}
+use Rattle.top_rounds.specs.Calls.{IsLabelWrite}
 use Rattle.top_close.specs.Reserved.{IsReserved}
 use Rattle.top_close.specs.Settled.{HasDeviceOn, LosesDevice, has_device}
 use Rattle.top_close.proofs.SettledLaws.{device_within}
@@ -292,6 +294,11 @@ module _ {L D : Type 0} (lay : LayoutGhosts L) (disk : DiskGhosts D) (old : Setu
       settle-behind disk (is_some clear) (calls_of disk closed.devices.items d) (s.now.calls d) told (s.leaves.calls d) (subst (λ o. MoreOn (SettlesFirstOf (is_some clear)) (calls_of disk closed.devices.items d) o) is
       (settles-ending (is_some clear) (has_device (slice_get f.mid c)) (calls_of disk closed.devices.items d) (calls_of disk f.dev d) (calls_of disk back d) (f.settles.once c d (device_within closed.columns.items c d live) live) (f.ends.stage.told d)))
 
+  left-labelled : (loss : Loss) → s.now.lost ≡ Some loss → (c d : ℕ) (told : List Call) → HasDeviceOn closed.columns.items c d → calls_of disk back d ≡ Some told → (closing : List Call) × (told ≡ s.now.calls d ++ closing) × All IsLabelWrite closing
+  left-labelled loss lost c d told live is =
+      let rounds = (e.left loss (s.tells.lost ∙ lost)).rounds.1 in
+      turn-behind disk (All IsLabelWrite) (calls_of disk closed.devices.items d) (s.now.calls d) told (s.leaves.calls d) (subst (λ o. MoreOn (All IsLabelWrite) (calls_of disk closed.devices.items d) o) is (rounds.told d))
+
   others : (d : ℕ) (told : List Call) → ((c : ℕ) → HasDeviceOn closed.columns.items c d → ⊥) → calls_of disk back d ≡ Some told → told ≡ s.now.calls d
   others d told free is = none-behind disk (calls_of disk closed.devices.items d) (s.now.calls d) told (s.leaves.calls d) (ap (λ o. option_and_then disk.calls o) (sym (e.closes.others d free)) ∙ is)
 
@@ -300,6 +307,7 @@ module _ {L D : Type 0} (lay : LayoutGhosts L) (disk : DiskGhosts D) (old : Setu
     contents = λ tells d n k other kb. same-contents tells d n k other ∙ sym (s.leaves.contents tells d n k kb);
     calls = calls;
     first = first-settled;
+    left = left-labelled;
     others = others;
     settled = λ none c d has. e.closes.settled none c d (live_of y v.ending.columns c d has);
     frame = frame;

@@ -163,9 +163,9 @@ module _ {D : Type 0} (g : Ghosts D) (a : Work) (newest first last : Label) (tak
       let clears = clear_is ∙ clear-none (writes_maps (is_kept map newest) begins.union && not (is_some before)) blank (ap (λ b. b && not (is_some before)) writes) in
       as-closed clears tells d ∙ (as-served tells d sized ∙ (begun-plain begins.unread (is_kept map newest) keeps begins.has tells d ∙ as-read tells d))
 
-  pub cleared : g.tells → newest.clean ≡ 1 → (map ≡ true) ⊎ (is_any_marked begins.union ≡ true) → s.ending.lost ≡ None → (c d : ℕ) → HasDeviceOn s.ending.columns c d → IsBytesOf blank (sector_of g back d 1)
-  cleared tells clean why none c d live =
-      let writes : writes_maps (is_kept map newest) begins.union ≡ true = or-either (is_kept map newest) (is_any_marked begins.union) (elim why [ inl asked ↦ inl (kept-so map newest asked clean) | inr any ↦ inr any ]) in
+  pub cleared : g.tells → (is_kept map newest ≡ true) ⊎ (is_any_marked begins.union ≡ true) → s.ending.lost ≡ None → (c d : ℕ) → HasDeviceOn s.ending.columns c d → IsBytesOf blank (sector_of g back d 1)
+  cleared tells why none c d live =
+      let writes : writes_maps (is_kept map newest) begins.union ≡ true = or-either (is_kept map newest) (is_any_marked begins.union) why in
       let clears = clear_is ∙ clear-some (writes_maps (is_kept map newest) begins.union && not (is_some before)) blank (ap (λ b. b && not (is_some before)) writes ∙ none-false before (unlost none)) in
       closes.cleared blank clears none c d live tells
 

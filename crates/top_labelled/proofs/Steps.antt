@@ -23,8 +23,8 @@ use Rattle.raid_label.specs.declared.label.Label.{Label}
 use Rattle.raid_script.specs.Replies.{StandFor}
 use Rattle.top_acts.specs.Begun.{HasBegun, MayBegin}
 use Rattle.raid_map.specs.Regions.{Marks as Map}
-use Rattle.top_acts.specs.Cleared.{EndsMapped, EndsMappedSettled}
-use Rattle.top_acts.specs.Failed.{StaysBegun}
+use Rattle.top_acts.specs.Cleared.{EndsInSteps, EndsMapped, EndsMappedSettled}
+use Rattle.top_acts.specs.Failed.{IsLeftLost, StaysBegun}
 use Rattle.top_acts.specs.Mapped.{unmarked}
 use Rattle.top_acts.specs.Sweeps.{Notice, Sweeps}
 use Rattle.top_close.specs.Dying.{AnyCause}
@@ -296,13 +296,17 @@ module _ {L D : Type 0} (lay : LayoutGhosts L) (disk : DiskGhosts D) where
       → v.line ≡ line_of (lay.shape closed.layout) asked onto closed.columns.items v.ending.lost → lent ≡ closed.devices.items
       → EndsMapped disk clear false (closing_label label) last closed.columns.items v.ending.columns lent back v.ending.lost
       → (closed.lost ≡ None → EndsMappedSettled disk clear (closing_label label) last closed.columns.items v.ending.columns lent back v.ending.lost)
+      → ((loss : Loss) → closed.lost ≡ Some loss → IsLeftLost disk loss (closing_label label) last closed.columns.items v.ending.columns lent back)
+      → EndsInSteps disk clear (lay.shape closed.layout) closed.lost (closing_label label) last closed.columns.items v.ending.columns lent back v.ending.lost
       → IsLossBy (lay.shape closed.layout) closed.lost (states_of (lay.shape closed.layout) v.ending.columns) v.ending.lost
       → HasEnded lay disk closed label clear asked onto v back
-  ended-so closed label last clear asked onto v lent back told line is closes first lost = record {
+  ended-so closed label last clear asked onto v lent back told line is closes first left steps lost = record {
     last = last;
     told = told;
     line = line;
     closes = subst (λ (ds : List (Option D)). EndsMapped disk clear false (closing_label label) last closed.columns.items v.ending.columns ds back v.ending.lost) is closes;
     first = λ none. subst (λ (ds : List (Option D)). EndsMappedSettled disk clear (closing_label label) last closed.columns.items v.ending.columns ds back v.ending.lost) is (first none);
+    left = λ loss was. subst (λ (ds : List (Option D)). IsLeftLost disk loss (closing_label label) last closed.columns.items v.ending.columns ds back) is (left loss was);
+    steps = subst (λ (ds : List (Option D)). EndsInSteps disk clear (lay.shape closed.layout) closed.lost (closing_label label) last closed.columns.items v.ending.columns ds back v.ending.lost) is steps;
     lost = lost;
   }

@@ -27,10 +27,6 @@ use Rattle.top_close.specs.Settled.{LosesDevice}
 use Rattle.top_run.specs.Work.{Work}
 use Rattle.top_run.specs.Ran.{WasInSync, states_in}
 
--- the labels say that the array was in use, and wasn't closed
-abbrev pub IsDirty : Label → Type 0
-IsDirty newest = newest.clean ≡ 0
-
 -- which check units are rewritten: all then; else those of the stripes that the union of the maps marks, if it marks any
 abbrev pub sweeps_in : Label → Map → Sweeps
 sweeps_in newest union =
@@ -103,10 +99,6 @@ began_of faulty s columns begun = if faulty || (is_in_place s columns && not (is
 abbrev pub opened_as : Work → List Column → Option Start → Work
 opened_as a columns began = record a { columns = columns; start = began }
 
--- on block b both are the same
-abbrev pub SameAt : ℕ → Blocks → Blocks → Type 0
-SameAt b one other = (k : ℕ) → k < 512 → one b k ≡ other b k
-
 -- each block as the sum of its stripe's other units
 abbrev pub sums_of_others : Shape → Contents → List ColumnState → Blocks
 sums_of_others y contents cols b k = xor_others (λ j. byte_of y contents cols (stripe_of y b) j (offset_of y b) k) (unit_of y b) y.width
@@ -129,18 +121,15 @@ BeginsUnless g None notice sweeps y newest first columns after old new lost n = 
 BeginsUnless g (Some loss) notice sweeps y newest first columns after old new lost n = StaysBegun g newest first columns after old new × (lost ≡ Some loss)
 
 module _ {D : Type 0} (g : Ghosts D) (a : Work) (newest : Label) (taken : List (Option D)) where
-  -- The labels say that the array was closed in order, and each stripe that lacks no unit by `columns` and doesn't sum to zero lies in a region that the maps mark of those devices in use that could be read, which the columns `read` have.
-  abbrev pub UnsoundLieInUnion : (columns read : List Column) → Type 0
-  UnsoundLieInUnion columns read = (newest.clean ≡ 1) × ((s : ℕ) → IsUnsound a.layout (states_of a.layout columns) (contents_of g taken) s
-      → UnionMarks a.layout newest.serial (states_of a.layout read) (contents_of g taken) (region_of a.layout.stripes s))
-
-  -- the check units fit the data, or the labels or the maps say which may not
+  -- The check units fit the data; or the labels say that the array was in use, and wasn't closed; or they say that it was closed in order, and each stripe that lacks no unit by `columns` and doesn't sum to zero lies in a region that the maps mark of those devices in use that could be read, which the columns `read` have.
   abbrev pub WasSound : (columns read : List Column) → Type 0
-  WasSound columns read = WasInSync g a taken ⊎ (IsDirty newest ⊎ UnsoundLieInUnion columns read)
+  WasSound columns read = WasInSync g a taken ⊎ ((newest.clean ≡ 0) ⊎ ((newest.clean ≡ 1)
+      × ((s : ℕ) → IsUnsound a.layout (states_of a.layout columns) (contents_of g taken) s
+      → UnionMarks a.layout newest.serial (states_of a.layout read) (contents_of g taken) (region_of a.layout.stripes s))))
 
   -- check units are rewritten before a core is opened
   abbrev pub IsSwept : Map → Type 0
-  IsSwept union = IsDirty newest ⊎ (is_any_marked union ≡ true)
+  IsSwept union = (newest.clean ≡ 0) ⊎ (is_any_marked union ≡ true)
 
   module _ (opened : List (Option D)) (begun : List Column) where
     -- The array was begun: the maps of its devices were read, which left the columns `read` and the devices `looked`; unless it was lost by that, labels were written in an opening round, or, where a map is kept, each device in use got the map `marks` in the place of that; and then check units were swept: all where the newest label said that the array was in use, else those of the stripes that its maps mark. By the columns that are left the array is lost or isn't.
@@ -165,8 +154,8 @@ module _ {D : Type 0} (g : Ghosts D) (a : Work) (newest : Label) (taken : List (
 
     -- the block is what the devices held as they were taken; or, where the labels said that the array was in use, or the union of its maps had marks, and the block's unit was made missing, the sum of the others of its stripe as they were held then
     abbrev pub IsBlockOf : Map → Blocks → ℕ → Type 0
-    IsBlockOf union blocks b = SameAt b blocks (decode a.layout (contents_of g taken) (states_in a))
-        ⊎ (IsSwept union × IsUnmade b × SameAt b blocks (sums_of_others a.layout (contents_of g taken) (states_in a)))
+    IsBlockOf union blocks b = ((k : ℕ) → k < 512 → blocks b k ≡ decode a.layout (contents_of g taken) (states_in a) b k)
+        ⊎ (IsSwept union × IsUnmade b × ((k : ℕ) → k < 512 → blocks b k ≡ sums_of_others a.layout (contents_of g taken) (states_in a) b k))
 
     -- Where it was sound by the columns that were left as maps were read, the array is in sync as the core is opened, once the column is dead that is to be rebuilt; and where it was so by all columns, its blocks are these.
     pub record HoldsBlocks (read : List Column) (union : Map) (start : Blocks) : Type 0 where

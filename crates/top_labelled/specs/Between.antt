@@ -17,9 +17,9 @@ use Rattle.eng_cols.specs.Settable.{IsSettable}
 use Rattle.raid_map.specs.Regions.{Marks as Map}
 use Rattle.top_acts.specs.Begun.{CanAct}
 use Rattle.raid_map.specs.Marking.{CanBeMarked}
-use Rattle.top_acts.specs.Failed.{EndsFailed}
+use Rattle.top_acts.specs.Failed.{EndsFailed, IsLeftLost}
 use Rattle.raid_map.specs.Asking.{file_of}
-use Rattle.top_acts.specs.Cleared.{EndsMapped, EndsMappedSettled}
+use Rattle.top_acts.specs.Cleared.{EndsInSteps, EndsMapped, EndsMappedSettled}
 use Rattle.top_acts.specs.Mapped.{AreMaps, LooksAtMaps, unmarked}
 use Rattle.top_acts.specs.Sweeps.{Notice}
 use Rattle.eng_cols.specs.Stripes.{states_of}
@@ -93,13 +93,15 @@ module _ {L D : Type 0} (lay : LayoutGhosts L) (disk : DiskGhosts D) where
     pub held : IsLabelFor closed.columns.items label
     pub counter : label.counter + 98 < 2 ^ 32
 
-  -- What was served was closed, each device in use being settled first unless the array was lost, and its maps were cleared, if they are to be: what is told but for columns, loss and line is what was handed back; the line is that of the rebuild that was asked, onto this device or into the spare places, by the columns as the core was closed and the loss in the end; and the loss is that of before, or else of the columns in the end.
+  -- What was served was closed, each device in use being settled first unless the array was lost, which then has its one round alone; and its maps were cleared, if they are to be, unless it was lost by the closing: what is told but for columns, loss and line is what was handed back; the line is that of the rebuild that was asked, onto this device or into the spare places, by the columns as the core was closed and the loss in the end; and the loss is that of before, or else of the columns in the end.
   pub record HasEnded (closed : Closed L D) (label : Label) (clear : Option Map) (asked : Option Start) (device : Option ℕ) (s : Service) (back : List (Option D)) : Type 0 where
     pub last : Label
     pub told : s ≡ service_of closed s.line s.ending
     pub line : s.line ≡ line_of (lay.shape closed.layout) asked device closed.columns.items s.ending.lost
     pub closes : EndsMapped disk clear false (closing_label label) last closed.columns.items s.ending.columns closed.devices.items back s.ending.lost
     pub first : closed.lost ≡ None → EndsMappedSettled disk clear (closing_label label) last closed.columns.items s.ending.columns closed.devices.items back s.ending.lost
+    pub left : (loss : Loss) → closed.lost ≡ Some loss → IsLeftLost disk loss (closing_label label) last closed.columns.items s.ending.columns closed.devices.items back
+    pub steps : EndsInSteps disk clear (lay.shape closed.layout) closed.lost (closing_label label) last closed.columns.items s.ending.columns closed.devices.items back s.ending.lost
     pub lost : IsLossBy (lay.shape closed.layout) closed.lost (states_of (lay.shape closed.layout) s.ending.columns) s.ending.lost
 
   -- what was begun can be served in the room, and closed

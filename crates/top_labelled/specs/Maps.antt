@@ -13,6 +13,7 @@ use Rattle.raid_map.specs.Regions.{Marks as Map, IsBytesOf, IsMapOf}
 use Rattle.top_acts.specs.Mapped.{is_any_marked, unmarked}
 use Rattle.top_close.specs.Settled.{HasDeviceOn}
 use Rattle.top_run.specs.Work.{Service, Work}
+use Rattle.top_labelled.specs.Begun.{is_kept}
 use Rattle.top_labelled.specs.Marked.{MarksExactly}
 
 module _ {D : Type 0} (g : Ghosts D) (a : Work) (newest : Label) (taken : List (Option D)) where
@@ -20,18 +21,15 @@ module _ {D : Type 0} (g : Ghosts D) (a : Work) (newest : Label) (taken : List (
   abbrev pub blank : Map
   blank = unmarked a.layout.stripes newest.serial
 
-  -- sector 1 of device d is what it was, or such a map
-  abbrev pub IsKeptOrBlank : List (Option D) → ℕ → Type 0
-  IsKeptOrBlank back d = (sector_of g back d 1 ≡ sector_of g taken d 1) ⊎ IsBytesOf blank (sector_of g back d 1)
-
-  -- or, of one that was closed in order, it is some map of the array
+  -- sector 1 of device d is what it was, or such a map; or, of an array that was closed in order, it is some map of it
   abbrev pub IsKeptOrMap : List (Option D) → ℕ → Type 0
-  IsKeptOrMap back d = IsKeptOrBlank back d ⊎ ((newest.clean ≡ 1) × IsMapOf blank (sector_of g back d 1))
+  IsKeptOrMap back d = ((sector_of g back d 1 ≡ sector_of g taken d 1) ⊎ IsBytesOf blank (sector_of g back d 1))
+      ⊎ ((newest.clean ≡ 1) × IsMapOf blank (sector_of g back d 1))
 
-  -- What sector 1 of the devices holds in the end, where it is told, and a device has one. Where no map is asked for and the union of the maps as they were read had no mark, it is what it was. Of an array that was closed in order, where one is asked for or the union had a mark, each device in use in the end has a map without marks, unless the array is lost. Where one is asked for, and the array was lost as the core closed, each device that is in use in the end and was as the array was opened has one map, which marks exactly what the union marked and what is asked. All other sectors, of devices whose count of faults didn't rise, are what they were, or maps of the array.
+  -- What sector 1 of the devices holds in the end, where it is told, and a device has one. Where no map is asked for and the union of the maps as they were read had no mark, it is what it was. Where one is kept, or the union had a mark, each device in use in the end has a map without marks, unless the array is lost. Where one is asked for, and the array was lost as the core closed, each device that is in use in the end and was as the array was opened has one map, which marks exactly what the union marked and what is asked. All other sectors, of devices whose count of faults didn't rise, are what they were, or maps of the array.
   pub record MapsEnd (s : Service) (back : List (Option D)) (map : Bool) (read : List Column) (union marks : Map) (graphs : Graphs) (now : World) : Type 0 where
     pub untouched : g.tells → map ≡ false → is_any_marked union ≡ false → (d : ℕ) → 2 ≤ size_of g taken d → sector_of g back d 1 ≡ sector_of g taken d 1
-    pub cleared : g.tells → newest.clean ≡ 1 → (map ≡ true) ⊎ (is_any_marked union ≡ true) → s.ending.lost ≡ None
+    pub cleared : g.tells → (is_kept map newest ≡ true) ⊎ (is_any_marked union ≡ true) → s.ending.lost ≡ None
         → (c d : ℕ) → HasDeviceOn s.ending.columns c d → IsBytesOf blank (sector_of g back d 1)
     pub asked : newest.clean ≡ 1 → map ≡ true → MarksExactly a.layout graphs now read a.start union marks
     pub exact : g.tells → newest.clean ≡ 1 → map ≡ true → (loss : Loss) → now.lost ≡ Some loss

@@ -1,5 +1,5 @@
 -- What a run of clients over an array with labels is, and what it leaves.
-use Rattle.std.specs.Prelude.{◌≡◌, ◌⊎◌, ◌<◌, ◌≤◌, ◌+◌, ℕ, List, ◌∷◌, ◌++◌, length, Bool, true, false, Option, Some, None, slice_get}
+use Rattle.std.specs.Prelude.{◌≡◌, ◌⊎◌, ◌<◌, ◌≤◌, ◌+◌, ℕ, List, ◌∷◌, ◌++◌, length, All, Bool, true, false, Option, Some, None, slice_get}
 use Rattle.blk_disk.specs.declared.disk.Call.{Call}
 use Rattle.blk_disk.specs.declared.disk.Disk.{Ghosts}
 use Rattle.blk_disk.specs.Disk.{call_of}
@@ -25,6 +25,7 @@ use Rattle.top_acts.specs.Failed.{EndsFailed}
 use Rattle.top_acts.specs.Cleared.{AreEndingInTurn, EndsInTurn}
 use Rattle.top_acts.specs.Sweeps.{Notice, rounds_for, wrote_round}
 use Rattle.top_close.specs.Calls.{EndsSettled}
+use Rattle.top_rounds.specs.Calls.{IsLabelWrite}
 use Rattle.top_close.specs.Reserved.{IsReserved}
 use Rattle.top_close.specs.Settled.{HasDeviceOn, has_device}
 use Rattle.top_rounds.specs.Labels.{for_column, seating_in, seating_of, with_round}
@@ -79,10 +80,6 @@ line_at_end lost (Some line) = Some (record line { told = told_at_end lost line.
 abbrev pub line_of : Shape → Option Start → Option ℕ → List Column → Option Loss → Option Line
 line_of y start device kept lost = line_at_end lost (line_kept y start device kept)
 
--- a rebuild goes onto the device
-abbrev pub GoesOnto : Option Start → ℕ → Type 0
-GoesOnto began d = (c : ℕ) × (most : ℕ) × (began ≡ Some (start.Fill c d most))
-
 -- `a` says what is asked, over the array as it was opened: the column that is to be rebuilt is what it was then.
 module _ {D : Type 0} (g : Ghosts D) (a : Work) (newest : Label) (taken : List (Option D)) where
   -- ## A run
@@ -90,14 +87,16 @@ module _ {D : Type 0} (g : Ghosts D) (a : Work) (newest : Label) (taken : List (
   module _ (s : Service) (back : List (Option D)) where
     -- the sector may have changed: it is the label's, or the map's where maps are written, or one of the array's rows, on a device that was in a column, or onto which the rebuild goes that began; or the device has no such sector
     abbrev pub MayChangeLabelled : (mapped : Bool) → Option Start → ℕ → ℕ → Type 0
-    MayChangeLabelled mapped began d n = ((((c : ℕ) × HasDevice (states_in a) c d) ⊎ GoesOnto began d) × (IsReserved mapped n ⊎ IsInRows a.layout n)) ⊎ (size_of g taken d ≤ n)
+    MayChangeLabelled mapped began d n = ((((c : ℕ) × HasDevice (states_in a) c d) ⊎ ((c : ℕ) × (most : ℕ) × (began ≡ Some (start.Fill c d most))))
+        × (IsReserved mapped n ⊎ IsInRows a.layout n)) ⊎ (size_of g taken d ≤ n)
 
-    -- Devices hold what they do at the run's end, but for labels and maps, and have changed nowhere else since they were taken. `kept` are the columns as the core was closed. Behind the run the device of each that had one was called in turn: label writes, writes of maps where these are cleared, and settles none of which comes right behind another, all of which went well, but that the last failed where the column hasn't it in the end; of a column that was filling on a lost array all may have gone well. Where the array wasn't lost in the run the first is a settle; where it isn't lost in the end the last of a device in use is one. No other device was called.
+    -- Devices hold what they do at the run's end, but for labels and maps, and have changed nowhere else since they were taken. `kept` are the columns as the core was closed. Behind the run the device of each that had one was called in turn: label writes, writes of maps where these are cleared, and settles none of which comes right behind another, all of which went well, but that the last failed where the column hasn't it in the end; of a column that was filling on a lost array all may have gone well. Where the array wasn't lost in the run the first is a settle; where it was, all are label writes; where it isn't lost in the end the last of a device in use is one. No other device was called.
     pub record LeavesLabelled (mapped : Bool) (began : Option Start) (kept : List Column) (now : World) : Type 0 where
       pub contents : g.tells → (d n k : ℕ) → (IsReserved mapped n → ⊥) → k < 512 → contents_of g back d n k ≡ now.contents d n k
       pub calls : (c d : ℕ) (told : List Call) → HasDeviceOn kept c d → calls_of g back d ≡ Some told → (closing : List Call) × (told ≡ now.calls d ++ closing)
           × (EndsInTurn mapped (has_device (slice_get s.ending.columns c)) false closing (settled_in_end s.ending.lost) ⊎ (IsGivenUp s.ending.lost kept c × ((settled : Bool) × AreEndingInTurn mapped false closing settled)))
       pub first : now.lost ≡ None → (c d : ℕ) (told : List Call) → HasDeviceOn kept c d → calls_of g back d ≡ Some told → (good : Bool) × (more : List Call) × (told ≡ now.calls d ++ call_of 2 0 0 good ∷ more)
+      pub left : (loss : Loss) → now.lost ≡ Some loss → (c d : ℕ) (told : List Call) → HasDeviceOn kept c d → calls_of g back d ≡ Some told → (closing : List Call) × (told ≡ now.calls d ++ closing) × All IsLabelWrite closing
       pub others : (d : ℕ) (told : List Call) → ((c : ℕ) → HasDeviceOn kept c d → ⊥) → calls_of g back d ≡ Some told → told ≡ now.calls d
       pub settled : s.ending.lost ≡ None → (c d : ℕ) → HasDevice (states_of a.layout s.ending.columns) c d → EndsSettled (calls_of g back d)
       pub frame : Changes g (MayChangeLabelled mapped began) taken back
@@ -139,7 +138,7 @@ module _ {D : Type 0} (g : Ghosts D) (a : Work) (newest : Label) (taken : List (
       pub began_is : began ≡ began_of faulty a.start a.columns begun
       pub unbegun : began ≡ None → (a.start ≡ None) ⊎ ((faulty ≡ true) ⊎ HasFailedSince opened)
       pub run : Ran g (opened_as a (without a.start begun) began) opened s back
-      pub line : s.line ≡ line_of a.layout a.start (onto a.start a.columns) run.ends.kept s.ending.lost
+      pub line : s.line ≡ line_at_end s.ending.lost (line_kept a.layout a.start (onto a.start a.columns) run.ends.kept)
       pub holds : HoldsBlocks g a newest taken opened begun begins.read begins.union run.start.blocks
       pub leaves : LeavesLabelled (writes_maps (is_kept map newest) begins.union) began run.ends.kept run.now
       pub since : Changes g (MayChangeLabelled (writes_maps (is_kept map newest) begins.union) began) opened back

@@ -1,6 +1,8 @@
 use Rattle.std.proofs.Common.{◌≡◌, ◌∙◌, ap, subst, sym, None, arith}
 use Rattle.std.specs.Prelude.{is_some}
 use Rattle.raid_map.specs.Sweeping.{marks_stripe}
+use Rattle.eng_cols.specs.Stripes.{states_of}
+use Rattle.top_close.specs.Ended.{IsLossBy}
 use Rattle.top_close.specs.Stage.{DiesIn}
 use Rattle.top_rounds.proofs.RoundLaws.{any_death}
 use Rattle.top_acts.specs.Begun.{HasBegun, MayBegin}
@@ -26,7 +28,7 @@ returns-then-is_some-clause-begun g c =
     let lost = a.new.hand.ending.lost in
     let told = announced g.D.Disk notice lost label a.new.label columns mid old dev a.ensures.label a.ensures.opens in
     begun_only g.D.Disk y notice (sweeps_seen c.args.opening.sweeps) label a.new.label columns mid old dev lost c.requires.can.labels.columns_most c.requires.can.settable.filling
-    (λ e. no_loss (ap is_some (sym e) ∙ (sym c.is_some.ensures ∙ c.if-is_some.true))) told
+    (λ e. no_loss (ap is_some (sym e) ∙ (sym c.is_some.ensures ∙ c.if-is_some.true))) a.ensures.lost told
 
 pub returns-then-is_some-clause-can : goal.returns-then-is_some-clause-can
 returns-then-is_some-clause-can g c =
@@ -57,7 +59,7 @@ returns-in-Nothing-clause-begun g c =
     let lost = a.new.hand.ending.lost in
     let told = announced g.D.Disk notice lost label a.new.label columns mid old dev a.ensures.label a.ensures.opens in
     begun_only g.D.Disk y notice (sweeps_seen c.args.opening.sweeps) label a.new.label columns mid old dev lost c.requires.can.labels.columns_most c.requires.can.settable.filling
-    (λ e. ap sweeps_seen c.in-Nothing.is) told
+    (λ e. ap sweeps_seen c.in-Nothing.is) a.ensures.lost told
 
 pub returns-in-Nothing-clause-can : goal.returns-in-Nothing-clause-can
 returns-in-Nothing-clause-can g c =
@@ -108,7 +110,7 @@ returns-in-Over-clause-begun g c =
     let fewer = c.deaths_bring_no_unit_back.ensures.filling columns mid (any_death (DiesIn g.D.Disk lost columns old dev) columns mid told.stage.dies) in
     let s = c.sweep_labelled in
     let begun = begun_swept g.D.Disk y (g.met.L.Layout.is_layout c.args.layout.now) notice (Over (sweep_of c.in-Over.kind)) (λ e. absurd (let u : ⊥ = cc in u)) label a.new.label s.new.label columns mid s.new.hand.ending.columns.items old dev s.new.devices s.new.hand.ending.lost s.result
-    c.requires.can.array.order c.requires.can.labels.columns_most c.requires.can.settable.filling (omega (arith, fewer, c.requires.can.settable.filling)) kept s.ensures.swept in
+    c.requires.can.array.order c.requires.can.labels.columns_most c.requires.can.settable.filling (omega (arith, fewer, c.requires.can.settable.filling)) (subst (IsLossBy y None (states_of y mid)) none a.ensures.lost) kept s.ensures.swept in
     subst (λ o. HasBegun g.D.Disk notice (sweeps_seen o) y label s.new.label columns s.new.hand.ending.columns.items old s.new.devices s.new.hand.ending.lost s.result) (sym c.in-Over.is) begun
 
 pub returns-in-Over-clause-can : goal.returns-in-Over-clause-can
@@ -158,7 +160,7 @@ returns-in-Marked-clause-begun g c =
     let fewer = c.deaths_bring_no_unit_back.ensures.filling columns mid (any_death (DiesIn g.D.Disk lost columns old dev) columns mid told.stage.dies) in
     let s = c.sweep_marks in
     let begun = begun_swept g.D.Disk y (g.met.L.Layout.is_layout c.args.layout.now) notice (Marked (marks_stripe c.in-Marked.map.now)) (λ e. absurd (let u : ⊥ = cc in u)) label a.new.label s.new.label columns mid s.new.hand.ending.columns.items old dev s.new.devices s.new.hand.ending.lost s.result
-    c.requires.can.array.order c.requires.can.labels.columns_most c.requires.can.settable.filling (omega (arith, fewer, c.requires.can.settable.filling)) kept s.ensures.swept in
+    c.requires.can.array.order c.requires.can.labels.columns_most c.requires.can.settable.filling (omega (arith, fewer, c.requires.can.settable.filling)) (subst (IsLossBy y None (states_of y mid)) none a.ensures.lost) kept s.ensures.swept in
     subst (λ o. HasBegun g.D.Disk notice (sweeps_seen o) y label s.new.label columns s.new.hand.ending.columns.items old s.new.devices s.new.hand.ending.lost s.result) (sym c.in-Marked.is) begun
 
 pub returns-in-Marked-clause-can : goal.returns-in-Marked-clause-can

@@ -29,8 +29,8 @@ returns-then-is_some-clause-swept g c =
     let mid = s.new.hand.ending.columns.items in
     let dies = any_death (Failed g.D.Disk (states_of y columns) c.args.devices.now s.new.devices) columns mid s.ensures.swept.dies in
     let few : count_by is_set_filling mid ≤ 1 = omega (arith, c.deaths_bring_no_unit_back.ensures.filling columns mid dies, c.requires.can.settable.filling) in
-    sweeps_lost g.D.Disk y (Over (sweep_of c.args.kind)) c.args.label.now w.new.label columns mid w.new.hand.ending.columns.items c.args.devices.now s.new.devices w.new.devices w.new.hand.ending.lost s.result
-    few w.ensures.lost (did_over g.D.Disk y (sweep_of c.args.kind) columns mid c.args.devices.now s.new.devices s.result (g.met.L.Layout.is_layout c.args.layout.now).checks_most s.ensures.swept) w.ensures.label w.ensures.rounds
+    sweeps_lost g.D.Disk y (Over (sweep_of c.args.kind)) c.args.label.now w.new.label columns mid w.new.hand.ending.columns.items c.args.devices.now s.new.devices w.new.devices w.new.hand.ending.lost s.new.hand.ending.lost s.result
+    few w.ensures.lost (sym c.is_some.ensures ∙ c.if-is_some.true) s.ensures.lost s.ensures.swept (did_over g.D.Disk y (sweep_of c.args.kind) columns mid c.args.devices.now s.new.devices s.result (g.met.L.Layout.is_layout c.args.layout.now).checks_most s.ensures.swept) w.ensures.label w.ensures.rounds
 
 pub returns-else-is_some-clause-swept : goal.returns-else-is_some-clause-swept
 returns-else-is_some-clause-swept g c =
@@ -39,7 +39,7 @@ returns-else-is_some-clause-swept g c =
     let columns = c.args.hand.now.ending.columns.items in
     let mid = s.new.hand.ending.columns.items in
     sweeps_kept g.D.Disk y (Over (sweep_of c.args.kind)) c.args.label.now columns mid c.args.devices.now s.new.devices s.new.hand.ending.lost s.result
-    (none_of s.new.hand.ending.lost (sym c.is_some.ensures ∙ c.if-is_some.false)) (did_over g.D.Disk y (sweep_of c.args.kind) columns mid c.args.devices.now s.new.devices s.result (g.met.L.Layout.is_layout c.args.layout.now).checks_most s.ensures.swept)
+    (none_of s.new.hand.ending.lost (sym c.is_some.ensures ∙ c.if-is_some.false)) s.ensures.lost s.ensures.swept (did_over g.D.Disk y (sweep_of c.args.kind) columns mid c.args.devices.now s.new.devices s.result (g.met.L.Layout.is_layout c.args.layout.now).checks_most s.ensures.swept)
 
 pub write_lost-requires-clause-held : goal.write_lost-requires-clause-held
 write_lost-requires-clause-held g c = let s = c.sweep_and_judge-count in held_after c.args.hand.now.ending.columns.items s.new.hand.ending.columns.items c.args.label.now s.ensures.swept.dies.count c.requires.held

@@ -1,9 +1,11 @@
-use Rattle.std.proofs.Common.{false, true, refl, arith}
+use Rattle.std.proofs.Common.{◌∙◌, suc, false, true, refl, sym, arith}
+use Rattle.eng_cols.specs.Stripes.{states_of}
 use Rattle.top_close.specs.Stage.{DiesIn}
 use Rattle.top_close.proofs.StageLaws.{live_less}
 use Rattle.top_rounds.proofs.RoundLaws.{any_death, can-after, settable_after}
 use Rattle.top_acts.specs.Marking.{IsKeptInUse}
-use Rattle.top_acts.proofs.Clears.{behind_closed, behind_last, behind_retried, ends_closed, ends_few, ends_last, ends_retried, lost_anew, lost_last, marked_after, retries}
+use Rattle.top_acts.proofs.Clears.{behind_closed, behind_last, behind_retried, ends_closed, ends_few, ends_last, ends_retried, kept_by, left_last, lost_anew, lost_last, marked_after, retries}
+use Rattle.top_acts.proofs.Begins.{no_none}
 use Rattle.top_acts.proofs.clearing.end_and_clear.Goals as goal
 
 pub loop-init : goal.loop-init
@@ -15,6 +17,8 @@ loop-init g c =
     record {
       ends = ends_closed g.D.Disk c.args.blank.now false label e.new.label columns e.new.hand.ending.columns.items old e.new.devices e.new.hand.ending.lost e.ensures.closed;
       first = λ none. behind_closed g.D.Disk c.args.blank.now label e.new.label columns e.new.hand.ending.columns.items old e.new.devices e.new.hand.ending.lost c.requires.array.have.apart (e.ensures.first none);
+      left = e.ensures.left;
+      steps = λ n next after new lost h. record { mid = e.new.hand.ending.columns.items; dev = e.new.devices; first = e.new.label; behind = e.new.hand.ending.lost; closes = e.ensures.closed; behind_is = e.ensures.lost; clears = (n, h) };
       lost = e.ensures.lost;
       held = e.ensures.held;
       judge = e.ensures.judge;
@@ -55,6 +59,8 @@ loop-preserved g c =
     record {
       ends = ends_retried g.D.Disk blank false label l.label t.new.label columns l.hand.ending.columns.items t.new.hand.ending.columns.items old l.devices t.new.devices l.hand.ending.lost t.new.hand.ending.lost c.requires.array.have.apart l.invariant.ends r;
       first = λ none. behind_retried g.D.Disk blank label l.label t.new.label columns l.hand.ending.columns.items t.new.hand.ending.columns.items old l.devices t.new.devices l.hand.ending.lost t.new.hand.ending.lost (l.invariant.first none) r;
+      left = λ loss e. no_none (sym (kept_by g.D.Disk (g.L.Layout.shape c.args.layout.now) (states_of (g.L.Layout.shape c.args.layout.now) l.hand.ending.columns.items) c.args.hand.now.ending.lost l.hand.ending.lost l.invariant.lost loss e) ∙ r.none);
+      steps = λ n next after new lost h. l.invariant.steps (suc n) next after new lost (t.new.hand.ending.columns.items, t.new.devices, t.new.label, t.new.hand.ending.lost, c.loop-test.ensures.tried, c.loop-test.ensures.lost refl, h);
       lost = lost_anew g.D.Disk (g.L.Layout.shape c.args.layout.now) c.args.hand.now.ending.lost l.hand.ending.lost t.new.hand.ending.lost l.hand.ending.columns.items t.new.hand.ending.columns.items r.none l.invariant.lost (c.loop-test.ensures.lost refl);
       held = c.loop-test.ensures.held;
       judge = c.loop-test.ensures.judge;
@@ -85,3 +91,16 @@ returns-clause-lost g c =
     let l = c.loop in
     let t = c.try_clear in
     lost_last g.D.Disk (g.L.Layout.shape c.args.layout.now) c.args.blank.now c.args.hand.now.ending.lost l.hand.ending.lost t.new.hand.ending.lost l.label t.new.label l.hand.ending.columns.items t.new.hand.ending.columns.items l.devices t.new.devices l.invariant.lost c.loop-test.ensures.tried
+
+pub returns-clause-steps : goal.returns-clause-steps
+returns-clause-steps g c =
+    let t = c.try_clear in
+    c.loop.invariant.steps 0 t.new.label t.new.hand.ending.columns.items t.new.devices t.new.hand.ending.lost c.loop-test.ensures.tried
+
+pub returns-clause-left : goal.returns-clause-left
+returns-clause-left g c loss e =
+    let l = c.loop in
+    let t = c.try_clear in
+    left_last g.D.Disk c.args.blank.now loss c.args.label.now l.label t.new.label c.args.hand.now.ending.columns.items l.hand.ending.columns.items t.new.hand.ending.columns.items c.args.devices.now l.devices t.new.devices l.hand.ending.lost t.new.hand.ending.lost
+    (kept_by g.D.Disk (g.L.Layout.shape c.args.layout.now) (states_of (g.L.Layout.shape c.args.layout.now) l.hand.ending.columns.items) c.args.hand.now.ending.lost l.hand.ending.lost l.invariant.lost loss e)
+    (l.invariant.left loss e) c.loop-test.ensures.tried

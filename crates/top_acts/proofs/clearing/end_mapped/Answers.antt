@@ -1,6 +1,6 @@
-use Rattle.std.proofs.Common.{false, true, subst, sym}
+use Rattle.std.proofs.Common.{false, true, refl, subst, sym}
 use Rattle.std.specs.Prelude.{option_map}
-use Rattle.top_acts.specs.Cleared.{EndsMapped, EndsMappedSettled}
+use Rattle.top_acts.specs.Cleared.{EndsInSteps, EndsMapped, EndsMappedSettled}
 use Rattle.top_acts.proofs.Clears.{mapped_closed}
 use Rattle.top_acts.proofs.clearing.end_mapped.Goals as goal
 
@@ -26,3 +26,14 @@ returns-in-None-clause-first g c none =
     let s = e.ensures.first none in
     subst (λ o. EndsMappedSettled g.D.Disk (option_map (λ m. m.now) o) c.args.label.now e.new.label c.args.hand.now.ending.columns.items e.new.hand.ending.columns.items c.args.devices.now e.new.devices e.new.hand.ending.lost) (sym c.in-None.is)
     (record { mid = s.mid; dev = s.dev; settles = s.settles; ends = mapped_closed g.D.Disk true c.args.label.now e.new.label s.mid e.new.hand.ending.columns.items s.dev e.new.devices e.new.hand.ending.lost s.closes })
+
+pub returns-in-Some-clause-steps : goal.returns-in-Some-clause-steps
+returns-in-Some-clause-steps g c =
+    let e = c.end_and_clear in
+    subst (λ o. EndsInSteps g.D.Disk (option_map (λ m. m.now) o) (g.L.Layout.shape c.args.layout.now) c.args.hand.now.ending.lost c.args.label.now e.new.label c.args.hand.now.ending.columns.items e.new.hand.ending.columns.items c.args.devices.now e.new.devices e.new.hand.ending.lost) (sym c.in-Some.is) e.ensures.steps
+
+pub returns-in-None-clause-steps : goal.returns-in-None-clause-steps
+returns-in-None-clause-steps g c =
+    let e = c.end_labelled in
+    subst (λ o. EndsInSteps g.D.Disk (option_map (λ m. m.now) o) (g.L.Layout.shape c.args.layout.now) c.args.hand.now.ending.lost c.args.label.now e.new.label c.args.hand.now.ending.columns.items e.new.hand.ending.columns.items c.args.devices.now e.new.devices e.new.hand.ending.lost) (sym c.in-None.is)
+    (record { mid = e.new.hand.ending.columns.items; dev = e.new.devices; first = e.new.label; behind = e.new.hand.ending.lost; closes = e.ensures.closed; behind_is = e.ensures.lost; clears = (refl, refl, refl, refl) })

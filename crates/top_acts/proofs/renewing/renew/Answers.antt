@@ -5,7 +5,7 @@ use Rattle.top_close.specs.Ended.{IsLossBy}
 use Rattle.top_close.specs.Stage.{DiesIn}
 use Rattle.top_rounds.proofs.RoundLaws.{any_death}
 use Rattle.top_acts.specs.Begun.{HasBegun}
-use Rattle.top_acts.specs.Cleared.{EndsMapped, EndsMappedSettled}
+use Rattle.top_acts.specs.Cleared.{EndsInSteps, EndsMapped, EndsMappedSettled}
 use Rattle.top_acts.specs.Mapped.{LooksAtMaps}
 use Rattle.top_acts.specs.Sweeps.{Over, Round, sweep_of}
 use Rattle.top_acts.proofs.Having.{marks_of}
@@ -67,8 +67,9 @@ returns-clause-renewed g c =
     let clear = ap (option_map (λ m. m.now)) c.then_some-clear.ensures ∙ clear_if _ blank union _ (λ m. m.now) (ap (nat_lt 0) c.count.ensures) (c.requires.maps.marks ∙ sym c.requires.maps.union) in
     let ends = subst (λ o. EndsMapped g.D.Disk o false before e.new.label mid after dev e.new.devices ended) clear e.ensures.ends in
     let settles = subst (λ o. EndsMappedSettled g.D.Disk o before e.new.label mid after dev e.new.devices ended) clear (e.ensures.first none) in
+    let steps = subst (λ o. EndsInSteps g.D.Disk o y None before e.new.label mid after dev e.new.devices ended) clear (subst (λ o. EndsInSteps g.D.Disk (option_map (λ m. m.now) c.then_some-clear.result) y o before e.new.label mid after dev e.new.devices ended) none e.ensures.steps) in
     let lost_is = subst (λ o. IsLossBy y o (states_of y after) ended) none e.ensures.lost in
     let few_read = c.deaths_bring_no_unit_back.ensures.filling columns read (any_death (DiesIn g.D.Disk None columns old looked) columns read (looks_dies g.D.Disk y None blank union columns read old looked looks)) in
     let few_mid = c.deaths_bring_no_unit_back.ensures.filling read mid (any_death (DiesIn g.D.Disk None read looked dev) read mid begun.stage.dies) in
     renewed_closed g.D.Disk c.args.kind y blank union columns read old looked (g.met.L.Layout.is_layout c.args.layout.now) c.requires.can.array.order c.requires.can.settable.filling looks
-    c.args.label.now first before e.new.label mid after dev e.new.devices ended b.result c.done.result (omega (arith, few_read, few_mid, c.requires.can.settable.filling)) refl refl c.done.ensures lost_is begun ends settles
+    c.args.label.now first before e.new.label mid after dev e.new.devices ended b.result c.done.result (omega (arith, few_read, few_mid, c.requires.can.settable.filling)) refl refl c.done.ensures lost_is begun ends settles steps

@@ -1,5 +1,6 @@
 use Rattle.std.proofs.Common.{◌∙◌, ap, length, subst, sym, None}
 use Rattle.eng_cols.specs.Stripes.{states_of}
+use Rattle.raid_map.specs.Sweeping.{marks_stripe}
 use Rattle.top_close.specs.Ended.{IsLossBy}
 use Rattle.eng_cols.specs.Settable.{IsSettable}
 use Rattle.top_rounds.proofs.RoundLaws.{whole_slice}
@@ -22,8 +23,8 @@ returns-clause-swept g c =
     let s = c.sweep_marked-count in
     let own = sym e.columns.ok.0 in
     let same = whole_slice e.columns.len s.new.columns e.columns.items own (s.auto.columns ∙ (ap length c.as_mut_slice-columns.ensures.value ∙ own)) in
-    subst (λ l. SweepsMarked g.D.Disk y c.args.map.now e.columns.items l c.args.devices.now s.new.devices s.result) (sym same)
-    (subst (λ l. SweepsMarked g.D.Disk y c.args.map.now l s.new.columns c.args.devices.now s.new.devices s.result) c.as_mut_slice-columns.ensures.value (record {
+    subst (λ l. SweepsMarked g.D.Disk y (marks_stripe c.args.map.now) e.columns.items l c.args.devices.now s.new.devices s.result) (sym same)
+    (subst (λ l. SweepsMarked g.D.Disk y (marks_stripe c.args.map.now) l s.new.columns c.args.devices.now s.new.devices s.result) c.as_mut_slice-columns.ensures.value (record {
       swept = s.ensures.swept;
       counted = s.ensures.counted;
       checks = s.ensures.checks;

@@ -28,4 +28,4 @@ returns g c =
     } in
     let clear = option_map (λ m. m.now) c.args.clear in
     subst (λ back. HasEnded g.L.Layout g.D.Disk c.args.closed c.args.label clear c.args.asked c.args.device v back) (sym (lent-back devices.items new devices.len a))
-    (ended-so g.L.Layout g.D.Disk c.args.closed c.args.label c.end_mapped.new.label clear c.args.asked c.args.device v c.as_mut_slice-slice.result.now new refl line c.as_mut_slice-slice.ensures.value c.end_mapped.ensures.ends c.end_mapped.ensures.first c.end_mapped.ensures.lost)
+    (ended-so g.L.Layout g.D.Disk c.args.closed c.args.label c.end_mapped.new.label clear c.args.asked c.args.device v c.as_mut_slice-slice.result.now new refl line c.as_mut_slice-slice.ensures.value c.end_mapped.ensures.ends c.end_mapped.ensures.first c.end_mapped.ensures.left c.end_mapped.ensures.steps c.end_mapped.ensures.lost)
