@@ -14,20 +14,20 @@ use Rattle.top_words.specs.Asked.{Command}
 use Rattle.top_words.specs.Judged.{OnArray}
 use Rattle.top_duty.specs.declared.duty.Duty.{Duty as DeclaredDuty}
 use Rattle.top_duty.specs.declared.duty.Duty.TheVariants as declared
-use Rattle.top_duty.specs.Duty.{Duty, IsWanted, asked_of, duty_in}
-use Rattle.top_duty.specs.Opening.{reads_fronts}
+use Rattle.top_duty.specs.Duty.{Admitted, Duty, IsWanted, OnArray as OnAdmitted, asked_of, duty_by, duty_in}
+use Rattle.top_duty.specs.Opening.{reads_fronts, sizes_of}
 use Rattle.top_duty.specs.Taken.{DevicesAreTaken, Reads, RefusedFor, WasRead}
 use Rattle.top_duty.specs.Views as views
 use Rattle.top_duty.proofs.Returning.{others_home}
 use Rattle.top_duty.specs.Views.{duty_seen}
 use Rattle.raid_top.specs.Acted.{Acted}
+use Rattle.raid_top.specs.Ordered.{IsOrdered}
 use Rattle.raid_top.specs.Outcome.{Outcome}
 use Rattle.raid_top.specs.Refused.{IsRefusedOf}
 use Rattle.raid_top.specs.Served.{IsPerformed, IsMemory}
 use Rattle.raid_top.proofs.Backs.{back_are_named, home_as_it_was}
-use Rattle.raid_top.proofs.Caused.{are_caused}
-use Rattle.raid_top.proofs.Ordered.{IsInOrder}
 use Rattle.raid_top.proofs.Reading.{reads_still}
+use Rattle.raid_top.proofs.Refusals.{refused_by}
 use Rattle.raid_top.proofs.Wanted.{asked_is, asked_made, wants_memory}
 
 -- ## The call
@@ -39,8 +39,8 @@ module _ {D : Type 0} (g : Ghosts D) (b : Told D) (command : Command) (mid : Tex
   still : Changes g (λ _ _. ⊥) taken.taken old
   still = reads_still g taken.taken old old fronts (reads_fronts k.command.action) taken.read
 
-  pub acted_of : (o : Outcome) → IsInOrder duty → length old ≡ length (names_for k) → IsPerformed g b.tells mid b.after (names_for k) duty fronts old o → Acted g b command o
-  acted_of o order many d =
+  pub acted_of : (o : Outcome) → IsWanted (duty_by k (sizes_of g.size old) fronts) (Ok duty) → ((a : Admitted) → duty ≡ OnAdmitted a → IsOrdered a) → length old ≡ length (names_for k) → IsPerformed g b.tells mid b.after (names_for k) duty fronts old o → Acted g b command o
+  acted_of o due ordered many d =
       record {
         duty = duty;
         fronts = fronts;
@@ -48,14 +48,15 @@ module _ {D : Type 0} (g : Ghosts D) (b : Told D) (command : Command) (mid : Tex
         old = old;
         back = d.back;
         command_is = ap (λ (x : Asked). x.command) same ∙ command_is;
-        asked = wanted;
+        asked = λ t. asked_made g b command fronts duty (wanted t);
+        wanted = subst (λ (x : Asked). IsWanted (duty_by x (sizes_of g.size old) fronts) (Ok duty)) (sym same) due;
+        ordered = ordered;
         read = subst (λ (x : Asked). Reads g (reads_fronts x.command.action) taken.taken old fronts) (sym same) taken.read;
         before = λ t. subst (λ (x : Asked). AreNamed b.home (names_for x) taken.taken) (sym same) (taken.named t);
         after = λ t. subst (λ (x : Asked). AreNamed b.after (names_for x) d.back) (sym same) (back_are_named mid b.after (names_for k) d.back (d.count ∙ many) d.there (d.put t));
         others = λ t. subst (λ (x : Asked). (n : Text) → (Contains (names_for x) n → ⊥) → b.after n ≡ b.home n) (sym same)
             (others_home b.home mid b.after (names_for k) taken.taken d.back (d.count ∙ still.count) (taken.others t) (d.put t));
         does = d.does;
-        causes = are_caused g duty fronts old d.back o order d.does;
       }
 
   -- they are back as they were looked at
@@ -91,7 +92,7 @@ module _ {D : Type 0} (g : Ghosts D) (b : Told D) (command : Command) (mid : Tex
   refused_of r is_out many out memory back = record {
     kind = subst (λ (s : _). views.IsRefusal b.rose s) (sym (memory_kind r memory)) tt;
     told = λ topic. topic;
-    cause = λ t. for_memory r t (back t) many is_out out memory;
+    cause = λ t. refused_by g b command r (for_memory r t (back t) many is_out out memory);
     same = λ t. home_as_it_was g b.home mid b.after is_out (names_for k) taken.taken old (taken.named t) (taken.others t) still out (back t);
   }
 

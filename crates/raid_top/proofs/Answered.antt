@@ -5,23 +5,20 @@ use Rattle.blk_disk.specs.declared.disk.Disk.{Ghosts}
 use Rattle.eng_cols.specs.declared.spot.Loss.{Loss}
 use Rattle.raid_label.specs.declared.label.Label.{Label}
 use Rattle.raid_text.specs.Text.{Text}
-use Rattle.top_duty.specs.Duty.{Admitted, Duty, OnArray, Shows, OneLabel, PrintConf}
+use Rattle.top_duty.specs.Duty.{Admitted}
 use Rattle.top_duty.specs.Start.{has_failed}
 use Rattle.top_fetch.specs.Told.{Told}
 use Rattle.top_labelled.specs.Begun.{opened_as, without}
-use Rattle.top_open.specs.declared.fronts.Front.{Front}
 use Rattle.top_run.proofs.Outlived.{answered, runs-answered}
 use Rattle.top_status.specs.Status.{status_of_loss}
-use Rattle.top_words.specs.Asked.{profile_of}
 use Rattle.top_words.specs.Judged.{Invocation, Tell, OnArray as OfCommand, Scan, Simulate}
-use Rattle.top_words.specs.declared.profile.Deed.{Deed}
-use Rattle.top_words.specs.declared.profile.Deed.TheVariants as deed
 use Rattle.raid_top.specs.Calls.{CallOutcome, OfArray, OfScan, OfSimulation, OfTopic, Refuses, call_status}
-use Rattle.raid_top.specs.Does.{AreItemsAnswered, Does, DoesDeed, DoesRun, IsDeedAnswered, IsRunAnswered, order_of}
+use Rattle.raid_top.specs.Does.{DoesRun}
 use Rattle.raid_top.specs.Ends.{EndsWell, Follows, IsAnswered}
 use Rattle.raid_top.specs.Outcome.{Outcome, Ran, Did, Looked, status_of}
+use Rattle.raid_top.specs.Runs.{IsRunAnswered}
 use Rattle.raid_top.specs.Works.{work_of}
-use Rattle.raid_top.specs.declared.array.Order.{Order}
+use Rattle.raid_top.proofs.Lifted.{if_ran}
 
 module _ {D : Type 0} (g : Ghosts D) (b : Told D) (words : List Text) where
   -- what ended well wasn't lost
@@ -31,32 +28,17 @@ module _ {D : Type 0} (g : Ghosts D) (b : Told D) (words : List Text) where
 
   module _ (a : Admitted) (failed : Bool) (old back : List (Option D)) where
     run_answered : (newest : Option Label) (o : Outcome) (h : DoesRun g a failed old back newest o) → EndsWell words (status_of o) → IsRunAnswered g a failed old back newest o h
-    run_answered None (Ran action s) h well = answered g (work_of a) old back s h.1.ran (not_lost s.ending.lost well)
+    run_answered None (Ran action s) h well = answered g (work_of a) old back s h.1 (not_lost s.ending.lost well)
     run_answered None (Did act e) h well = absurd h
     run_answered None (Looked text) h well = absurd h
     run_answered (Some newest) (Ran action s) h well =
-        runs-answered g (opened_as (work_of a) (without a.start h.1.ran.begun) h.1.ran.began) h.1.ran.opened back s h.1.ran.run (not_lost s.ending.lost well)
+        runs-answered g (opened_as (work_of a) (without a.start h.1.begun) h.1.began) h.1.opened back s h.1.run (not_lost s.ending.lost well)
     run_answered (Some newest) (Did act e) h well = tt
     run_answered (Some newest) (Looked text) h well = absurd h
 
-    deed_answered : (d : Deed) (order : Option Order) (o : Outcome) (h : DoesDeed g a failed old back d order o) → EndsWell words (status_of o) → IsDeedAnswered g a failed old back d order o h
-    deed_answered deed.Serves order o h well = run_answered a.opened.newest o h well
-    deed_answered deed.Looks order o h well = tt
-    deed_answered deed.Checks order o h well = tt
-    deed_answered deed.Inits order o h well = tt
-    deed_answered deed.Rewrites order o h well = tt
-    deed_answered deed.Kills order o h well = tt
-    deed_answered (deed.Labels serial) order o h well = tt
-
-  items_answered : (duty : Duty) (fronts : List Front) (old back : List (Option D)) (o : Outcome) (h : Does g duty fronts old back o) → EndsWell words (status_of o) → AreItemsAnswered g duty fronts old back o h
-  items_answered (OnArray a) fronts old back o h well =
-      deed_answered a (has_failed a.start fronts) old back (profile_of a.asked.command.action).deed (order_of g a (has_failed a.start fronts) old back a.asked.command.action) o h well
-  items_answered (Shows k opened) fronts old back o h well = tt
-  items_answered (OneLabel k) fronts old back o h well = tt
-  items_answered (PrintConf k) fronts old back o h well = tt
-
   pub is_answered : (i : Invocation) (o : CallOutcome) (h : Follows g b i o) → EndsWell words (call_status o) → IsAnswered g b i o h
-  is_answered (OfCommand command) (OfArray o) h well = items_answered h.duty h.fronts h.old h.back o h.does well
+  is_answered (OfCommand command) (OfArray o) h well =
+      if_ran g (IsRunAnswered g) h.duty h.fronts h.old h.back o h.does (λ a is newest y. run_answered a (has_failed a.start h.fronts) h.old h.back newest o y well)
   is_answered (OfCommand command) (OfScan text) h well = absurd h
   is_answered (OfCommand command) (OfSimulation text) h well = absurd h
   is_answered (OfCommand command) (OfTopic text) h well = absurd h

@@ -37,18 +37,19 @@ use Rattle.top_run.proofs.Starting.{rebuilds-none}
 use Rattle.top_serve.specs.Served.{IsKeptAs, IsUnbuilt}
 use Rattle.top_serve.specs.Setups.{with_start}
 use Rattle.top_words.specs.Asked.{Action, Io, Sweep, Show, ShowMap, Init, Check, Rewrite, Print, Fail, ShowLabel, Label as Labels, Rebuild, Resume, profile_of}
+use Rattle.top_words.specs.declared.profile.Deed.TheVariants as deed
 use Rattle.top_duty.specs.Duty.{Admitted, Duty, OnArray, Shows, OneLabel, PrintConf, columns_of, layout_of, states_in}
 use Rattle.top_duty.specs.Opening.{needs_for, needs_of}
 use Rattle.top_duty.specs.Start.{has_failed}
 use Rattle.raid_top.specs.Arrays.{Renews}
-use Rattle.raid_top.specs.Does.{Does, DoesArray, DoesIt, DoesRun}
+use Rattle.raid_top.specs.Does.{Does, DoesArray, DoesDeed, DoesRun}
 use Rattle.raid_top.specs.Losses.{AreCaused, DeathsHaveCauses, IsCauseOfDeath, columns_due, columns_in_end, loss_of}
-use Rattle.raid_top.specs.Orders.{kill_of}
+use Rattle.raid_top.specs.Ordered.{AreOrdered}
 use Rattle.raid_top.specs.Outcome.{Outcome, Ran, Did, Looked}
 use Rattle.raid_top.specs.Served.{AreUnfilledIf}
 use Rattle.raid_top.specs.Works.{work_of}
 use Rattle.raid_top.proofs.Deaths.{checked_dies, killed_ends, kept_or_dead, labelled_dies, renewed_dies}
-use Rattle.raid_top.proofs.Gone.{AreOrdered, lost_by_dead}
+use Rattle.raid_top.proofs.Gone.{lost_by_dead}
 use Rattle.raid_top.proofs.Losing.{array_gone}
 use Rattle.raid_top.proofs.Ordered.{IsArrayInOrder, IsInOrder, ended_ordered}
 
@@ -164,14 +165,12 @@ module _ {D : Type 0} (g : Ghosts D) (a : Admitted) (old back : List (Option D))
         by None r = tt
         by (Some loss) r = r.1.given_up
 
-    kill_ends : (comp : Option ℕ) (newest : Option Label) (failed : Bool) → (needs_of a.asked).excused ≡ comp → DoesIt g a failed old back (kill_of comp newest) (Did act e) → Ends (Did act e)
-    kill_ends None newest failed is h = absurd h
-    kill_ends (Some c) None failed is h = absurd h
-    kill_ends (Some c) (Some l) failed is h =
-        let k = h.1 in (
-          (alive_died g (layout_of a) l h.0 k.left e.columns old back e.lost k.ends).count ∙ k.without.entries,
-          killed_ends g (layout_of a) (columns_of a) old back may rises act e gives c l h.0 (inl is) k,
-          alive_given g (layout_of a) l h.0 k.left e.columns old back e.lost k.ends,
+    kill_ends : (failed : Bool) → (needs_of a.asked).excused ≡ a.asked.comp → DoesDeed g a failed old back deed.Kills (Did act e) → Ends (Did act e)
+    kill_ends failed is h =
+        let k = h.5 in (
+          (alive_died g (layout_of a) h.1 h.2 k.left e.columns old back e.lost k.ends).count ∙ k.without.entries,
+          killed_ends g (layout_of a) (columns_of a) old back may rises act e gives h.0 h.1 h.2 (inl (is ∙ h.3)) k,
+          alive_given g (layout_of a) h.1 h.2 k.left e.columns old back e.lost k.ends,
         )
 
     renew_dies : (kind : Renewal) (newest : Option Label) → Renews g (layout_of a) (columns_of a) old back act e kind newest → Dies may (columns_of a) e.columns
@@ -181,20 +180,16 @@ module _ {D : Type 0} (g : Ghosts D) (a : Admitted) (old back : List (Option D))
 
   module _ (failed : Bool) (named : (c : ℕ) → IsAnew a.start c → (needs_of a.asked).excused ≡ Some c) (none : AreUnfilledIf a.opened.newest (columns_of a)) where
     run_ends : (newest : Option Label) (o : Outcome) → DoesRun g a failed old back newest o → Ends o
-    run_ends None (Ran action s) h = plain_ends action s h.1.ran
+    run_ends None (Ran action s) h = plain_ends action s h.1
     run_ends None (Did act e) h = absurd h
-    run_ends (Some l) (Ran action s) h = labelled_run_ends action s l failed (profile_of a.asked.command.action).map h.1.ran
+    run_ends (Some l) (Ran action s) h = labelled_run_ends action s l failed (profile_of a.asked.command.action).map h.1
     run_ends (Some l) (Did act e) h = dead_ends named act e (before_dies named act e l (profile_of a.asked.command.action).map h.1) h.1.given_up
     run_ends newest (Looked text) h = absurd h
 
-    kills : (comp : Option ℕ) (newest : Option Label) (o : Outcome) → (needs_of a.asked).excused ≡ comp → DoesIt g a failed old back (kill_of comp newest) o → Ends o
-    kills comp newest (Did act e) is h = kill_ends named act e comp newest failed is h
-    kills None newest (Ran action s) is h = absurd h
-    kills (Some c) None (Ran action s) is h = absurd h
-    kills (Some c) (Some l) (Ran action s) is h = absurd h
-    kills None newest (Looked text) is h = absurd h
-    kills (Some c) None (Looked text) is h = absurd h
-    kills (Some c) (Some l) (Looked text) is h = absurd h
+    kills : (o : Outcome) → (needs_of a.asked).excused ≡ a.asked.comp → DoesDeed g a failed old back deed.Kills o → Ends o
+    kills (Did act e) is h = kill_ends named act e failed is h
+    kills (Ran action s) is h = absurd h
+    kills (Looked text) is h = absurd h
 
     array_ends : (action : Action) (o : Outcome) → a.asked.command.action ≡ action → DoesArray g a failed old back action o → Ends o
     array_ends (Io beside workers mapped) o same h = run_ends a.opened.newest o h
@@ -208,7 +203,7 @@ module _ {D : Type 0} (g : Ghosts D) (a : Admitted) (old back : List (Option D))
     array_ends Rewrite (Did act e) same h = dead_ends named act e (renew_dies named act e renewal.Rewrite a.opened.newest h) (renewed_given named act e renewal.Rewrite a.opened.newest none h)
     array_ends Rewrite (Ran action s) same h = absurd h
     array_ends Rewrite (Looked text) same h = absurd h
-    array_ends (Fail comp) o same h = kills a.asked.comp a.opened.newest o (ap (λ (act : Action). (needs_for act a.asked.comp).excused) same) h
+    array_ends (Fail comp) o same h = kills o (ap (λ (act : Action). (needs_for act a.asked.comp).excused) same) h
     array_ends (Labels serial) (Did act e) same h = dead_ends named act e (labelled_dies g (layout_of a) (columns_of a) old back (may named act e) (rises named act e) act e (gives named act e) _ h.0 h.1) (labelled_given named act e _ h.0 h.1)
     array_ends (Labels serial) (Ran action s) same h = absurd h
     array_ends (Labels serial) (Looked text) same h = absurd h
@@ -223,9 +218,9 @@ module _ {D : Type 0} (g : Ghosts D) (a : Admitted) (old back : List (Option D))
 
 module _ {D : Type 0} (g : Ghosts D) where
   due_ordered : (a : Admitted) (o : Outcome) → IsArrayInOrder a → AreOrdered (layout_of a) (columns_due a o)
-  due_ordered a (Ran action s) order = order.started
-  due_ordered a (Did act e) order = order.opened
-  due_ordered a (Looked text) order = order.opened
+  due_ordered a (Ran action s) order = order.ordered.started
+  due_ordered a (Did act e) order = order.ordered.opened
+  due_ordered a (Looked text) order = order.ordered.opened
 
   -- as many are due as were opened
   due_count : (a : Admitted) (o : Outcome) → length (columns_due a o) ≡ length (columns_of a)
@@ -246,7 +241,7 @@ module _ {D : Type 0} (g : Ghosts D) where
         count = ends.0;
         each = ends.1;
         given_up = ends.2;
-        lost = λ loss is. lost_by_dead (layout_of a) (columns_in_end o) loss order.law
+        lost = λ loss is. lost_by_dead (layout_of a) (columns_in_end o) loss order.ordered.law
             (ended_ordered (layout_of a) (IsCauseOfDeath g a old back o) (columns_due a o) (columns_in_end o) (ends.0 ∙ sym (due_count a o)) ends.1 (due_ordered a o order))
             (subst (λ (l : Option Loss). IsGivenUpIn l (columns_in_end o)) is ends.2)
             (array_gone g a fronts old back o h loss is);

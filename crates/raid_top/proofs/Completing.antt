@@ -21,26 +21,29 @@ use Rattle.raid_top.specs.Ends.{Acts, Answers, EndsWell, Followed, Follows, IsDo
 use Rattle.raid_top.specs.Outcome.{Outcome, status_of}
 use Rattle.raid_top.specs.Refused.{IsRefusedAs, RefusedBy}
 use Rattle.raid_top.proofs.Answered.{is_answered}
+use Rattle.raid_top.proofs.Due.{due_in}
 use Rattle.raid_top.proofs.Frames.{AnySector, due_moves}
 use Rattle.raid_top.proofs.Reading.{may_read, reads_still}
+use Rattle.raid_top.proofs.Refusals.{refused_for}
 use Rattle.raid_top.proofs.Wanted.{asked_is, due_or_refused, is_named, one_duty}
 use Rattle.raid_top.proofs.Well.{due_well}
 
 module _ {D : Type 0} (g : Ghosts D) (b : Told D) (command : Command) (told : b.tells) (right : IsRightCommand g b command) (sound : b.rose → ⊥) where
   acted_well : (o : Outcome) → Acted g b command o → CommandEndsWell command (status_of o)
   acted_well o acted =
-      let same : asked_of acted.duty ≡ right.asked = asked_is g.size b command acted.fronts right.asked acted.duty right.asks (acted.asked told) in
+      let wanted = due_in g b command o acted told in
+      let same : asked_of acted.duty ≡ right.asked = asked_is g.size b command acted.fronts right.asked acted.duty right.asks wanted in
       let before = subst (λ (k : Asked). AreNamed b.home (names_for k) acted.taken) same (acted.before told) in
       let after = subst (λ (k : Asked). AreNamed b.after (names_for k) acted.back) same (acted.after told) in
       let moves = due_moves g acted.duty acted.fronts acted.old acted.back o acted.does in
       let read = subst (λ (k : Asked). MayRead g (reads_fronts k.command.action) acted.taken acted.back acted.fronts) same
       (may_read g acted.taken acted.old acted.back acted.fronts (reads_fronts (asked_of acted.duty).command.action) moves acted.read) in
       let due = right.due acted.taken acted.back acted.fronts before after read in
-      let one : due.duty ≡ acted.duty = one_duty (duty_in g.size b command acted.fronts) due.duty acted.duty due.wanted (acted.asked told) in
+      let one : due.duty ≡ acted.duty = one_duty (duty_in g.size b command acted.fronts) due.duty acted.duty due.wanted wanted in
       let survives = subst (λ (d : Duty). SurvivesCall g d acted.taken acted.back) one due.survives in
       due_well g command acted.duty acted.fronts acted.taken acted.old acted.back o
       (reads_still g acted.taken acted.old acted.back acted.fronts (reads_fronts (asked_of acted.duty).command.action) acted.read)
-      survives acted.command_is (is_named g.size b command acted.fronts acted.duty (acted.asked told)) acted.does
+      survives acted.command_is (is_named g.size b command acted.fronts acted.duty wanted) acted.does
 
   refused_at : (r : Refused) → RefusedAt g b command r → ⊥
   refused_at r at =
@@ -106,7 +109,7 @@ module _ {D : Type 0} (g : Ghosts D) (b : Told D) (words : List Text) (told : b.
 
   refused_well : (i : Invocation) (r : Refused) → IsRightFor g b i → RefusedBy g b i r → r.status ≡ status.Memory
   refused_well (Tell topic) r right h = absurd h
-  refused_well (OnArray command) r right h = command_refused g b command told right sound r h
+  refused_well (OnArray command) r right h = command_refused g b command told right sound r (refused_for g b command r h)
   refused_well (Scan list) r right h = wanted_refused b.rose _ right.0 r sound right.1 h.0
   refused_well (Simulate name order) r right h = wanted_refused b.rose _ right.0 r sound right.1 h.0
 
@@ -137,7 +140,6 @@ module _ {D : Type 0} (g : Ghosts D) (b : Told D) (words : List Text) (told : b.
 
     pub complete_of : (sink_tells sink_rose : Type 0) (answer : Status) (old new : List ℕ) → Answers g b words sink_tells sink_rose answer old new → (sink_rose → ⊥) → IsDone g b words sink_tells answer old new
     complete_of sink_tells sink_rose answer old new a quiet = elim a.printed [
-      | inl whole ↦ ended a.ends.outcome a.ends.acts sink_tells answer old new (whole.0 ∙ a.ends.status)
-          (λ t. whole.1 t ∙ ap (λ (l : List ℕ). old ++ l) a.ends.text)
+      | inl whole ↦ ended a.outcome a.acts sink_tells answer old new whole.0 whole.1
       | inr cut ↦ absurd (quiet cut.1)
     ]

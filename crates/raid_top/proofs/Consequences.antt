@@ -50,9 +50,9 @@ module _ {D : Type 0} (g : Ghosts D) (b : Told D) (words : List Text) (told : b.
 
 module _ {D : Type 0} (g : Ghosts D) (b : Told D) (words : List Text) (sink_tells sink_rose : Type 0) (answer : Status) (old new : List ℕ) where
   pub refused_changes_nothing : RefusedChangesNothing g b words sink_tells sink_rose answer old new
-  refused_changes_nothing told a (inr cut) = by_outcome g b words told sink_tells sink_rose answer old new a.ends.outcome a.ends.acts (ap is_refusing (sym a.ends.status) ∙ cut.1)
+  refused_changes_nothing told a (inr cut) = by_outcome g b words told sink_tells sink_rose answer old new a.outcome a.acts cut.1
   refused_changes_nothing told a (inl is) = elim a.printed [
-    | inl whole ↦ by_outcome g b words told sink_tells sink_rose answer old new a.ends.outcome a.ends.acts (ap is_refusing (sym (whole.0 ∙ a.ends.status)) ∙ is)
+    | inl whole ↦ by_outcome g b words told sink_tells sink_rose answer old new a.outcome a.acts (ap is_refusing (sym whole.0) ∙ is)
     | inr cut ↦ absurd (let z : false ≡ true = ap is_refusing (sym cut.0) ∙ is in let v : ⊥ = cc z in v)
   ]
 

@@ -20,6 +20,7 @@ use Rattle.top_duty.specs.Start.{other_filling, start_in}
 use Rattle.raid_top.specs.Laws.{DeadAsOpened}
 use Rattle.raid_top.specs.Opened.{DeadHaveCauses, IsOpenedFor}
 use Rattle.raid_top.proofs.DeadOpened.{dead_for}
+use Rattle.raid_top.proofs.Due.{due_in}
 
 -- ## What is wanted goes by what is due
 
@@ -119,7 +120,7 @@ module _ {D : Type 0} (g : Ghosts D) (b : Told D) (command : Command) (fronts : 
 
 pub dead_as_opened : {D : Type 0} (g : Ghosts D) (b : Told D) → DeadAsOpened g b
 dead_as_opened g b told command o h opened of =
-    let due = due_for (duty_in g.size b command h.fronts) h.duty opened (h.asked told) of in
+    let due = due_for (duty_in g.size b command h.fronts) h.duty opened (due_in g b command o h told) of in
     let opens = in_opens g b command h.fronts due.due opened due.is due.opened in
     subst (λ (k : Asked). DeadHaveCauses k (sizes_in g.size b.home (names_for k)) h.fronts opened) due.asked
     (λ c dead. dead_for (asked_of due.due) (sizes_in g.size b.home (names_for (asked_of due.due))) h.fronts opened opens c dead)

@@ -12,19 +12,20 @@ use Rattle.raid_label.specs.declared.label.Label.{Label}
 use Rattle.top_acts.proofs.Kills.{alive_frame}
 use Rattle.top_acts.specs.declared.done.Done.{Done}
 use Rattle.top_acts.specs.declared.sweeping.Renewal.{Renewal}
+use Rattle.top_acts.specs.declared.sweeping.Renewal.TheVariants as renewal
 use Rattle.top_rounds.specs.Rounds.{HaveRounds}
 use Rattle.top_run.specs.Work.{Ending}
 use Rattle.top_open.specs.declared.fronts.Front.{Front}
 use Rattle.top_open.specs.Opening.{Opened}
 use Rattle.top_bay.specs.Asked.{Asked}
 use Rattle.top_looks.specs.declared.map.Marked.{Marked}
-use Rattle.top_words.specs.Asked.{Action, Io, Sweep, Show, ShowMap, Init, Check, Rewrite, Print, Fail, ShowLabel, Label as Labels, Rebuild, Resume}
-use Rattle.top_duty.specs.Duty.{Admitted, Duty, OnArray, Shows, OneLabel, PrintConf}
+use Rattle.top_words.specs.Asked.{profile_of}
+use Rattle.top_words.specs.declared.profile.Deed.{Deed}
+use Rattle.top_words.specs.declared.profile.Deed.TheVariants as deed
+use Rattle.top_duty.specs.Duty.{Admitted, Duty, OnArray, Shows, OneLabel, PrintConf, columns_of, layout_of}
 use Rattle.top_duty.specs.Start.{has_failed}
-use Rattle.raid_top.specs.declared.array.Order.{Order}
-use Rattle.raid_top.specs.declared.array.Order.TheVariants as order
-use Rattle.raid_top.specs.Arrays.{DoesOrder, Renews}
-use Rattle.raid_top.specs.Does.{Does, DoesArray, DoesIt, DoesRun, Says, SaysLabel, ShowsArray, order_of}
+use Rattle.raid_top.specs.Arrays.{Renews}
+use Rattle.raid_top.specs.Does.{Does, DoesDeed, DoesRun, Says, SaysLabel, ShowsArray}
 use Rattle.raid_top.specs.Outcome.{Outcome, Ran, Did, Looked}
 use Rattle.raid_top.specs.Shown.{AreMapsFound}
 
@@ -48,40 +49,32 @@ module _ {D : Type 0} (g : Ghosts D) where
     renewal_moves kind None h = moved _ old back h.frame
     renewal_moves kind (Some l) h = moved _ old back h.2.stage.frame
 
-    pub order_moves : (o : Order) → DoesOrder g y columns old back act e o → Moves old back
-    order_moves order.Check h = moved _ old back h.frame
-    order_moves (order.Renew kind newest) h = renewal_moves kind newest h
-    order_moves (order.Kill c l) h = moved _ old back (alive_frame g y l h.0 (h.1).left e.columns old back e.lost (h.1).ends)
-    order_moves (order.Label l) h = rounds_move e.lost _ h.0 e.columns (h.1).rounds
-
   module _ (a : Admitted) (failed : Bool) (old back : List (Option D)) where
-    it_moves : (it : Option Order) (o : Outcome) → DoesIt g a failed old back it o → Moves old back
-    it_moves (Some it) (Did act e) h = order_moves _ _ old back act e it h
-    it_moves (Some it) (Ran action s) h = absurd h
-    it_moves (Some it) (Looked text) h = absurd h
-    it_moves None o h = absurd h
-
     pub run_moves : (newest : Option Label) (o : Outcome) → DoesRun g a failed old back newest o → Moves old back
-    run_moves None (Ran action s) h = moved _ old back h.1.ran.leaves.frame
+    run_moves None (Ran action s) h = moved _ old back h.1.leaves.frame
     run_moves None (Did act e) h = absurd h
-    run_moves (Some l) (Ran action s) h = moved _ old back h.1.ran.leaves.frame
+    run_moves (Some l) (Ran action s) h = moved _ old back h.1.leaves.frame
     run_moves (Some l) (Did act e) h = moved _ old back h.1.frame
     run_moves newest (Looked text) h = absurd h
 
-    array_moves : (action : Action) (o : Outcome) → DoesArray g a failed old back action o → Moves old back
-    array_moves (Io beside workers mapped) o h = run_moves a.opened.newest o h
-    array_moves (Sweep seed clients ops workers mapped) o h = run_moves a.opened.newest o h
-    array_moves Show o h = it_moves (order_of g a failed old back Show) o h
-    array_moves ShowMap o h = it_moves (order_of g a failed old back ShowMap) o h
-    array_moves Init o h = it_moves (order_of g a failed old back Init) o h
-    array_moves Check o h = it_moves (order_of g a failed old back Check) o h
-    array_moves Rewrite o h = it_moves (order_of g a failed old back Rewrite) o h
-    array_moves Print o h = it_moves (order_of g a failed old back Print) o h
-    array_moves (Fail comp) o h = it_moves (order_of g a failed old back (Fail comp)) o h
-    array_moves (ShowLabel comp) o h = it_moves (order_of g a failed old back (ShowLabel comp)) o h
-    array_moves (Labels serial) o h = it_moves (order_of g a failed old back (Labels serial)) o h
-    array_moves (Rebuild in_place comp limit beside workers mapped) o h = run_moves a.opened.newest o h
-    array_moves (Resume limit beside workers mapped) o h = run_moves a.opened.newest o h
+    deed_moves : (d : Deed) (o : Outcome) → DoesDeed g a failed old back d o → Moves old back
+    deed_moves deed.Serves o h = run_moves a.opened.newest o h
+    deed_moves deed.Looks o h = absurd h
+    deed_moves deed.Checks (Did act e) h = moved _ old back h.frame
+    deed_moves deed.Checks (Ran action s) h = absurd h
+    deed_moves deed.Checks (Looked text) h = absurd h
+    deed_moves deed.Inits (Did act e) h = renewal_moves (layout_of a) (columns_of a) old back act e renewal.Init a.opened.newest h
+    deed_moves deed.Inits (Ran action s) h = absurd h
+    deed_moves deed.Inits (Looked text) h = absurd h
+    deed_moves deed.Rewrites (Did act e) h = renewal_moves (layout_of a) (columns_of a) old back act e renewal.Rewrite a.opened.newest h
+    deed_moves deed.Rewrites (Ran action s) h = absurd h
+    deed_moves deed.Rewrites (Looked text) h = absurd h
+    deed_moves deed.Kills (Did act e) h = moved _ old back (alive_frame g (layout_of a) h.1 h.2 (h.5).left e.columns old back e.lost (h.5).ends)
+    deed_moves deed.Kills (Ran action s) h = absurd h
+    deed_moves deed.Kills (Looked text) h = absurd h
+    deed_moves (deed.Labels serial) (Did act e) h = rounds_move (layout_of a) (columns_of a) old back act e e.lost _ h.0 e.columns (h.1).rounds
+    deed_moves (deed.Labels serial) (Ran action s) h = absurd h
+    deed_moves (deed.Labels serial) (Looked text) h = absurd h
 
   saying_moves : (old back : List (Option D)) (said : List ℕ) (o : Outcome) → Says g old back said o → Moves old back
   saying_moves old back said (Looked text) h = subst (λ (ds : List (Option D)). Moves old ds) (sym h.1) (changes-refl g AnySector old)
@@ -101,7 +94,7 @@ module _ {D : Type 0} (g : Ghosts D) where
   shown_moves k opened fronts old back o h = found_moves (shape_of k.conf opened.rows) opened.newest opened.columns h.after old back h.map h.found
 
   pub due_moves : (duty : Duty) (fronts : List Front) (old back : List (Option D)) (o : Outcome) → Does g duty fronts old back o → Moves old back
-  due_moves (OnArray a) fronts old back o h = array_moves a (has_failed a.start fronts) old back a.asked.command.action o h
+  due_moves (OnArray a) fronts old back o h = deed_moves a (has_failed a.start fronts) old back (profile_of a.asked.command.action).deed o h
   due_moves (Shows k opened) fronts old back o h = shown_moves k opened fronts old back o h
   due_moves (OneLabel k) fronts old back o h = label_moves old back fronts o h
   due_moves (PrintConf k) fronts old back o h = saying_moves old back _ o h

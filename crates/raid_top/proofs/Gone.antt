@@ -16,6 +16,7 @@ use Rattle.eng_cols.specs.Stripes.{filled_in, leading, states_of}
 use Rattle.top_close.proofs.Counts.{none_passes}
 use Rattle.top_close.proofs.LackingLaws.{min_or, max_or}
 use Rattle.raid_top.specs.Losses.{IsLostByDead, IsLostOn}
+use Rattle.raid_top.specs.Ordered.{AreOrdered}
 
 false_is : {A : Type 0} → false ≡ true → A
 false_is h = absurd (let u : ⊥ = cc in u)
@@ -217,12 +218,6 @@ pub run_are_gone : (y : Shape) (was now : List ColumnState) (kept last : List Co
 run_are_gone y was now kept last loss lost closes same die = are_gone y was closes.mid last loss lost (run_ends y was now kept last closes same die loss.stripe lost.stripe)
 
 -- ## What they are in the end
-
--- There is one column for each of the layout's; at most one is spread, and then each stripe has a spare place.
-pub record AreOrdered (y : Shape) (cols : List Column) : Type 0 where
-  pub count : length cols ≡ y.columns
-  pub spread : (c k : ℕ) → slice_get cols c ≡ Some column.Spread → slice_get cols k ≡ Some column.Spread → c ≡ k
-  pub spares : (c s : ℕ) → slice_get cols c ≡ Some column.Spread → s < y.stripes → IsSome (y.spare s)
 
 -- a column that is there is something
 there : {A : Type 0} (cols : List Column) (c : ℕ) → c < length cols → slice_get cols c ≡ None → A

@@ -11,6 +11,7 @@ mod Setups
 mod Works
 mod Backs
 mod Well
+mod Lifted
 mod Answered
 mod Completing
 mod Consequences
@@ -23,6 +24,8 @@ mod Gone
 mod Losing
 mod Ordered
 mod Caused
+mod Due
+mod Refusals
 mod Acting
 mod Refusing
 mod Following
@@ -31,3 +34,4 @@ mod Lossless
 mod LostRefused
 mod DeadOpened
 mod DeadActed
+mod Drawn

@@ -9,27 +9,28 @@ use Rattle.eng_cols.specs.declared.spot.Loss.{Loss}
 use Rattle.eng_cols.specs.Deaths.{Dies}
 use Rattle.eng_world.specs.declared.item.Traced.{Traced}
 use Rattle.eng_world.specs.World.{World}
+use Rattle.eng_world.specs.Causes.{IsLossOf}
 use Rattle.eng_world.specs.Planning.{Graphs}
 use Rattle.raid_label.specs.declared.label.Label.{Label}
 use Rattle.top_acts.specs.declared.done.Done.{Done}
 use Rattle.top_acts.specs.declared.sweeping.Renewal.{Renewal}
+use Rattle.top_acts.specs.declared.sweeping.Renewal.TheVariants as renewal
 use Rattle.top_close.specs.Closes.{ClosesAs}
 use Rattle.eng_cols.specs.Stripes.{states_of}
 use Rattle.top_close.specs.Ended.{IsLossBy}
 use Rattle.top_duty.specs.Duty.{Admitted, OnArray, columns_of, layout_of}
 use Rattle.top_duty.specs.Start.{has_failed}
 use Rattle.top_open.specs.declared.fronts.Front.{Front}
+use Rattle.top_run.proofs.Caused.{loss-caused}
 use Rattle.top_run.specs.Ran.{IsLossAtEnd}
 use Rattle.top_run.specs.Work.{Ending}
 use Rattle.top_words.specs.Asked.{profile_of}
 use Rattle.top_words.specs.declared.profile.Deed.{Deed}
 use Rattle.top_words.specs.declared.profile.Deed.TheVariants as deed
-use Rattle.raid_top.specs.Arrays.{DoesOrder, Renews}
-use Rattle.raid_top.specs.Does.{Does, DoesDeed, DoesIt, DoesRun, order_of}
+use Rattle.raid_top.specs.Arrays.{Renews}
+use Rattle.raid_top.specs.Does.{Does, DoesDeed, DoesRun}
 use Rattle.raid_top.specs.Losses.{columns_in_end, loss_of}
 use Rattle.raid_top.specs.Outcome.{Outcome, Ran, Did, Looked}
-use Rattle.raid_top.specs.declared.array.Order.{Order}
-use Rattle.raid_top.specs.declared.array.Order.TheVariants as order
 use Rattle.raid_top.proofs.Gone.{AreGone, run_are_gone, set_are_gone}
 
 abbrev pub LossIsOfGone : Shape → Outcome → Type 0
@@ -41,12 +42,14 @@ only_dies cause old new dies c = elim (dies.each c) [ inl same ↦ inl same | in
 
 -- ## Runs
 
-module _ (y : Shape) (graphs : Graphs) (start : World) (events : List Traced) (now : World) (kept last : List Column) (closes : ClosesAs y now.columns kept) (cause : ℕ → Type 0) (dies : Dies cause kept last) where
-  run_loss : (lost : Option Loss) (loss : Loss) → lost ≡ Some loss → IsLossAtEnd y graphs start events now (states_of y last) lost → AreGone y last loss
+module _ (y : Shape) (graphs : Graphs) (start : World) (events : List Traced) (now : World) (kept last : List Column) (closes : ClosesAs y now.columns kept) (cause : ℕ → Type 0) (dies : Dies cause kept last)
+    (why : (loss : Loss) → now.lost ≡ Some loss → IsLossOf y graphs start events now loss) where
+  run_loss : (lost : Option Loss) (loss : Loss) → lost ≡ Some loss → IsLossAtEnd y now (states_of y last) lost → AreGone y last loss
   run_loss None loss e is = absurd (let z : ⊥ = cc e in z)
   run_loss (Some other) loss e (inl in_run) =
       let same : other ≡ loss = cc e in
-      subst (λ (l : Loss). AreGone y last l) same (run_are_gone y in_run.1.after.columns now.columns kept last other in_run.1.is_lost closes in_run.1.each (only_dies cause kept last dies))
+      let was = why other in_run in
+      subst (λ (l : Loss). AreGone y last l) same (run_are_gone y was.after.columns now.columns kept last other was.is_lost closes was.each (only_dies cause kept last dies))
   run_loss (Some other) loss e (inr in_end) =
       let same : other ≡ loss = cc e in
       subst (λ (l : Loss). AreGone y last l) same (set_are_gone y last other in_end.1)
@@ -66,42 +69,40 @@ module _ {D : Type 0} (g : Ghosts D) where
     renewed_loss kind None h loss is = end_loss y e.columns e.lost loss is h.lost_is
     renewed_loss kind (Some l) h loss is = end_loss y e.columns e.lost loss is h.2.lost_is
 
-    order_loss : (o : Order) → DoesOrder g y columns old back act e o → LossIsOfGone y (Did act e)
-    order_loss order.Check h loss is = end_loss y e.columns e.lost loss is h.lost_is
-    order_loss (order.Renew kind newest) h loss is = renewed_loss kind newest h loss is
-    order_loss (order.Kill c l) h loss is = end_loss y e.columns e.lost loss is h.1.lost_is
-    order_loss (order.Label l) h loss is = end_loss y e.columns e.lost loss is h.1.lost_is
-
   module _ (a : Admitted) (failed : Bool) (old back : List (Option D)) where
     run_gone : (newest : Option Label) (o : Outcome) → DoesRun g a failed old back newest o → LossIsOfGone (layout_of a) o
     run_gone None (Ran action s) h loss is =
-        let r = h.1.ran.run in
-        run_loss (layout_of a) r.graphs r.start r.events r.now r.ends.kept s.ending.columns r.ends.closes _ r.ends.dies s.ending.lost loss is r.ends.lost
+        let r = h.1.run in
+        run_loss (layout_of a) r.graphs r.start r.events r.now r.ends.kept s.ending.columns r.ends.closes _ r.ends.dies (loss-caused g _ _ back s r) s.ending.lost loss is r.ends.lost
     run_gone None (Did act e) h loss is = absurd h
     run_gone (Some newest) (Ran action s) h loss is =
-        let r = h.1.ran.run in
-        run_loss (layout_of a) r.graphs r.start r.events r.now r.ends.kept s.ending.columns r.ends.closes _ r.ends.dies s.ending.lost loss is r.ends.lost
+        let r = h.1.run in
+        run_loss (layout_of a) r.graphs r.start r.events r.now r.ends.kept s.ending.columns r.ends.closes _ r.ends.dies (loss-caused g _ _ back s r) s.ending.lost loss is r.ends.lost
     run_gone (Some newest) (Did act e) h loss is =
         let b = h.1 in
         let same : b.loss ≡ loss = (let z : Some b.loss ≡ Some loss = sym b.lost ∙ is in cc z) in
         subst (λ (l : Loss). AreGone (layout_of a) e.columns l) same (set_are_gone (layout_of a) e.columns b.loss b.lost_is)
     run_gone newest (Looked text) h loss is = absurd h
 
-    it_gone : (it : Option Order) (o : Outcome) → DoesIt g a failed old back it o → LossIsOfGone (layout_of a) o
-    it_gone (Some it) (Did act e) h = order_loss (layout_of a) (columns_of a) old back act e it h
-    it_gone (Some it) (Ran action s) h = absurd h
-    it_gone (Some it) (Looked text) h = absurd h
-    it_gone None o h = absurd h
-
-    deed_gone : (d : Deed) (it : Option Order) (o : Outcome) → DoesDeed g a failed old back d it o → LossIsOfGone (layout_of a) o
-    deed_gone deed.Serves it o h = run_gone a.opened.newest o h
-    deed_gone deed.Looks it o h = it_gone it o h
-    deed_gone deed.Checks it o h = it_gone it o h
-    deed_gone deed.Inits it o h = it_gone it o h
-    deed_gone deed.Rewrites it o h = it_gone it o h
-    deed_gone deed.Kills it o h = it_gone it o h
-    deed_gone (deed.Labels serial) it o h = it_gone it o h
+    deed_gone : (d : Deed) (o : Outcome) → DoesDeed g a failed old back d o → LossIsOfGone (layout_of a) o
+    deed_gone deed.Serves o h = run_gone a.opened.newest o h
+    deed_gone deed.Looks o h = absurd h
+    deed_gone deed.Checks (Did act e) h = λ loss is. end_loss (layout_of a) e.columns e.lost loss is h.lost_is
+    deed_gone deed.Checks (Ran action s) h = absurd h
+    deed_gone deed.Checks (Looked text) h = absurd h
+    deed_gone deed.Inits (Did act e) h = renewed_loss (layout_of a) (columns_of a) old back act e renewal.Init a.opened.newest h
+    deed_gone deed.Inits (Ran action s) h = absurd h
+    deed_gone deed.Inits (Looked text) h = absurd h
+    deed_gone deed.Rewrites (Did act e) h = renewed_loss (layout_of a) (columns_of a) old back act e renewal.Rewrite a.opened.newest h
+    deed_gone deed.Rewrites (Ran action s) h = absurd h
+    deed_gone deed.Rewrites (Looked text) h = absurd h
+    deed_gone deed.Kills (Did act e) h = λ loss is. end_loss (layout_of a) e.columns e.lost loss is h.5.lost_is
+    deed_gone deed.Kills (Ran action s) h = absurd h
+    deed_gone deed.Kills (Looked text) h = absurd h
+    deed_gone (deed.Labels serial) (Did act e) h = λ loss is. end_loss (layout_of a) e.columns e.lost loss is h.1.lost_is
+    deed_gone (deed.Labels serial) (Ran action s) h = absurd h
+    deed_gone (deed.Labels serial) (Looked text) h = absurd h
 
   pub array_gone : (a : Admitted) (fronts : List Front) (old back : List (Option D)) (o : Outcome) → Does g (OnArray a) fronts old back o → LossIsOfGone (layout_of a) o
   array_gone a fronts old back o h =
-      deed_gone a (has_failed a.start fronts) old back (profile_of a.asked.command.action).deed (order_of g a (has_failed a.start fronts) old back a.asked.command.action) o h
+      deed_gone a (has_failed a.start fronts) old back (profile_of a.asked.command.action).deed o h

@@ -51,6 +51,7 @@ use Rattle.raid_top.specs.Ends.{Acts}
 use Rattle.raid_top.specs.Laws.{LacksUnits, RefusedLossLacksUnits}
 use Rattle.raid_top.proofs.Lawful.{shape_laws}
 use Rattle.raid_top.proofs.Lossless.{IsLossless, IsNoLoss, duty_lossless}
+use Rattle.raid_top.proofs.Refusals.{refused_for}
 
 -- ## The refusal of an array that was opened
 
@@ -251,5 +252,5 @@ module _ {D : Type 0} (g : Ghosts D) (b : Told D) (command : Command) where
 module _ {D : Type 0} (g : Ghosts D) (b : Told D) (words : List Text) (sink_tells sink_rose : Type 0) (answer : Status) (old new : List ℕ) where
   pub loss_lacks_units : RefusedLossLacksUnits g b words sink_tells sink_rose answer old new
   loss_lacks_units told a command r loss is refused lost =
-      let acts = subst (λ (o : CallOutcome). Acts g b words o) refused a.ends.acts in
-      refused_loss g b command r loss lost (acts.cause told (InvokesArray command) is)
+      let acts = subst (λ (o : CallOutcome). Acts g b words o) refused a.acts in
+      refused_loss g b command r loss lost (refused_for g b command r (acts.cause told (InvokesArray command) is))

@@ -1,10 +1,10 @@
 -- Columns are in order as an array is opened, as a rebuild begins with them, and once some have died.
-use Rattle.std.specs.Prelude.{◌≡◌, ◌⊎◌, ◌<◌, ℕ, List, length, true, false, Option, Some, None, IsSome, slice_get, slice_set}
+use Rattle.std.specs.Prelude.{◌≡◌, ◌⊎◌, ◌<◌, ℕ, List, length, true, false, Option, Some, None, Ok, IsSome, slice_get, slice_set}
 use Rattle.std.proofs.Common.{refl, sym, ap, subst, inl, inr, ◌∙◌}
 use Rattle.std.proofs.lemmas.Bool.{cases_eq}
 use Rattle.std.proofs.lemmas.List.{length-set}
 use Rattle.blk_disk.specs.declared.disk.Disk.{Ghosts}
-use Rattle.lay_core.specs.Layout.{Shape, IsLayout}
+use Rattle.lay_core.specs.Layout.{Shape, IsLayout, SparesLieByUnits}
 use Rattle.eng_cols.specs.declared.column.Column.{Column}
 use Rattle.eng_cols.specs.declared.column.Column.TheVariants as column
 use Rattle.eng_cols.specs.Cols.{all_done, is_set_spread, passes}
@@ -13,23 +13,26 @@ use Rattle.eng_array.specs.declared.start.Start.{Start}
 use Rattle.eng_array.specs.declared.start.Start.TheVariants as start
 use Rattle.raid_conf.specs.Form.{IsConf}
 use Rattle.raid_conf.specs.Layouts.{shape_lawful, shape_of}
+use Rattle.raid_conf.proofs.ByUnits.{spares_by_units}
 use Rattle.raid_conf.proofs.TableLaws.{shape-columns}
 use Rattle.top_bay.specs.Asked.{Asked}
 use Rattle.top_close.proofs.Counts.{none_passes}
 use Rattle.top_duty.specs.declared.duty.Duty.{Duty as DeclaredDuty}
 use Rattle.top_duty.specs.declared.duty.Duty.TheVariants as declared
-use Rattle.top_duty.specs.Duty.{Admitted, Duty, OnArray, Shows, OneLabel, PrintConf, columns_of, layout_of}
+use Rattle.top_duty.specs.Duty.{Admitted, Duty, OnArray, Shows, OneLabel, PrintConf, IsWanted, columns_of, duty_by}
 use Rattle.top_duty.specs.Fit.{IsFit, IsStartIf}
 use Rattle.top_duty.specs.Opening.{needs_of}
-use Rattle.top_duty.specs.Views.{IsDutyOver, IsFitFor, duty_seen}
+use Rattle.top_duty.specs.Views.{IsDutyOver, IsFitFor, admitted_by, duty_seen}
 use Rattle.top_open.specs.declared.fronts.Front.{Front}
 use Rattle.top_open.specs.Opening.{Opened, opened_seen}
 use Rattle.top_serve.specs.Served.{IsKeptAs}
 use Rattle.top_serve.specs.Setups.{with_start}
 use Rattle.top_labelled.specs.Begun.{IsAnew}
 use Rattle.raid_top.specs.Served.{AreUnfilledIf}
-use Rattle.raid_top.proofs.Gone.{AreOrdered, set_spread}
+use Rattle.raid_top.specs.Ordered.{AreOrdered, IsOrdered}
+use Rattle.raid_top.proofs.Gone.{set_spread}
 use Rattle.raid_top.proofs.Labels.{unfilled_unlabelled}
+use Rattle.raid_top.proofs.Wanted.{IsNamedFor, is_admitted, named_by}
 
 false_is : {A : Type 0} → false ≡ true → A
 false_is h = absurd (let u : ⊥ = cc in u)
@@ -107,13 +110,28 @@ ended_ordered y cause old new count each order = record {
       | inr dead ↦ let z : Some column.Spread ≡ Some column.Dead = sym is ∙ dead.0 in absurd (let u : ⊥ = cc in u)
     ]
 
+-- ## What is admitted
+
+module _ {D : Type 0} (g : Ghosts D) (k : Asked) (devices : List (Option D)) (conf : IsConf k.conf) where
+  pub duty_ordered : (sizes : List ℕ) (fronts : List Front) (d : DeclaredDuty) → IsDutyOver k sizes fronts d → IsFitFor g k devices d → (a : Admitted) → duty_seen k d ≡ OnArray a → IsOrdered a
+  duty_ordered sizes fronts (declared.OnArray r) over fit a is =
+      let same : admitted_by k r ≡ a = cc is in
+      let ordered : IsOrdered (admitted_by k r) = record {
+        law = subst (λ (z : Shape). IsLayout z) over.1.made.shape (shape_lawful r.layout);
+        units = subst (λ (z : Shape). SparesLieByUnits z) over.1.made.shape (spares_by_units r.layout);
+        opened = opened_ordered g k (opened_seen r.opened) devices conf fit.0;
+        started = started_ordered g k (opened_seen r.opened) devices conf fit.0 r.start fit.1;
+      } in
+      subst IsOrdered same ordered
+  duty_ordered sizes fronts (declared.Shows o) over fit a is = absurd (let z : ⊥ = cc is in z)
+  duty_ordered sizes fronts declared.OneLabel over fit a is = absurd (let z : ⊥ = cc is in z)
+  duty_ordered sizes fronts declared.PrintConf over fit a is = absurd (let z : ⊥ = cc is in z)
+
 -- ## What is due
 
--- The layout has its laws; the columns are in order as the array was opened, and as its rebuild begins, and without labels none is filling; and the column that is rebuilt anew is the one that the action names.
+-- Beside that, no column of an array without labels is filling; and the column that is rebuilt anew is the one that the action names.
 pub record IsArrayInOrder (a : Admitted) : Type 0 where
-  pub law : IsLayout (layout_of a)
-  pub opened : AreOrdered (layout_of a) (columns_of a)
-  pub started : AreOrdered (layout_of a) (with_start a.start (columns_of a))
+  pub ordered : IsOrdered a
   pub unfilled : AreUnfilledIf a.opened.newest (columns_of a)
   pub named : (c : ℕ) → IsAnew a.start c → (needs_of a.asked).excused ≡ Some c
 
@@ -123,21 +141,20 @@ IsInOrder (Shows k o) = Unit {0}
 IsInOrder (OneLabel k) = Unit {0}
 IsInOrder (PrintConf k) = Unit {0}
 
-module _ {D : Type 0} (g : Ghosts D) (k : Asked) (devices : List (Option D)) (conf : IsConf k.conf) where
-  starts_named : (o : Opened) (how : Option Start) → IsStartIf g k o devices how → (c : ℕ) → IsAnew how c → (needs_of k).excused ≡ Some c
-  starts_named o None h c anew = absurd anew
-  starts_named o (Some (start.Fill e d most)) h c anew = h.may.0 ∙ ap (λ (n : ℕ). Some n) anew
-  starts_named o (Some (start.Resume e most)) h c anew = absurd anew
-  starts_named o (Some (start.Spread e)) h c anew = h.may.0 ∙ ap (λ (n : ℕ). Some n) anew
+anew_named : (how : Option Start) (columns : List Column) (excused : Option ℕ) → ((s : Start) → how ≡ Some s → IsNamedFor excused columns s) → (c : ℕ) → IsAnew how c → excused ≡ Some c
+anew_named None columns excused named c anew = absurd anew
+anew_named (Some (start.Fill e d most)) columns excused named c anew = named (start.Fill e d most) refl ∙ ap (λ (n : ℕ). Some n) anew
+anew_named (Some (start.Resume e most)) columns excused named c anew = absurd anew
+anew_named (Some (start.Spread e)) columns excused named c anew = named (start.Spread e) refl ∙ ap (λ (n : ℕ). Some n) anew
 
-  pub duty_in_order : (sizes : List ℕ) (fronts : List Front) (d : DeclaredDuty) → IsDutyOver k sizes fronts d → IsFitFor g k devices d → IsInOrder (duty_seen k d)
-  duty_in_order sizes fronts (declared.OnArray r) over fit = record {
-    law = subst (λ (z : Shape). IsLayout z) over.1.made.shape (shape_lawful r.layout);
-    opened = opened_ordered g k (opened_seen r.opened) devices conf fit.0;
-    started = started_ordered g k (opened_seen r.opened) devices conf fit.0 r.start fit.1;
-    unfilled = unfilled_unlabelled k sizes fronts (opened_seen r.opened) over.1.ready.opened (opened_seen r.opened).newest refl;
-    named = starts_named (opened_seen r.opened) r.start fit.1;
-  }
-  duty_in_order sizes fronts (declared.Shows o) over fit = tt
-  duty_in_order sizes fronts declared.OneLabel over fit = tt
-  duty_in_order sizes fronts declared.PrintConf over fit = tt
+pub in_order : (k : Asked) (sizes : List ℕ) (fronts : List Front) (duty : Duty) → IsWanted (duty_by k sizes fronts) (Ok duty) → ((a : Admitted) → duty ≡ OnArray a → IsOrdered a) → IsInOrder duty
+in_order k sizes fronts (OnArray a) wanted ordered =
+    let by = is_admitted k sizes fronts a wanted in
+    record {
+      ordered = ordered a refl;
+      unfilled = subst (λ (x : Admitted). AreUnfilledIf x.opened.newest (columns_of x)) by.3 (unfilled_unlabelled k sizes fronts by.0 by.2 by.0.newest refl);
+      named = anew_named a.start (columns_of a) (needs_of a.asked).excused (named_by k sizes fronts (OnArray a) wanted);
+    }
+in_order k sizes fronts (Shows x o) wanted ordered = tt
+in_order k sizes fronts (OneLabel x) wanted ordered = tt
+in_order k sizes fronts (PrintConf x) wanted ordered = tt

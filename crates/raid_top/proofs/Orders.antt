@@ -8,8 +8,13 @@ use Rattle.raid_label.specs.declared.label.Label.{Label}
 use Rattle.raid_recon.specs.Array.{IsArray}
 use Rattle.top_bay.specs.Asked.{Asked, names_by, names_of}
 use Rattle.top_bay.specs.Views.{IsKnown, IsWithinLimits}
+use Rattle.top_acts.specs.declared.done.Done.{Done}
+use Rattle.top_acts.specs.declared.sweeping.Renewal.TheVariants as renewal
 use Rattle.top_open.specs.Opening.{Opened}
+use Rattle.top_run.specs.Work.{Ending}
 use Rattle.top_words.specs.Asked.{Action, Io, Sweep, Show, ShowMap, Init, Check, Rewrite, Print, Fail, ShowLabel, Label as Labels, Rebuild, Resume, profile_of}
+use Rattle.top_words.specs.declared.profile.Deed.{Deed}
+use Rattle.top_words.specs.declared.profile.Deed.TheVariants as deed
 use Rattle.top_duty.specs.Duty.{Admitted, columns_of, layout_of}
 use Rattle.top_duty.specs.Fit.{IsFit}
 use Rattle.top_duty.specs.Opening.{kind_of, needs_for, needs_of}
@@ -18,10 +23,10 @@ use Rattle.raid_top.specs.declared.array.Order.{Order}
 use Rattle.raid_top.specs.declared.array.Order.TheVariants as order
 use Rattle.raid_top.specs.declared.came.Came.{Came}
 use Rattle.raid_top.specs.declared.came.Came.TheVariants as came
-use Rattle.raid_top.specs.Arrays.{HasRounds, IsNewest, MayDo}
-use Rattle.raid_top.specs.Does.{DoesArray, DoesIt, DoesRun, order_of}
-use Rattle.raid_top.specs.Orders.{kill_of, order_for}
-use Rattle.raid_top.specs.Outcome.{Outcome}
+use Rattle.raid_top.specs.Arrays.{DoesOrder, HasRounds, IsNewest, MayDo, ending_seen}
+use Rattle.raid_top.specs.Does.{DoesArray, DoesDeed, DoesRun}
+use Rattle.raid_top.specs.Orders.{first_label, kill_of, order_for}
+use Rattle.raid_top.specs.Outcome.{Outcome, Did}
 use Rattle.raid_top.specs.Served.{ComesOfOrder, IsRun}
 use Rattle.raid_top.specs.Views.{outcome_seen}
 
@@ -115,31 +120,37 @@ module _ {D : Type 0} (g : Ghosts D) (k : Asked) (o : Opened) (devices : List (O
 -- ## What was done
 
 module _ {D : Type 0} (g : Ghosts D) (a : Admitted) (failed : Bool) (old back : List (Option D)) where
-  comes_it : (it : Order) (action : Action) (conf : Conf) (c : Came) → ComesOfOrder g (layout_of a) (columns_of a) old back it c → DoesIt g a failed old back (Some it) (outcome_seen action conf c)
-  comes_it it action conf (came.Did act ending) h = h
-  comes_it it action conf (came.Ran service) h = absurd h
-  comes_it it action conf (came.Shows shown) h = absurd h
-  comes_it it action conf (came.ShowsLabel front) h = absurd h
-  comes_it it action conf (came.Prints text) h = absurd h
+  abbrev DoesSo : Order → Done → Ending → Type 0
+  DoesSo it act e = DoesOrder g (layout_of a) (columns_of a) old back act e it
 
-  it_does : (action : Action) (o : Outcome) (it : Order) → order_of g a failed old back action ≡ Some it → DoesIt g a failed old back (Some it) o → DoesArray g a failed old back action o
-  it_does Init o it e h = subst (λ (x : Option Order). DoesIt g a failed old back x o) (sym e) h
-  it_does Rewrite o it e h = subst (λ (x : Option Order). DoesIt g a failed old back x o) (sym e) h
-  it_does Check o it e h = subst (λ (x : Option Order). DoesIt g a failed old back x o) (sym e) h
-  it_does (Fail name) o it e h = subst (λ (x : Option Order). DoesIt g a failed old back x o) (sym e) h
-  it_does (Labels serial) o it e h = subst (λ (x : Option Order). DoesIt g a failed old back x o) (sym e) h
-  it_does (Io beside workers mapped) o it e h = absurd (let z : ⊥ = cc e in z)
-  it_does (Sweep seed clients ops workers mapped) o it e h = absurd (let z : ⊥ = cc e in z)
-  it_does Show o it e h = absurd (let z : ⊥ = cc e in z)
-  it_does ShowMap o it e h = absurd (let z : ⊥ = cc e in z)
-  it_does Print o it e h = absurd (let z : ⊥ = cc e in z)
-  it_does (ShowLabel name) o it e h = absurd (let z : ⊥ = cc e in z)
-  it_does (Rebuild in_place name limit beside workers mapped) o it e h = absurd (let z : ⊥ = cc e in z)
-  it_does (Resume limit beside workers mapped) o it e h = absurd (let z : ⊥ = cc e in z)
+  kill_does : (comp : Option ℕ) (newest : Option Label) → a.asked.comp ≡ comp → a.opened.newest ≡ newest → (it : Order) (act : Done) (e : Ending) → kill_of comp newest ≡ Some it → DoesSo it act e
+      → DoesDeed g a failed old back deed.Kills (Did act e)
+  kill_does None newest one two it act e is h = absurd (let z : ⊥ = cc is in z)
+  kill_does (Some c) None one two it act e is h = absurd (let z : ⊥ = cc is in z)
+  kill_does (Some c) (Some l) one two it act e is h =
+      let same : order.Kill c l ≡ it = cc is in
+      let done = subst (λ (x : Order). DoesSo x act e) (sym same) h in
+      (c, l, done.0, one, two, done.1)
+
+  deed_does : (d : Deed) (it : Order) (act : Done) (e : Ending) → order_for d a.asked.comp a.opened.newest a.asked.conf a.opened.rows ≡ Some it → DoesSo it act e → DoesDeed g a failed old back d (Did act e)
+  deed_does deed.Looks it act e is h = absurd (let z : ⊥ = cc is in z)
+  deed_does deed.Serves it act e is h = absurd (let z : ⊥ = cc is in z)
+  deed_does deed.Checks it act e is h = let same : order.Check ≡ it = cc is in subst (λ (x : Order). DoesSo x act e) (sym same) h
+  deed_does deed.Inits it act e is h = let same : order.Renew renewal.Init a.opened.newest ≡ it = cc is in subst (λ (x : Order). DoesSo x act e) (sym same) h
+  deed_does deed.Rewrites it act e is h = let same : order.Renew renewal.Rewrite a.opened.newest ≡ it = cc is in subst (λ (x : Order). DoesSo x act e) (sym same) h
+  deed_does deed.Kills it act e is h = kill_does a.asked.comp a.opened.newest refl refl it act e is h
+  deed_does (deed.Labels serial) it act e is h =
+      let same : order.Label (first_label a.asked.conf a.opened.rows serial) ≡ it = cc is in
+      subst (λ (x : Order). DoesSo x act e) (sym same) h
 
   -- what was asked was done
-  pub order_does : (action : Action) (conf : Conf) (it : Order) (c : Came) → order_of g a failed old back action ≡ Some it → ComesOfOrder g (layout_of a) (columns_of a) old back it c → DoesArray g a failed old back action (outcome_seen action conf c)
-  order_does action conf it c e h = it_does action (outcome_seen action conf c) it e (comes_it it action conf c h)
+  pub order_does : (action : Action) (conf : Conf) (it : Order) (c : Came) → order_for (profile_of action).deed a.asked.comp a.opened.newest a.asked.conf a.opened.rows ≡ Some it
+      → ComesOfOrder g (layout_of a) (columns_of a) old back it c → DoesArray g a failed old back action (outcome_seen action conf c)
+  order_does action conf it (came.Did act ending) is h = deed_does (profile_of action).deed it act (ending_seen ending) is h
+  order_does action conf it (came.Ran service) is h = absurd h
+  order_does action conf it (came.Shows shown) is h = absurd h
+  order_does action conf it (came.ShowsLabel front) is h = absurd h
+  order_does action conf it (came.Prints text) is h = absurd h
 
   -- or clients were served
   pub run_does : (action : Action) (o : Outcome) → IsRun action → DoesRun g a failed old back a.opened.newest o → DoesArray g a failed old back action o

@@ -34,7 +34,7 @@ module _ {D : Type 0} (g : Ghosts D) (b : Told D) where
   -- want of memory is a refusal of whatever is asked for, but of the program's own texts
   by_memory : (words : List Text) (i : Invocation) → AreUntouched g b → ((topic : Topic) → invocation_of words ≡ Ok (Tell topic) → ⊥) → invocation_of words ≡ Ok i → RefusedBy g b i (only status.Memory)
   by_memory words (Tell topic) same told is = told topic is
-  by_memory words (OnArray command) same told is = inr (inr (inl (refl, inl same)))
+  by_memory words (OnArray command) same told is = inl (inr (inr refl), same)
   by_memory words (Scan list) same told is = (inr (inr refl), inl same)
   by_memory words (Simulate name order) same told is = (inr (inr refl), same)
 

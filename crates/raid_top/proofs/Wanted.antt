@@ -320,6 +320,53 @@ is_named size b command fronts d h =
     let made = is_made (duty_in size b command fronts) d h in
     judged_named made.due d made.judged_so (named_due size b command fronts made.due made.is)
 
+-- the same by sizes and fronts alone
+pub named_by : (k : Asked) (sizes : List ℕ) (fronts : List Front) (d : Duty) → IsWanted (duty_by k sizes fronts) (Ok d) → IsNamed d
+named_by k sizes fronts d h =
+    let made = is_made (duty_by k sizes fronts) d h in
+    judged_named made.due d made.judged_so (by_named k sizes fronts made.due made.is)
+
+-- ## What is admitted
+
+-- an array is admitted as it is opened, with the rebuild that the action begins or goes on with, and with graphs that are joined
+abbrev pub IsAdmittedBy : Asked → List ℕ → List Front → Admitted → Type 0
+IsAdmittedBy k sizes fronts a = (o : Opened) × (views : List View) × (opened_by k sizes fronts ≡ Ok o) × (admitted_with k o (start_in k o sizes fronts) views ≡ a)
+
+array_by : (k : Asked) (sizes : List ℕ) (fronts : List Front) (r : Result Opened Refused) (a : Admitted) → opened_by k sizes fronts ≡ r
+    → (r then λ o. Ok (OnArray (admitted_with k o (start_in k o sizes fronts) []))) ≡ Ok (OnArray a) → (o : Opened) × (opened_by k sizes fronts ≡ Ok o) × (admitted_with k o (start_in k o sizes fronts) [] ≡ a)
+array_by k sizes fronts (Ok o) a is e = (o, is, (let same : admitted_with k o (start_in k o sizes fronts) [] ≡ a = cc e in same))
+array_by k sizes fronts (Err r) a is e = absurd (let z : ⊥ = cc e in z)
+
+shown_by : {A : Type 0} (k : Asked) (r : Result Opened Refused) (a : Admitted) → (r then λ o. Ok (Shows k o)) ≡ Ok (OnArray a) → A
+shown_by k (Ok o) a e = absurd (let z : ⊥ = cc e in z)
+shown_by k (Err r) a e = absurd (let z : ⊥ = cc e in z)
+
+kind_by : (kd : Kind) (k : Asked) (sizes : List ℕ) (fronts : List Front) (a : Admitted) → duty_for kd k sizes fronts ≡ Ok (OnArray a)
+    → (o : Opened) × (opened_by k sizes fronts ≡ Ok o) × (admitted_with k o (start_in k o sizes fronts) [] ≡ a)
+kind_by kind.Array k sizes fronts a e = array_by k sizes fronts (opened_by k sizes fronts) a refl e
+kind_by kind.Shown k sizes fronts a e = shown_by k (opened_by k sizes fronts) a e
+kind_by kind.Label k sizes fronts a e = absurd (let z : ⊥ = cc e in z)
+kind_by kind.Conf k sizes fronts a e = absurd (let z : ⊥ = cc e in z)
+
+by_kind : (k : Asked) (sizes : List ℕ) (fronts : List Front) (a : Admitted) → duty_by k sizes fronts ≡ Ok (OnArray a)
+    → (o : Opened) × (opened_by k sizes fronts ≡ Ok o) × (admitted_with k o (start_in k o sizes fronts) [] ≡ a)
+unfolding duty_by
+by_kind k sizes fronts a e = kind_by (kind_of k.command.action) k sizes fronts a e
+
+judged_by : (k : Asked) (sizes : List ℕ) (fronts : List Front) (due : Duty) (a : Admitted) → duty_by k sizes fronts ≡ Ok due → IsJudged due (OnArray a) → IsAdmittedBy k sizes fronts a
+judged_by k sizes fronts (OnArray x) a is kept =
+    let made = by_kind k sizes fronts x is in
+    let same : record x { joined = kept.views } ≡ a = cc kept.is in
+    (made.0, kept.views, made.1, ap (λ (z : Admitted). record z { joined = kept.views }) made.2 ∙ same)
+judged_by k sizes fronts (Shows x o) a is same = absurd (let z : ⊥ = cc same in z)
+judged_by k sizes fronts (OneLabel x) a is same = absurd (let z : ⊥ = cc same in z)
+judged_by k sizes fronts (PrintConf x) a is same = absurd (let z : ⊥ = cc same in z)
+
+pub is_admitted : (k : Asked) (sizes : List ℕ) (fronts : List Front) (a : Admitted) → IsWanted (duty_by k sizes fronts) (Ok (OnArray a)) → IsAdmittedBy k sizes fronts a
+is_admitted k sizes fronts a h =
+    let made = is_made (duty_by k sizes fronts) (OnArray a) h in
+    judged_by k sizes fronts made.due a made.is made.judged_so
+
 -- it goes by the command, texts, devices at home and fronts alone
 pub duty_same : {D : Type 0} (size : D → ℕ) (tells rose now_rose : Type 0) (texts : Text → Option Text) (home after now_after : Text → Option D) (command : Command) (fronts : List Front)
     → duty_in size (record { tells = tells; rose = rose; texts = texts; home = home; after = after }) command fronts ≡ duty_in size (record { tells = tells; rose = now_rose; texts = texts; home = home; after = now_after }) command fronts

@@ -23,14 +23,14 @@ use Rattle.top_run.specs.Outliving.{MayDie as MayDieOf, OutlivesCall}
 use Rattle.top_run.proofs.Outlived.{outlived}
 use Rattle.top_status.specs.Status.{status_of_loss}
 use Rattle.top_words.specs.Asked.{Action, Io, Sweep, Show, ShowMap, Init, Check, Rewrite, Print, Fail, ShowLabel, Label as Labels, Rebuild, Resume, Command, profile_of}
+use Rattle.top_words.specs.declared.profile.Deed.TheVariants as deed
 use Rattle.top_duty.specs.Duty.{Admitted, Duty, OnArray, Shows, OneLabel, PrintConf, asked_of, columns_of, layout_of}
 use Rattle.top_duty.specs.Opening.{needs_for, needs_of}
 use Rattle.top_duty.specs.Start.{has_failed}
 use Rattle.top_run.specs.Work.{Ending}
 use Rattle.raid_top.specs.Arrays.{Renews}
-use Rattle.raid_top.specs.Does.{Does, DoesArray, DoesIt, DoesRun, Says, SaysLabel, ShowsArray}
+use Rattle.raid_top.specs.Does.{Does, DoesArray, DoesDeed, DoesRun, Says, SaysLabel, ShowsArray}
 use Rattle.raid_top.specs.Acted.{CommandEndsWell, MayEndDead, SurvivesCall}
-use Rattle.raid_top.specs.Orders.{kill_of}
 use Rattle.raid_top.specs.Outcome.{Outcome, Ran, Did, Looked, status_of, status_of_done}
 use Rattle.raid_top.specs.Works.{work_of}
 use Rattle.raid_top.proofs.Filling.{filling_passes}
@@ -60,18 +60,16 @@ module _ {D : Type 0} (g : Ghosts D) (command : Command) where
     outlives = λ cols dies. survives cols (dies-more _ (MayEndDead g a taken back) (columns_of a) cols may_so dies)
 
     ran_well : (newest : Option Label) (o : Outcome) → DoesRun g a failed old back newest o → CommandEndsWell command (status_of o)
-    ran_well None (Ran action s) h = run_well s.ending.lost (outlived g (work_of a) old back s h.1.ran outlives)
+    ran_well None (Ran action s) h = run_well s.ending.lost (outlived g (work_of a) old back s h.1 outlives)
     ran_well None (Did act e) h = absurd h
-    ran_well (Some l) (Ran action s) h = run_well s.ending.lost (labelled_laws.outlived g (work_of a) l old s back failed (profile_of a.asked.command.action).map h.1.ran outlives)
+    ran_well (Some l) (Ran action s) h = run_well s.ending.lost (labelled_laws.outlived g (work_of a) l old s back failed (profile_of a.asked.command.action).map h.1 outlives)
     ran_well (Some l) (Did act e) h = absurd (labelled_laws.not-begun-lost g (work_of a) l old (profile_of a.asked.command.action).map e back h.1 outlives)
     ran_well newest (Looked text) h = absurd h
 
-    kill_well : (comp : Option ℕ) (newest : Option Label) (o : Outcome) → (needs_of a.asked).excused ≡ comp → DoesIt g a failed old back (kill_of comp newest) o → CommandEndsWell command (status_of o)
-    kill_well None newest o named h = absurd h
-    kill_well (Some c) None o named h = absurd h
-    kill_well (Some c) (Some l) (Did act e) named h = done_well command e.lost act (done.Killed c) refl (killed g a taken old back read survives c l h.0 e act named h.1) h.1.told
-    kill_well (Some c) (Some l) (Ran action s) named h = absurd h
-    kill_well (Some c) (Some l) (Looked text) named h = absurd h
+    kill_well : (o : Outcome) → (needs_of a.asked).excused ≡ a.asked.comp → DoesDeed g a failed old back deed.Kills o → CommandEndsWell command (status_of o)
+    kill_well (Did act e) named h = done_well command e.lost act (done.Killed h.0) refl (killed g a taken old back read survives h.0 h.1 h.2 e act (named ∙ h.3) h.5) h.5.told
+    kill_well (Ran action s) named h = absurd h
+    kill_well (Looked text) named h = absurd h
 
     renewed_well : (newest : Option Label) (kind : Renewal) (e : Ending) (act : Done) → Renews g (layout_of a) (columns_of a) old back act e kind newest → CommandEndsWell command (status_of_done act e.lost)
     renewed_well None renewal.Init e act h = done_well command e.lost act (done.Init h.found) refl (renewed g a taken old back read survives renewal.Init None e act h) h.told
@@ -91,7 +89,7 @@ module _ {D : Type 0} (g : Ghosts D) (command : Command) where
     array_well Rewrite (Did act e) same h = renewed_well a.opened.newest renewal.Rewrite e act h
     array_well Rewrite (Ran action s) same h = absurd h
     array_well Rewrite (Looked text) same h = absurd h
-    array_well (Fail comp) o same h = kill_well a.asked.comp a.opened.newest o (ap (λ (act : Action). (needs_for act a.asked.comp).excused) same) h
+    array_well (Fail comp) o same h = kill_well o (ap (λ (act : Action). (needs_for act a.asked.comp).excused) same) h
     array_well (Labels serial) (Did act e) same h = done_well command e.lost act (done.Labelled (alive e.columns)) refl (labelled g a taken old back read survives _ h.0 e act h.1) h.1.told
     array_well (Labels serial) (Ran action s) same h = absurd h
     array_well (Labels serial) (Looked text) same h = absurd h

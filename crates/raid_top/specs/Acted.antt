@@ -14,19 +14,20 @@ use Rattle.top_status.specs.declared.status.Status.TheVariants as status
 use Rattle.top_open.specs.declared.fronts.Front.{Front}
 use Rattle.top_words.specs.Asked.{Check, Command}
 use Rattle.eng_cols.specs.Stripes.{states_of}
-use Rattle.top_duty.specs.Duty.{Admitted, Duty, OnArray, Shows, OneLabel, PrintConf, IsWanted, asked_of, columns_of, duty_in, layout_of, states_in}
-use Rattle.top_duty.specs.Opening.{needs_of, reads_fronts}
+use Rattle.top_duty.specs.Duty.{Admitted, Duty, OnArray, Shows, OneLabel, PrintConf, IsWanted, asked_of, columns_of, duty_by, duty_in, layout_of, states_in}
+use Rattle.top_duty.specs.Opening.{needs_of, reads_fronts, sizes_of}
 use Rattle.top_duty.specs.Taken.{Reads}
 use Rattle.top_run.specs.Outliving.{HasFail}
 use Rattle.raid_top.specs.Does.{Does}
-use Rattle.raid_top.specs.Losses.{AreCaused}
+use Rattle.raid_top.specs.Ordered.{IsOrdered}
 use Rattle.raid_top.specs.Outcome.{Outcome}
 use Rattle.raid_top.specs.Works.{work_of}
 
 module _ {D : Type 0} (g : Ghosts D) (b : Told D) (command : Command) where
   -- What was due was done. There are what was asked, and the devices of its names as they were
   -- taken, as they were once their first sectors had been read, where that is done, and as they are
-  -- put back. What speaks of names and texts holds where the bay tells them.
+  -- put back. What is due goes by what was asked, by their sizes, and by what was read. What speaks
+  -- of names and texts holds where the bay tells them.
   pub record Acted (o : Outcome) : Type 0 where
     pub duty : Duty
     pub fronts : List Front
@@ -34,14 +35,15 @@ module _ {D : Type 0} (g : Ghosts D) (b : Told D) (command : Command) where
     pub old : List (Option D)
     pub back : List (Option D)
     pub command_is : (asked_of duty).command ≡ command
-    pub asked : b.tells → IsWanted (duty_in g.size b command fronts) (Ok duty)
+    pub asked : b.tells → asked_in b command ≡ Ok (asked_of duty)
+    pub wanted : IsWanted (duty_by (asked_of duty) (sizes_of g.size old) fronts) (Ok duty)
+    pub ordered : (a : Admitted) → duty ≡ OnArray a → IsOrdered a
     pub read : Reads g (reads_fronts (asked_of duty).command.action) taken old fronts
     pub before : b.tells → AreNamed b.home (names_for (asked_of duty)) taken
     pub after : b.tells → AreNamed b.after (names_for (asked_of duty)) back
     pub others : b.tells → (n : Text) → (Contains (names_for (asked_of duty)) n → ⊥)
         → b.after n ≡ b.home n
     pub does : Does g duty fronts old back o
-    pub causes : AreCaused g duty old back o
 
 -- ## Completeness
 

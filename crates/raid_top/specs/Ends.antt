@@ -22,7 +22,7 @@ use Rattle.top_words.specs.Asked.{Check, Command}
 use Rattle.top_words.specs.Judged.{Invocation, Tell, OnArray, Scan, Simulate, invocation_of}
 use Rattle.raid_top.specs.Acted.{Acted, IsRightCommand}
 use Rattle.raid_top.specs.Calls.{CallOutcome, OfArray, OfScan, OfSimulation, OfTopic, Refuses, call_status, call_text}
-use Rattle.raid_top.specs.Does.{AreItemsAnswered}
+use Rattle.raid_top.specs.Runs.{IfRan, IsRunAnswered}
 use Rattle.raid_top.specs.Refused.{CallIsRefused}
 
 module _ {D : Type 0} (g : Ghosts D) (b : Told D) where
@@ -59,7 +59,7 @@ module _ {D : Type 0} (g : Ghosts D) (b : Told D) where
 
   -- each item of its clients has the reply that it ought to have, where it has any
   abbrev pub IsAnswered : (invocation : Invocation) (o : CallOutcome) → Follows invocation o → Type 0
-  IsAnswered (OnArray command) (OfArray o) h = AreItemsAnswered g h.duty h.fronts h.old h.back o h.does
+  IsAnswered (OnArray command) (OfArray o) h = IfRan g (IsRunAnswered g) h.duty h.fronts h.old h.back o h.does
   IsAnswered invocation o h = Unit {0}
 
   module _ (words : List Text) where
@@ -74,25 +74,17 @@ module _ {D : Type 0} (g : Ghosts D) (b : Told D) where
     Acts (Refuses r) = CallIsRefused g b words r
     Acts outcome = Followed outcome
 
-    -- a call ends so, with this status and this output
-    pub record Ends (ending : Status) (printed : List ℕ) : Type 0 where
-      pub outcome : CallOutcome
-      pub status : ending ≡ call_status outcome
-      pub text : printed ≡ call_text outcome
-      pub acts : Acts outcome
-
 -- The answer is the status, and its output was printed whole; or the sink failed, and a front of that output was printed. `rose` says that the sink's count of faults rose.
 abbrev pub Printed : Type 0 → Type 0 → Status → Status → List ℕ → List ℕ → List ℕ → Type 0
 Printed tells rose ending answer text old new =
     ((answer ≡ ending) × (tells → new ≡ old ++ text))
     ⊎ ((answer ≡ status.SinkFault) × rose × (tells → (n : ℕ) × (new ≡ old ++ take n text)))
 
--- A call of the program: it ends so, and its output was printed so. The first part speaks of the bay, the last of the sink.
+-- A call of the program: it came to this outcome, whose status and text were answered and printed so. What is so of an outcome speaks of the bay, the last part of the sink.
 pub record Answers {D : Type 0} (g : Ghosts D) (b : Told D) (words : List Text) (sink_tells sink_rose : Type 0) (answer : Status) (old new : List ℕ) : Type 0 where
-  pub status : Status
-  pub text : List ℕ
-  pub ends : Ends g b words status text
-  pub printed : Printed sink_tells sink_rose status answer text old new
+  pub outcome : CallOutcome
+  pub acts : Acts g b words outcome
+  pub printed : Printed sink_tells sink_rose (call_status outcome) answer (call_text outcome) old new
 
 -- ## Completeness
 

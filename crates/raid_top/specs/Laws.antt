@@ -1,4 +1,4 @@
--- What follows from how a call answers: what is refused changes nothing, and what is right is answered; which devices count as unread for that; why a column is dead as an array is opened; and what one lacks that is refused as lost.
+-- What follows from how a call answers: what is refused changes nothing, and what is right is answered; which devices count as unread for that; why a column is dead as an array is opened, and in the end; what one lacks that is refused as lost; and what clients that are drawn, and rebuilds, come to.
 use Rattle.std.specs.Prelude.{◌≡◌, ◌⊎◌, ◌==◌, ℕ, Bool, true, List, [], ◌∷◌, ◌++◌, Option, Some, Ok, slice_get}
 use Rattle.std.specs.List.{list_any}
 use Rattle.blk_disk.specs.Devices.{StaysIf, calls_of}
@@ -19,13 +19,15 @@ use Rattle.top_status.specs.Refusals.{Refused}
 use Rattle.top_status.specs.Status.{exit_number, status_of_loss}
 use Rattle.top_status.specs.declared.status.Status.{Status}
 use Rattle.top_status.specs.declared.status.Status.TheVariants as status
-use Rattle.top_words.specs.Asked.{Command}
+use Rattle.top_words.specs.Asked.{Command, Sweep}
 use Rattle.top_words.specs.Judged.{OnArray, invocation_of}
 use Rattle.raid_top.specs.Acted.{Acted, MayRead}
-use Rattle.raid_top.specs.Calls.{Refuses}
+use Rattle.raid_top.specs.Calls.{Refuses, call_status}
 use Rattle.raid_top.specs.Ends.{Answers, IsDone, IsRight}
+use Rattle.raid_top.specs.Losses.{AreCaused}
 use Rattle.raid_top.specs.Opened.{DeadHaveCauses, IsOpenedFor}
 use Rattle.raid_top.specs.Outcome.{Outcome}
+use Rattle.raid_top.specs.Runs.{IfRan, IsRunInTurn, IsRunWorth}
 
 -- the exit numbers that only a call has that was refused
 abbrev pub refusing_numbers : List ℕ
@@ -56,7 +58,7 @@ module _ {D : Type 0} (g : Ghosts D) (b : Told D) (words : List Text) (sink_tell
   -- which the output was cut.
   abbrev pub RefusedChangesNothing : Type 0
   RefusedChangesNothing = b.tells → (a : HasAnswered)
-      → (is_refusing answer ≡ true) ⊎ ((answer ≡ status.SinkFault) × (is_refusing a.status ≡ true))
+      → (is_refusing answer ≡ true) ⊎ ((answer ≡ status.SinkFault) × (is_refusing (call_status a.outcome) ≡ true))
       → NothingChanged
 
   -- Where words, texts, names, sizes and columns are right, and neither the bay's nor the sink's count
@@ -68,13 +70,26 @@ module _ {D : Type 0} (g : Ghosts D) (b : Told D) (words : List Text) (sink_tell
   -- On both columns of the loss for which an action is refused its stripe lacks a unit.
   abbrev pub RefusedLossLacksUnits : Type 0
   RefusedLossLacksUnits = b.tells → (a : HasAnswered) (command : Command) (r : Refused) (loss : Loss)
-      → invocation_of words ≡ Ok (OnArray command) → a.ends.outcome ≡ Refuses r → r.status ≡ status_of_loss (Some loss)
+      → invocation_of words ≡ Ok (OnArray command) → a.outcome ≡ Refuses r → r.status ≡ status_of_loss (Some loss)
       → LacksUnits g b command r
 
 -- Of an array that was opened for an action each column that is dead is so for a cause that was read.
 abbrev pub DeadAsOpened : {D : Type 0} → Ghosts D → Told D → Type 0
 DeadAsOpened g b = b.tells → (command : Command) (o : Outcome) (h : Acted g b command o) (opened : Opened) → IsOpenedFor h.duty opened
     → DeadHaveCauses (asked_of h.duty) (sizes_in g.size b.home (names_for (asked_of h.duty))) h.fronts opened
+
+-- However it came to it: each column is kept as what it is if none dies, or is dead for a cause, and both columns of a loss are dead, or spread over a dead one.
+abbrev pub DeathsAreCaused : {D : Type 0} → Ghosts D → Told D → Type 0
+DeathsAreCaused g b = (command : Command) (o : Outcome) (h : Acted g b command o) → AreCaused g h.duty h.old h.back o
+
+-- Clients that were drawn leave, and are replied, what they would one after another.
+abbrev pub DrawnComeInTurn : {D : Type 0} → Ghosts D → Told D → Type 0
+DrawnComeInTurn g b = (command : Command) (o : Outcome) (h : Acted g b command o) (seed clients ops workers : ℕ) (mapped : Bool)
+    → command.action ≡ Sweep seed clients ops workers mapped → IfRan g (IsRunInTurn g) h.duty h.fronts h.old h.back o h.does
+
+-- What a rebuild that is done is worth.
+abbrev pub RebuiltIsWorth : {D : Type 0} → Ghosts D → Told D → Type 0
+RebuiltIsWorth g b = (command : Command) (o : Outcome) (h : Acted g b command o) → IfRan g (IsRunWorth g) h.duty h.fronts h.old h.back o h.does
 
 -- A device that tells its calls, of which the first behind those of before went well, doesn't count as
 -- unread, whenever its count of faults rose then.

@@ -5,10 +5,12 @@ pub mod Arrays
 pub mod Orders
 pub mod Works
 pub mod Does
+pub mod Runs
 pub mod Views
 pub mod Shown
 pub mod Served
 pub mod Losses
+pub mod Ordered
 pub mod Acted
 pub mod Calls
 pub mod Finished

@@ -6,7 +6,11 @@ use Rattle.raid_text.specs.Text.{Text}
 use Rattle.top_fetch.specs.Told.{Told}
 use Rattle.top_status.specs.declared.status.Status.TheVariants as status
 use Rattle.top_status.specs.Refusals.{Refused, only}
-use Rattle.top_duty.specs.Taken.{AreUntouched, RefusedFor}
+use Rattle.top_bay.specs.Asked.{Asked, asked_in}
+use Rattle.top_duty.specs.Duty.{Admitted, IsWanted, OnArray as OnAdmitted, beside_dead, duty_by}
+use Rattle.top_duty.specs.Opening.{sizes_of}
+use Rattle.top_duty.specs.Taken.{AreUntouched, WasRead}
+use Rattle.top_open.specs.declared.fronts.Front.{Front}
 use Rattle.top_duty.specs.Views.{IsRefusal}
 use Rattle.top_scan.specs.Scanned.{IsScannedInPart, names_in}
 use Rattle.top_sim.specs.Simulated.{workload_in}
@@ -23,11 +27,21 @@ IsTopic (Tell topic) = Unit {0}
 IsTopic invocation = ⊥
 
 module _ {D : Type 0} (g : Ghosts D) (b : Told D) where
-  -- why what was asked for is refused, and how devices were called before: some of a list were looked
-  -- at, and none is called for a simulated disk; none of the program's own texts is refused
+  -- Texts and names are right, and the devices of the names were looked at, and called for nothing else.
+  -- By their sizes, and by what was read, this is the refusal that is wanted; or memory was, behind the
+  -- opening or before it.
+  pub record IsRefusedOn (k : Asked) (r : Refused) : Type 0 where
+    pub fronts : List Front
+    pub was : WasRead g b k fronts
+    pub cause : IsWanted (duty_by k (sizes_of g.size was.back) fronts) (Err r)
+        ⊎ (((a : Admitted) × (duty_by k (sizes_of g.size was.back) fronts ≡ Ok (OnAdmitted a)) × (r ≡ beside_dead a status.Memory)) ⊎ (r ≡ only status.Memory))
+
+  -- why what was asked for is refused, and how devices were called before: not at all where texts or
+  -- names are refused, nor for a simulated disk; some of a list were looked at; none of the program's
+  -- own texts is refused
   abbrev pub RefusedBy : Invocation → Refused → Type 0
   RefusedBy (Tell topic) r = ⊥
-  RefusedBy (OnArray command) r = RefusedFor g b command r
+  RefusedBy (OnArray command) r = (IsRefusedAs b.rose (asked_in b command) r × AreUntouched g b) ⊎ ((k : Asked) × (asked_in b command ≡ Ok k) × IsRefusedOn k r)
   RefusedBy (Scan list) r = IsRefusedAs b.rose (names_in b.texts b.home list) r × IsScannedInPart g b.tells b.texts b.home b.after list
   RefusedBy (Simulate name order) r = IsRefusedAs b.rose (workload_in b.texts name) r × AreUntouched g b
 

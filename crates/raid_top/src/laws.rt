@@ -7,7 +7,7 @@ ghost use Rattle.top_duty.specs.Opening.{opened_by};
 ghost use Rattle.top_open.specs.declared.fronts.Front.{Front};
 ghost use Rattle.top_open.specs.Opening.{Opened};
 ghost use Rattle.top_status.specs.declared.status.Status.{Status};
-ghost use Rattle.raid_top.specs.Laws.{DeadAsOpened, FailsLateIsRead, RefusedChangesNothing, RefusedLossLacksUnits, RightIsAnswered};
+ghost use Rattle.raid_top.specs.Laws.{DeadAsOpened, DeathsAreCaused, DrawnComeInTurn, FailsLateIsRead, RebuiltIsWorth, RefusedChangesNothing, RefusedLossLacksUnits, RightIsAnswered};
 ghost use Rattle.raid_top.specs.Opened.{DeadHaveCauses};
 ghost use Rattle.raid_top.specs.Bays.{told_of};
 
@@ -50,6 +50,27 @@ pub fn a_column_dead_as_opened_has_a_cause<B: Bay>()
     ensures opened { (k : Asked) (sizes : List ℕ) (fronts : List Front) (o : Opened)
         → opened_by k sizes fronts ≡ Ok o → DeadHaveCauses k sizes fronts o }
     ensures acted { (old new : B) → DeadAsOpened B.D.Disk (told_of B.Bay old new) }
+{}
+
+/// Whatever was done to an array, each column that is dead in the end was so by its opening, or has its
+/// cause: it was asked for; its component's count of faults rose; or it was filling, and the array is
+/// lost. Of a lost array no column is filling any more; and both columns of a loss are dead, or spread
+/// where that of the stripe's spare place is dead.
+pub fn what_dies_has_a_cause<B: Bay>()
+    ensures { (old new : B) → DeathsAreCaused B.D.Disk (told_of B.Bay old new) }
+{}
+
+/// A load that is drawn comes client after client: unless the array is lost, its clients leave, and are
+/// replied, what they would one after another, and that is what sums it up.
+pub fn what_is_drawn_comes_in_turn<B: Bay>()
+    ensures { (old new : B) → DrawnComeInTurn B.D.Disk (told_of B.Bay old new) }
+{}
+
+/// Where a rebuild is done each of the column's stripes was rebuilt. Then, where all other units are
+/// available, every unit is; so in an array with a check unit the failure of any one more column loses
+/// nothing.
+pub fn what_is_rebuilt_is_worth_it<B: Bay>()
+    ensures { (old new : B) → RebuiltIsWorth B.D.Disk (told_of B.Bay old new) }
 {}
 
 /// Where an action is refused since its array is lost, the stripe that the status names lacks a unit

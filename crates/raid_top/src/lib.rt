@@ -29,7 +29,8 @@ mod top;
 
 pub use laws::{
     a_column_dead_as_opened_has_a_cause, a_device_that_fails_late_was_read,
-    a_refused_loss_lacks_two_units, what_is_refused_changes_nothing, what_is_right_is_answered,
+    a_refused_loss_lacks_two_units, what_dies_has_a_cause, what_is_drawn_comes_in_turn,
+    what_is_rebuilt_is_worth_it, what_is_refused_changes_nothing, what_is_right_is_answered,
 };
 pub use top::run;
 pub use top_status::Status;

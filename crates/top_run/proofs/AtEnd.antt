@@ -14,10 +14,7 @@ use Rattle.eng_cols.specs.declared.spot.Loss.{Loss}
 use Rattle.eng_cols.specs.Cols.{ColumnState}
 use Rattle.eng_world.specs.declared.item.Item.{Item}
 use Rattle.eng_world.specs.declared.item.Item.TheVariants as item
-use Rattle.eng_world.specs.declared.item.Traced.{Traced}
 use Rattle.eng_world.specs.World.{World}
-use Rattle.eng_world.specs.Planning.{Graphs}
-use Rattle.eng_world.specs.Causes.{IsLossOf}
 use Rattle.eng_world.specs.Rebuilding.{OneRebuilds}
 use Rattle.eng_cols.specs.Stripes.{states_of}
 use Rattle.eng_events.specs.Opened.{IsSetup}
@@ -28,7 +25,6 @@ use Rattle.eng_array.specs.declared.start.Start.{Start}
 use Rattle.raid_script.specs.Asked.{Other, seen}
 use Rattle.top_close.specs.Ended as ended
 use Rattle.top_close.specs.Reserved.{IsReserved}
-use Rattle.top_serve.specs.Setups.{graphs_in}
 use Rattle.top_serve.specs.Served as served
 use Rattle.top_run.specs.Work.{Service}
 use Rattle.top_run.specs.Works.{work_of}
@@ -41,15 +37,11 @@ at-place : {A : Type 0} (l : List A) (k : ℕ) (x : A) → slice_get l k ≡ Som
 at-place l k x is = (k, slice_get_within l k x is, get_or_from_slice_get l k x x is)
 
 -- the loss of before, or that of the columns in the end
-pub loss-at-end : (y : Shape) (graphs : Graphs) (start : World) (events : List Traced) (now : World) (before lost : Option Loss) (columns : List ColumnState)
-    → now.lost ≡ before → served.IsLossIn y graphs start events now before → ended.IsLossBy y before columns lost → IsLossAtEnd y graphs start events now columns lost
-loss-at-end y graphs start events now (Some loss) None columns is why h = let z : None ≡ Some loss = h in absurd (let u : ⊥ = cc in u)
-loss-at-end y graphs start events now (Some loss) (Some other) columns is why h =
-    let z : Some other ≡ Some loss = h in
-    let same : loss ≡ other = cc in
-    inl (is ∙ sym h, subst (λ l. IsLossOf y graphs start events now l) same why)
-loss-at-end y graphs start events now None None columns is why h = (is, h)
-loss-at-end y graphs start events now None (Some loss) columns is why h = inr (is, h)
+pub loss-at-end : (y : Shape) (now : World) (before lost : Option Loss) (columns : List ColumnState) → now.lost ≡ before → ended.IsLossBy y before columns lost → IsLossAtEnd y now columns lost
+loss-at-end y now (Some loss) None columns is h = let z : None ≡ Some loss = h in absurd (let u : ⊥ = cc in u)
+loss-at-end y now (Some loss) (Some other) columns is h = inl (is ∙ sym h)
+loss-at-end y now None None columns is h = (is, h)
+loss-at-end y now None (Some loss) columns is h = inr (is, h)
 
 -- an array that isn't lost in the end wasn't lost before it
 pub not-before : (y : Shape) (before lost : Option Loss) (columns : List ColumnState) → ended.IsLossBy y before columns lost → lost ≡ None → before ≡ None
@@ -96,7 +88,7 @@ module _ {L D : Type 0} (lay : LayoutGhosts L) (disk : DiskGhosts D) (setup : Se
           (slice_get-map (λ (items : Vec Item Global). map seen items.items) setup.clients.items id.client ∙ ap (option_map (λ (items : Vec Item Global). map seen items.items)) is))
           (at-place (map seen row.items) id.index Other (slice_get-map seen row.items id.index ∙ ap (option_map seen) here))
 
-  pub columns-end : ColumnsEnd disk (work_of lay setup how) setup.devices.items v back (graphs_in setup) s.start s.events s.now
+  pub columns-end : ColumnsEnd disk (work_of lay setup how) setup.devices.items v back s.now
   columns-end = record {
     kept = closed.columns.items;
     closes = s.tells.closes;
@@ -107,7 +99,7 @@ module _ {L D : Type 0} (lay : LayoutGhosts L) (disk : DiskGhosts D) (setup : Se
     stopped = λ rebuild is dead. stopped-by rebuild (s.causes.stopped rebuild is dead);
     dies = ending-dies lay disk setup how closed given s v back e;
     given_up = e.given_up;
-    lost = loss-at-end y (graphs_in setup) s.start s.events s.now closed.lost v.ending.lost (states_of y v.ending.columns) (sym s.tells.lost) s.causes.loss lost-as;
+    lost = loss-at-end y s.now closed.lost v.ending.lost (states_of y v.ending.columns) (sym s.tells.lost) lost-as;
   }
 
   -- the columns that it says were kept are those that came back

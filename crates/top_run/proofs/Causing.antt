@@ -72,7 +72,6 @@ module _ {L D : Type 0} (lay : LayoutGhosts L) (disk : DiskGhosts D) (setup : Se
 
   pub causes : Causes disk (work_of lay setup how) setup.devices.items v back (graphs_in setup) s.start s.events s.now
   causes = record {
-    replies = s.causes.replies;
     count = (ending-dies lay disk setup how closed given s v back e).count ∙ s.causes.count;
     ends = ends;
     failed = λ d is. failed-by d (s.causes.failed d is);

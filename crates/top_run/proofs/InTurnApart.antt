@@ -24,6 +24,7 @@ use Rattle.top_sweep.specs.Apart.{Touches, IsApart, id_of}
 use Rattle.top_run.specs.Work.{Work, Service}
 use Rattle.top_run.specs.Ran.{IsLossAtEnd, Ran}
 use Rattle.top_run.specs.InTurn.{plain_reply}
+use Rattle.top_run.proofs.Caused.{replies-caused}
 use Rattle.top_run.proofs.InTurnAlone.{items-all}
 use Rattle.top_run.proofs.InTurnOps.{EachRuns, AllRun, own_of, row_asks, ops-at, item-of}
 use Rattle.top_run.proofs.InTurnReplies.{replied-so, commits-so}
@@ -39,7 +40,7 @@ module _ {D : Type 0} (g : Ghosts D) (a : Work) (taken : List (Option D)) (s : S
   -- ## The array isn't lost
 
   no-loss : r.now.lost ≡ None
-  no-loss = (subst (λ (l : Option Loss). IsLossAtEnd a.layout r.graphs r.start r.events r.now (states_of a.layout s.ending.columns) l) none r.ends.lost).0
+  no-loss = (subst (λ (l : Option Loss). IsLossAtEnd a.layout r.now (states_of a.layout s.ending.columns) l) none r.ends.lost).0
 
   -- ## Items
 
@@ -88,7 +89,7 @@ module _ {D : Type 0} (g : Ghosts D) (a : Work) (taken : List (Option D)) (s : S
       let at = item-now c i o h in
       let e = has-reply c i (item.Run o None) at in
       let mine = own-item c i (item.Run o None) (item-of (items_at s.clients c) (runs c) i o h) in
-      let same : e.0 ≡ plain_reply o = replied-so a.layout r.graphs r.start r.events r.now no-loss wide blocks c within r.causes.replies (id_of c i) o mine at e.0 e.1 in
+      let same : e.0 ≡ plain_reply o = replied-so a.layout r.graphs r.start r.events r.now no-loss wide blocks c within (replies-caused g a taken back s r) (id_of c i) o mine at e.0 e.1 in
       e.1 ∙ ap Some same
 
   pub is-apart : IsApart r.now own owner

@@ -6,6 +6,7 @@ pub mod AtEnd
 mod Finishing
 mod Meaning
 mod Causing
+pub mod Caused
 pub mod Kept
 pub mod Outlived
 pub mod Rebuilt

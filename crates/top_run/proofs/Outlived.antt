@@ -26,7 +26,7 @@ use Rattle.eng_world.specs.declared.item.Reply.{Reply}
 use Rattle.eng_world.specs.declared.item.Reply.TheVariants as reply
 use Rattle.eng_world.specs.World.{IsRead, World}
 use Rattle.eng_world.specs.Legal.{StandsAt}
-use Rattle.eng_world.specs.Causes.{ItemAt, WasSpread, IsGone, IsCause, IsLossOf}
+use Rattle.eng_world.specs.Causes.{ItemAt, WasSpread, IsGone, IsCause}
 use Rattle.eng_world.proofs.Caused.{some-get}
 use Rattle.eng_array.specs.Starts.{column_of}
 use Rattle.eng_array.specs.declared.start.Start.{Start}
@@ -46,6 +46,7 @@ use Rattle.top_run.specs.Work.{Work, Service}
 use Rattle.top_run.specs.Ran.{WasFailed, IsDeadBy, IsLossAtEnd, EndsAs, RisesAt, IsFailedBy, begun_for, Ran, RanPlain}
 use Rattle.top_run.specs.Outliving.{HasFail, done_reply, MayDie, OutlivesCall, HasFaulted, IsAnswered, IsReplyTo, AllAnswered}
 use Rattle.top_run.proofs.Columns.{device-on, device-same, given-unspread, kept-same, kept-unspread, no-device, not-so}
+use Rattle.top_run.proofs.Caused.{loss-caused, replies-caused}
 use Rattle.top_run.proofs.Kept.{one-kept}
 use Rattle.top_run.proofs.Starting.{IsDeadBefore, dead-then, rebuilds-none, spread-by, spread-started}
 
@@ -283,8 +284,9 @@ module _ {D : Type 0} (g : Ghosts D) (a : Work) (taken back : List (Option D)) (
   ]
 
   -- what was lost in the run is lost in the end
-  lost-still : (loss : Loss) → IsLossOf y ran.graphs ran.start ran.events ran.now loss → NotLost y last → ⊥
-  lost-still loss was kept =
+  lost-still : (loss : Loss) → ran.now.lost ≡ Some loss → NotLost y last → ⊥
+  lost-still loss is kept =
+      let was = loss-caused g a taken back s ran loss is in
       let one = one-kept g a taken back s ran in
       let apart : DieApart ran.ends.kept s.ending.columns = dies_apart (λ c. RisesAt g a taken s back c ⊎ IsGivenUp s.ending.lost ran.ends.kept c) ran.ends.kept s.ending.columns ran.ends.dies unspread-kept in
       let ended : NotLost y (states_of y ran.ends.kept) = lost_no_less y (states_of y ran.ends.kept) last (columns_die (λ c. RisesAt g a taken s back c ⊎ IsGivenUp s.ending.lost ran.ends.kept c) y ran.ends.kept s.ending.columns ran.ends.dies apart one) kept in
@@ -297,15 +299,15 @@ module _ {D : Type 0} (g : Ghosts D) (a : Work) (taken back : List (Option D)) (
       kept : NotLost y last
       kept = lost_no_less y last (states_of y rest) (columns_die AnyCause y s.ending.columns rest only-dead (dies_unfilled AnyCause s.ending.columns rest only-dead none-left) one-ending) (outlives rest died-so)
 
-      by : (o : Option Loss) → s.ending.lost ≡ o → IsLossAtEnd y ran.graphs ran.start ran.events ran.now last o → s.ending.lost ≡ None
+      by : (o : Option Loss) → s.ending.lost ≡ o → IsLossAtEnd y ran.now last o → s.ending.lost ≡ None
       by None is h = is
-      by (Some loss) is (inl h) = absurd (lost-still loss h.1 kept)
+      by (Some loss) is (inl h) = absurd (lost-still loss h kept)
       by (Some loss) is (inr h) = absurd (lost-excludes y last loss h.1 kept)
 
   -- so a run that isn't lost in the end was never lost
   never-lost : s.ending.lost ≡ None → (loss : Loss) → ran.now.lost ≡ Some loss → ⊥
   never-lost none loss is =
-      let z : Some loss ≡ None = sym is ∙ (subst (λ o. IsLossAtEnd y ran.graphs ran.start ran.events ran.now last o) none ran.ends.lost).0 in
+      let z : Some loss ≡ None = sym is ∙ (subst (λ o. IsLossAtEnd y ran.now last o) none ran.ends.lost).0 in
       let u : ⊥ = cc in u
 
   -- ## Devices that failed
@@ -412,7 +414,7 @@ module _ {D : Type 0} (g : Ghosts D) (a : Work) (taken back : List (Option D)) (
         let within = slice_get_within (ran.now.clients id.client).items id.index asked item in
         let all = ran.rests.replied id.client in
         let got = some-get (ran.now.clients id.client).replies id.index (omega (arith, within, all)) in
-        let why = ran.causes.replies id got.0 got.1 in
+        let why = replies-caused g a taken back s ran id got.0 got.1 in
         let both : Some why.0 ≡ Some asked = sym why.1 ∙ item in
         let same : why.0 ≡ asked = cc in
         let cause = subst (λ (x : AnyItem). IsCause y ran.graphs ran.start ran.events ran.now id got.0 x) same why.2 in

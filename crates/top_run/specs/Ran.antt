@@ -6,7 +6,7 @@ use Rattle.blk_disk.specs.declared.disk.Call.{Call}
 use Rattle.blk_disk.specs.declared.disk.Disk.{Ghosts}
 use Rattle.blk_disk.specs.Disk.{call_of}
 use Rattle.blk_disk.specs.Devices.{size_of, contents_of, calls_of, RisesOn, Changes}
-use Rattle.lay_core.specs.Layout.{Shape}
+use Rattle.lay_core.specs.Layout.{Shape, IsLayout}
 use Rattle.graph_lib.specs.Library.{library}
 use Rattle.graph_mean.specs.Task.{Aim, Missing}
 use Rattle.graph_mean.specs.Graph.{View}
@@ -27,7 +27,7 @@ use Rattle.eng_world.specs.World.{World}
 use Rattle.eng_world.specs.Step.{IsOpening, EventsLead}
 use Rattle.eng_world.specs.Legal.{AreOps, ReplyOf, RepliesFit}
 use Rattle.eng_world.specs.Invariant.{IsTold, AllReplied}
-use Rattle.eng_world.specs.Causes.{ItemAt, HaveCauses, IsLossOf}
+use Rattle.eng_world.specs.Causes.{ItemAt}
 use Rattle.eng_world.specs.Rebuilding.{SpreadAlike}
 use Rattle.eng_world.specs.Rows.{IsInRows}
 use Rattle.eng_cols.specs.Stripes.{states_of}
@@ -67,10 +67,10 @@ pub record WasFailed (now : World) (c : ℕ) : Type 0 where
   pub asked : ItemAt now id (item.Fail c)
   pub replied : ReplyOf now id reply.Okay
 
--- what the array was lost by in the run, by the columns that one event left, and else by its columns in the end; if it was lost in either
-abbrev pub IsLossAtEnd : Shape → Graphs → World → List Traced → World → List ColumnState → Option Loss → Type 0
-IsLossAtEnd y graphs start events now cols None = (now.lost ≡ None) × NotLost y cols
-IsLossAtEnd y graphs start events now cols (Some loss) = ((now.lost ≡ Some loss) × IsLossOf y graphs start events now loss) ⊎ ((now.lost ≡ None) × IsLost y cols loss)
+-- what the array was lost by in the run, and else by its columns in the end; if it was lost in either
+abbrev pub IsLossAtEnd : Shape → World → List ColumnState → Option Loss → Type 0
+IsLossAtEnd y now cols None = (now.lost ≡ None) × NotLost y cols
+IsLossAtEnd y now cols (Some loss) = (now.lost ≡ Some loss) ⊎ ((now.lost ≡ None) × IsLost y cols loss)
 
 -- each item is one that a script may have: so it is no rebuild
 abbrev pub AsksAsScripts : Work → Type 0
@@ -159,22 +159,18 @@ module _ {D : Type 0} (g : Ghosts D) (a : Work) (taken : List (Option D)) where
       abbrev pub EndsAs : World → Option Column → Option Column → ℕ → Type 0
       EndsAs now was kept c = IsKeptAs was kept ⊎ ((kept ≡ Some column.Dead) × IsDeadBy now c)
 
-      -- where a rebuild began and left its column dead, it was stopped by something
-      abbrev pub HasStopped : World → List Column → Type 0
-      HasStopped now kept = (start : Start) → a.start ≡ Some start → slice_get kept (column_of start) ≡ Some column.Dead → IsStoppedBy now start
-
-      -- The columns as they are kept are those of the run's end, where a column that was being rebuilt is live if it is whole, and else filling still, or dead where it was to be spread; in the end some more may have died, as they were settled, or as the array was lost while they were filling; and the loss is the run's, or that of the columns in the end.
-      pub record ColumnsEnd (graphs : Graphs) (start : World) (events : List Traced) (now : World) : Type 0 where
+      -- The columns as they are kept are those of the run's end, where a column that was being rebuilt is live if it is whole, and else filling still, or dead where it was to be spread; in the end some more may have died, as they were settled, or as the array was lost while they were filling; and the loss is the run's, or that of the columns in the end. A rebuild that began and left its column dead was stopped by something.
+      pub record ColumnsEnd (now : World) : Type 0 where
         pub kept : List Column
         pub closes : ClosesAs a.layout now.columns kept
         pub count : length kept ≡ length a.columns
         pub came : (c : ℕ) → EndsAs now (slice_get (with_start a.start a.columns) c) (slice_get kept c) c
         pub paused : s.ending.lost ≡ None → (c d n most : ℕ) → FillsBy a.start c most → slice_get kept c ≡ Some (column.Filling d n) → length (now.clients 16).items ≡ most
         pub far : s.ending.lost ≡ None → AsksAsScripts a → (c d n most : ℕ) → FillsBy a.start c most → slice_get kept c ≡ Some (column.Filling d n) → SpreadAlike (begun_in a) now.columns → n ≡ done_before a.start a.columns c + most
-        pub stopped : HasStopped now kept
+        pub stopped : (start : Start) → a.start ≡ Some start → slice_get kept (column_of start) ≡ Some column.Dead → IsStoppedBy now start
         pub dies : Dies (λ c. RisesAt c ⊎ IsGivenUp s.ending.lost kept c) kept s.ending.columns
         pub given_up : IsGivenUpIn s.ending.lost s.ending.columns
-        pub lost : IsLossAtEnd a.layout graphs start events now (states_of a.layout s.ending.columns) s.ending.lost
+        pub lost : IsLossAtEnd a.layout now (states_of a.layout s.ending.columns) s.ending.lost
 
       -- ## Causes
 
@@ -182,9 +178,8 @@ module _ {D : Type 0} (g : Ghosts D) (a : Work) (taken : List (Option D)) where
       abbrev pub IsFailedBy : World → ℕ → Type 0
       IsFailedBy now d = RisesOn g taken back d ⊎ ((c : ℕ) × HasDevice (begun_in a) c d × WasFailed now c)
 
-      -- Each reply has its cause. Each column in the end is kept as what it was as the array was opened, or as its rebuild began, or is dead since it was filling and the array is lost, or since an item was replied ok by which it failed, or its device's count of faults rose, or it was to be spread and not all of its stripes were rebuilt; and each device that failed in the run failed for one of these, as each did on which a node went bad.
+      -- Each column in the end is kept as what it was as the array was opened, or as its rebuild began, or is dead since it was filling and the array is lost, or since an item was replied ok by which it failed, or its device's count of faults rose, or it was to be spread and not all of its stripes were rebuilt; and each device that failed in the run failed for one of these, as each did on which a node went bad.
       pub record Causes (graphs : Graphs) (start : World) (events : List Traced) (now : World) : Type 0 where
-        pub replies : HaveCauses a.layout graphs start events now
         pub count : length s.ending.columns ≡ length a.columns
         pub ends : (c : ℕ) → EndsAs now (slice_get (with_start a.start a.columns) c) (slice_get s.ending.columns c) c ⊎ ((slice_get s.ending.columns c ≡ Some column.Dead) × IsGivenUp s.ending.lost (with_start a.start a.columns) c)
         pub failed : (d : ℕ) → now.failed d ≡ true → IsFailedBy now d
@@ -192,17 +187,18 @@ module _ {D : Type 0} (g : Ghosts D) (a : Work) (taken : List (Option D)) where
 
       -- ## All of it
 
-      -- A run of what is asked, over the devices as they were taken, that tells this: there are graphs, worlds and events such that all of this holds. What its end calls and leaves on devices goes by whether the array has labels.
+      -- A run of what is asked, over the devices as they were taken, that tells this: there are graphs, worlds and events such that all of this holds, and the layout has its laws. What its end calls and leaves on devices goes by whether the array has labels.
       pub record Ran : Type 0 where
         pub graphs : Graphs
         pub start : World
         pub events : List Traced
         pub now : World
+        pub law : IsLayout a.layout
         pub opens : Opens start
         pub rests : Rests graphs start events now
         pub tells : Tells events now
         pub means : Means start now
-        pub ends : ColumnsEnd graphs start events now
+        pub ends : ColumnsEnd now
         pub causes : Causes graphs start events now
 
       -- ## Without labels

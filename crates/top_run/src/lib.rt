@@ -10,11 +10,13 @@ mod ending;
 mod in_turn;
 mod outliving;
 mod rebuilding;
+mod replied;
 mod running;
 mod service;
 
 pub use in_turn::a_sweep_comes_client_after_client;
 pub use outliving::{what_is_not_lost_is_answered, what_is_outlived_is_not_lost};
 pub use rebuilding::what_is_rebuilt_stands;
+pub use replied::{a_loss_comes_of_one_event, each_reply_has_a_cause};
 pub use running::run_clients;
 pub use service::{Line, Service, Told};

@@ -8,12 +8,14 @@ use Rattle.top_bay.specs.Views.{asked_seen}
 use Rattle.top_duty.specs.Duty.{IsWanted}
 use Rattle.top_duty.specs.Opening.{reads_fronts, sizes_of}
 use Rattle.top_duty.specs.Views.{duty_seen}
+use Rattle.top_duty.proofs.Wanting.{duty_wanted}
 use Rattle.top_words.specs.Views.{action_seen, command_seen}
 use Rattle.raid_top.specs.Views.{outcome_seen}
 use Rattle.raid_top.proofs.Acting.{acted_of, asked_of_seen, refused_of}
 use Rattle.raid_top.proofs.Keeping.{both_err}
-use Rattle.raid_top.proofs.Ordered.{duty_in_order}
+use Rattle.raid_top.proofs.Ordered.{duty_ordered}
 use Rattle.raid_top.proofs.Reading.{fronts_count}
+use Rattle.raid_top.proofs.Refusals.{refused_by}
 use Rattle.raid_top.proofs.Wanted.{duty_same}
 use Rattle.raid_top.proofs.act.act.Goals as goal
 
@@ -45,7 +47,20 @@ returns-in-Ok-clause-acted g c =
     acted_of g.B.D.Disk told (command_seen c.args.command) mid first k (duty_seen k a.duty) a.fronts.items a.devices.items (asked_of_seen k a.duty) (ap command_seen e.command)
     (λ t. subst (λ w. IsWanted w (Ok (duty_seen k a.duty))) (duty_same g.B.D.Disk.size B.tells first rose texts home mid after (command_seen c.args.command) a.fronts.items) (e.wanted t))
     e.taken (outcome_seen (action_seen x.action) x.conf x.came)
-    (duty_in_order g.B.D.Disk k a.devices.items e.admitted.within.conf (sizes_of g.B.D.Disk.size a.devices.items) a.fronts.items a.duty e.admitted.duty e.admitted.fit) many done) c.end.ensures.done
+    (duty_wanted k (sizes_of g.B.D.Disk.size a.devices.items) a.fronts.items a.duty e.admitted.duty)
+    (duty_ordered g.B.D.Disk k a.devices.items e.admitted.within.conf (sizes_of g.B.D.Disk.size a.devices.items) a.fronts.items a.duty e.admitted.duty e.admitted.fit) many done) c.end.ensures.done
+
+pub returns-in-Err-clause-refused : goal.returns-in-Err-clause-refused
+returns-in-Err-clause-refused g c =
+    let B = g.B.Bay in
+    let e = c.in-Err.ensures in
+    let told : Told _ = record { tells = B.tells; rose = Rose (B.faults c.args.bay.now) (B.faults c.admit.new.bay); texts = B.text_of c.args.bay.now; home = B.home c.args.bay.now; after = B.home c.admit.new.bay } in
+    record {
+      kind = e.kind;
+      told = λ topic. topic;
+      cause = λ t. refused_by g.B.D.Disk told (command_seen c.args.command) c.in-Err.refusal (e.refused t);
+      same = e.same;
+    }
 
 pub returns-in-Ok-clause-refused : goal.returns-in-Ok-clause-refused
 returns-in-Ok-clause-refused g c =

@@ -1,9 +1,8 @@
 use Rattle.std.proofs.Common.{ap, sym, refl, subst, ◌∙◌, length}
 use Rattle.std.specs.Prelude.{◌+◌, All}
 use Rattle.std.proofs.lemmas.Result.{IfOk-weaker}
-use Rattle.lay_core.specs.Layout.{IsLayout, SparesLieByUnits, blocks_in}
-use Rattle.raid_conf.specs.Layouts.{shape_lawful, shape_of}
-use Rattle.raid_conf.proofs.ByUnits.{spares_by_units}
+use Rattle.lay_core.specs.Layout.{blocks_in}
+use Rattle.raid_conf.specs.Layouts.{shape_of}
 use Rattle.raid_conf.specs.contracts.layouts.AnyLayoutLayout.TheImpl as any
 use Rattle.raid_script.specs.Asked.{AreFew, IsAsked}
 use Rattle.top_bay.specs.Views.{asked_seen}
@@ -90,9 +89,7 @@ returns-clause-does g c =
     (made.clients (blocks_in (shape_of k.conf o.rows)) p.made.drawn)
     made.graphs made.trace made.start in
     IfOk-weaker c.serve.result.came _ _ (λ x h.
-    came_does g.D.Disk k o c.args.ready.start c.args.ready.failed (sizes_of g.D.Disk.size c.args.devices.items) c.requires.ready.0 p.ready.starts (views_of c.args.ready.joined.items) c.args.devices.items back c.requires.within
-    (subst (λ y. IsLayout y) p.made.shape (shape_lawful c.args.ready.layout))
-    (subst (λ y. SparesLieByUnits y) p.made.shape (spares_by_units c.args.ready.layout))
+    came_does g.D.Disk k o c.args.ready.start c.args.ready.failed (views_of c.args.ready.joined.items) c.args.devices.items back
     (scripted k.conf.columns graphs (clients_by k.command.action k.clients (blocks_in (shape_of k.conf o.rows)))
     (either_asked k.conf.columns graphs k.command.action k.clients (blocks_in (shape_of k.conf o.rows)) c.requires.within.asked
     (subst (λ rows. All (All (IsAsked k.conf.columns graphs)) rows) p.made.drawn (p.made.asked k.conf.columns graphs))))
