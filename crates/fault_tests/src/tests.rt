@@ -13,6 +13,7 @@ use std::thread::Threads;
 mod bays;
 mod cuts;
 mod devices;
+mod growths;
 mod realistic;
 mod spreading;
 mod stops;
