@@ -1,7 +1,7 @@
 -- Bytes of buffers and of sectors, and sums of them.
 use Rattle.std.proofs.Common.{◌≡◌, ◌≢◌, ℕ, zero, suc, ◌+◌, ◌*◌, ◌<◌, List, true, replicate, Some, refl, sym, ap, ◌∙◌}
 use Rattle.std.specs.Prelude.{bit_xor, slice_index}
-use Rattle.std.specs.Int.Bits.{xor_self}
+use Rattle.std.specs.Int.Bits.{xor_self, xor_zero_r}
 use Rattle.std.proofs.lemmas.Nat.{xor_comm}
 use Rattle.std.proofs.lemmas.List.{get_or-take, get_or-drop}
 use Rattle.blk_disk.specs.Disk.{sector_at}
@@ -29,6 +29,11 @@ all-zero (suc n) (suc j) = all-zero n j
 -- an available unit's bytes are those at its seat
 pub byte-seat : (y : Shape) (c : Contents) (cols : List ColumnState) (s i o k : ℕ) (at : Spot) → is_available y cols s i ≡ true → seat y cols s i ≡ Some at → byte_of y c cols s i o k ≡ c at.device (contents.sector_at y at o) k
 byte-seat y c cols s i o k at h is = ap (λ q. byte_if y c q o k) (spot-seat y cols s i h ∙ is)
+
+-- the sum of one unit
+pub sum-one : (y : Shape) (c : Contents) (cols : List ColumnState) (s : ℕ) (bytes : List ℕ) → ((o k : ℕ) → o < y.unit_sectors → k < 512 → slice_index bytes (512 * o + k) ≡ byte_of y c cols s 0 o k) → IsSum y c cols s 1 bytes
+unfolding xor_below
+sum-one y c cols s bytes holds o k ou ku = holds o k ou ku ∙ sym (below_more (λ i. byte_of y c cols s i o k) 0 ∙ xor_zero_r (byte_of y c cols s 0 o k))
 
 -- the sum of no unit, and of one more
 pub sum-none : (y : Shape) (c : Contents) (cols : List ColumnState) (s n : ℕ) (bytes : List ℕ) → bytes ≡ replicate n 0 → IsSum y c cols s 0 bytes

@@ -18,7 +18,7 @@ use Rattle.raid_recon.specs.declared.kind.Sweep.TheVariants.{Check, Sync, Init}
 use Rattle.eng_cols.specs.Stripes.{states_of, count_below}
 use Rattle.raid_recon.specs.Array.{IsArray, IsComplete}
 use Rattle.raid_recon.specs.Sums.{sum_of, IsZero, IsNotZero, HoldsSum}
-use Rattle.raid_recon.specs.Turns.{Turn, Left, Unread, Sound, Unsound, Written, Unwritten, does_count, does_write, failed_at, dead_at, columns_after, Rewrites, is_check, is_init, IsTurn}
+use Rattle.raid_recon.specs.Turns.{Turn, Left, Unread, Sound, Unsound, Written, Unwritten, does_count, does_write, dead_at, columns_after, Rewrites, is_check, is_init, IsTurn}
 use Rattle.raid_recon.specs.Log.{columns_in, count_in, turn_at, AreTurns, IsRewritten}
 use Rattle.raid_recon.specs.Swept.{IsSwept}
 use Rattle.raid_recon.specs.Ends.{IsToCount, MayRewrite, ChecksHold, IsCounted}
@@ -103,7 +103,7 @@ rewrites-more Check P Q f h = h
 rewrites-more Sync P Q f h = f h
 rewrites-more Init P Q f h = h
 
-module _ {D : Type 0} (g : Ghosts D) (kind : Sweep) (y : Shape) (layout : IsLayout y) (one : y.checks ≡ 1) (columns after : List Column) (old new : List (Option D)) (n : ℕ) (array : IsArray g y columns old) (w : IsSwept g kind y y.stripes columns after old new n) where
+module _ {D : Type 0} (g : Ghosts D) (kind : Sweep) (y : Shape) (most : ℕ) (layout : IsLayout y) (one : y.checks ≡ 1) (columns after : List Column) (old new : List (Option D)) (n : ℕ) (array : IsArray g y columns old) (w : IsSwept g kind y most y.stripes columns after old new n) where
   order : InOrder (states_of y columns)
   order = array.order
 
@@ -212,7 +212,7 @@ due-looked Check P e h = h
 due-looked Sync P e h = h
 due-looked Init P e h = no-bool (sym e)
 
-module _ {D : Type 0} (g : Ghosts D) (kind : Sweep) (y : Shape) (layout : IsLayout y) (one : y.checks ≡ 1) (columns after : List Column) (old new : List (Option D)) (n : ℕ) (order : InOrder (states_of y columns)) (w : IsSwept g kind y y.stripes columns after old new n) where
+module _ {D : Type 0} (g : Ghosts D) (kind : Sweep) (y : Shape) (most : ℕ) (layout : IsLayout y) (one : y.checks ≡ 1) (columns after : List Column) (old new : List (Option D)) (n : ℕ) (order : InOrder (states_of y columns)) (w : IsSwept g kind y most y.stripes columns after old new n) where
   counted-of : (s : ℕ) (t : Turn) → does_count t ≡ true → Had g.tells kind y (contents_of g old) columns w.turns s t → IsComplete y (states_of y columns) s × IsToCount kind (g.tells → IsNotZero y (contents_of g old) (states_of y columns) s)
   counted-of s Left e h = no-bool e
   counted-of s (Unread i) e h = no-bool e

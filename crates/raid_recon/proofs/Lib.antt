@@ -6,6 +6,10 @@ pub mod Differing
 pub mod Frames
 pub mod UnitReads
 pub mod Backs
+pub mod AtHand
+pub mod Loads
+pub mod Alone
+pub mod Windows
 pub mod Visits
 pub mod Answered
 pub mod Logs

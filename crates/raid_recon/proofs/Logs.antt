@@ -19,9 +19,11 @@ use Rattle.raid_recon.specs.declared.kind.Sweep.TheVariants.{Check, Sync, Init}
 use Rattle.eng_cols.specs.Stripes.{states_of}
 use Rattle.raid_recon.specs.Array.{IsArray, IsCheckSector, Failed}
 use Rattle.raid_recon.specs.Sums.{sum_of, IsZero, IsNotZero, HoldsSum}
-use Rattle.raid_recon.specs.Turns.{Turn, Left, Unread, Sound, Unsound, Written, Unwritten, TellsMore, does_count, does_write, failed_at, dead_at, columns_after, units_read, Rewrites, IsTurn, IsVisit}
-use Rattle.raid_recon.specs.Log.{columns_in, count_in, calls_in, turn_at, AreTurns, IsRewritten}
-use Rattle.raid_recon.specs.Units.{SweepsStripe}
+use Rattle.raid_recon.specs.Turns.{Turn, Left, Unread, Sound, Unsound, Written, Unwritten, TellsMore, does_count, does_write, failed_at, dead_at, columns_after, units_read, Rewrites, IsTurn, IsVisitBy}
+use Rattle.raid_recon.specs.declared.ahead.Rows.{Rows}
+use Rattle.raid_recon.specs.Ahead.{ahead_in, is_at_hand, no_rows, rows_at, rows_in, turn_ahead, turn_rows}
+use Rattle.raid_recon.specs.Log.{columns_in, count_in, turn_at, AreTurns, IsRewritten}
+use Rattle.raid_recon.specs.Units.{IsAhead, SweepsBy}
 use Rattle.raid_recon.specs.Swept.{IsSwept}
 use Rattle.raid_recon.proofs.Calls.{tells_more-nil, tells_more-then}
 use Rattle.raid_recon.proofs.Frames.{last-unit, check-alone, byte-same, sum-same}
@@ -81,22 +83,33 @@ turn-same told kind y a b cols s Unwritten same h = (h.0, rewrites-same kind _ _
 
 -- ## No turn, and one more
 
-module _ {D : Type 0} (g : Ghosts D) (kind : Sweep) (y : Shape) (columns : List Column) where
-  pub swept-none : (old : List (Option D)) → IsSwept g kind y 0 columns columns old old 0
-  swept-none old = record {
-    turns = [];
-    each = refl;
-    are = tt;
-    columns_are = refl;
-    count = refl;
-    frame = changes-refl g (IsRewritten y (states_of y columns) []) old;
-    sums = λ told s e. no-some e;
-    dies = dies-refl (Failed g (states_of y columns) old old) columns;
-    told = λ d. tells_more-nil (calls_of g old d);
+-- So many stripes were swept, and this is at hand behind them.
+pub record IsSweeping {D : Type 0} (g : Ghosts D) (kind : Sweep) (y : Shape) (most stripes : ℕ) (columns after : List Column) (old new : List (Option D)) (counted : ℕ) (hands : List Rows) (bytes : List ℕ) : Type 0 where
+  pub swept : IsSwept g kind y most stripes columns after old new counted
+  pub ahead : IsAhead g y most (states_of y after) stripes (λ d. rows_in kind y most columns swept.turns d) new hands bytes
+
+module _ {D : Type 0} (g : Ghosts D) (kind : Sweep) (y : Shape) (most : ℕ) (columns : List Column) where
+  pub sweeping-none : (old : List (Option D)) (hands : List Rows) (bytes : List ℕ) → ((c : ℕ) → rows_at hands c ≡ no_rows) → IsSweeping g kind y most 0 columns columns old old 0 hands bytes
+  sweeping-none old hands bytes none = record {
+    swept = record {
+      turns = [];
+      each = refl;
+      are = tt;
+      columns_are = refl;
+      count = refl;
+      frame = changes-refl g (IsRewritten y (states_of y columns) []) old;
+      sums = λ told s e. no-some e;
+      dies = dies-refl (Failed g (states_of y columns) old old) columns;
+      told = λ d. tells_more-nil (calls_of g old d);
+    };
+    ahead = record {
+      agrees = λ c d has. none c;
+      holds = λ told t i at le tw iw is hand o k ou ku. let at_hand : is_at_hand no_rows at.row ≡ true = hand in absurd (search (arith, at_hand));
+    };
   }
 
   -- what is still an array
-  pub array-swept : (stripes n : ℕ) (mid : List Column) (old cur : List (Option D)) → IsArray g y columns old → IsSwept g kind y stripes columns mid old cur n → IsArray g y mid cur
+  pub array-swept : (stripes n : ℕ) (mid : List Column) (old cur : List (Option D)) → IsArray g y columns old → IsSwept g kind y most stripes columns mid old cur n → IsArray g y mid cur
   array-swept stripes n mid old cur array w =
       let back : Back y (states_of y mid) (states_of y columns) = subst (λ cs. Back y (states_of y cs) (states_of y columns)) (sym w.columns_are) (back-in y columns array.order w.turns) in
       record {
@@ -149,7 +162,7 @@ module _ {D : Type 0} (g : Ghosts D) (kind : Sweep) (y : Shape) (columns : List 
     module _ (are : AreTurns g.tells kind y (contents_of g old) columns ts) (frame : Changes g (IsRewritten y (states_of y columns) ts) old cur)
         (sums : g.tells → (s : ℕ) → turn_at ts s ≡ Some Written → HoldsSum y (contents_of g cur) (states_of y columns) s)
         (dies : Dies (Failed g (states_of y columns) old cur) columns (columns_in y columns ts)) (t : Turn)
-        (v : IsVisit g kind y (states_of y (columns_in y columns ts)) (length ts) cur new t) where
+        (v : IsVisitBy g kind y (states_of y (columns_in y columns ts)) (length ts) cur new t (λ d. turn_ahead kind y most (states_of y (columns_in y columns ts)) (length ts) t d (rows_in kind y most columns ts d))) where
       judged : AreTurns g.tells kind y (contents_of g old) columns (t ∷ ts)
       judged = (
         are,
@@ -201,30 +214,42 @@ module _ {D : Type 0} (g : Ghosts D) (kind : Sweep) (y : Shape) (columns : List 
       died : Dies (Failed g (states_of y columns) old new) columns (columns_in y columns (t ∷ ts))
       died = dies-then _ columns (columns_in y columns ts) _ (dies-more _ _ columns (columns_in y columns ts) wider dies) (dying (failed_at y (states_of y (columns_in y columns ts)) (length ts) t) refl)
 
-      pub swept-turn : (counted m : ℕ) (b : Bool) → counted ≡ count_in ts → b ≡ does_count t → m ≡ counted + (if b then 1 else 0) → ((d : ℕ) → TellsMore (calls_of g old d) (calls_of g cur d) (calls_in kind y columns ts d))
-          → IsSwept g kind y (suc (length ts)) columns (columns_after y (columns_in y columns ts) (length ts) t) old new m
-      swept-turn counted m b was does is told = record {
-        turns = t ∷ ts;
-        each = refl;
-        are = judged;
-        columns_are = refl;
-        count = is ∙ (ap (λ n. n + (if b then 1 else 0)) was ∙ ap (λ x. count_in ts + (if x then 1 else 0)) does);
-        frame = framed;
-        sums = summed;
-        dies = died;
-        told = λ d. tells_more-then (calls_of g old d) (calls_of g cur d) (calls_of g new d) _ _ (told d) (v.told d);
+      pub sweeping-turn : (counted m : ℕ) (b : Bool) (hands : List Rows) (bytes : List ℕ) → counted ≡ count_in ts → b ≡ does_count t → m ≡ counted + (if b then 1 else 0) → ((d : ℕ) → TellsMore (calls_of g old d) (calls_of g cur d) (ahead_in kind y most columns ts d))
+          → IsAhead g y most (states_of y (columns_after y (columns_in y columns ts) (length ts) t)) (suc (length ts)) (λ d. turn_rows kind y most (states_of y (columns_in y columns ts)) (length ts) t d (rows_in kind y most columns ts d)) new hands bytes
+          → IsSweeping g kind y most (suc (length ts)) columns (columns_after y (columns_in y columns ts) (length ts) t) old new m hands bytes
+      sweeping-turn counted m b hands bytes was does is told at_hand = record {
+        swept = record {
+          turns = t ∷ ts;
+          each = refl;
+          are = judged;
+          columns_are = refl;
+          count = is ∙ (ap (λ n. n + (if b then 1 else 0)) was ∙ ap (λ x. count_in ts + (if x then 1 else 0)) does);
+          frame = framed;
+          sums = summed;
+          dies = died;
+          told = λ d. tells_more-then (calls_of g old d) (calls_of g cur d) (calls_of g new d) _ _ (told d) (v.told d);
+        };
+        ahead = at_hand;
       }
 
   -- one more stripe was swept
-  pub swept-more : (layout : IsLayout y) → y.checks ≡ 1 → (old cur new : List (Option D)) (mid after : List Column) (s n m next : ℕ) (b : Bool) → IsArray g y columns old → s < y.stripes → IsSwept g kind y s columns mid old cur n
-      → SweepsStripe g kind y s mid after cur new b → m ≡ n + (if b then 1 else 0) → next ≡ suc s → IsSwept g kind y next columns after old new m
-  swept-more layout one old cur new mid after s n m next b array within w st is succ =
-      let ts = w.turns in
-      let v = subst (λ k. IsVisit g kind y (states_of y (columns_in y columns ts)) k cur new st.turn) (sym w.each) (subst (λ cs. IsVisit g kind y (states_of y cs) s cur new st.turn) w.columns_are st.visit) in
-      let after-is : after ≡ columns_after y (columns_in y columns ts) (length ts) st.turn = st.columns_are ∙ (ap (λ cs. columns_after y cs s st.turn) w.columns_are ∙ ap (λ k. columns_after y (columns_in y columns ts) k st.turn) (sym w.each)) in
-      let made = swept-turn layout one old cur new array ts (omega (arith, within, w.each)) w.are w.frame w.sums (subst (Dies (Failed g (states_of y columns) old cur) columns) w.columns_are w.dies) st.turn v n m b w.count st.count is w.told in
-      subst (λ k. IsSwept g kind y k columns after old new m) (let e : suc (length ts) ≡ next = omega (arith, succ, w.each) in e)
-      (subst (λ cs. IsSwept g kind y (suc (length ts)) columns cs old new m) (sym after-is) made)
+  module _ (layout : IsLayout y) (one : y.checks ≡ 1) (old cur new : List (Option D)) (mid after : List Column) (s n m next : ℕ) (b : Bool) (before hands : List Rows) (at_first bytes : List ℕ) (array : IsArray g y columns old) (within : s < y.stripes)
+      (w : IsSweeping g kind y most s columns mid old cur n before at_first) where
+    pub sweeping-more : (st : SweepsBy g (λ t d. turn_ahead kind y most (states_of y mid) s t d (rows_in kind y most columns w.swept.turns d)) kind y s mid after cur new b)
+        → IsAhead g y most (states_of y after) (suc s) (λ d. turn_rows kind y most (states_of y mid) s st.turn d (rows_in kind y most columns w.swept.turns d)) new hands bytes
+        → m ≡ n + (if b then 1 else 0) → next ≡ suc s → IsSweeping g kind y most next columns after old new m hands bytes
+    sweeping-more st at_hand is succ =
+        let x = w.swept in
+        let ts = x.turns in
+        let v = subst (λ k. IsVisitBy g kind y (states_of y (columns_in y columns ts)) k cur new st.turn (λ d. turn_ahead kind y most (states_of y (columns_in y columns ts)) k st.turn d (rows_in kind y most columns ts d))) (sym x.each)
+        (subst (λ cs. IsVisitBy g kind y (states_of y cs) s cur new st.turn (λ d. turn_ahead kind y most (states_of y cs) s st.turn d (rows_in kind y most columns ts d))) x.columns_are st.visit) in
+        let after-is : after ≡ columns_after y (columns_in y columns ts) (length ts) st.turn = st.columns_are ∙ (ap (λ cs. columns_after y cs s st.turn) x.columns_are ∙ ap (λ k. columns_after y (columns_in y columns ts) k st.turn) (sym x.each)) in
+        let held = subst (λ k. IsAhead g y most (states_of y (columns_after y (columns_in y columns ts) (length ts) st.turn)) (suc k) (λ d. turn_rows kind y most (states_of y (columns_in y columns ts)) k st.turn d (rows_in kind y most columns ts d)) new hands bytes) (sym x.each)
+        (subst (λ cs. IsAhead g y most (states_of y (columns_after y (columns_in y columns ts) (length ts) st.turn)) (suc s) (λ d. turn_rows kind y most (states_of y cs) s st.turn d (rows_in kind y most columns ts d)) new hands bytes) x.columns_are
+        (subst (λ cs. IsAhead g y most (states_of y cs) (suc s) (λ d. turn_rows kind y most (states_of y mid) s st.turn d (rows_in kind y most columns ts d)) new hands bytes) after-is at_hand)) in
+        let made = sweeping-turn layout one old cur new array ts (omega (arith, within, x.each)) x.are x.frame x.sums (subst (Dies (Failed g (states_of y columns) old cur) columns) x.columns_are x.dies) st.turn v n m b hands bytes x.count st.count is x.told held in
+        subst (λ k. IsSweeping g kind y most k columns after old new m hands bytes) (let e : suc (length ts) ≡ next = omega (arith, succ, x.each) in e)
+        (subst (λ cs. IsSweeping g kind y most (suc (length ts)) columns cs old new m hands bytes) (sym after-is) made)
 
 -- no more stripes count than have had their turns
 pub count-few : (ts : List Turn) → count_in ts ≤ length ts

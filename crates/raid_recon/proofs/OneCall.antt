@@ -11,7 +11,7 @@ use Rattle.blk_disk.specs.Devices.{device_at, size_of, contents_of, RisesOn, Sta
 use Rattle.blk_disk.proofs.DeviceLaws.{device_at-set, tells_on-one, changes-set}
 use Rattle.eng_cols.specs.declared.spot.Spot.{Spot}
 use Rattle.raid_recon.specs.Turns.{call_at}
-use Rattle.raid_recon.specs.Units.{IsThere, IsRead, IsWritten}
+use Rattle.raid_recon.specs.Units.{IsThere, IsRead, IsWritten, call_from}
 use Rattle.raid_recon.proofs.Calls.{call_on, told_at}
 use Rattle.raid_recon.proofs.Bytes.{byte-sector_at}
 
@@ -54,17 +54,17 @@ module _ {D : Type 0} (g : Ghosts D) (ds : List (Option D)) (at : Spot) (u first
   contents : (b : List (Option D)) (w : D) → device_at b at.device ≡ Some w → (n k : ℕ) → contents_of g b at.device n k ≡ slice_index (g.sector w n) k
   contents b w e n k = ap (λ o. slice_index (option_map_or (λ v. g.sector v n) o []) k) e
 
-  pub read_is : (into : List ℕ) (r : Result (Unit {0}) Failed) → OnErr r (Rose (g.faults x) (g.faults z)) → (g.tells → (s : ℕ) → g.sector z s ≡ g.sector x s) → OnOk r (g.tells → (k : ℕ) → k < 512 * u / 512 → sector_at into k ≡ g.sector x (first + k))
-      → Tells (g.calls x) (g.calls z) (call_of 0 first (512 * u) (is_ok r)) → IsRead g at u ds (set ds at.device (Some z)) into (is_ok r)
+  pub read_is : (m n : ℕ) → n ≡ 512 * m → m ≤ 4294967295 → (into : List ℕ) (r : Result (Unit {0}) Failed) → OnErr r (Rose (g.faults x) (g.faults z)) → (g.tells → (s : ℕ) → g.sector z s ≡ g.sector x s) → OnOk r (g.tells → (k : ℕ) → k < n / 512 → sector_at into k ≡ g.sector x (first + k))
+      → Tells (g.calls x) (g.calls z) (call_of 0 first n (is_ok r)) → IsRead g at u m ds (set ds at.device (Some z)) into (is_ok r)
   unfolding after
-  read_is into r cause same bytes told = record {
+  read_is m n sectors short into r cause same bytes told = record {
     same = changed (λ d n. ⊥) (record { size = size; later = later; told = tells_on-one (g.calls x) (g.calls z) _ told; same = λ t n not. same t n });
     bytes = λ good t o k ou ku.
-        sym (byte-sector_at into o k ku) ∙ ap (λ (l : List ℕ). slice_index l k) (on_ok r _ bytes good t o (omega (arith, ou)) ∙ ap (g.sector x) (omega (arith, is)))
+        sym (byte-sector_at into o k ku) ∙ ap (λ (l : List ℕ). slice_index l k) (on_ok r _ bytes good t o (omega (arith, ou, sectors)) ∙ ap (g.sector x) (omega (arith, is)))
         ∙ sym (contents ds x here (64 + at.row * u + o) k);
     cause = λ bad. rose (on_err r _ cause bad);
-    told = told_at g ds at.device x z (call_at u at 0 (is_ok r)) long here
-        (subst (Tells (g.calls x) (g.calls z)) (call_on 0 first u (512 * u) (is_ok r) few refl ∙ ap (λ n. let c : Call = record { kind = 0; first = n; count = u; good = is_ok r } in c) is) told);
+    told = told_at g ds at.device x z (call_from u at 0 m (is_ok r)) long here
+        (subst (Tells (g.calls x) (g.calls z)) (call_on 0 first m n (is_ok r) short sectors ∙ ap (λ f. let c : Call = record { kind = 0; first = f; count = m; good = is_ok r } in c) is) told);
   }
 
   pub written_is : (from : List ℕ) (r : Result (Unit {0}) Failed) → OnErr r (Rose (g.faults x) (g.faults z)) → (g.tells → (s : ℕ) → s < first → g.sector z s ≡ g.sector x s) → (g.tells → (s : ℕ) → first + 512 * u / 512 ≤ s → g.sector z s ≡ g.sector x s)

@@ -1,5 +1,5 @@
 -- What a sweep has changed and counted, said of the stripes as they are before it and behind it.
-use Rattle.std.specs.Prelude.{◌≡◌, ℕ, ◌<◌, ◌≤◌, Bool, true, ◌⊎◌, All, List, [], ◌∷◌, ◌++◌, Option, Some, None}
+use Rattle.std.specs.Prelude.{◌≡◌, ℕ, ◌+◌, ◌*◌, ◌<◌, ◌≤◌, Bool, true, ◌⊎◌, All, List, [], ◌∷◌, ◌++◌, Option, Some, None}
 use Rattle.blk_disk.specs.declared.disk.Call.{Call}
 use Rattle.blk_disk.specs.declared.disk.Disk.{Ghosts}
 use Rattle.blk_disk.specs.Devices.{contents_of}
@@ -65,3 +65,21 @@ abbrev pub CallsUnits : Shape → List ColumnState → ℕ → Option (List Call
 CallsUnits y cols d before None = Unit {0}
 CallsUnits y cols d None (Some now) = ⊥
 CallsUnits y cols d (Some before) (Some now) = (more : List Call) × (now ≡ before ++ more) × AreGoodButLast more × All (IsUnitCall y cols d) more
+
+-- A read of rows that begins with a unit that stands on the device, and goes no further than the rows do, at most 64 KiB or one unit; or a write of a whole check unit there.
+pub record IsRowsCall (y : Shape) (cols : List ColumnState) (d : ℕ) (call : Call) : Type 0 where
+  pub stripe : ℕ
+  pub unit : ℕ
+  pub at : Spot
+  pub in_array : stripe < y.stripes
+  pub in_stripe : unit < y.width
+  pub stands : seat y cols stripe unit ≡ Some at
+  pub device : d ≡ at.device
+  pub call_is : ((rows : ℕ) × (1 ≤ rows) × (rows * y.unit_sectors ≤ 128) × (at.row + rows ≤ y.rows) × (call ≡ record { kind = 0; first = 64 + at.row * y.unit_sectors; count = rows * y.unit_sectors; good = call.good }))
+      ⊎ ((unit ≡ data_units y) × (call ≡ call_at y.unit_sectors at 1 call.good))
+
+-- Where the calls are told, those that came are such, and none is behind one that failed.
+abbrev pub CallsRows : Shape → List ColumnState → ℕ → Option (List Call) → Option (List Call) → Type 0
+CallsRows y cols d before None = Unit {0}
+CallsRows y cols d None (Some now) = ⊥
+CallsRows y cols d (Some before) (Some now) = (more : List Call) × (now ≡ before ++ more) × AreGoodButLast more × All (IsRowsCall y cols d) more

@@ -2,6 +2,7 @@ pub mod Array
 pub mod Sums
 pub mod Turns
 pub mod Log
+pub mod Ahead
 pub mod Units
 pub mod Swept
 pub mod Samples

@@ -1,6 +1,5 @@
 -- The turns of all stripes, one after another. A log has the newest turn first; so a turn is that of the stripe whose number is the number of turns behind it.
-use Rattle.std.specs.Prelude.{◌≡◌, ℕ, ◌+◌, List, [], ◌∷◌, ◌++◌, length, true, Option, Some, None, if◌then◌else◌, ◌==◌}
-use Rattle.blk_disk.specs.declared.disk.Call.{Call}
+use Rattle.std.specs.Prelude.{◌≡◌, ℕ, ◌+◌, List, [], ◌∷◌, length, true, Option, Some, None, if◌then◌else◌, ◌==◌}
 use Rattle.lay_core.specs.Layout.{Shape}
 use Rattle.eng_cols.specs.declared.column.Column.{Column}
 use Rattle.eng_cols.specs.Contents.{Contents}
@@ -8,7 +7,7 @@ use Rattle.eng_cols.specs.Cols.{ColumnState}
 use Rattle.raid_recon.specs.declared.kind.Sweep.{Sweep}
 use Rattle.eng_cols.specs.Stripes.{states_of}
 use Rattle.raid_recon.specs.Array.{IsCheckSector}
-use Rattle.raid_recon.specs.Turns.{Turn, does_count, does_write, columns_after, turn_calls, IsTurn}
+use Rattle.raid_recon.specs.Turns.{Turn, does_count, does_write, columns_after, IsTurn}
 
 -- the columns behind these turns
 abbrev pub columns_in : Shape → List Column → List Turn → List Column
@@ -19,11 +18,6 @@ columns_in y columns (t ∷ ts) = columns_after y (columns_in y columns ts) (len
 abbrev pub count_in : List Turn → ℕ
 count_in [] = 0
 count_in (t ∷ ts) = count_in ts + (if does_count t then 1 else 0)
-
--- the calls of device d in them
-abbrev pub calls_in : Sweep → Shape → List Column → List Turn → ℕ → List Call
-calls_in kind y columns [] d = []
-calls_in kind y columns (t ∷ ts) d = calls_in kind y columns ts d ++ turn_calls kind y (states_of y (columns_in y columns ts)) (length ts) t d
 
 -- the turn of stripe s
 abbrev pub turn_at : List Turn → ℕ → Option Turn

@@ -133,10 +133,14 @@ IsTurn told kind y contents cols s Unsound = IsComplete y cols s × ((is_check k
 IsTurn told kind y contents cols s Written = IsComplete y cols s × Rewrites kind (told → IsNotZero y contents cols s)
 IsTurn told kind y contents cols s Unwritten = IsComplete y cols s × Rewrites kind (told → IsNotZero y contents cols s)
 
--- One stripe's turn: which it is, what changed (sectors of its check unit, where that was written), what the check unit then holds, whose device failed, and which calls were made.
-pub record IsVisit {D : Type 0} (g : Ghosts D) (kind : Sweep) (y : Shape) (cols : List ColumnState) (s : ℕ) (old new : List (Option D)) (turn : Turn) : Type 0 where
+-- One stripe's turn: which it is, what changed (sectors of its check unit, where that was written), what the check unit then holds, whose device failed, and that these calls were made.
+pub record IsVisitBy {D : Type 0} (g : Ghosts D) (kind : Sweep) (y : Shape) (cols : List ColumnState) (s : ℕ) (old new : List (Option D)) (turn : Turn) (calls : ℕ → List Call) : Type 0 where
   pub is : IsTurn g.tells kind y (contents_of g old) cols s turn
   pub frame : Changes g (λ d n. (does_write turn ≡ true) × IsCheckSector y cols s d n) old new
   pub sum : g.tells → turn ≡ Written → HoldsSum y (contents_of g new) cols s
   pub cause : (at : Spot) → failed_at y cols s turn ≡ Some at → RisesOn g old new at.device
-  pub told : (d : ℕ) → TellsMore (calls_of g old d) (calls_of g new d) (turn_calls kind y cols s turn d)
+  pub told : (d : ℕ) → TellsMore (calls_of g old d) (calls_of g new d) (calls d)
+
+-- one where each unit was read by a call of its own
+abbrev pub IsVisit : {D : Type 0} → Ghosts D → Sweep → Shape → List ColumnState → ℕ → (old new : List (Option D)) → Turn → Type 0
+IsVisit g kind y cols s old new turn = IsVisitBy g kind y cols s old new turn (turn_calls kind y cols s turn)

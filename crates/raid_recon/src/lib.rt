@@ -4,12 +4,14 @@
 //! [`sweep_check`] counts the stripes that aren't in sync, [`sweep_sync`] rewrites the check units
 //! of these, and [`sweep_init`] rewrites all (raidctl(8): checking, rewriting and initialising
 //! parity). A stripe that lacks a unit is left alone. Of each other stripe the units are read once,
-//! one call a unit, and then at most its check unit is written. A device that fails a call makes
-//! its column dead; that stripe isn't counted, and the device isn't called again. Each sweep is handed
+//! and then at most its check unit is written. A call reads rows that lie side by side on a device, as
+//! many as the room has place for, up to 64 KiB. A device that fails a call makes its column dead; that
+//! stripe isn't counted, and the device isn't called again. Each sweep is handed
 //! a judge, which may hold any columns, as many as the layout has. After each stripe a [`SweepRoom`]
 //! tells how far the sweep is. [`rebuild_count`] is how many stripes a column has to be rebuilt in.
 #![tactic(auto)]
 
+mod ahead;
 mod count;
 mod devices;
 mod kind;

@@ -6,23 +6,20 @@ use raid_progress::Progress;
 use std::alloc::Global;
 use std::marker::Model;
 
-/// Room for two units: a stripe's sum, and the unit that was read last. Contracts see how many bytes
-/// it was opened with. A sweep needs 1,024 bytes for each sector of a unit.
+/// Room for a stripe's sum, and for rows that are read ahead. Contracts see how many bytes it has. A sweep
+/// needs 1,024 for each sector of a unit; it reads several rows by one call where there are 512 for each
+/// sector of a unit, and as many for each sector of two units of each column.
 #[derive(Drop)]
 pub struct Room {
-    pub(crate) bytes: u32,
-    pub(crate) sum: Vec<u8>,
-    pub(crate) unit: Vec<u8>,
+    pub(crate) bytes: Vec<u8>,
 }
 
 impl Model for Room {
-    ghost use Rattle.std.specs.Prelude.{ℕ, ◌≡◌, ◌/◌, length};
+    ghost use Rattle.std.specs.Prelude.{ℕ, length};
 
     ghost Value = { ℕ };
 
-    ghost view = { λ r. r.bytes };
-
-    ghost invariant = { λ r. (length r.sum.items ≡ r.bytes / 2) × (length r.unit.items ≡ r.bytes / 2) };
+    ghost view = { λ r. length r.bytes.items };
 }
 
 impl Room {
@@ -30,11 +27,8 @@ impl Room {
     pub fn open(alloc: Global, bytes: u32) -> Result<Room, Memory>
         ensures { IfOk result (λ room. room ≡ bytes) }
     {
-        let half = (bytes / 2) as usize;
         Ok(Room {
-            bytes,
-            sum: vec![in alloc; 0; half]?,
-            unit: vec![in alloc; 0; half]?,
+            bytes: vec![in alloc; 0; bytes as usize]?,
         })
     }
 }

@@ -1,10 +1,13 @@
 //! One stripe's turn in a sweep.
-ghost use Rattle.std.specs.Prelude.{◌≡◌, ◌<◌, ◌*◌, length};
+ghost use Rattle.std.specs.Prelude.{◌≡◌, ◌<◌, ◌*◌, ℕ, length};
 ghost use Rattle.eng_cols.specs.Cols.{IsFor};
+ghost use Rattle.raid_recon.specs.Ahead.{AreHands, HasWindows};
 ghost use Rattle.raid_recon.specs.Array.{AreSeated, IsComplete};
-ghost use Rattle.raid_recon.specs.Units.{Visits};
+ghost use Rattle.raid_recon.specs.Units.{IsAhead, Visits};
+ghost use Rattle.raid_recon.specs.declared.ahead.Rows.{Rows as HandRows};
 ghost use Rattle.raid_recon.specs.declared.kind.Sweep.TheVariants as sweep;
 
+use crate::ahead::Rows;
 use crate::kind::{FailedAt, Sweep};
 use crate::place::is_complete;
 use crate::sums::{is_out_of_sync, sum_data, write_check};
@@ -17,8 +20,10 @@ fn check_stripe<L: Layout, D: Disk>(
     devices: &mut [Option<D>],
     cols: &Cols,
     stripe: u32,
+    most: u32,
+    hands: &mut [Rows],
+    ahead: &mut [u8],
     sum: &mut [u8],
-    unit: &mut [u8],
 ) -> Result<bool, FailedAt>
     requires fit { IsFor (L.shape layout.now) cols.now }
     requires array { AreSeated D.Disk (L.shape layout.now) cols.now.states devices.old }
@@ -27,11 +32,16 @@ fn check_stripe<L: Layout, D: Disk>(
     requires complete { IsComplete (L.shape layout.now)
         cols.now.states stripe }
     requires sum { length sum.old ≡ 512 * (L.shape layout.now).unit_sectors }
-    requires unit { length unit.old ≡ 512 * (L.shape layout.now).unit_sectors }
-    ensures { Visits D.Disk sweep.Check (L.shape layout.now)
-        cols.now.states stripe devices.old devices.new result }
+    requires windows { HasWindows (L.shape layout.now) most (length ahead.old) }
+    requires hands { AreHands most hands.old }
+    ensures visits { (rows : ℕ → HandRows) → IsAhead D.Disk (L.shape layout.now) most
+        cols.now.states stripe rows devices.old hands.old ahead.old
+        → Visits D.Disk sweep.Check (L.shape layout.now) most cols.now.states stripe rows
+        devices.old devices.new hands.new ahead.new result }
+    ensures hands { AreHands most hands.new }
+    ensures long { length ahead.new ≡ length ahead.old }
 {
-    is_out_of_sync(layout, devices, cols, stripe, sum, unit)
+    is_out_of_sync(layout, devices, cols, stripe, most, hands, ahead, sum)
 }
 
 // Makes the stripe's check unit the sum of its data units, if it isn't.
@@ -40,8 +50,10 @@ fn sync_stripe<L: Layout, D: Disk>(
     devices: &mut [Option<D>],
     cols: &Cols,
     stripe: u32,
+    most: u32,
+    hands: &mut [Rows],
+    ahead: &mut [u8],
     sum: &mut [u8],
-    unit: &mut [u8],
 ) -> Result<bool, FailedAt>
     requires fit { IsFor (L.shape layout.now) cols.now }
     requires array { AreSeated D.Disk (L.shape layout.now) cols.now.states devices.old }
@@ -50,11 +62,16 @@ fn sync_stripe<L: Layout, D: Disk>(
     requires complete { IsComplete (L.shape layout.now)
         cols.now.states stripe }
     requires sum { length sum.old ≡ 512 * (L.shape layout.now).unit_sectors }
-    requires unit { length unit.old ≡ 512 * (L.shape layout.now).unit_sectors }
-    ensures { Visits D.Disk sweep.Sync (L.shape layout.now)
-        cols.now.states stripe devices.old devices.new result }
+    requires windows { HasWindows (L.shape layout.now) most (length ahead.old) }
+    requires hands { AreHands most hands.old }
+    ensures visits { (rows : ℕ → HandRows) → IsAhead D.Disk (L.shape layout.now) most
+        cols.now.states stripe rows devices.old hands.old ahead.old
+        → Visits D.Disk sweep.Sync (L.shape layout.now) most cols.now.states stripe rows
+        devices.old devices.new hands.new ahead.new result }
+    ensures hands { AreHands most hands.new }
+    ensures long { length ahead.new ≡ length ahead.old }
 {
-    match is_out_of_sync(layout, devices, cols, stripe, sum, unit) {
+    match is_out_of_sync(layout, devices, cols, stripe, most, hands, ahead, sum) {
         Ok(true) => {}
         Ok(false) => return Ok(false),
         Err(failed) => return Err(failed),
@@ -71,8 +88,10 @@ fn init_stripe<L: Layout, D: Disk>(
     devices: &mut [Option<D>],
     cols: &Cols,
     stripe: u32,
+    most: u32,
+    hands: &mut [Rows],
+    ahead: &mut [u8],
     sum: &mut [u8],
-    unit: &mut [u8],
 ) -> Result<bool, FailedAt>
     requires fit { IsFor (L.shape layout.now) cols.now }
     requires array { AreSeated D.Disk (L.shape layout.now) cols.now.states devices.old }
@@ -81,11 +100,16 @@ fn init_stripe<L: Layout, D: Disk>(
     requires complete { IsComplete (L.shape layout.now)
         cols.now.states stripe }
     requires sum { length sum.old ≡ 512 * (L.shape layout.now).unit_sectors }
-    requires unit { length unit.old ≡ 512 * (L.shape layout.now).unit_sectors }
-    ensures { Visits D.Disk sweep.Init (L.shape layout.now)
-        cols.now.states stripe devices.old devices.new result }
+    requires windows { HasWindows (L.shape layout.now) most (length ahead.old) }
+    requires hands { AreHands most hands.old }
+    ensures visits { (rows : ℕ → HandRows) → IsAhead D.Disk (L.shape layout.now) most
+        cols.now.states stripe rows devices.old hands.old ahead.old
+        → Visits D.Disk sweep.Init (L.shape layout.now) most cols.now.states stripe rows
+        devices.old devices.new hands.new ahead.new result }
+    ensures hands { AreHands most hands.new }
+    ensures long { length ahead.new ≡ length ahead.old }
 {
-    match sum_data(layout, devices, cols, stripe, sum, unit) {
+    match sum_data(layout, devices, cols, stripe, most, hands, ahead, sum) {
         Ok(()) => {}
         Err(failed) => return Err(failed),
     }
@@ -102,8 +126,10 @@ fn visit<L: Layout, D: Disk>(
     devices: &mut [Option<D>],
     cols: &Cols,
     stripe: u32,
+    most: u32,
+    hands: &mut [Rows],
+    ahead: &mut [u8],
     sum: &mut [u8],
-    unit: &mut [u8],
 ) -> Result<bool, FailedAt>
     requires fit { IsFor (L.shape layout.now) cols.now }
     requires array { AreSeated D.Disk (L.shape layout.now) cols.now.states devices.old }
@@ -112,14 +138,19 @@ fn visit<L: Layout, D: Disk>(
     requires complete { IsComplete (L.shape layout.now)
         cols.now.states stripe }
     requires sum { length sum.old ≡ 512 * (L.shape layout.now).unit_sectors }
-    requires unit { length unit.old ≡ 512 * (L.shape layout.now).unit_sectors }
-    ensures { Visits D.Disk kind (L.shape layout.now)
-        cols.now.states stripe devices.old devices.new result }
+    requires windows { HasWindows (L.shape layout.now) most (length ahead.old) }
+    requires hands { AreHands most hands.old }
+    ensures visits { (rows : ℕ → HandRows) → IsAhead D.Disk (L.shape layout.now) most
+        cols.now.states stripe rows devices.old hands.old ahead.old
+        → Visits D.Disk kind (L.shape layout.now) most cols.now.states stripe rows
+        devices.old devices.new hands.new ahead.new result }
+    ensures hands { AreHands most hands.new }
+    ensures long { length ahead.new ≡ length ahead.old }
 {
     match kind {
-        Sweep::Check => check_stripe(layout, devices, cols, stripe, sum, unit),
-        Sweep::Sync => sync_stripe(layout, devices, cols, stripe, sum, unit),
-        Sweep::Init => init_stripe(layout, devices, cols, stripe, sum, unit),
+        Sweep::Check => check_stripe(layout, devices, cols, stripe, most, hands, ahead, sum),
+        Sweep::Sync => sync_stripe(layout, devices, cols, stripe, most, hands, ahead, sum),
+        Sweep::Init => init_stripe(layout, devices, cols, stripe, most, hands, ahead, sum),
     }
 }
 
@@ -130,20 +161,27 @@ pub(crate) fn sweep_stripe<L: Layout, D: Disk>(
     devices: &mut [Option<D>],
     cols: &Cols,
     stripe: u32,
+    most: u32,
+    hands: &mut [Rows],
+    ahead: &mut [u8],
     sum: &mut [u8],
-    unit: &mut [u8],
 ) -> Result<bool, FailedAt>
     requires fit { IsFor (L.shape layout.now) cols.now }
     requires array { AreSeated D.Disk (L.shape layout.now) cols.now.states devices.old }
     requires stripe { stripe < (L.shape layout.now).stripes }
     requires checks { (L.shape layout.now).checks ≡ 1 }
     requires sum { length sum.old ≡ 512 * (L.shape layout.now).unit_sectors }
-    requires unit { length unit.old ≡ 512 * (L.shape layout.now).unit_sectors }
-    ensures { Visits D.Disk kind (L.shape layout.now)
-        cols.now.states stripe devices.old devices.new result }
+    requires windows { HasWindows (L.shape layout.now) most (length ahead.old) }
+    requires hands { AreHands most hands.old }
+    ensures visits { (rows : ℕ → HandRows) → IsAhead D.Disk (L.shape layout.now) most
+        cols.now.states stripe rows devices.old hands.old ahead.old
+        → Visits D.Disk kind (L.shape layout.now) most cols.now.states stripe rows
+        devices.old devices.new hands.new ahead.new result }
+    ensures hands { AreHands most hands.new }
+    ensures long { length ahead.new ≡ length ahead.old }
 {
     if !is_complete(layout, cols, stripe) {
         return Ok(false);
     }
-    visit(kind, layout, devices, cols, stripe, sum, unit)
+    visit(kind, layout, devices, cols, stripe, most, hands, ahead, sum)
 }

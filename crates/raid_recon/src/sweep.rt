@@ -1,5 +1,5 @@
 //! The sweeps.
-ghost use Rattle.std.specs.Prelude.{◌≡◌, ◌<◌, ◌≤◌, ◌*◌, ℕ, length, slice_set, false};
+ghost use Rattle.std.specs.Prelude.{◌≡◌, ◌<◌, ◌≤◌, ◌*◌, ℕ, length, replicate, slice_set, false};
 ghost use Rattle.blk_disk.specs.Devices.{Changes, contents_of, calls_of};
 ghost use Rattle.eng_cols.specs.declared.column.Column.TheVariants as set;
 ghost use Rattle.eng_cols.specs.Changes.{killed};
@@ -8,13 +8,15 @@ ghost use Rattle.eng_cols.specs.Contents.{InSync};
 ghost use Rattle.eng_cols.specs.Deaths.{Dies};
 ghost use Rattle.eng_cols.specs.Settable.{IsSettable};
 ghost use Rattle.eng_cols.specs.Stripes.{states_of};
+ghost use Rattle.raid_recon.specs.Ahead.{HasWindows, no_rows, rows_ahead};
 ghost use Rattle.raid_recon.specs.Array.{IsArray, IsJudge, Failed};
-ghost use Rattle.raid_recon.specs.Ends.{MayRewrite, ChecksHold, IsCounted, CallsUnits};
+ghost use Rattle.raid_recon.specs.Ends.{MayRewrite, ChecksHold, IsCounted, CallsRows};
 ghost use Rattle.raid_recon.specs.Swept.{IsSwept};
 ghost use Rattle.raid_recon.specs.Turns.{is_check};
 ghost use Rattle.raid_recon.specs.Units.{SweepsStripe};
 ghost use Rattle.raid_recon.specs.declared.kind.Sweep.TheVariants as sweep;
 
+use crate::ahead::{Rows, most_rows};
 use crate::kind::Sweep;
 use crate::room::{Room, SweepRoom};
 use crate::stripe::sweep_stripe;
@@ -42,23 +44,28 @@ fn sweep_stripes<L: Layout, D: Disk, P: Progress>(
     devices: &mut [Option<D>],
     columns: &mut [Column],
     judge: &mut Cols,
+    most: u32,
+    hands: &mut [Rows],
+    ahead: &mut [u8],
     sum: &mut [u8],
-    unit: &mut [u8],
     progress: &P,
 ) -> u64
     requires array { IsArray D.Disk (L.shape layout.now) columns.old devices.old }
     requires checks { (L.shape layout.now).checks ≡ 1 }
     requires judge { IsJudge (L.shape layout.now) columns.old judge.old }
+    requires windows { HasWindows (L.shape layout.now) most (length ahead.old) }
+    requires hands { hands.old ≡ replicate 32 no_rows }
     requires sum { length sum.old ≡ 512 * (L.shape layout.now).unit_sectors }
-    requires unit { length unit.old ≡ 512 * (L.shape layout.now).unit_sectors }
-    ensures swept { IsSwept D.Disk kind (L.shape layout.now) (L.shape layout.now).stripes
+    ensures swept { IsSwept D.Disk kind (L.shape layout.now) most (L.shape layout.now).stripes
         columns.old columns.new devices.old devices.new result }
     ensures judge { IsJudge (L.shape layout.now) columns.new judge.new }
 {
     let mut counted = 0;
     let all = layout.stripes();
     for stripe in 0..all {
-        match sweep_stripe(kind, layout, devices, judge, stripe, sum, unit) {
+        match sweep_stripe(
+            kind, layout, devices, judge, stripe, most, hands, ahead, sum,
+        ) {
             Ok(counts) => {
                 if counts {
                     counted += 1;
@@ -71,36 +78,32 @@ fn sweep_stripes<L: Layout, D: Disk, P: Progress>(
     counted
 }
 
-// The turns of all stripes, in the front of buffers that may be longer.
+// The turns of all stripes, in a room: the sum stands at its front, and the windows behind it.
 fn sweep_in<L: Layout, D: Disk, P: Progress>(
     kind: Sweep,
     layout: &L,
     devices: &mut [Option<D>],
     columns: &mut [Column],
     judge: &mut Cols,
-    sum: &mut [u8],
-    unit: &mut [u8],
+    room: &mut [u8],
     progress: &P,
 ) -> u64
     requires array { IsArray D.Disk (L.shape layout.now) columns.old devices.old }
     requires checks { (L.shape layout.now).checks ≡ 1 }
     requires judge { IsJudge (L.shape layout.now) columns.old judge.old }
-    requires sum { 512 * (L.shape layout.now).unit_sectors ≤ length sum.old }
-    requires unit { 512 * (L.shape layout.now).unit_sectors ≤ length unit.old }
-    ensures swept { IsSwept D.Disk kind (L.shape layout.now) (L.shape layout.now).stripes
+    requires room { 1024 * (L.shape layout.now).unit_sectors ≤ length room.old }
+    ensures swept { IsSwept D.Disk kind (L.shape layout.now)
+        (rows_ahead (L.shape layout.now) (length room.old)) (L.shape layout.now).stripes
         columns.old columns.new devices.old devices.new result }
     ensures judge { IsJudge (L.shape layout.now) columns.new judge.new }
+    ensures room { length room.new ≡ length room.old }
 {
-    let bytes = SECTOR * layout.unit_sectors() as usize;
+    let unit = layout.unit_sectors();
+    let most = most_rows(room.len(), unit, layout.columns());
+    let mut hands = [Rows::NONE; 32];
+    let (sum, ahead) = room.split_at_mut(SECTOR * unit as usize);
     sweep_stripes(
-        kind,
-        layout,
-        devices,
-        columns,
-        judge,
-        &mut sum[..bytes],
-        &mut unit[..bytes],
-        progress,
+        kind, layout, devices, columns, judge, most, &mut hands, ahead, sum, progress,
     )
 }
 
@@ -119,7 +122,8 @@ fn sweep<L: Layout, D: Disk, P: Progress>(
     requires room { 1024 * (L.shape layout.now).unit_sectors ≤ room.old }
     requires judge { IsFor (L.shape layout.now) judge.old }
     ensures swept { (L.shape layout.now).checks ≡ 1 →
-        IsSwept D.Disk kind (L.shape layout.now) (L.shape layout.now).stripes
+        IsSwept D.Disk kind (L.shape layout.now)
+        (rows_ahead (L.shape layout.now) room.old) (L.shape layout.now).stripes
         columns.old columns.new devices.old devices.new result }
     ensures frame { Changes D.Disk (MayRewrite D.Disk kind (L.shape layout.now)
         columns.old devices.old) devices.old devices.new }
@@ -133,7 +137,7 @@ fn sweep<L: Layout, D: Disk, P: Progress>(
         columns.old columns.new devices.old devices.new }
     ensures counted { (L.shape layout.now).checks ≡ 1 → IsCounted D.Disk kind
         (L.shape layout.now) columns.old columns.new devices.old result }
-    ensures calls { (d : ℕ) → CallsUnits (L.shape layout.now)
+    ensures calls { (d : ℕ) → CallsRows (L.shape layout.now)
         (states_of (L.shape layout.now) columns.old) d
         (calls_of D.Disk devices.old d) (calls_of D.Disk devices.new d) }
     ensures none { (L.shape layout.now).checks ≡ 0 →
@@ -145,35 +149,43 @@ fn sweep<L: Layout, D: Disk, P: Progress>(
         return 0;
     }
     judge.set(layout, columns);
-    let sum = room.sum.as_mut_slice();
-    let unit = room.unit.as_mut_slice();
-    sweep_in(kind, layout, devices, columns, judge, sum, unit, progress)
+    let room = room.bytes.as_mut_slice();
+    sweep_in(kind, layout, devices, columns, judge, room, progress)
 }
 
-// One stripe's turn in a sync, in the front of buffers that may be longer.
+// One stripe's turn in a sync, where each unit is read by a call of its own.
 fn sync_in<L: Layout, D: Disk>(
     layout: &L,
     devices: &mut [Option<D>],
     columns: &mut [Column],
     judge: &mut Cols,
     stripe: u32,
-    sum: &mut [u8],
-    unit: &mut [u8],
+    room: &mut [u8],
 ) -> bool
     requires array { IsArray D.Disk (L.shape layout.now) columns.old devices.old }
     requires checks { (L.shape layout.now).checks ≡ 1 }
     requires judge { IsJudge (L.shape layout.now) columns.old judge.old }
     requires stripe { stripe < (L.shape layout.now).stripes }
-    requires sum { 512 * (L.shape layout.now).unit_sectors ≤ length sum.old }
-    requires unit { 512 * (L.shape layout.now).unit_sectors ≤ length unit.old }
+    requires room { 1024 * (L.shape layout.now).unit_sectors ≤ length room.old }
     ensures turn { SweepsStripe D.Disk sweep.Sync (L.shape layout.now) stripe
         columns.old columns.new devices.old devices.new result }
     ensures judge { IsJudge (L.shape layout.now) columns.new judge.new }
+    ensures room { length room.new ≡ length room.old }
 {
-    let bytes = SECTOR * layout.unit_sectors() as usize;
-    let sum = &mut sum[..bytes];
-    let unit = &mut unit[..bytes];
-    match sweep_stripe(Sweep::Sync, layout, devices, judge, stripe, sum, unit) {
+    let unit = layout.unit_sectors();
+    let mut hands = [Rows::NONE; 32];
+    let (sum, ahead) = room.split_at_mut(SECTOR * unit as usize);
+    match sweep_stripe(
+        Sweep::Sync,
+        layout,
+        devices,
+        judge,
+        stripe,
+        1,
+        &mut hands,
+        ahead,
+        sum,
+    ) {
         Ok(counted) => counted,
         Err(failed) => {
             lose(columns, judge, failed.column);
@@ -204,9 +216,8 @@ pub fn sync_one<L: Layout, D: Disk>(
     ensures judge { IsJudge (L.shape layout.now) columns.new judge.new }
     ensures room { room.new ≡ room.old }
 {
-    let sum = room.sum.as_mut_slice();
-    let unit = room.unit.as_mut_slice();
-    sync_in(layout, devices, columns, judge, stripe, sum, unit)
+    let room = room.bytes.as_mut_slice();
+    sync_in(layout, devices, columns, judge, stripe, room)
 }
 
 /// How many stripes, of those that lack no unit, don't sum to zero.
@@ -222,14 +233,15 @@ pub fn sweep_check<L: Layout, D: Disk, P: Progress>(
     requires room { 1024 * (L.shape layout.now).unit_sectors ≤ room.old }
     requires judge { IsFor (L.shape layout.now) judge.old }
     ensures swept { (L.shape layout.now).checks ≡ 1 →
-        IsSwept D.Disk sweep.Check (L.shape layout.now) (L.shape layout.now).stripes
+        IsSwept D.Disk sweep.Check (L.shape layout.now)
+        (rows_ahead (L.shape layout.now) room.old) (L.shape layout.now).stripes
         columns.old columns.new devices.old devices.new result }
     ensures frame { Changes D.Disk (λ _ _. ⊥) devices.old devices.new }
     ensures dies { Dies (Failed D.Disk (states_of (L.shape layout.now) columns.old)
         devices.old devices.new) columns.old columns.new }
     ensures counted { (L.shape layout.now).checks ≡ 1 → IsCounted D.Disk sweep.Check
         (L.shape layout.now) columns.old columns.new devices.old result }
-    ensures calls { (d : ℕ) → CallsUnits (L.shape layout.now)
+    ensures calls { (d : ℕ) → CallsRows (L.shape layout.now)
         (states_of (L.shape layout.now) columns.old) d
         (calls_of D.Disk devices.old d) (calls_of D.Disk devices.new d) }
     ensures none { (L.shape layout.now).checks ≡ 0 →
@@ -262,7 +274,8 @@ pub fn sweep_sync<L: Layout, D: Disk, P: Progress>(
     requires room { 1024 * (L.shape layout.now).unit_sectors ≤ room.old }
     requires judge { IsFor (L.shape layout.now) judge.old }
     ensures swept { (L.shape layout.now).checks ≡ 1 →
-        IsSwept D.Disk sweep.Sync (L.shape layout.now) (L.shape layout.now).stripes
+        IsSwept D.Disk sweep.Sync (L.shape layout.now)
+        (rows_ahead (L.shape layout.now) room.old) (L.shape layout.now).stripes
         columns.old columns.new devices.old devices.new result }
     ensures frame { Changes D.Disk (MayRewrite D.Disk sweep.Sync (L.shape layout.now)
         columns.old devices.old) devices.old devices.new }
@@ -275,7 +288,7 @@ pub fn sweep_sync<L: Layout, D: Disk, P: Progress>(
         columns.old columns.new devices.old devices.new }
     ensures counted { (L.shape layout.now).checks ≡ 1 → IsCounted D.Disk sweep.Sync
         (L.shape layout.now) columns.old columns.new devices.old result }
-    ensures calls { (d : ℕ) → CallsUnits (L.shape layout.now)
+    ensures calls { (d : ℕ) → CallsRows (L.shape layout.now)
         (states_of (L.shape layout.now) columns.old) d
         (calls_of D.Disk devices.old d) (calls_of D.Disk devices.new d) }
     ensures none { (L.shape layout.now).checks ≡ 0 →
@@ -308,7 +321,8 @@ pub fn sweep_init<L: Layout, D: Disk, P: Progress>(
     requires room { 1024 * (L.shape layout.now).unit_sectors ≤ room.old }
     requires judge { IsFor (L.shape layout.now) judge.old }
     ensures swept { (L.shape layout.now).checks ≡ 1 →
-        IsSwept D.Disk sweep.Init (L.shape layout.now) (L.shape layout.now).stripes
+        IsSwept D.Disk sweep.Init (L.shape layout.now)
+        (rows_ahead (L.shape layout.now) room.old) (L.shape layout.now).stripes
         columns.old columns.new devices.old devices.new result }
     ensures frame { Changes D.Disk (MayRewrite D.Disk sweep.Init (L.shape layout.now)
         columns.old devices.old) devices.old devices.new }
@@ -321,7 +335,7 @@ pub fn sweep_init<L: Layout, D: Disk, P: Progress>(
         columns.old columns.new devices.old devices.new }
     ensures counted { (L.shape layout.now).checks ≡ 1 → IsCounted D.Disk sweep.Init
         (L.shape layout.now) columns.old columns.new devices.old result }
-    ensures calls { (d : ℕ) → CallsUnits (L.shape layout.now)
+    ensures calls { (d : ℕ) → CallsRows (L.shape layout.now)
         (states_of (L.shape layout.now) columns.old) d
         (calls_of D.Disk devices.old d) (calls_of D.Disk devices.new d) }
     ensures none { (L.shape layout.now).checks ≡ 0 →

@@ -46,13 +46,31 @@ struct Parts {
     room: Room,
 }
 
-// Room for two units of so many sectors.
-fn room_for(alloc: Global, unit: u32) -> Result<Room, Status>
-    requires { unit ≤ 128 }
-    ensures room { IfOk result (λ room. room ≡ 1024 * unit) }
+// How many bytes of room a sweep is given: what it needs at least; and, where units are so small that 64 KiB
+// have several, 64 KiB of rows for each column beside a unit.
+fn room_bytes(unit: u32, columns: u32) -> u32
+    requires some { 1 ≤ unit }
+    requires unit { unit ≤ 128 }
+    requires columns { columns ≤ 32 }
+    ensures { 1024 * unit ≤ result }
+{
+    let rows = 128 / unit;
+    if rows < 2 {
+        1024 * unit
+    } else {
+        (1024 * unit).max(512 * unit * (1 + columns * rows))
+    }
+}
+
+// Room for a sweep over so many columns with units of so many sectors.
+fn room_for(alloc: Global, unit: u32, columns: u32) -> Result<Room, Status>
+    requires some { 1 ≤ unit }
+    requires unit { unit ≤ 128 }
+    requires columns { columns ≤ 32 }
+    ensures room { IfOk result (λ room. 1024 * unit ≤ room) }
     ensures memory { IfErr result (λ status. status ≡ Status.Memory) }
 {
-    match Room::open(alloc, 1024 * unit) {
+    match Room::open(alloc, room_bytes(unit, columns)) {
         Ok(room) => Ok(room),
         Err(_) => Err(Status::Memory),
     }
@@ -101,7 +119,7 @@ fn make(
         Ok(drawn) => drawn,
         Err(status) => return Err(status),
     };
-    match room_for(alloc, asked.conf.unit) {
+    match room_for(alloc, asked.conf.unit, asked.conf.columns) {
         Ok(room) => Ok(Parts {
             layout,
             drawn,

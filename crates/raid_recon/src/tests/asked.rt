@@ -80,7 +80,29 @@ fn is_array<L: Layout, D: Disk>(layout: &L, columns: &[Column], devices: &[Optio
     true
 }
 
-/// The sweep's answer.
+/// The sweep's answer, in a room of so many bytes.
+pub(crate) fn swept_in<L: Layout, D: Disk>(
+    alloc: Global,
+    kind: Sweep,
+    layout: &L,
+    columns: &mut [Column],
+    devices: &mut [Option<D>],
+    bytes: u32,
+) -> Result<u64, Fail> {
+    let room = Room::open(alloc, bytes)?;
+    let mut room = SweepRoom::new(room, Silent);
+    let mut judge = Cols::with_room(alloc, layout.columns(), layout.stripes())?;
+    if !is_array(layout, columns, devices) || bytes < 1024 * layout.unit_sectors() {
+        return Err("no array, or no room".into());
+    }
+    Ok(match kind {
+        Sweep::Check => sweep_check(layout, devices, columns, &mut room, &mut judge),
+        Sweep::Sync => sweep_sync(layout, devices, columns, &mut room, &mut judge),
+        Sweep::Init => sweep_init(layout, devices, columns, &mut room, &mut judge),
+    })
+}
+
+/// The sweep's answer in the least room, where each unit is read by a call of its own.
 pub(crate) fn swept<L: Layout, D: Disk>(
     alloc: Global,
     kind: Sweep,
@@ -88,17 +110,14 @@ pub(crate) fn swept<L: Layout, D: Disk>(
     columns: &mut [Column],
     devices: &mut [Option<D>],
 ) -> Result<u64, Fail> {
-    let room = Room::open(alloc, 1024 * layout.unit_sectors())?;
-    let mut room = SweepRoom::new(room, Silent);
-    let mut judge = Cols::with_room(alloc, layout.columns(), layout.stripes())?;
-    if !is_array(layout, columns, devices) {
-        return Err("no array".into());
-    }
-    Ok(match kind {
-        Sweep::Check => sweep_check(layout, devices, columns, &mut room, &mut judge),
-        Sweep::Sync => sweep_sync(layout, devices, columns, &mut room, &mut judge),
-        Sweep::Init => sweep_init(layout, devices, columns, &mut room, &mut judge),
-    })
+    swept_in(
+        alloc,
+        kind,
+        layout,
+        columns,
+        devices,
+        1024 * layout.unit_sectors(),
+    )
 }
 
 /// The device has had these calls, each by kind, first sector, how many, and whether it was good.

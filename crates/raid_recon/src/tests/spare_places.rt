@@ -1,14 +1,33 @@
 //! Parity declustering with spare places. The tuple 0 1 2 3 alone is a design of four objects, so stripe
 //! s of a full table has its check unit on column s, its spare place on the next column around the end,
 //! and its two data units on the others in order, all in row s. Column 0 is spread.
-use super::asked::{byte_in, device, has_calls, swept};
+use super::asked::{byte_in, device, has_calls, swept, swept_in};
 use crate::kind::Sweep;
 use crate::rebuild_count;
+use blk_disk::MemDisk;
 use eng_cols::Column;
 use lay_core::Layout;
 use lay_decluster::Spared;
 use lay_design::Design;
+use std::alloc::Global;
 use std::test::Fail;
+
+const FIRST_SPREAD: [Column; 4] = [
+    Column::Spread,
+    Column::Live { device: 1 },
+    Column::Live { device: 2 },
+    Column::Live { device: 3 },
+];
+
+// In stripe 1 the unit in its spare place isn't zero, and in stripe 0 the one on column 3.
+fn disks(alloc: Global) -> Result<[Option<MemDisk>; 4], Fail> {
+    Ok([
+        None,
+        device(alloc, 68, 66, 0, 0, &[])?,
+        device(alloc, 68, 65, 1, 5, &[])?,
+        device(alloc, 68, 64, 1, 7, &[])?,
+    ])
+}
 
 // Stripe 0 has its check unit in its spare place on column 1, stripe 1 its first unit on column 2, and
 // stripe 2 its first unit on column 3. Stripe 3 has no unit on column 0.
@@ -17,18 +36,8 @@ fn units_are_read_and_written_in_their_spare_places(rt: HostRuntime) -> Result<(
     let alloc = rt.alloc();
     let design = Design::complete(alloc, 4, 4).expect(&rt, "a design");
     let layout = Spared::new(alloc, design, 1, 4).expect(&rt, "a layout");
-    let mut devices = [
-        None,
-        device(alloc, 68, 66, 0, 0, &[])?,
-        device(alloc, 68, 65, 1, 5, &[])?,
-        device(alloc, 68, 64, 1, 7, &[])?,
-    ];
-    let mut columns = [
-        Column::Spread,
-        Column::Live { device: 1 },
-        Column::Live { device: 2 },
-        Column::Live { device: 3 },
-    ];
+    let mut devices = disks(alloc)?;
+    let mut columns = FIRST_SPREAD;
     assert_eq!(rt;
         swept(alloc, Sweep::Sync, &layout, &mut columns, &mut devices)?,
         2
@@ -56,6 +65,44 @@ fn units_are_read_and_written_in_their_spare_places(rt: HostRuntime) -> Result<(
                 (0, 67, 1, true),
             ],
         );
+    }
+    assert_eq!(rt; byte_in(&devices[1], 64), Some(7));
+    assert_eq!(rt; byte_in(&devices[1], 65), Some(5));
+    Ok(())
+}
+
+// The same where a call reads two rows: those of the stripes 0 and 1, and those of 2 and 3.
+#[test]
+fn rows_with_spare_places_are_read_ahead(rt: HostRuntime) -> Result<(), Fail> {
+    let alloc = rt.alloc();
+    let design = Design::complete(alloc, 4, 4).expect(&rt, "a design");
+    let layout = Spared::new(alloc, design, 1, 4).expect(&rt, "a layout");
+    let mut devices = disks(alloc)?;
+    let mut columns = FIRST_SPREAD;
+    let room = 512 * (1 + 4 * 2);
+    assert_eq!(rt;
+        swept_in(
+            alloc,
+            Sweep::Sync,
+            &layout,
+            &mut columns,
+            &mut devices,
+            room
+        )?,
+        2
+    );
+    has_calls(
+        &rt,
+        &devices[1],
+        &[
+            (0, 64, 2, true),
+            (1, 64, 1, true),
+            (1, 65, 1, true),
+            (0, 66, 2, true),
+        ],
+    );
+    for other in 2..4 {
+        has_calls(&rt, &devices[other], &[(0, 64, 2, true), (0, 66, 2, true)]);
     }
     assert_eq!(rt; byte_in(&devices[1], 64), Some(7));
     assert_eq!(rt; byte_in(&devices[1], 65), Some(5));

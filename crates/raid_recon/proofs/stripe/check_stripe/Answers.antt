@@ -1,7 +1,8 @@
 use Rattle.raid_recon.proofs.Answered.{visits-check}
 use Rattle.raid_recon.proofs.stripe.check_stripe.Goals as goal
 
-pub returns : goal.returns
-returns g c =
+pub returns-clause-visits : goal.returns-clause-visits
+returns-clause-visits g c rows h =
     let y = g.L.Layout.shape c.args.layout.now in
-    visits-check g.D.Disk y c.args.cols.now.states c.args.stripe c.requires.complete c.args.devices.now c.is_out_of_sync.new.devices c.is_out_of_sync.result c.is_out_of_sync.ensures.tested c.is_out_of_sync.ensures.stopped
+    let r = c.is_out_of_sync in
+    visits-check g.D.Disk y c.args.most c.args.cols.now.states c.args.stripe rows c.requires.complete c.args.devices.now r.new.devices r.new.hands r.new.ahead r.new.sum r.result (r.ensures.tests rows h)

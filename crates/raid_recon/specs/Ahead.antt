@@ -1,0 +1,126 @@
+-- Rows that are read ahead, and which calls read the units of a sweep then.
+use Rattle.std.specs.Prelude.{◌≡◌, ℕ, zero, suc, ◌+◌, ◌*◌, ◌-◌, ◌<◌, ◌≤◌, List, [], ◌∷◌, ◌++◌, length, Bool, true, false, Option, Some, None, ◌==◌, ◌&&◌, not, min, max, ◌/◌, nat_lt, if◌then◌else◌, slice_index, slice_index_or}
+use Rattle.blk_disk.specs.declared.disk.Call.{Call}
+use Rattle.lay_core.specs.Layout.{Shape, data_units}
+use Rattle.eng_cols.specs.declared.column.Column.{Column}
+use Rattle.eng_cols.specs.declared.spot.Spot.{Spot}
+use Rattle.eng_cols.specs.Cols.{ColumnState, HasDevice}
+use Rattle.eng_cols.specs.Seats.{seat}
+use Rattle.eng_cols.specs.Contents.{Contents, byte_at}
+use Rattle.eng_cols.specs.Stripes.{states_of}
+use Rattle.raid_recon.specs.declared.ahead.Rows.{Rows}
+use Rattle.raid_recon.specs.declared.kind.Sweep.{Sweep}
+use Rattle.raid_recon.specs.Turns.{Turn, Left, Unread, Sound, Unsound, Written, Unwritten, call_if, units_read, seat_calls}
+use Rattle.raid_recon.specs.Log.{columns_in}
+
+-- ## How many rows one call reads
+
+-- 64 KiB of rows, or as many as there is room for on each column beside a unit's sum; one, where there isn't room for two
+abbrev pub rows_in_room : (unit columns bytes : ℕ) → ℕ
+rows_in_room unit columns bytes = max (min ((bytes - 512 * unit) / (512 * unit * columns)) (128 / unit)) 1
+
+abbrev pub rows_ahead : Shape → (bytes : ℕ) → ℕ
+rows_ahead y bytes = rows_in_room y.unit_sectors y.columns bytes
+
+-- where the rows of a column begin, counted in rows: each column has a window of its own, but where one row alone is read
+abbrev pub window_at : ℕ → ℕ → ℕ
+window_at most c = if most == 1 then 0 else c * most
+
+-- So many rows can be read by a call, and the bytes have room for the window of each column.
+pub record HasWindows (y : Shape) (most bytes : ℕ) : Type 0 where
+  pub some : 1 ≤ most
+  pub few : most * y.unit_sectors ≤ 128
+  pub within : (c : ℕ) → c < y.columns → 512 * (y.unit_sectors * (window_at most c + most)) ≤ bytes
+
+-- ## Which rows are at hand
+
+-- those behind the first row of the last read, as far as it went
+abbrev pub is_at_hand : Rows → ℕ → Bool
+is_at_hand rows row = nat_lt rows.first row && nat_lt row rows.end
+
+-- none
+abbrev pub no_rows : Rows
+no_rows = record { first = 0; end = 0 }
+
+-- the rows of column c
+abbrev pub rows_at : List Rows → ℕ → Rows
+rows_at hands c = slice_index_or hands c no_rows
+
+-- there is an entry for any column, and none has more rows than a call reads
+pub record AreHands (most : ℕ) (hands : List Rows) : Type 0 where
+  pub count : length hands ≡ 32
+  pub few : (c : ℕ) → (rows_at hands c).end ≤ (rows_at hands c).first + most
+
+-- each device that a column has is said to have the column's rows at hand
+abbrev pub Agrees : List ColumnState → (ℕ → Rows) → List Rows → Type 0
+Agrees cols rows hands = (c d : ℕ) → HasDevice cols c d → rows_at hands c ≡ rows d
+
+-- the byte of the room where byte k at offset o stands of a row at hand
+abbrev pub byte_in : Shape → ℕ → Spot → ℕ → ℕ → ℕ → ℕ
+byte_in y most at first o k = 512 * (y.unit_sectors * (window_at most at.column + (at.row - first)) + o) + k
+
+-- what is at hand of the stripes from this one on is what the devices hold there
+abbrev pub Holds : Shape → ℕ → Contents → List ColumnState → ℕ → (ℕ → Rows) → List ℕ → Type 0
+Holds y most contents cols s rows bytes = (t i : ℕ) (at : Spot) → s ≤ t → t < y.stripes → i < y.width → seat y cols t i ≡ Some at → is_at_hand (rows at.device) at.row ≡ true
+    → (o k : ℕ) → o < y.unit_sectors → k < 512 → slice_index bytes (byte_in y most at (rows at.device).first o k) ≡ byte_at y contents at o k
+
+-- ## The calls
+
+-- how many rows a call reads that begins with this one: so many, as far as there are
+abbrev pub rows_from : Shape → ℕ → ℕ → ℕ
+rows_from y most row = min most (y.rows - row)
+
+-- the rows of a device behind the read of a unit that stands on it: what was at hand stays where the unit was at hand; else the rows are those that were read, and none where that failed
+abbrev pub rows_read : Shape → ℕ → ℕ → Bool → Rows → Rows
+rows_read y most row good rows =
+    if is_at_hand rows row then rows
+    else record { first = row; end = row + (if good then rows_from y most row else 0) }
+
+-- the same of device d, whatever is read
+abbrev pub seat_rows : Shape → ℕ → Option Spot → Bool → ℕ → Rows → Rows
+seat_rows y most None good d rows = rows
+seat_rows y most (Some at) good d rows = if d == at.device then rows_read y most at.row good rows else rows
+
+-- the call by which a unit is read that isn't at hand, with the rows behind it
+abbrev pub ahead_call : Shape → ℕ → Spot → Bool → Call
+ahead_call y most at good = record { kind = 0; first = 64 + at.row * y.unit_sectors; count = rows_from y most at.row * y.unit_sectors; good = good }
+
+-- the calls of device d as a unit is read: none where it is at hand
+abbrev pub seat_reads : Shape → ℕ → Option Spot → Bool → ℕ → Rows → List Call
+seat_reads y most None good d rows = []
+seat_reads y most (Some at) good d rows = call_if ((d == at.device) && not (is_at_hand rows at.row)) (ahead_call y most at good)
+
+-- the rows of device d behind the reads of the stripe's first n units, and its calls in them
+abbrev pub read_rows : Shape → ℕ → List ColumnState → ℕ → ℕ → ℕ → Rows → Rows
+read_rows y most cols s zero d rows = rows
+read_rows y most cols s (suc n) d rows = seat_rows y most (seat y cols s n) true d (read_rows y most cols s n d rows)
+
+abbrev pub reads_ahead : Shape → ℕ → List ColumnState → ℕ → ℕ → ℕ → Rows → List Call
+reads_ahead y most cols s zero d rows = []
+reads_ahead y most cols s (suc n) d rows = reads_ahead y most cols s n d rows ++ seat_reads y most (seat y cols s n) true d (read_rows y most cols s n d rows)
+
+-- the rows of device d behind a stripe's turn, and its calls in it: the reads, and then at most one write
+abbrev pub turn_rows : Sweep → Shape → ℕ → List ColumnState → ℕ → Turn → ℕ → Rows → Rows
+turn_rows kind y most cols s Left d rows = rows
+turn_rows kind y most cols s (Unread i) d rows = seat_rows y most (seat y cols s i) false d (read_rows y most cols s i d rows)
+turn_rows kind y most cols s Sound d rows = read_rows y most cols s (units_read kind y) d rows
+turn_rows kind y most cols s Unsound d rows = read_rows y most cols s (units_read kind y) d rows
+turn_rows kind y most cols s Written d rows = read_rows y most cols s (units_read kind y) d rows
+turn_rows kind y most cols s Unwritten d rows = read_rows y most cols s (units_read kind y) d rows
+
+abbrev pub turn_ahead : Sweep → Shape → ℕ → List ColumnState → ℕ → Turn → ℕ → Rows → List Call
+turn_ahead kind y most cols s Left d rows = []
+turn_ahead kind y most cols s (Unread i) d rows = reads_ahead y most cols s i d rows ++ seat_reads y most (seat y cols s i) false d (read_rows y most cols s i d rows)
+turn_ahead kind y most cols s Sound d rows = reads_ahead y most cols s (units_read kind y) d rows
+turn_ahead kind y most cols s Unsound d rows = reads_ahead y most cols s (units_read kind y) d rows
+turn_ahead kind y most cols s Written d rows = reads_ahead y most cols s (units_read kind y) d rows ++ seat_calls y (seat y cols s (data_units y)) 1 true d
+turn_ahead kind y most cols s Unwritten d rows = reads_ahead y most cols s (units_read kind y) d rows ++ seat_calls y (seat y cols s (data_units y)) 1 false d
+
+-- the rows of device d behind these turns, the newest first, and its calls in them
+abbrev pub rows_in : Sweep → Shape → ℕ → List Column → List Turn → ℕ → Rows
+rows_in kind y most columns [] d = no_rows
+rows_in kind y most columns (t ∷ ts) d = turn_rows kind y most (states_of y (columns_in y columns ts)) (length ts) t d (rows_in kind y most columns ts d)
+
+abbrev pub ahead_in : Sweep → Shape → ℕ → List Column → List Turn → ℕ → List Call
+ahead_in kind y most columns [] d = []
+ahead_in kind y most columns (t ∷ ts) d = ahead_in kind y most columns ts d ++ turn_ahead kind y most (states_of y (columns_in y columns ts)) (length ts) t d (rows_in kind y most columns ts d)
