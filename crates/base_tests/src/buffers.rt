@@ -1,6 +1,6 @@
 //! A pool of a few small buffers.
 use crate::judging::same;
-use buf_pool::{Full, Lease, Pool};
+use buf_pool::{Full, Lease, Pool, Reserve};
 use std::test::Fail;
 
 #[test]
@@ -70,5 +70,23 @@ fn two_leases_have_buffers_of_their_own(rt: HostRuntime) -> Result<(), Fail> {
     pool.put(&one, 0, mine);
     let theirs = pool.take(&other, 0);
     same(&rt, theirs.bytes(), [0].as_slice());
+    Ok(())
+}
+
+#[test]
+fn a_reserve_counts_what_has_no_memory(rt: HostRuntime) -> Result<(), Fail> {
+    let mut reserve = Reserve::open(rt.alloc(), 3, 1)?;
+    same(&rt, reserve.free(), 2048);
+    let mut lease = Lease::empty();
+    reserve.lease_into(2, &mut lease);
+    same(&rt, reserve.free(), 2046);
+    let mut buffer = reserve.take(&lease, 1);
+    same(&rt, reserve.home(&lease, 1), false);
+    buffer.bytes_mut().fill(7);
+    reserve.put(&lease, 1, buffer);
+    reserve.return_from(&lease);
+    same(&rt, reserve.free(), 2048);
+    reserve.lease_into(3, &mut lease);
+    same(&rt, reserve.free(), 2045);
     Ok(())
 }

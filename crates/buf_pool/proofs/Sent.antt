@@ -1,4 +1,4 @@
--- A pool may go to another thread.
+-- A pool and a reserve may go to another thread.
 use Rattle.std.proofs.Crossing.{Vec-send}
 use denote.RattleType.{RattleType}
 use denote.Param.Send.{IsSend, sendable, view_send, recorded_send, enum_send}
@@ -7,6 +7,7 @@ use denote.Struct.Field.{u8-field, u32-field, usize-field}
 use denote.Enum.Enum.{Enum}
 use denote.Enum.Declared.{shape as shape_of}
 use Rattle.buf_pool.specs.contracts.pool.Pool as pool
+use Rattle.buf_pool.specs.contracts.reserve.Reserve as reserve
 use Rattle.buf_pool.specs.contracts.seat.Seat as seat
 use Rattle.buf_pool.specs.contracts.seat.Place as place
 use Rattle.buf_pool.specs.contracts.seat.Owner as owner
@@ -44,3 +45,6 @@ seat_send = declared_send seat.the_type (snapshot_send owner.the_row, (place_sen
 
 pub pool_send : IsSend pool.the_row
 pool_send = view_send _ _ _ _ _ (declared_send pool.TheInside.the_type (search sendable, (Vec-send u32-field.row number_send, (Vec-send seat.the_row seat_send, tt))))
+
+pub reserve_send : IsSend reserve.the_row
+reserve_send = view_send _ _ _ _ _ (declared_send reserve.TheInside.the_type (pool_send, tt))

@@ -8,10 +8,12 @@
 mod buffer;
 mod lease;
 mod pool;
+mod reserve;
 mod seat;
 mod zeroed;
 
 pub use buffer::{Buffer, Memory};
 pub use lease::{Full, Lease};
 pub use pool::Pool;
+pub use reserve::Reserve;
 pub use zeroed::Zeroed;

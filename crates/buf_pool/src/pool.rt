@@ -1,9 +1,9 @@
 //! The pool.
-ghost use Rattle.std.specs.Prelude.{◌≡◌, ◌<◌, ◌≤◌, ◌+◌, ◌++◌, ◌↔◌, [], ◌∷◌, ℕ, List, length, get_or, IfOk, OnOk, OnErr, IsErr, IsTrue, map, vec_len, vec_capacity, true, false};
+ghost use Rattle.std.specs.Prelude.{◌≡◌, ◌<◌, ◌≤◌, ◌+◌, ◌-◌, ◌++◌, ◌↔◌, [], ◌∷◌, ℕ, List, length, get_or, IfOk, OnOk, OnErr, IsErr, IsTrue, map, vec_len, vec_capacity, true, false};
 ghost use Rattle.buf_pool.specs.Pool.{PoolView, IsLease, AllHome, Leases, StandsApart, Returns, KeepsOthers, KeepsLeases, IsPool, claim, release, seen, seat_at, taken, put, leased_in, leased_count, IsFresh};
 
 use crate::buffer::{Buffer, Memory};
-use crate::lease::{Full, Lease};
+use crate::lease::{Full, Lease, MOST};
 use crate::seat::{Owner, Place, Seat};
 use crate::zeroed::Zeroed;
 use std::alloc::Global;
@@ -68,6 +68,13 @@ impl Pool {
         ensures most { length self.now.seats ≤ 2048 }
     {
         self.free.len() as u32
+    }
+
+    // How many fewer buffers it has than a pool may have.
+    pub(crate) fn lacks(&self) -> u32
+        ensures { result ≡ 2048 - length self.now.seats }
+    {
+        (MOST - self.seats.len()) as u32
     }
 
     // Gives the last free seat to a lease.

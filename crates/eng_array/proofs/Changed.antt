@@ -20,6 +20,7 @@ module _ {L D : Type 0} (lay : LayoutGhosts L) (disk : DiskGhosts D) (old new : 
     layout = changed.layout;
     graphs = changed.graphs;
     log = changed.log;
+    there = changed.there;
     items = λ k. subst (λ (l : List Desk). (desk_at l k).items ≡ (desk_at old.clients k).items) (sym changed.clients) (items-set old.clients c d among (goes-items (desk_at old.clients c) d g) k);
     serving = λ k. subst (λ (l : List Desk). IsServing (lay.shape old.layout) old.graphs.items (desk_at l k)) (sym changed.clients)
         (each-set (IsServing (lay.shape old.layout) old.graphs.items) old.clients c d among (goes-serving (lay.shape old.layout) old.graphs.items (desk_at old.clients c) d g (steady.serving c)) steady.serving k);

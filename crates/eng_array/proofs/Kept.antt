@@ -69,21 +69,23 @@ module _ {L D : Type 0} (lay : LayoutGhosts L) (disk : DiskGhosts D) (old : Arra
     pub layout : new.layout ≡ old.layout
     pub graphs : new.graphs ≡ old.graphs
     pub log : Untraced old.log new.log
+    pub there : length new.pool.seats ≡ length old.pool.seats
     pub items : (c : ℕ) → (desk_at new.clients c).items ≡ (desk_at old.clients c).items
     pub serving : (c : ℕ) → IsServing y gs (desk_at new.clients c)
 
   pub stays : Kept old
-  stays = record { count = refl; layout = refl; graphs = refl; log = same-log old.log old.log refl; items = λ c. refl; serving = steady.serving }
+  stays = record { count = refl; layout = refl; graphs = refl; log = same-log old.log old.log refl; there = refl; items = λ c. refl; serving = steady.serving }
 
   -- one client goes on, or comes to rest
-  pub one-goes : (mid new : Array L D) (c : ℕ) (b : Desk) → c < length old.clients → Goes (desk_at mid.clients c) b → new.clients ≡ slice_set mid.clients c b → new.layout ≡ mid.layout → new.graphs ≡ mid.graphs → Untraced mid.log new.log → Kept mid → Kept new
-  one-goes mid new c b below g clients layout graphs log k =
+  pub one-goes : (mid new : Array L D) (c : ℕ) (b : Desk) → c < length old.clients → Goes (desk_at mid.clients c) b → new.clients ≡ slice_set mid.clients c b → new.layout ≡ mid.layout → new.graphs ≡ mid.graphs → Untraced mid.log new.log → length new.pool.seats ≡ length mid.pool.seats → Kept mid → Kept new
+  one-goes mid new c b below g clients layout graphs log there k =
       let among : c < length mid.clients = subst (λ (n : ℕ). c < n) (sym k.count) below in
       record {
         count = ap (λ (l : List Desk). length l) clients ∙ (length-set mid.clients c b ∙ k.count);
         layout = layout ∙ k.layout;
         graphs = graphs ∙ k.graphs;
         log = record { keeps = log.keeps ∙ k.log.keeps; trace = log.trace ∙ k.log.trace; history_room = log.history_room ∙ k.log.history_room; trace_room = log.trace_room ∙ k.log.trace_room; regions = log.regions ∙ k.log.regions };
+        there = there ∙ k.there;
         items = λ j. subst (λ (l : List Desk). (desk_at l j).items ≡ (desk_at mid.clients j).items) (sym clients) (items-set mid.clients c b among (goes-items (desk_at mid.clients c) b g) j) ∙ k.items j;
         serving = λ j. subst (λ (l : List Desk). IsServing y gs (desk_at l j)) (sym clients) (each-set (IsServing y gs) mid.clients c b among (goes-serving y gs (desk_at mid.clients c) b g (k.serving c)) k.serving j);
       }
@@ -95,6 +97,7 @@ module _ {L D : Type 0} (lay : LayoutGhosts L) (disk : DiskGhosts D) (old : Arra
     layout = ap (λ (s : Array L D). s.layout) f.is ∙ k.layout;
     graphs = ap (λ (s : Array L D). s.graphs) f.is ∙ k.graphs;
     log = subst (λ (l : Logged). Untraced old.log l) (sym (ap (λ (s : Array L D). s.log) f.is)) k.log;
+    there = ap (λ (s : Array L D). length s.pool.seats) f.is ∙ k.there;
     items = λ c. ap (λ (d : Desk). d.items) (f.desks.each c) ∙ (suffered-items (lay.shape mid.layout) mid.cols.states column (desk_at mid.clients c) (desk_at mid.clients c).stage ∙ k.items c);
     serving = λ c. subst (IsServing y gs) (sym (f.desks.each c)) (suffered-serving y (lay.shape mid.layout) gs mid.cols.states column (desk_at mid.clients c) (desk_at mid.clients c).stage (k.serving c));
   }
@@ -105,6 +108,7 @@ module _ {L D : Type 0} (lay : LayoutGhosts L) (disk : DiskGhosts D) (old : Arra
     layout = k.layout;
     graphs = k.graphs;
     log = record { keeps = k.log.keeps; trace = again; history_room = k.log.history_room; trace_room = k.log.trace_room; regions = k.log.regions };
+    there = k.there;
     items = k.items;
     serving = k.serving;
   })

@@ -5,6 +5,8 @@ pub mod Reached
 pub mod EventsLeft
 pub mod OneServing
 pub mod Steady
+pub mod Stocked
+pub mod Buffers
 pub mod SteadyNodes
 pub mod SteadyBegin
 pub mod SteadyTake

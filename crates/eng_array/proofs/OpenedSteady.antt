@@ -1,6 +1,7 @@
 -- An opened core is steady.
 use Rattle.std.proofs.Common.{◌≡◌, ℕ, ◌<◌, ◌≤◌, ◌+◌, List, [], length, subst, sym, ap, ◌∙◌, arith, Bool, true, Option, Some, None}
 use Rattle.std.specs.Prelude.{slice_get, if◌then◌else◌, Vec}
+use Rattle.std.proofs.lemmas.Option.{slice_get_within}
 use Rattle.std.specs.declared.alloc.Global.{Global}
 use Rattle.blk_plain.specs.declared.op.Op.{Op}
 use Rattle.blk_disk.specs.declared.disk.Disk.{Ghosts as DiskGhosts}
@@ -31,11 +32,14 @@ use Rattle.eng_state.specs.Shows.{Shows}
 use Rattle.eng_state.specs.Sound.{IsSound}
 use Rattle.eng_state.specs.Steps.{graphs_of}
 use Rattle.eng_ends.specs.Copied.{AreLaid}
-use Rattle.eng_array.specs.Steady.{events_left, HasPlaces, IsSteady}
+use Rattle.eng_plan.specs.Pooled.{row_leases}
+use Rattle.eng_parts.specs.Fresh.{all_leases, stocked}
+use Rattle.eng_array.specs.Steady.{events_left, HasPlaces, HasStock, IsSteady}
 use Rattle.eng_log.proofs.FewItems.{none-past}
 use Rattle.eng_log.proofs.Laying.{below-none, below-one}
 use Rattle.eng_events.proofs.OpeningDesks.{item-of, not-runs}
 use Rattle.eng_array.proofs.SteadyOpen.{unbegun-left, open-steady}
+use Rattle.eng_array.proofs.Stocked.{wanted, min-grows}
 
 -- a graph that is one of so many is one of them
 named-one : (n : ℕ) (graphs : List Held) → n ≡ length graphs → (i : Item) → opened.NamesGraph n i → serving.NamesGraph graphs i
@@ -144,5 +148,20 @@ module _ {L D : Type 0} (lay : LayoutGhosts L) (disk : DiskGhosts D) (setup : Se
   places : HasPlaces lay disk core w
   places = record { most = most; bound = bound; trace = trace-room; history = history-room }
 
+  -- ## The buffers that are there
+
+  stock : HasStock lay disk core
+  stock = record {
+    own = λ n i at.
+        let none : slice_get (items_at given 16) n ≡ Some i = item-was 16 n i at in
+        let past : slice_get [] n ≡ Some i = ap (λ (l : List Item). slice_get l n) (sym (none-past given o.laid.few 16 (omega arith))) ∙ none in
+        absurd (let lt = slice_get_within [] n i past in let u : ⊥ = omega (arith, lt) in u);
+    there =
+        let rows = below-le (λ c. row_leases y graphs (items_at given c)) (λ c. row_leases y graphs (desk_at core.clients c).items) 16 (λ c lt. let e = ap (λ (d : Desk). row_leases y graphs d.items) (o.clients c (omega (arith, lt))) in omega (arith, e)) in
+        let fewer = min-grows (wanted y graphs core.clients) (all_leases y graphs given) (omega (arith, rows)) in
+        let there : length core.pool.seats ≡ stocked y graphs given = o.pool.seats ∙ (ap (λ (v : Shape). stocked v setup.graphs.items given) (sym (ap lay.shape o.layout)) ∙ ap (λ (v : List Held). stocked y v given) (sym same-graphs)) in
+        omega (arith, fewer, there);
+  }
+
   pub opened-steady : IsSteady lay disk core
-  opened-steady = open-steady lay disk core w sound opening o.pool.free shows unnoted are-serving places laid (subst (λ (v : List Held). opened.FitThePool (graphs_of v)) (sym same-graphs) can.fit)
+  opened-steady = open-steady lay disk core w sound opening o.pool.free shows unnoted are-serving places laid (subst (λ (v : List Held). opened.FitThePool (graphs_of v)) (sym same-graphs) can.fit) stock

@@ -10,9 +10,8 @@ use Rattle.eng_world.specs.declared.item.Item.{Item}
 use Rattle.eng_world.specs.declared.item.Reply.{Reply}
 use Rattle.eng_world.specs.World.{Running, Current, World, Nothing as Idles, Waits as IsWaiting, Runs as IsRunning}
 use Rattle.eng_world.specs.Going.{NoneRuns}
-use Rattle.eng_world.specs.Pool.{leased_by, MakeUp, HaveItems}
-use Rattle.eng_world.proofs.Continuing.{run-continues}
-use Rattle.eng_world.proofs.Pooling.{over-none, opening-pool, run-pool}
+use Rattle.eng_world.specs.Pool.{leased_by}
+use Rattle.eng_world.proofs.Pooling.{over-none}
 use Rattle.eng_rest.specs.Few.{Stands as GoesOn}
 use Rattle.eng_rest.proofs.Waiting.{somebody}
 use Rattle.eng_clients.specs.declared.stage.Stage.TheVariants.{Waits, Runs}
@@ -31,7 +30,7 @@ use Rattle.eng_choice.proofs.PossibleDoing.{possible-can}
 use Rattle.eng_array.proofs.Promised.{library-promises}
 use Rattle.eng_choice.proofs.Resting.{all-home}
 use Rattle.eng_state.proofs.Shown.{shown-running, replies-shown}
-use Rattle.eng_array.proofs.Steady.{shown-items}
+use Rattle.eng_array.proofs.Buffers.{opening-items, made-up}
 use Rattle.eng_array.proofs.SteadyPick.{steady-stands}
 use Rattle.eng_array.proofs.TakeAlone.{take-alone}
 
@@ -51,26 +50,15 @@ module _ {L D : Type 0} (lay : LayoutGhosts L) (disk : DiskGhosts D) (core : Arr
   abbrev now : World
   now = steady.reached.now
 
-  -- only seventeen clients had items as the core was opened
-  opening-items : HaveItems opening 17
-  opening-items = (
-    omega arith,
-    λ c l. elim ((run-continues y (graphs_of core.graphs.items) opening steady.reached.events now steady.reached.run).items c) [
-      | inl same ↦ sym same ∙ (shown-items lay disk core now steady.sound steady.reached.shows).1 c l
-      | inr last ↦ last.1
-    ],
-  )
-
   -- ## The pool
 
   -- while no operation runs all buffers are free
   all-free : NoneRuns now → length core.pool.free ≡ 2048
   all-free none =
-      let h : MakeUp opening.free now 17 = (run-pool y (graphs_of core.graphs.items) opening.free 17 opening steady.reached.events now (opening-pool y opening 17 steady.reached.is_opening opening-items) steady.reached.run).made_up in
+      let all = made-up lay disk core steady in
       let leases = over-none leased_by now 17 (λ c. not-leased (now.clients c).current (none c)) in
       let shown = steady.reached.shows.free in
-      let whole = steady.reached.all_free in
-      omega (arith, h, leases, shown, whole)
+      omega (arith, all, leases, shown)
 
   -- no operation wants more
   lease-fits : (op : Op) (file : Option ℕ) (d : Desk) → Serves core.graphs.items y d op file → lease_for y core.graphs.items op file ≤ 2048
@@ -108,6 +96,6 @@ module _ {L D : Type 0} (lay : LayoutGhosts L) (disk : DiskGhosts D) (core : Arr
       replied = λ lost c.
           let lists = all-home lay disk core steady.sound home in
           let shown = steady.reached.shows.out in
-          replied-by lost (somebody y steady.sound.layout (graphs_of core.graphs.items) (library-promises core.graphs.items) opening steady.reached.events now 17 steady.reached.is_opening opening-items steady.reached.run (steady.reached.shows.lost ∙ lost) (omega (arith, lists, shown))) c;
+          replied-by lost (somebody y steady.sound.layout (graphs_of core.graphs.items) (library-promises core.graphs.items) opening steady.reached.events now 17 steady.reached.is_opening (opening-items lay disk core steady) steady.reached.run (steady.reached.shows.lost ∙ lost) (omega (arith, lists, shown))) c;
       home = home;
     }

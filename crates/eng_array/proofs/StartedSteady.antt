@@ -32,13 +32,16 @@ use Rattle.eng_state.specs.Room.{HasRoom}
 use Rattle.eng_array.specs.Serving.{NamesGraph, most_for_unit, most_for, IsServing, AreServing}
 use Rattle.eng_state.specs.Shows.{Shows, ShowsCurrent}
 use Rattle.eng_state.specs.Sound.{IsSound}
-use Rattle.eng_array.specs.Steady.{events_left, HasPlaces, IsSteady}
+use Rattle.eng_plan.specs.Pooled.{own_leases, LeasesAtMost}
+use Rattle.eng_plan.proofs.Pooling.{own-no-more}
+use Rattle.eng_array.specs.Steady.{events_left, HasPlaces, HasStock, IsSteady}
 use Rattle.eng_state.specs.Steps.{Follows}
 use Rattle.eng_log.proofs.Laying.{below-grows, below-one}
 use Rattle.eng_array.proofs.OneServing.{each-set}
 use Rattle.eng_state.proofs.Shown.{desk-set, desk-else, replies-shown}
 use Rattle.eng_array.proofs.Steady.{notes-of}
 use Rattle.eng_array.proofs.SteadyOpen.{unbegun-left, room-steady}
+use Rattle.eng_array.proofs.Stocked.{stock-with}
 
 -- where a dead column comes alive, one more is
 pub alive-more : (cols : List ColumnState) (c : ℕ) (x : ColumnState) → slice_get cols c ≡ Some Dead → is_alive x ≡ 1 → alive (slice_set cols c x) ≡ alive cols + 1
@@ -228,6 +231,11 @@ module _ {L D : Type 0} (lay : LayoutGhosts L) (disk : DiskGhosts D) (old new : 
   places : (w : World) → Shows disk plain w → HasPlaces lay disk plain w
   places w s = record { most = most; bound = bound; trace = trace-room w s; history = history-room }
 
+  -- each rebuild leases as much as is kept for it
+  stock : HasStock lay disk plain
+  stock = stock-with lay disk old plain refl refl refl (λ k lt. ap (λ (q : Desk). q.items) (desk-else old.clients 16 k now (not-last k lt))) steady.stock
+      (λ n i at. as-rebuild (LeasesAtMost y graphs (own_leases y)) (λ s. own-no-more y steady.sound.layout graphs s) n i (sym (ap (λ (q : Desk). slice_get q.items n) (desk-set old.clients 16 now below-all)) ∙ at))
+
   -- so is what is handed out
   pub started-laid : AreLaid old.log.handed old.clients → AreLaid new.log.handed new.clients
   started-laid h = to-new (λ (k : Array L D). AreLaid k.log.handed k.clients) (laid h)
@@ -237,3 +245,4 @@ module _ {L D : Type 0} (lay : LayoutGhosts L) (disk : DiskGhosts D) (old new : 
       (to-new (AreServing lay) are-serving)
       (to-new (λ (k : Array L D). (w : World) → Shows disk k w → HasPlaces lay disk k w) places)
       (started-laid steady.laid)
+      (to-new (HasStock lay disk) stock)

@@ -40,6 +40,7 @@ use Rattle.eng_array.specs.Steady.{events_left, IsSteady}
 use Rattle.eng_state.specs.Steps.{graphs_of, Follows}
 use Rattle.eng_array.proofs.EventsLeft.{reached-indexed, own-falls, fail-falls, alive-some, node-left, item-left}
 use Rattle.eng_array.proofs.Reaching.{run-on}
+use Rattle.eng_array.proofs.Stocked.{stock-on}
 use Rattle.eng_state.proofs.Running.{runs_below}
 use Rattle.eng_state.proofs.Served.{item-below}
 use Rattle.eng_state.proofs.Shown.{runs-shown, shown-running, replies-shown}
@@ -69,6 +70,7 @@ module _ {L D : Type 0} (lay : LayoutGhosts L) (disk : DiskGhosts D) where
     pub layout : new.layout ≡ old.layout
     pub graphs : new.graphs ≡ old.graphs
     pub log : Notes old.log e new.log
+    pub there : length new.pool.seats ≡ length old.pool.seats
     pub items : (c : ℕ) → (desk_at new.clients c).items ≡ (desk_at old.clients c).items
     pub serving : (c : ℕ) → IsServing (lay.shape old.layout) old.graphs.items (desk_at new.clients c)
 
@@ -233,4 +235,5 @@ module _ {L D : Type 0} (lay : LayoutGhosts L) (disk : DiskGhosts D) where
       places = record { most = steady.places.most; bound = bound; trace = traced; history = history };
       laid = laid;
       fit = subst (λ (v : List Held). FitThePool (graphs_of v)) (sym same-graphs) steady.fit;
+      stock = stock-on lay disk old new keeps.layout keeps.graphs keeps.there keeps.items steady.stock;
     }

@@ -58,7 +58,7 @@ module _ {L D : Type 0} (lay : LayoutGhosts L) (disk : DiskGhosts D) (old : Arra
     below = let h = item-among lay disk old steady.sound c can.item can.next in let all = steady.sound.well.all in omega (arith, h, all)
 
     one-idle : (new : Array L D) (b : Desk) → (b.stage ≡ Runs → ⊥) → b.items ≡ d.items → new ≡ record old { clients = slice_set old.clients c b } → Kept lay disk old steady new
-    one-idle new b idle items is = one-goes lay disk old steady old new c b below (rests items idle) (ap (λ (s : Array L D). s.clients) is) (ap (λ (s : Array L D). s.layout) is) (ap (λ (s : Array L D). s.graphs) is) (same-log old.log new.log (ap (λ (s : Array L D). s.log) is)) (stays lay disk old steady)
+    one-idle new b idle items is = one-goes lay disk old steady old new c b below (rests items idle) (ap (λ (s : Array L D). s.clients) is) (ap (λ (s : Array L D). s.layout) is) (ap (λ (s : Array L D). s.graphs) is) (same-log old.log new.log (ap (λ (s : Array L D). s.log) is)) (ap (λ (s : Array L D). length s.pool.seats) is) (stays lay disk old steady)
 
     waits-not : Waits ≡ Runs → ⊥
     waits-not e = let u : ⊥ = cc in u

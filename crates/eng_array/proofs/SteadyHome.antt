@@ -123,6 +123,7 @@ module _ {L D : Type 0} (lay : LayoutGhosts L) (disk : DiskGhosts D) (old : Arra
     layout = goes.layout;
     graphs = goes.graphs;
     log = ends-notes (lay.shape old.layout) old.cols.states d old.log (ended_by old job outcome) new.log (id_of old.clients job.client) (kind_at d.run.graph job.node) old.lost trace;
+    there = goes.there;
     items = λ k. (goes.desks k).items;
     serving = λ k. on-serving (lay.shape old.layout) old.graphs.items (desk_at old.clients k) (desk_at new.clients k) (goes.desks k) (steady.serving k);
   }

@@ -33,7 +33,7 @@ module _ {L D : Type 0} (lay : LayoutGhosts L) (disk : DiskGhosts D) (old new : 
 
     pub fire-keeps : Fired lay old c n new → Keeps lay disk old (event.Fire (id_of old.clients c) n) new
     fire-keeps f = changed-keeps lay disk old new c (with_fired d n (place_now lay old c n)) (event.Fire (id_of old.clients c) n) steady (below can.runs) (same refl (λ h. h) refl refl refl refl)
-        (record { clients = f.clients; layout = f.layout; graphs = f.graphs; log = notes-of old.log (event.Fire (id_of old.clients c) n) new.log f.log })
+        (record { clients = f.clients; layout = f.layout; graphs = f.graphs; log = notes-of old.log (event.Fire (id_of old.clients c) n) new.log f.log; there = f.pool.seats })
 
     pub fire-steady : Fired lay old c n new → IsSound lay disk new → Follows lay disk old (event.Fire (id_of old.clients c) n) new → IsSteady lay disk new
     fire-steady f sound follows = steady-on lay disk old new (event.Fire (id_of old.clients c) n) (inl tt) steady sound follows (fire-keeps f)
@@ -49,6 +49,7 @@ module _ {L D : Type 0} (lay : LayoutGhosts L) (disk : DiskGhosts D) (old new : 
           layout = ap (λ (s : Array L D). s.layout) is;
           graphs = ap (λ (s : Array L D). s.graphs) is;
           log = notes-of old.log (event.Skip (id_of old.clients c) n) new.log (ap (λ (s : Array L D). s.log) is);
+          there = ap (λ (s : Array L D). length s.pool.seats) is;
         })
 
     pub skip-steady : new ≡ record old { clients = slice_set old.clients c (with_skipped d n); log = noted old.log (event.Skip (id_of old.clients c) n) }

@@ -18,7 +18,7 @@ use Rattle.eng_array.specs.Serving.{AreServing}
 use Rattle.eng_events.specs.Opened.{FitThePool}
 use Rattle.eng_state.specs.Shows.{Shows}
 use Rattle.eng_state.specs.Sound.{IsSound}
-use Rattle.eng_array.specs.Steady.{events_left, HasPlaces, IsSteady}
+use Rattle.eng_array.specs.Steady.{events_left, HasPlaces, HasStock, IsSteady}
 use Rattle.eng_state.specs.Steps.{graphs_of, Follows}
 use Rattle.eng_array.proofs.Reaching.{run-on}
 
@@ -45,23 +45,25 @@ unbegun-left most w u =
 
 module _ {L D : Type 0} (lay : LayoutGhosts L) (disk : DiskGhosts D) where
   -- an opened core
-  pub open-steady : (core : Array L D) (w : World) → IsSound lay disk core → IsOpening (lay.shape core.layout) w → length core.pool.free ≡ 2048 → Shows disk core w → core.log.trace ≡ [] → AreServing lay core → HasPlaces lay disk core w → AreLaid core.log.handed core.clients → FitThePool (graphs_of core.graphs.items) → IsSteady lay disk core
-  open-steady core w sound opening free shows none serving places laid fit = record {
+  pub open-steady : (core : Array L D) (w : World) → IsSound lay disk core → IsOpening (lay.shape core.layout) w → length core.pool.free ≡ 2048 → Shows disk core w → core.log.trace ≡ [] → AreServing lay core → HasPlaces lay disk core w → AreLaid core.log.handed core.clients → FitThePool (graphs_of core.graphs.items) → HasStock lay disk core → IsSteady lay disk core
+  open-steady core w sound opening free shows none serving places laid fit stock = record {
     sound = sound;
     reached = record { opening = w; events = []; now = w; is_opening = opening; all_free = shows.free ∙ free; run = refl; shows = shows; traced = λ keeps. none };
     serving = serving;
     places = places;
     laid = laid;
     fit = fit;
+    stock = stock;
   }
 
   -- a core after any event that has room for what may come then
-  pub room-steady : (old new : Array L D) (e : Traced) → IsSteady lay disk old → IsSound lay disk new → Follows lay disk old e new → new.layout ≡ old.layout → new.graphs ≡ old.graphs → Notes old.log e new.log → AreServing lay new → ((w : World) → Shows disk new w → HasPlaces lay disk new w) → AreLaid new.log.handed new.clients → IsSteady lay disk new
-  room-steady old new e steady sound follows layout graphs log serving places laid = record {
+  pub room-steady : (old new : Array L D) (e : Traced) → IsSteady lay disk old → IsSound lay disk new → Follows lay disk old e new → new.layout ≡ old.layout → new.graphs ≡ old.graphs → Notes old.log e new.log → AreServing lay new → ((w : World) → Shows disk new w → HasPlaces lay disk new w) → AreLaid new.log.handed new.clients → HasStock lay disk new → IsSteady lay disk new
+  room-steady old new e steady sound follows layout graphs log serving places laid stock = record {
     sound = sound;
     reached = run-on lay disk old new e (ap lay.shape layout) (ap (λ v. v.items) graphs) log follows steady.reached;
     serving = serving;
     places = places _ (follows steady.reached.now steady.reached.shows).1;
     laid = laid;
     fit = subst (λ (v : List Held). FitThePool (graphs_of v)) (sym (ap (λ v. v.items) graphs)) steady.fit;
+    stock = stock;
   }

@@ -41,7 +41,8 @@ use Rattle.eng_state.specs.Steps.{Follows}
 use Rattle.eng_state.specs.Taken.{Taken, IsTaken, Replaced, GivenUp, BackAs, IsBack}
 use Rattle.eng_plan.proofs.Lacking.{missing-each}
 use Rattle.eng_plan.proofs.Maps.{not-past, op-count, op-spans}
-use Rattle.eng_choice.proofs.FreeStripes.{short-few, span-many, whole-many}
+use Rattle.eng_plan.proofs.SpanStripes.{short-few, span-many, whole-many}
+use Rattle.eng_state.proofs.GoingOn.{same-seats}
 use Rattle.eng_array.proofs.OneServing.{each-set, idle-serving, planned-serving, items-set}
 use Rattle.eng_state.proofs.Plans.{task-sound}
 use Rattle.eng_array.proofs.Reached.{run-stands}
@@ -134,11 +135,12 @@ module _ {L D : Type 0} (lay : LayoutGhosts L) (disk : DiskGhosts D) (old new : 
     below = let h = item-among lay disk old steady.sound c (item.Run op file) serves.item in let all = steady.sound.well.all in omega (arith, h, all)
 
     -- client c is served so, and the others as they were
-    one-keeps : (e : Traced) (b : Desk) → b.items ≡ d.items → IsServing y gs b → new.clients ≡ slice_set old.clients c b → new.layout ≡ old.layout → new.graphs ≡ old.graphs → new.log ≡ noted old.log e → Keeps lay disk old e new
-    one-keeps e b items serving clients layout graphs log = record {
+    one-keeps : (e : Traced) (b : Desk) → b.items ≡ d.items → IsServing y gs b → new.clients ≡ slice_set old.clients c b → new.layout ≡ old.layout → new.graphs ≡ old.graphs → new.log ≡ noted old.log e → length new.pool.seats ≡ length old.pool.seats → Keeps lay disk old e new
+    one-keeps e b items serving clients layout graphs log there = record {
       layout = layout;
       graphs = graphs;
       log = notes-of old.log e new.log log;
+      there = there;
       items = λ k. subst (λ (l : List Desk). (desk_at l k).items ≡ (desk_at old.clients k).items) (sym clients) (items-set old.clients c b below items k);
       serving = λ k. subst (λ (l : List Desk). IsServing y gs (desk_at l k)) (sym clients) (each-set (IsServing y gs) old.clients c b below serving steady.serving k);
     }
@@ -169,13 +171,13 @@ module _ {L D : Type 0} (lay : LayoutGhosts L) (disk : DiskGhosts D) (old new : 
       refused q = idle-serving y gs d (with_reply plan q) items-same nothing-not (steady.serving c)
 
     taken-keeps : (e : Traced) → Taken lay old c op file e new → Keeps lay disk old e new
-    taken-keeps e t = one-keeps e (with_started gs (with_lease t.plan t.lease)) (items-same t.plan t.replanned) (started t.plan t.replanned t.runs t.lease t.leases.count) t.clients t.rest.layout t.rest.graphs t.log
+    taken-keeps e t = one-keeps e (with_started gs (with_lease t.plan t.lease)) (items-same t.plan t.replanned) (started t.plan t.replanned t.runs t.lease t.leases.count) t.clients t.rest.layout t.rest.graphs t.log (t.filled.alone.seats ∙ t.leases.seats)
 
-    refused-keeps : (e : Traced) (q : Reply) (plan : Desk) → Replanned y gs old.cols.states op file d plan → new.clients ≡ slice_set old.clients c (with_reply plan q) → new.layout ≡ old.layout → new.graphs ≡ old.graphs → new.log ≡ noted old.log e → Keeps lay disk old e new
-    refused-keeps e q plan r clients layout graphs log = one-keeps e (with_reply plan q) (items-same plan r) (refused plan r q) clients layout graphs log
+    refused-keeps : (e : Traced) (q : Reply) (plan : Desk) → Replanned y gs old.cols.states op file d plan → new.clients ≡ slice_set old.clients c (with_reply plan q) → new.layout ≡ old.layout → new.graphs ≡ old.graphs → new.log ≡ noted old.log e → length new.pool.seats ≡ length old.pool.seats → Keeps lay disk old e new
+    refused-keeps e q plan r clients layout graphs log there = one-keeps e (with_reply plan q) (items-same plan r) (refused plan r q) clients layout graphs log there
 
     given-keeps : (e : Traced) (q : Reply) → GivenUp lay old c q e new → Keeps lay disk old e new
-    given-keeps e q g = one-keeps e (with_reply d q) refl (idle-serving y gs d (with_reply d q) refl nothing-not (steady.serving c)) g.clients g.rest.layout g.rest.graphs g.log
+    given-keeps e q g = one-keeps e (with_reply d q) refl (idle-serving y gs d (with_reply d q) refl nothing-not (steady.serving c)) g.clients g.rest.layout g.rest.graphs g.log g.pool.seats
 
   -- ## An operation is taken, or its graph refused
 
@@ -186,7 +188,7 @@ module _ {L D : Type 0} (lay : LayoutGhosts L) (disk : DiskGhosts D) (old new : 
     pub take-keeps : IsTaken lay old c (event.Take (id_of old.clients c)) new → Keeps lay disk old (event.Take (id_of old.clients c)) new
     take-keeps t = elim t.became [
       | inl f ↦ taken-keeps t.op t.file t.serves (event.Take (id_of old.clients c)) f
-      | inr f ↦ refused-keeps t.op t.file t.serves (event.Take (id_of old.clients c)) (reply.Refused f.0) f.1.plan f.1.replanned f.1.clients f.1.rest.layout f.1.rest.graphs f.1.log
+      | inr f ↦ refused-keeps t.op t.file t.serves (event.Take (id_of old.clients c)) (reply.Refused f.0) f.1.plan f.1.replanned f.1.clients f.1.rest.layout f.1.rest.graphs f.1.log (same-seats f.1.pool)
     ]
 
     pub take-steady : IsTaken lay old c (event.Take (id_of old.clients c)) new → IsSound lay disk new → Follows lay disk old (event.Take (id_of old.clients c)) new → IsSteady lay disk new
@@ -202,7 +204,7 @@ module _ {L D : Type 0} (lay : LayoutGhosts L) (disk : DiskGhosts D) (old new : 
     replaced-keeps e op serves f =
         let leased : f.plan.lease ≡ d.lease = ap (λ (a : Desk). a.lease) f.replanned.rest in
         let long : length f.plan.lease ≡ lease_for y gs op None = ap (λ (l : List ℕ). length l) leased ∙ ((stands.serves c).runs can.runs op None serves).lease in
-        one-keeps op None serves e (with_started gs f.plan) (items-same op None serves f.plan f.replanned) (started op None serves f.plan f.replanned f.runs f.plan.lease long) f.clients f.rest.layout f.rest.graphs f.log
+        one-keeps op None serves e (with_started gs f.plan) (items-same op None serves f.plan f.replanned) (started op None serves f.plan f.replanned f.runs f.plan.lease long) f.clients f.rest.layout f.rest.graphs f.log f.filled.alone.seats
 
     pub back-keeps : (e : Traced) (op : Op) (file : Option ℕ) → Serves gs y d op file → BackAs lay old c op file e new → Keeps lay disk old e new
     back-keeps e op None serves f = replaced-keeps e op serves f

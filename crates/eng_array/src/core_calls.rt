@@ -54,6 +54,32 @@ impl<L: Layout, D: Disk> Core<L, D> {
         }
     }
 
+    /// Chooses the event that is done next as [`Core::pick`] does, but that the clients are tried from this one on. Where
+    /// there is none it is tried from the same client as before.
+    pub fn pick_from(&mut self, client: u32) -> Option<Event>
+        requires { IsSteady L.Layout D.Disk self.old.array }
+        ensures event { MatchOption result (IsStuck L.Layout self.old.array)
+            (IsPicked L.Layout (record self.old.array { next = client })) }
+        ensures can { IfSome result (CanDo L.Layout self.new.array) }
+        ensures next { self.new.array
+            ≡ record self.old.array { next = next_after self.old.array.next result } }
+        ensures steady { IsSteady L.Layout D.Disk self.new.array }
+        ensures shows { (w : World) → Shows D.Disk self.old.array w
+            → Shows D.Disk self.new.array w }
+        ensures stays { (job : Job D) → IsOut D.Disk L.Layout self.old.array job
+            → IsOut D.Disk L.Layout self.new.array job }
+        ensures quiet { Quiet L.Layout D.Disk self.old.array self.new.array }
+        ensures none { result ≡ None → self.new.array ≡ self.old.array }
+    {
+        let before = self.array.next;
+        self.array.next = client;
+        let event = self.pick();
+        if event.is_none() {
+            self.array.next = before;
+        }
+        event
+    }
+
     /// Whether each item has a reply, or the array is lost, and no job is out.
     pub fn rest(&self) -> bool
         requires { IsSteady L.Layout D.Disk self.now.array }

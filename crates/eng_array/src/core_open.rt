@@ -27,7 +27,7 @@ impl<L: Layout, D: Disk + Drop> Core<L, D> {
     ) -> Result<Core<L, D>, (OpenFault, Setup<L, D>)>
         requires setup { IsSetup L.Layout D.Disk setup }
         requires room { IsRoomFor (L.shape setup.layout) (length setup.devices.items)
-            setup.clients.items setup.trace room }
+            setup.clients.items setup.graphs.items setup.trace room }
         requires trace { FitsTrace L.Layout setup }
         ensures fault { MatchResult result (λ engine. NotLost (L.shape setup.layout)
             (states_of (L.shape setup.layout) setup.columns.items)) (λ e. IsFault

@@ -19,7 +19,9 @@ pub use eng_parts::{Closed, CoreRoom, Memory, OpenFault, Setup};
 pub use eng_state::Array;
 pub use eng_world::{Event, Item, Reply, Traced};
 pub use fitting::what_is_counted_fits_the_trace;
-pub use progress::{each_event_leaves_less, events_of_an_item_are_few, somebody_goes_on};
+pub use progress::{
+    each_event_leaves_less, events_of_an_item_are_few, leases_are_there, somebody_goes_on,
+};
 pub use start::Start;
 pub use tickets::{
     chains_are_runs, failed_devices_are_blamed, looks_are_quiet, what_is_out_has_one_place,

@@ -10,6 +10,7 @@ ghost use Rattle.eng_clients.specs.Desk.{desk_at};
 ghost use Rattle.eng_events.specs.Opened.{NoneOut};
 ghost use Rattle.eng_choice.specs.Picked.{IsResting, IsStuck};
 ghost use Rattle.eng_array.specs.Progress.{most_nodes, item_left_of, left_of, Falls};
+ghost use Rattle.eng_state.specs.Serves.{CanTake, HasThere};
 ghost use Rattle.eng_state.specs.Shows.{Shows};
 ghost use Rattle.eng_state.specs.Sound.{IsOutOf};
 ghost use Rattle.eng_array.specs.Steady.{IsSteady};
@@ -62,4 +63,11 @@ pub fn events_of_an_item_are_few<L: Layout, D: Disk>()
 pub fn somebody_goes_on<L: Layout, D: Disk>()
     ensures { (core : Array L D) → IsSteady L.Layout D.Disk core
         → NoneOut core.clients → IsStuck L.Layout core → IsResting core }
+{}
+
+/// An operation that can be taken finds its buffers there. So the events of a core are those of one whose 2,048 buffers all
+/// have memory: what can be taken goes by these alone.
+pub fn leases_are_there<L: Layout, D: Disk>()
+    ensures { (core : Array L D) (c : ℕ) → IsSteady L.Layout D.Disk core
+        → CanTake L.Layout core c → HasThere L.Layout core c }
 {}

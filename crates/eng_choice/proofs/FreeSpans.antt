@@ -15,7 +15,7 @@ use Rattle.lay_core.proofs.NextSpan.{span-at, spans-long, spans-most}
 use Rattle.lay_core.proofs.Walked.{is-some-count, is-in-range}
 use Rattle.eng_plan.specs.Asked.{IsInside}
 use Rattle.eng_choice.specs.Free.{AreFreeOf}
-use Rattle.eng_choice.proofs.FreeStripes.{own-block, some-block, span-few}
+use Rattle.eng_plan.proofs.SpanStripes.{own-block, some-block, span-few}
 
 module _ (y : Shape) (law : IsLayout y) (patches : Patches) (long : length patches.list ≡ 8) (inside : IsInside y (Writes patches)) (i : ℕ) (d : Patch) (lt : i < patches.used) where
   abbrev span : Span

@@ -17,7 +17,7 @@ use Rattle.lay_core.proofs.NextSpan.{next-more, spans-most}
 use Rattle.lay_core.proofs.Walked.{Apart, Passed, begin-all, begin-span, end-span, end-walk, go-on, gone-on, is-in-range, is-over, is-some, is-some-count, is-stepped, is-within, none-passed, passed-next, spans-apart}
 use Rattle.eng_plan.specs.Asked.{IsInside, IsOpSplit, whole}
 use Rattle.eng_plan.proofs.Maps.{not-past, span-split, whole-inside, whole-one, whole-some}
-use Rattle.eng_choice.proofs.FreeStripes.{fits, short-few}
+use Rattle.eng_plan.proofs.SpanStripes.{fits, short-few}
 
 -- one of some spans begins next, or none
 some-next : (at : ℕ) (xs ys : List Span) (n : Option Span) → IsNext at xs n → (m : Option Span) × IsNext at (xs ++ ys) m

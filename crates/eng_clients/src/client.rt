@@ -12,7 +12,7 @@ mod open;
 
 use crate::stage::Stage;
 use blk_plain::Outcome;
-use buf_pool::{Buffer, Lease, Pool};
+use buf_pool::{Buffer, Lease, Reserve};
 use eng_cols::Spot;
 use eng_one::Run;
 use eng_world::{Item, Reply};
@@ -118,7 +118,7 @@ impl Client {
     }
 
     /// A buffer of its lease leaves the pool, where it is at home.
-    pub fn take(&self, buf: u32, pool: &mut Pool) -> Buffer
+    pub fn take(&self, buf: u32, pool: &mut Reserve) -> Buffer
         requires lease { IsLease pool.old self.now.lease }
         requires buf { buf < length self.now.lease }
         requires home { (seat_of pool.old self.now buf).out ≡ false }
@@ -130,7 +130,7 @@ impl Client {
     }
 
     /// It comes home with these bytes.
-    pub fn put(&self, buf: u32, buffer: Buffer, pool: &mut Pool)
+    pub fn put(&self, buf: u32, buffer: Buffer, pool: &mut Reserve)
         requires lease { IsLease pool.old self.now.lease }
         requires buf { buf < length self.now.lease }
         requires out { (seat_of pool.old self.now buf).out ≡ true }

@@ -14,7 +14,7 @@ mod open;
 
 use crate::client::Client;
 use blk_plain::Outcome;
-use buf_pool::{Buffer, Pool};
+use buf_pool::{Buffer, Reserve};
 use eng_cols::Spot;
 use eng_one::{with_bit, without_bit};
 use eng_world::Reply;
@@ -90,7 +90,7 @@ impl Clients {
     }
 
     /// A buffer of its lease leaves the pool, where it is at home.
-    pub fn take(&self, client: u32, buf: u32, pool: &mut Pool) -> Buffer
+    pub fn take(&self, client: u32, buf: u32, pool: &mut Reserve) -> Buffer
         requires client { client < length self.now }
         requires lease { IsLease pool.old (desk_at self.now client).lease }
         requires buf { buf < length (desk_at self.now client).lease }
@@ -103,7 +103,7 @@ impl Clients {
     }
 
     /// It comes home with these bytes.
-    pub fn put(&self, client: u32, buf: u32, buffer: Buffer, pool: &mut Pool)
+    pub fn put(&self, client: u32, buf: u32, buffer: Buffer, pool: &mut Reserve)
         requires client { client < length self.now }
         requires lease { IsLease pool.old (desk_at self.now client).lease }
         requires buf { buf < length (desk_at self.now client).lease }

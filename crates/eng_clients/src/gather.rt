@@ -8,7 +8,7 @@ ghost use Rattle.eng_clients.specs.Gathered.{turned, source_of, GathersOne, Gath
 
 use crate::client::Client;
 use crate::clients::Clients;
-use buf_pool::Pool;
+use buf_pool::Reserve;
 use eng_job::Source;
 use graph_mean::Graph;
 
@@ -32,7 +32,7 @@ fn turn(sources: &mut [Source], at: u32)
 
 impl Client {
     // Whether a buffer of its lease is at home.
-    pub fn is_home(&self, buf: u32, pool: &Pool) -> bool
+    pub fn is_home(&self, buf: u32, pool: &Reserve) -> bool
         requires lease { IsLease pool.now self.now.lease }
         requires buf { buf < length self.now.lease }
         ensures { IsTrue result ↔ ((seat_of pool.now self.now buf).out ≡ false) }
@@ -41,7 +41,7 @@ impl Client {
     }
 
     // One source more: it leaves the pool, or counts the other way if it has left already.
-    fn gather_one(&self, buf: u32, pool: &mut Pool, sources: &mut Vec<Source>)
+    fn gather_one(&self, buf: u32, pool: &mut Reserve, sources: &mut Vec<Source>)
         requires lease { IsLease pool.old self.now.lease }
         requires buf { buf < length self.now.lease }
         requires room { (seat_of pool.old self.now buf).out ≡ false
@@ -63,7 +63,7 @@ impl Client {
     }
 
     // All of them, one after another.
-    fn gather_all(&self, named: &[u32], pool: &mut Pool, sources: &mut Vec<Source>)
+    fn gather_all(&self, named: &[u32], pool: &mut Reserve, sources: &mut Vec<Source>)
         requires lease { IsLease pool.old self.now.lease }
         requires named { AreInLease self.now.lease named.now }
         requires home { All (λ b. (seat_of pool.old self.now b).out ≡ false) named.now }
@@ -78,7 +78,7 @@ impl Client {
     }
 
     /// The sources of a node leave the pool, each once.
-    pub fn gather(&self, node: u32, graphs: &[Graph], pool: &mut Pool, sources: &mut Vec<Source>)
+    pub fn gather(&self, node: u32, graphs: &[Graph], pool: &mut Reserve, sources: &mut Vec<Source>)
         requires lends { Lends graphs.now self.now }
         requires node { node < length self.now.run.graph.nodes }
         requires lease { IsLease pool.old self.now.lease }
@@ -105,7 +105,7 @@ impl Clients {
         client: u32,
         node: u32,
         graphs: &[Graph],
-        pool: &mut Pool,
+        pool: &mut Reserve,
         sources: &mut Vec<Source>,
     )
         requires client { client < length self.now }

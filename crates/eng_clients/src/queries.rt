@@ -10,12 +10,12 @@ ghost use Rattle.eng_clients.specs.Gathered.{AreInLease};
 use crate::client::Client;
 use crate::clients::Clients;
 use crate::stage::Stage;
-use buf_pool::Pool;
+use buf_pool::Reserve;
 use graph_mean::{Graph, Phase};
 
 impl Client {
     // Whether these buffers of its lease are at home.
-    fn all_home(&self, named: &[u32], pool: &Pool) -> bool
+    fn all_home(&self, named: &[u32], pool: &Reserve) -> bool
         requires lease { IsLease pool.now self.now.lease }
         requires named { AreInLease self.now.lease named.now }
         ensures { IsTrue result ↔ All (λ b. (seat_of pool.now self.now b).out ≡ false) named.now }
@@ -28,7 +28,7 @@ impl Client {
         true
     }
 
-    fn sources_home(&self, node: u32, graphs: &[Graph], pool: &Pool) -> bool
+    fn sources_home(&self, node: u32, graphs: &[Graph], pool: &Reserve) -> bool
         requires lends { Lends graphs.now self.now }
         requires node { node < length self.now.run.graph.nodes }
         requires lease { IsLease pool.now self.now.lease }
@@ -107,7 +107,7 @@ impl Clients {
     }
 
     /// Whether a buffer of its lease is at home.
-    pub fn is_home(&self, client: u32, buf: u32, pool: &Pool) -> bool
+    pub fn is_home(&self, client: u32, buf: u32, pool: &Reserve) -> bool
         requires client { client < length self.now }
         requires lease { IsLease pool.now (desk_at self.now client).lease }
         requires buf { buf < length (desk_at self.now client).lease }
@@ -117,7 +117,7 @@ impl Clients {
     }
 
     /// Whether the sources of a node are at home.
-    pub fn sources_home(&self, client: u32, node: u32, graphs: &[Graph], pool: &Pool) -> bool
+    pub fn sources_home(&self, client: u32, node: u32, graphs: &[Graph], pool: &Reserve) -> bool
         requires client { client < length self.now }
         requires lends { Lends graphs.now (desk_at self.now client) }
         requires node { node < length (desk_at self.now client).run.graph.nodes }

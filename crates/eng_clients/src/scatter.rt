@@ -6,12 +6,12 @@ ghost use Rattle.eng_clients.specs.Scattered.{SourcesOut, SourcesHome};
 
 use crate::client::Client;
 use crate::clients::Clients;
-use buf_pool::Pool;
+use buf_pool::Reserve;
 use eng_job::Source;
 
 impl Client {
     // The sources come home, the last first.
-    fn scatter(&self, pool: &mut Pool, sources: &mut Vec<Source>)
+    fn scatter(&self, pool: &mut Reserve, sources: &mut Vec<Source>)
         requires lease { IsLease pool.old self.now.lease }
         requires out { SourcesOut pool.old self.now.lease sources.old.items }
         ensures home { SourcesHome pool.old self.now.lease sources.old.items pool.new }
@@ -26,7 +26,7 @@ impl Client {
 
 impl Clients {
     /// The sources of a client's node come home.
-    pub fn scatter(&self, client: u32, pool: &mut Pool, sources: &mut Vec<Source>)
+    pub fn scatter(&self, client: u32, pool: &mut Reserve, sources: &mut Vec<Source>)
         requires client { client < length self.now }
         requires lease { IsLease pool.old (desk_at self.now client).lease }
         requires out { SourcesOut pool.old (desk_at self.now client).lease sources.old.items }

@@ -1,6 +1,7 @@
 //! What a client does as its operation is taken, planned anew or given up.
 ghost use Rattle.std.specs.Prelude.{◌≡◌, ◌<◌, ◌≤◌, ℕ, Some, None, length, option_map};
 ghost use Rattle.buf_pool.specs.Pool.{IsLease, AllHome, Leases, StandsApart, Returns, KeepsOthers};
+ghost use Rattle.buf_pool.specs.Reserve.{AreThere};
 ghost use Rattle.eng_one.specs.Counts.{CanStart};
 ghost use Rattle.eng_clients.specs.Desk.{graph_of, item_at, with_started, with_lease};
 ghost use Rattle.eng_log.specs.Filled.{HasBuffers, Filled};
@@ -9,7 +10,7 @@ ghost use Rattle.eng_world.specs.Planning.{span_count};
 use crate::client::Client;
 use crate::stage::Stage;
 use blk_plain::Op;
-use buf_pool::{Full, Pool};
+use buf_pool::Reserve;
 use eng_log::fill_fresh;
 use eng_world::{Item, Reply};
 use graph_mean::Graph;
@@ -44,21 +45,18 @@ impl Client {
         self.by = None;
     }
 
-    /// It leases that many buffers, which are free.
-    pub fn hold(&mut self, count: u32, pool: &mut Pool)
-        requires { count ≤ length pool.old.free }
+    /// It leases that many buffers, which are free and there.
+    pub fn hold(&mut self, count: u32, pool: &mut Reserve)
+        requires { AreThere pool.old count }
         ensures leased { Leases pool.old count self.new.lease pool.new }
         ensures apart { StandsApart pool.old self.new.lease pool.new }
         ensures now { self.new ≡ with_lease self.old self.new.lease }
     {
-        match pool.lease_into(count, &mut self.lease) {
-            Ok(()) => {}
-            Err(Full) => unreachable!(),
-        }
+        pool.lease_into(count, &mut self.lease);
     }
 
     /// Its buffers are free again. Which they were it forgets with the reply.
-    pub fn give_back(&self, pool: &mut Pool)
+    pub fn give_back(&self, pool: &mut Reserve)
         requires lease { IsLease pool.old self.now.lease }
         requires home { AllHome pool.old self.now.lease }
         ensures freed { Returns pool.old self.now.lease pool.new }
@@ -68,7 +66,7 @@ impl Client {
     }
 
     /// Its buffers of new data are filled.
-    pub fn fill<L: Layout>(&self, layout: &L, op: &Op, graphs: &[Graph], pool: &mut Pool)
+    pub fn fill<L: Layout>(&self, layout: &L, op: &Op, graphs: &[Graph], pool: &mut Reserve)
         requires there { (n : ℕ) → self.now.file ≡ Some n → n < length graphs.now }
         requires buffers { HasBuffers (graph_of graphs.now self.now) pool.old self.now.lease }
         requires few { span_count op.now ≤ 8 }

@@ -3,6 +3,7 @@ ghost use Rattle.std.specs.Prelude.{◌≡◌, ◌<◌, ◌≤◌, ℕ, Some, No
 ghost use Rattle.eng_cols.specs.Cols.{IsFor};
 ghost use Rattle.eng_cols.specs.Lost.{NotLost};
 ghost use Rattle.buf_pool.specs.Pool.{IsLease, AllHome, Leases, StandsApart, Returns, KeepsOthers};
+ghost use Rattle.buf_pool.specs.Reserve.{AreThere};
 ghost use Rattle.eng_one.specs.Counts.{CanStart};
 ghost use Rattle.eng_clients.specs.Desk.{desk_at, graph_of, item_at, with_started, with_lease};
 ghost use Rattle.eng_log.specs.Filled.{HasBuffers, Filled};
@@ -13,7 +14,7 @@ ghost use Rattle.eng_clients.specs.Planned.{CanRun, IsRefusedFor, Replanned};
 use crate::clients::Clients;
 use crate::planned::Asked;
 use blk_plain::Op;
-use buf_pool::Pool;
+use buf_pool::Reserve;
 use eng_cols::Cols;
 use eng_one::with_bit;
 use eng_world::{Item, Reply};
@@ -84,10 +85,10 @@ impl Clients {
         self.busy = with_bit(self.busy, client);
     }
 
-    /// It leases that many buffers, which are free.
-    pub fn hold(&mut self, client: u32, count: u32, pool: &mut Pool)
+    /// It leases that many buffers, which are free and there.
+    pub fn hold(&mut self, client: u32, count: u32, pool: &mut Reserve)
         requires client { client < length self.old }
-        requires fits { count ≤ length pool.old.free }
+        requires there { AreThere pool.old count }
         ensures leased { Leases pool.old count (desk_at self.new client).lease pool.new }
         ensures apart { StandsApart pool.old (desk_at self.new client).lease pool.new }
         ensures now { self.new ≡ slice_set self.old client
@@ -97,7 +98,7 @@ impl Clients {
     }
 
     /// Its buffers are free again. Which they were it forgets with the reply.
-    pub fn give_back(&self, client: u32, pool: &mut Pool)
+    pub fn give_back(&self, client: u32, pool: &mut Reserve)
         requires client { client < length self.now }
         requires lease { IsLease pool.old (desk_at self.now client).lease }
         requires home { AllHome pool.old (desk_at self.now client).lease }
@@ -114,7 +115,7 @@ impl Clients {
         layout: &L,
         op: &Op,
         graphs: &[Graph],
-        pool: &mut Pool,
+        pool: &mut Reserve,
     )
         requires client { client < length self.now }
         requires there { (n : ℕ) → (desk_at self.now client).file ≡ Some n → n < length graphs.now }

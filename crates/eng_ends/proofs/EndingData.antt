@@ -37,7 +37,6 @@ use Rattle.eng_ends.specs.Copied.{AreLaid, Copies, block_at, sector_for, picked}
 use Rattle.eng_ends.proofs.Handouts.{op-is, in-span, hit-covers, covers-hit, hit-one, picked-one, picked-some, no_ret}
 use Rattle.eng_ends.proofs.Over as over
 use Rattle.eng_state.proofs.Put.{put-same, put-other}
-use Rattle.eng_ends.proofs.Rebuilding.{stripe-sound}
 use Rattle.eng_state.proofs.Shown.{unlost, shown-running}
 
 -- one reply more doesn't change those before it
@@ -46,6 +45,16 @@ reply-before [] r zero x ne h = absurd (ne refl)
 reply-before [] r (suc i) x ne h = h
 reply-before (a ∷ l) r zero x ne h = h
 reply-before (a ∷ l) r (suc i) x ne h = reply-before l r i x (λ e. ne (ap suc e)) h
+
+-- which stay, and it is the last
+reply-after : (l : List Reply) (r : Reply) (i : ℕ) (x : Reply) → slice_get l i ≡ Some x → slice_get (l ++ r ∷ []) i ≡ Some x
+reply-after [] r i x h = let z : None ≡ Some x = h in absurd (let u : ⊥ = cc in u)
+reply-after (a ∷ l) r zero x h = h
+reply-after (a ∷ l) r (suc i) x h = reply-after l r i x h
+
+reply-last : (l : List Reply) (r : Reply) → slice_get (l ++ r ∷ []) (length l) ≡ Some r
+reply-last [] r = refl
+reply-last (a ∷ l) r = reply-last l r
 
 module _ {L D : Type 0} (lay : LayoutGhosts L) (disk : DiskGhosts D) (old end : Array L D) (bytes : List ℕ) (c n : ℕ) (sound : IsSound lay disk old) (not_lost : old.lost ≡ None) (o : IsOutOf (desk_at old.clients c) n) (kind : kind_at (desk_at old.clients c).run.graph n ≡ Trm)
     (span : Span) (file : Option ℕ) (is : item_at (desk_at old.clients c) ≡ Some (item.Run (op.Read span) file)) (laid : AreLaid old.log.handed old.clients) (regions : AreRegions old.log.handed)
@@ -64,20 +73,35 @@ module _ {L D : Type 0} (lay : LayoutGhosts L) (disk : DiskGhosts D) (old end : 
   abbrev i : ℕ
   i = length d.replies
 
-  abbrev mid : Array L D
-  mid = record old { log = with_bytes old.log bytes }
-
+  -- what was handed out, this read's sectors among it
   abbrev given : Handout
-  given = mid.log.handed
+  given = record old.log.handed { bytes = bytes }
+
+  -- the end, as it is of a core to which no bytes were handed: its log is another in the end
+  abbrev back : Array L D
+  back = record end { log = old.log }
+
+  ended : Terminated old c n reply.Data back
+  ended = record {
+    clients = h.clients;
+    leases = h.leases;
+    pool = h.pool;
+    locks = h.locks;
+    lists = h.lists;
+    devices = h.devices;
+    log = refl;
+    layout = h.layout;
+    cols = h.cols;
+    graphs = h.graphs;
+    lost = h.lost;
+    spare = h.spare;
+  }
 
   abbrev now : Logged
   now = noted end.log (event.Good (id_of old.clients c) n)
 
-  mid-sound : IsSound lay disk mid
-  mid-sound = stripe-sound lay disk old sound old.cols (with_bytes old.log bytes) sound.seated
-
   abbrev runs : RunsWell y old.graphs.items old.pool d
-  runs = over.runs lay disk mid end c n reply.Data mid-sound o kind h now
+  runs = over.runs lay disk old back c n reply.Data sound o kind ended now
 
   -- a sector of another item's region isn't one that a return goes to
   elsewhere : (k j b : ℕ) → b < (region_at given k j).count → ((k ≡ c) × (j ≡ i) → ⊥) → sector_at bytes ((region_at given k j).first + b) ≡ sector_at old.log.handed.bytes ((region_at given k j).first + b)
@@ -91,29 +115,24 @@ module _ {L D : Type 0} (lay : LayoutGhosts L) (disk : DiskGhosts D) (old end : 
     same-replies : (w.clients c).replies ≡ d.replies
     same-replies = (unlost disk old w s not_lost c).replies
 
-    hands-mid : Hands disk.tells given w.clients
-    hands-mid told k j b m got lt lm = s.handed told k j b m got lt lm ∙ sym (ap (λ (l : List ℕ). get_or l m 0) (elsewhere k j b lt (λ both.
+    -- an item that was replied isn't the one that is replied now
+    unreplied : (k j : ℕ) → slice_get (w.clients k).replies j ≡ Some reply.Data → (k ≡ c) × (j ≡ i) → ⊥
+    unreplied k j got both =
         let here : slice_get (w.clients c).replies j ≡ Some reply.Data = subst (λ (q : ℕ). slice_get (w.clients q).replies j ≡ Some reply.Data) both.0 got in
         let within = slice_get_within (w.clients c).replies j reply.Data here in
-        let long = ap length same-replies in let e = both.1 in omega (arith, within, long, e))))
+        let long = ap length same-replies in
+        let e = both.1 in
+        omega (arith, within, long, e)
 
-    shows-mid : Shows disk mid w
-    shows-mid = record {
-      contents = s.contents;
-      failed = s.failed;
-      calls = s.calls;
-      columns = s.columns;
-      clients = s.clients;
-      free = s.free;
-      out = s.out;
-      rebuilt = s.rebuilt;
-      history = s.history;
-      lost = s.lost;
-      handed = hands-mid;
-    }
+    -- what was handed out for another item is as it was
+    byte-elsewhere : (k j b m : ℕ) → b < (region_at given k j).count → ((k ≡ c) × (j ≡ i) → ⊥) → handed_byte given k j b m ≡ handed_byte old.log.handed k j b m
+    byte-elsewhere k j b m lt ne = ap (λ (l : List ℕ). get_or l m 0) (elsewhere k j b lt ne)
+
+    data-before : disk.tells → (k j b m : ℕ) → slice_get (w.clients k).replies j ≡ Some reply.Data → b < (region_at given k j).count → m < 512 → (w.clients k).handed j b m ≡ handed_byte given k j b m
+    data-before told k j b m got lt lm = s.handed.read told k j b m got lt lm ∙ sym (byte-elsewhere k j b m lt (unreplied k j got))
 
     abbrev running : (buf : ℕ → ℕ → ℕ → ℕ) × ((w.clients c).current ≡ IsRunning (running_as d buf)) × HoldBytes disk.tells old.pool d buf
-    running = shown-running disk.tells None old.pool d (w.clients c) (unlost disk mid w shows-mid not_lost c) o.runs
+    running = shown-running disk.tells None old.pool d (w.clients c) (unlost disk old w s not_lost c) o.runs
 
     -- what the reply hands out
     abbrev data_of : ℕ → ℕ → ℕ
@@ -123,13 +142,13 @@ module _ {L D : Type 0} (lay : LayoutGhosts L) (disk : DiskGhosts D) (old end : 
     handed a b m = if a == i then data_of b m else (w.clients c).handed a b m
 
     abbrev x : World
-    x = over.world lay disk mid end c n reply.Data mid-sound o kind h now not_lost w shows-mid handed
+    x = over.world lay disk old back c n reply.Data sound o kind ended now not_lost w s handed
 
     abbrev v : Client
-    v = over.after lay disk mid end c n reply.Data mid-sound o kind h now not_lost w shows-mid handed
+    v = over.after lay disk old back c n reply.Data sound o kind ended now not_lost w s handed
 
     abbrev was : Running
-    was = over.was lay disk mid end c n reply.Data mid-sound o kind h now not_lost w shows-mid handed
+    was = over.was lay disk old back c n reply.Data sound o kind ended now not_lost w s handed
 
     handed-here : (b m : ℕ) → handed i b m ≡ data_of b m
     handed-here b m = cond-true (i == i) _ _ (eq-eqb i i refl)
@@ -167,28 +186,48 @@ module _ {L D : Type 0} (lay : LayoutGhosts L) (disk : DiskGhosts D) (old end : 
           ∙ ap (λ (l : List ℕ). get_or l m 0) (sym (copied.here e.0 (layout.offset_of y (span.first + b)) e.1 hit.0) ∙ ap (sector_at bytes) at))
     ]
 
-    hands-now : Hands disk.tells given x.clients
-    hands-now told k a b m got lt lm = elim (cases_eq k c) [
+    data-now : disk.tells → (k a b m : ℕ) → slice_get (x.clients k).replies a ≡ Some reply.Data → b < (region_at given k a).count → m < 512 → (x.clients k).handed a b m ≡ handed_byte given k a b m
+    data-now told k a b m got lt lm = elim (cases_eq k c) [
       | inl same ↦
           let here : x.clients k ≡ v = ap x.clients same ∙ put-same w.clients c v in
           ap (λ (q : Client). q.handed a b m) here ∙ elim (cases_eq a i) [
             | inl own ↦ ap (λ (q : ℕ). handed q b m) own ∙ (handed-here b m ∙ (picked-copied told b m lm ∙ sym (ap (λ (q : ℕ). handed_byte given q a b m) same ∙ ap (λ (q : ℕ). handed_byte given c q b m) own)))
-            | inr other ↦ handed-else a b m other ∙ (ap (λ (q : ℕ). (w.clients q).handed a b m) (sym same) ∙ hands-mid told k a b m
+            | inr other ↦ handed-else a b m other ∙ (ap (λ (q : ℕ). (w.clients q).handed a b m) (sym same) ∙ data-before told k a b m
                 (subst (λ (q : ℕ). slice_get (w.clients q).replies a ≡ Some reply.Data) (sym same) (reply-before (w.clients c).replies reply.Data a reply.Data (λ e. other (e ∙ ap length same-replies)) (sym (ap (λ (q : Client). slice_get q.replies a) here) ∙ got))) lt lm)
           ]
       | inr ne ↦
           let there = put-other w.clients c v k ne in
-          ap (λ (q : Client). q.handed a b m) there ∙ hands-mid told k a b m (sym (ap (λ (q : Client). slice_get q.replies a) there) ∙ got) lt lm
+          ap (λ (q : Client). q.handed a b m) there ∙ data-before told k a b m (sym (ap (λ (q : Client). slice_get q.replies a) there) ∙ got) lt lm
     ]
+
+    -- what was replied still is, and so is this item now
+    data-stays : (k a : ℕ) → slice_get (w.clients k).replies a ≡ Some reply.Data → slice_get (x.clients k).replies a ≡ Some reply.Data
+    data-stays k a had = elim (cases_eq k c) [
+      | inl same ↦
+          let here : x.clients k ≡ v = ap x.clients same ∙ put-same w.clients c v in
+          ap (λ (q : Client). slice_get q.replies a) here ∙ reply-after (w.clients c).replies reply.Data a reply.Data (subst (λ (q : ℕ). slice_get (w.clients q).replies a ≡ Some reply.Data) same had)
+      | inr ne ↦ ap (λ (q : Client). slice_get q.replies a) (put-other w.clients c v k ne) ∙ had
+    ]
+
+    data-here : (k a : ℕ) → (k ≡ c) × (a ≡ i) → slice_get (x.clients k).replies a ≡ Some reply.Data
+    data-here k a both =
+        let here : x.clients k ≡ v = ap x.clients both.0 ∙ put-same w.clients c v in
+        ap (λ (q : Client). slice_get q.replies a) here ∙ (ap (slice_get ((w.clients c).replies ++ reply.Data ∷ [])) (both.1 ∙ sym (ap length same-replies)) ∙ reply-last (w.clients c).replies reply.Data)
+
+    hands-now : Hands disk.tells given x.clients
+    hands-now = record {
+      read = data-now;
+      zeros = λ k a b m none lt lm. byte-elsewhere k a b m lt (λ both. none (data-here k a both)) ∙ s.handed.zeros k a b m (λ had. none (data-stays k a had)) lt lm;
+    }
 
     terminates : Terminates y c n w x
     terminates = record {
       was = was;
-      last = over.last lay disk mid end c n reply.Data mid-sound o kind h now not_lost w shows-mid handed;
-      finishes = over.finishes lay disk mid end c n reply.Data mid-sound o kind h now not_lost w shows-mid handed;
+      last = over.last lay disk old back c n reply.Data sound o kind ended now not_lost w s handed;
+      finishes = over.finishes lay disk old back c n reply.Data sound o kind ended now not_lost w s handed;
       is_end = kind;
       op = runs.op;
-      op_is = over.op-is lay disk mid end c n reply.Data mid-sound o kind h now not_lost w shows-mid handed;
+      op_is = over.op-is lay disk old back c n reply.Data sound o kind ended now not_lost w s handed;
       replies = subst (λ (a : Op). RepliesTo y a was c w x) (sym (op-is y old.graphs.items old.pool d sound.layout runs span file is)) (replied, hands-out);
       after = subst (λ (a : Op). ColumnsAfter y a was w x) (sym (op-is y old.graphs.items old.pool d sound.layout runs span file is)) (refl, refl);
       contents = λ a b k. refl;
@@ -199,7 +238,7 @@ module _ {L D : Type 0} (lay : LayoutGhosts L) (disk : DiskGhosts D) (old end : 
     }
 
     shows-now : Shows disk (record end { log = now }) x
-    shows-now = over.shows-over lay disk mid end c n reply.Data mid-sound o kind h now not_lost w shows-mid handed (ap (λ (l : Logged). l.rebuilt) h.log) (ap (λ (l : Logged). l.history) h.log)
+    shows-now = over.shows-over lay disk old back c n reply.Data sound o kind ended now not_lost w s handed (ap (λ (l : Logged). l.rebuilt) h.log) (ap (λ (l : Logged). l.history) h.log)
         (subst (λ (q : Handout). Hands disk.tells q x.clients) (sym (ap (λ (l : Logged). l.handed) h.log)) hands-now)
 
     steps : Step y (graphs_of old.graphs.items) (event.Good (id_of old.clients c) n) w x
@@ -209,4 +248,4 @@ module _ {L D : Type 0} (lay : LayoutGhosts L) (disk : DiskGhosts D) (old end : 
   data-follows w s = (x w s, shows-now w s, steps w s)
 
   pub data-sound : IsSound lay disk (record end { log = now })
-  data-sound = over.over-sound lay disk mid end c n reply.Data mid-sound o kind h now
+  data-sound = over.over-sound lay disk old back c n reply.Data sound o kind ended now

@@ -1,13 +1,15 @@
 -- A core that is opened is sound, and shows worlds that runs begin with.
-use Rattle.std.proofs.Common.{◌≡◌, ℕ, zero, suc, List, [], ◌∷◌, length, replicate, map, get_or, subst, sym, ap, ◌∙◌, arith, inl, inr, refl, Bool, true, false, Option, Some, None}
+use Rattle.std.proofs.Common.{◌≡◌, ℕ, zero, suc, ◌<◌, ◌+◌, ◌*◌, List, [], ◌∷◌, length, replicate, map, drop, get_or, subst, sym, ap, ◌∙◌, arith, inl, inr, refl, Bool, true, false, Option, Some, None}
 use Rattle.std.specs.Prelude.{slice_get, Vec}
 use Rattle.std.specs.declared.alloc.Global.{Global}
 use Rattle.std.proofs.lemmas.Bool.{cases_lt, false≢true}
-use Rattle.std.proofs.lemmas.List.{get_or_past, get_or-replicate, length-replicate, length-map}
+use Rattle.std.proofs.lemmas.List.{get_or_past, get_or-replicate, get_or-take, get_or-drop, length-replicate, length-map}
 use Rattle.std.proofs.lemmas.Option.{slice_get-map, get_or_from_slice_get}
 use Rattle.blk_disk.specs.declared.disk.Call.{Call}
 use Rattle.blk_disk.specs.declared.disk.Disk.{Ghosts as DiskGhosts}
+use Rattle.blk_disk.specs.Disk.{sector_at}
 use Rattle.buf_pool.specs.Pool as pool
+use Rattle.buf_pool.specs.Reserve.{IsStocked}
 use Rattle.lay_core.specs.Layout.{Shape, IsLayout}
 use Rattle.lay_core.specs.declared.layout.Layout.{Ghosts as LayoutGhosts}
 use Rattle.eng_cols.specs.declared.column.Column.{Column}
@@ -35,13 +37,15 @@ use Rattle.stripe_lock.specs.Table.{Table, IsIdle}
 use Rattle.eng_parts.specs.declared.core_room.CoreRoom.{CoreRoom}
 use Rattle.eng_log.specs.Given.{items_at}
 use Rattle.eng_events.specs.Opened.{IsAssembled, IsSetup, IsOpened, NoneOut, HandsOutNothing, OpensWorlds}
-use Rattle.eng_log.specs.Laid.{IsLaidOut}
+use Rattle.eng_log.specs.Handed.{region_at}
+use Rattle.eng_log.specs.Laid.{IsLaidOut, sectors_before}
 use Rattle.eng_state.specs.Serves.{Stands}
 use Rattle.eng_state.specs.Shows.{Shows, ShowsCurrent, AreTold, told_by, device_byte}
 use Rattle.eng_state.specs.Sound.{IsSound, Seated}
 use Rattle.eng_events.proofs.OpeningDesks as desks
 use Rattle.eng_clients.specs.Replied.{told_of}
-use Rattle.eng_parts.specs.Fresh.{fresh_log, IsRoomFor}
+use Rattle.graph_mean.specs.Graph.{Held}
+use Rattle.eng_parts.specs.Fresh.{fresh_log, stocked, IsRoomFor}
 
 -- ## Devices that are brought in
 
@@ -72,6 +76,22 @@ unfailed-at n k = elim (cases_lt k n) [
   | inl lt ↦ get_or-replicate n k false false lt
   | inr ge ↦ get_or_past (replicate n false) k false (let e = length-replicate n false in omega (arith, e, ge))
 ]
+
+-- ## Bytes that are zero
+
+zeros-at : (n k : ℕ) → get_or (replicate n zero) k zero ≡ zero
+zeros-at n k = elim (cases_lt k n) [
+  | inl lt ↦ get_or-replicate n k zero zero lt
+  | inr ge ↦ get_or_past (replicate n zero) k zero (let e = length-replicate n zero in omega (arith, e, ge))
+]
+
+-- each byte of a sector of theirs is
+zero-sector : (bytes : List ℕ) (n m k : ℕ) → bytes ≡ replicate n 0 → k < 512 → get_or (sector_at bytes m) k 0 ≡ 0
+unfolding sector_at
+zero-sector bytes n m k zeros kb =
+    get_or-take 512 (drop (512 * m) bytes) k 0 kb
+    ∙ (get_or-drop (512 * m) bytes k 0
+    ∙ (ap (λ (l : List ℕ). get_or l (512 * m + k) 0) zeros ∙ zeros-at n (512 * m + k)))
 
 -- ## The calls that are told
 
@@ -224,7 +244,10 @@ module _ {L D : Type 0} (lay : LayoutGhosts L) (disk : DiskGhosts D) (setup : Se
     rebuilt = refl;
     history = refl;
     lost = refl;
-    handed = λ tells c i b k got. let z : None ≡ Some reply.Data = got in absurd (let u : ⊥ = cc in u);
+    handed = record {
+      read = λ tells c i b k got. let z : None ≡ Some reply.Data = got in absurd (let u : ⊥ = cc in u);
+      zeros = λ c i b k none lt kb. zero-sector core.log.handed.bytes (512 * sectors_before setup.clients.items 16) ((region_at core.log.handed c i).first + b) k o.laid.bytes kb;
+    };
   }
 
   pub opened-worlds : OpensWorlds lay disk core
@@ -233,28 +256,28 @@ module _ {L D : Type 0} (lay : LayoutGhosts L) (disk : DiskGhosts D) (setup : Se
 -- ## A core that is put together in room that was taken for it
 
 -- the columns that are set are the setup's
-pub columns-set : {D : Type 0} (y : Shape) (n : ℕ) (given : List (Vec Item Global)) (trace : Bool) (room ready : CoreRoom D) (columns : List Column) → IsRoomFor y n given trace room → ready ≡ record room { cols = record room.cols { states = states_of y columns } } → ready.cols ≡ record { states = states_of y columns; stripes = y.stripes }
-columns-set {D} y n given trace room ready columns room-for set = ap (λ (r : CoreRoom D). r.cols) set ∙ ap (λ (v : Columns). record v { states = states_of y columns }) room-for.cols
+pub columns-set : {D : Type 0} (y : Shape) (n : ℕ) (given : List (Vec Item Global)) (graphs : List Held) (trace : Bool) (room ready : CoreRoom D) (columns : List Column) → IsRoomFor y n given graphs trace room → ready ≡ record room { cols = record room.cols { states = states_of y columns } } → ready.cols ≡ record { states = states_of y columns; stripes = y.stripes }
+columns-set {D} y n given graphs trace room ready columns room-for set = ap (λ (r : CoreRoom D). r.cols) set ∙ ap (λ (v : Columns). record v { states = states_of y columns }) room-for.cols
 
 -- columns are as many as the layout's, and so are the stripes
 pub set-fit : (y : Shape) (columns : List Column) (v : Columns) → v ≡ record { states = states_of y columns; stripes = y.stripes } → length columns ≡ y.columns → IsFor y v
 set-fit y columns v is count = record { columns = ap (λ (a : Columns). length a.states) is ∙ (length-map columns (state_set y.stripes (filled_in y columns)) ∙ count); stripes = ap (λ (a : Columns). a.stripes) is }
 
-pub room-fit : {D : Type 0} (y : Shape) (n : ℕ) (given : List (Vec Item Global)) (trace : Bool) (room : CoreRoom D) → IsRoomFor y n given trace room → IsFor y room.cols
-room-fit y n given trace room room-for = record { columns = ap (λ (a : Columns). length a.states) room-for.cols ∙ length-replicate y.columns Dead; stripes = ap (λ (a : Columns). a.stripes) room-for.cols }
+pub room-fit : {D : Type 0} (y : Shape) (n : ℕ) (given : List (Vec Item Global)) (graphs : List Held) (trace : Bool) (room : CoreRoom D) → IsRoomFor y n given graphs trace room → IsFor y room.cols
+room-fit y n given graphs trace room room-for = record { columns = ap (λ (a : Columns). length a.states) room-for.cols ∙ length-replicate y.columns Dead; stripes = ap (λ (a : Columns). a.stripes) room-for.cols }
 
-module _ {L D : Type 0} (lay : LayoutGhosts L) (disk : DiskGhosts D) (setup : Setup L D) (room ready : CoreRoom D) (core : Array L D) (room-for : IsRoomFor (lay.shape setup.layout) (length setup.devices.items) setup.clients.items setup.trace room)
+module _ {L D : Type 0} (lay : LayoutGhosts L) (disk : DiskGhosts D) (setup : Setup L D) (room ready : CoreRoom D) (core : Array L D) (room-for : IsRoomFor (lay.shape setup.layout) (length setup.devices.items) setup.clients.items setup.graphs.items setup.trace room)
     (set : ready ≡ record room { cols = record room.cols { states = states_of (lay.shape setup.layout) setup.columns.items } }) (a : IsAssembled lay disk setup ready core) where
   pub assembled-opened : IsOpened lay disk setup core
   assembled-opened = record {
     layout = a.layout;
     graphs = a.graphs;
-    cols = a.cols ∙ columns-set (lay.shape setup.layout) (length setup.devices.items) setup.clients.items setup.trace room ready setup.columns.items room-for set;
+    cols = a.cols ∙ columns-set (lay.shape setup.layout) (length setup.devices.items) setup.clients.items setup.graphs.items setup.trace room ready setup.columns.items room-for set;
     devices = a.devices;
     count = a.count;
     clients = a.clients;
     unit = ap (λ (p : pool.PoolView). p.unit) (a.pool ∙ ap (λ (r : CoreRoom D). r.pool) set) ∙ room-for.unit;
-    pool = subst (λ (p : pool.PoolView). pool.IsFresh p 2048) (sym (a.pool ∙ ap (λ (r : CoreRoom D). r.pool) set)) room-for.pool;
+    pool = subst (λ (p : pool.PoolView). IsStocked p (stocked (lay.shape setup.layout) setup.graphs.items setup.clients.items)) (sym (a.pool ∙ ap (λ (r : CoreRoom D). r.pool) set)) room-for.pool;
     locks = subst (λ (t : Table). IsIdle t 17) (sym (a.locks ∙ ap (λ (r : CoreRoom D). r.locks) set)) room-for.locks;
     lists = a.lists ∙ (ap (λ (r : CoreRoom D). r.lists) set ∙ room-for.lists);
     log = subst (λ (l : Logged). l ≡ fresh_log (lay.shape setup.layout) setup.trace l.handed) (sym (a.log ∙ ap (λ (r : CoreRoom D). r.log) set)) room-for.log;

@@ -1,7 +1,7 @@
 -- What a core is opened over, and what it is then.
 use Rattle.std.specs.Prelude.{◌≡◌, ◌<◌, ◌≤◌, ◌+◌, ◌*◌, ℕ, List, [], length, false, Some, None, slice_get, map, replicate, count_by}
 use Rattle.blk_disk.specs.declared.disk.Disk.{Ghosts as DiskGhosts}
-use Rattle.buf_pool.specs.Pool.{IsFresh}
+use Rattle.buf_pool.specs.Reserve.{IsStocked}
 use Rattle.stripe_lock.specs.Table.{IsIdle}
 use Rattle.lay_core.specs.Layout.{Shape}
 use Rattle.lay_core.specs.declared.layout.Layout.{Ghosts as LayoutGhosts}
@@ -28,7 +28,7 @@ use Rattle.eng_state.specs.Shows.{Shows}
 use Rattle.eng_state.specs.Sound.{IsOutOf}
 use Rattle.eng_state.specs.Steps.{graphs_of}
 use Rattle.eng_clients.specs.Fresh.{new_desk}
-use Rattle.eng_parts.specs.Fresh.{fresh_log}
+use Rattle.eng_parts.specs.Fresh.{fresh_log, stocked}
 
 -- ## What may be opened
 
@@ -72,7 +72,7 @@ module _ {L D : Type 0} (lay : LayoutGhosts L) (disk : DiskGhosts D) where
     pub spare : core.spare ≡ room.spare
     pub lost : core.lost ≡ None
 
-  -- The core has the setup's layout, graphs, columns and devices, all at home, of which none has failed, and of each client its items, of which it has begun none. Its log is empty, and the array isn't lost.
+  -- The core has the setup's layout, graphs, columns and devices, all at home, of which none has failed, and of each client its items, of which it has begun none; all buffers are free, and as many there as its clients' items can lease at once. Its log is empty, and the array isn't lost.
   pub record IsOpened (setup : Setup L D) (core : Array L D) : Type 0 where
     pub layout : core.layout ≡ setup.layout
     pub graphs : core.graphs ≡ setup.graphs
@@ -81,7 +81,7 @@ module _ {L D : Type 0} (lay : LayoutGhosts L) (disk : DiskGhosts D) where
     pub count : length core.clients ≡ 17
     pub clients : (c : ℕ) → c < 17 → desk_at core.clients c ≡ new_desk (items_at setup.clients.items c)
     pub unit : core.pool.unit ≡ 512 * (lay.shape setup.layout).unit_sectors
-    pub pool : IsFresh core.pool 2048
+    pub pool : IsStocked core.pool (stocked (lay.shape setup.layout) setup.graphs.items setup.clients.items)
     pub locks : IsIdle core.locks 17
     pub lists : core.lists ≡ 32
     pub log : core.log ≡ fresh_log (lay.shape setup.layout) setup.trace core.log.handed

@@ -47,7 +47,7 @@ pub fn open<L: Layout, D: Disk + Drop>(
 ) -> Result<Array<L, D>, (OpenFault, Setup<L, D>)>
     requires setup { IsSetup L.Layout D.Disk setup }
     requires room { IsRoomFor (L.shape setup.layout) (length setup.devices.items)
-        setup.clients.items setup.trace room }
+        setup.clients.items setup.graphs.items setup.trace room }
     ensures fault { MatchResult result (λ core.
         NotLost (L.shape setup.layout) (states_of (L.shape setup.layout) setup.columns.items)) (λ e.
         IsFault (L.shape setup.layout) (states_of (L.shape setup.layout) setup.columns.items) e.0) }

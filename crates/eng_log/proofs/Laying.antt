@@ -9,7 +9,7 @@ use Rattle.eng_world.specs.declared.item.Item.{Item}
 use Rattle.eng_rest.specs.Left.{below}
 use Rattle.eng_log.specs.declared.region.Region.{Region}
 use Rattle.eng_log.specs.Given.{items_at}
-use Rattle.eng_log.specs.Handed.{Handout, AreRegions, no_region, region_at}
+use Rattle.eng_log.specs.Handed.{Handout, AreRegions, no_region, region_at, client_sectors, all_sectors}
 use Rattle.eng_log.specs.Laid.{item_sectors, sectors_in, sectors_at, row_sectors, sectors_before, IsRow, AreRows, IsLaidOut}
 
 -- ## Sums
@@ -29,6 +29,21 @@ below-one f n = let e : n + 1 ≡ suc n = omega arith in ap (below f) e ∙ omeg
 -- one more stays within the sum of all
 pub below-within : (f : ℕ → ℕ) (i n : ℕ) → i < n → below f i + f i ≤ below f n
 below-within f i n l = let a = below-grows f (i + 1) n (omega (arith, l)) in let b = below-one f i in omega (arith, a, b)
+
+-- terms that are the same below
+pub below-alike : (f g : ℕ → ℕ) (n : ℕ) → ((i : ℕ) → i < n → f i ≡ g i) → below f n ≡ below g n
+unfolding below
+below-alike f g zero same = refl
+below-alike f g (suc n) same =
+    let here = same n (omega arith) in
+    let rest = below-alike f g n (λ i lt. same i (omega (arith, lt))) in
+    omega (arith, here, rest)
+
+-- and such that are nothing
+pub below-nothing : (f : ℕ → ℕ) (n : ℕ) → ((i : ℕ) → f i ≡ 0) → below f n ≡ 0
+unfolding below
+below-nothing f zero none = refl
+below-nothing f (suc n) none = let here = none n in let rest = below-nothing f n none in omega (arith, here, rest)
 
 -- ## One region or row more
 
@@ -152,8 +167,28 @@ module _ (given : List (Vec Item Global)) (own : ℕ) (h : Handout) (laid : IsLa
       let there : (IsHere c j) × ((b < (region_at h c j).count) × ((region_at h c i).first + a ≡ (region_at h c j).first + b)) = subst (λ (q : ℕ). (IsHere q j) × ((b < (region_at h q j).count) × ((region_at h c i).first + a ≡ (region_at h q j).first + b))) (sym one) (to, (lb, e)) in
       (one, same-item c i j a b at there.0 la there.1.0 there.1.1)
 
+  -- the regions of a client have as many sectors as its items, and those of the engine's own none
+  client-alike : (c : ℕ) → c < 16 → client_sectors h c ≡ row_sectors given c
+  client-alike c lt =
+      let row = laid.rows c lt in
+      ap (below (λ i. (region_at h c i).count)) row.count
+      ∙ below-alike (λ i. (region_at h c i).count) (sectors_at (items_at given c)) (length (items_at given c)) (λ i li. ap (λ (r : Region). r.count) (row.each i li))
+
+  own-none : client_sectors h 16 ≡ 0
+  own-none = below-nothing (λ i. (region_at h 16 i).count) (length (slice_index_or h.regions 16 [])) (λ i. ap (λ (r : Region). r.count) (empty-own (slice_index_or h.regions 16 []) i laid.own_row))
+
+  pub laid-sectors : all_sectors h ≡ sectors_before given 16
+  laid-sectors =
+      let clients = below-alike (client_sectors h) (row_sectors given) 16 client-alike in
+      let last = below-one (client_sectors h) 16 in
+      let none = own-none in
+      ap (below (client_sectors h)) laid.count ∙ omega (arith, clients, last, none)
+
+  all : length h.bytes ≡ 512 * all_sectors h
+  all = ap length laid.bytes ∙ (length-replicate (512 * sectors_before given 16) 0 ∙ ap (λ (n : ℕ). 512 * n) (sym laid-sectors))
+
   pub are-regions : AreRegions h
-  are-regions = record { within = within; apart = apart }
+  are-regions = record { within = within; all = all; apart = apart }
 
 -- ## The loops over items and over clients
 

@@ -4,6 +4,7 @@ use Rattle.blk_disk.specs.Disk.{sector_at}
 use Rattle.eng_world.specs.declared.item.Reply.{Reply}
 use Rattle.eng_world.specs.declared.item.Reply.TheVariants as reply
 use Rattle.eng_world.specs.World.{Client}
+use Rattle.eng_rest.specs.Left.{below}
 use Rattle.eng_log.specs.declared.region.Region.{Region}
 
 -- their bytes, and for each client and item the region of its sectors
@@ -18,9 +19,17 @@ no_region = record { first = 0; count = 0 }
 abbrev pub region_at : Handout → ℕ → ℕ → Region
 region_at h c i = slice_index_or (slice_index_or h.regions c []) i no_region
 
--- each region lies among the bytes, and no two have a sector in common
+-- how many sectors the regions of client c's items have, and how many those of all clients
+abbrev pub client_sectors : Handout → ℕ → ℕ
+client_sectors h c = below (λ i. (region_at h c i).count) (length (slice_index_or h.regions c []))
+
+abbrev pub all_sectors : Handout → ℕ
+all_sectors h = below (client_sectors h) (length h.regions)
+
+-- each region lies among the bytes, no two have a sector in common, and there are no bytes but theirs
 pub record AreRegions (h : Handout) : Type 0 where
   pub within : (c i : ℕ) → 512 * ((region_at h c i).first + (region_at h c i).count) ≤ length h.bytes
+  pub all : length h.bytes ≡ 512 * all_sectors h
   pub apart : (c i k j a b : ℕ) → a < (region_at h c i).count → b < (region_at h k j).count → (region_at h c i).first + a ≡ (region_at h k j).first + b → (c ≡ k) × (i ≡ j)
 
 -- byte k of block b of what item i of client c hands out
@@ -38,6 +47,7 @@ is_data reply.Long = false
 is_data (reply.Refused cause) = false
 is_data reply.Lost = false
 
--- what the clients' Data replies hand out, said where devices tell what they hold
-abbrev pub Hands : Type 0 → Handout → (ℕ → Client) → Type 0
-Hands tells h clients = tells → (c i b k : ℕ) → slice_get (clients c).replies i ≡ Some reply.Data → b < (region_at h c i).count → k < 512 → (clients c).handed i b k ≡ handed_byte h c i b k
+-- What the regions of the clients' items hold: where the reply is Data what it hands out, said where devices tell what they hold; and zeros where it's another one, or none yet.
+pub record Hands (tells : Type 0) (h : Handout) (clients : ℕ → Client) : Type 0 where
+  pub read : tells → (c i b k : ℕ) → slice_get (clients c).replies i ≡ Some reply.Data → b < (region_at h c i).count → k < 512 → (clients c).handed i b k ≡ handed_byte h c i b k
+  pub zeros : (c i b k : ℕ) → (slice_get (clients c).replies i ≡ Some reply.Data → ⊥) → b < (region_at h c i).count → k < 512 → handed_byte h c i b k ≡ 0

@@ -14,7 +14,7 @@ ghost use Rattle.eng_log.specs.Filled.{HasBuffers, FillsAlone, Filled, bytes_of,
 use crate::patched::fill_patches;
 use blk_disk::SECTOR;
 use blk_plain::{Op, Patches, Pattern, fill as fill_sector};
-use buf_pool::{Lease, Pool};
+use buf_pool::{Lease, Reserve};
 use graph_mean::Graph;
 use lay_core::Layout;
 
@@ -55,7 +55,7 @@ pub fn fill_fresh<L: Layout>(
     layout: &L,
     stripes: &[u32],
     graph: &Graph,
-    pool: &mut Pool,
+    pool: &mut Reserve,
     lease: &Lease,
     op: &Op,
 )
@@ -77,7 +77,7 @@ pub fn fill_fresh<L: Layout>(
 
 // Fills each buffer of new data with what an operation writes that writes the same to each of its blocks, or with zeros.
 // The other buffers keep their bytes.
-fn fill_new(graph: &Graph, pool: &mut Pool, lease: &Lease, op: &Op)
+fn fill_new(graph: &Graph, pool: &mut Reserve, lease: &Lease, op: &Op)
     requires buffers { HasBuffers graph.now.drawn pool.old lease.now }
     requires same { (patches : Patches) → op.now ≡ Op.Writes patches → ⊥ }
     ensures filled { (b u o block k : ℕ) → (buf_at graph.now.drawn b).new_of ≡ Some u →
@@ -97,7 +97,7 @@ fn fill_new(graph: &Graph, pool: &mut Pool, lease: &Lease, op: &Op)
 }
 
 // Fills a buffer, if it is one of new data.
-fn fill_one(graph: &Graph, pool: &mut Pool, lease: &Lease, op: &Op, b: u32)
+fn fill_one(graph: &Graph, pool: &mut Reserve, lease: &Lease, op: &Op, b: u32)
     requires buffers { HasBuffers graph.now.drawn pool.old lease.now }
     requires b { b < length graph.now.drawn.bufs }
     requires same { (patches : Patches) → op.now ≡ Op.Writes patches → ⊥ }
@@ -117,7 +117,7 @@ fn fill_one(graph: &Graph, pool: &mut Pool, lease: &Lease, op: &Op, b: u32)
 }
 
 // Makes each of the first sectors of a buffer the operation's.
-fn repeat_in(pool: &mut Pool, lease: &Lease, buf: u32, op: &Op, count: u32)
+fn repeat_in(pool: &mut Reserve, lease: &Lease, buf: u32, op: &Op, count: u32)
     requires lease { IsLease pool.old lease.now }
     requires buf { buf < length lease.now }
     requires home { (seat_at pool.old.seats (get_or lease.now buf 0)).out ≡ false }

@@ -11,7 +11,7 @@ ghost use Rattle.eng_log.specs.Filled.{HasBuffers, FillsAlone, sector_for, bytes
 use crate::fill::{put_at, written, zeros};
 use blk_disk::SECTOR;
 use blk_plain::{Patches, Span};
-use buf_pool::{Lease, Pool};
+use buf_pool::{Lease, Reserve};
 use graph_mean::Graph;
 use lay_core::Layout;
 
@@ -68,7 +68,7 @@ fn stripe_at(stripes: &[u32], position: u32) -> u32
 }
 
 // The first sectors of a buffer become those that are written to so many blocks.
-fn patch_in(pool: &mut Pool, lease: &Lease, buf: u32, patches: &Patches, first: u64, count: u32)
+fn patch_in(pool: &mut Reserve, lease: &Lease, buf: u32, patches: &Patches, first: u64, count: u32)
     requires lease { IsLease pool.old lease.now }
     requires buf { buf < length lease.now }
     requires home { (seat_at pool.old.seats (get_or lease.now buf 0)).out ≡ false }
@@ -90,7 +90,7 @@ fn fill_one<L: Layout>(
     layout: &L,
     stripes: &[u32],
     graph: &Graph,
-    pool: &mut Pool,
+    pool: &mut Reserve,
     lease: &Lease,
     patches: &Patches,
     b: u32,
@@ -122,7 +122,7 @@ pub(crate) fn fill_patches<L: Layout>(
     layout: &L,
     stripes: &[u32],
     graph: &Graph,
-    pool: &mut Pool,
+    pool: &mut Reserve,
     lease: &Lease,
     patches: &Patches,
 )

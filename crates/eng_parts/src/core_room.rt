@@ -8,7 +8,7 @@ ghost use Rattle.eng_parts.specs.Fresh.{IsFault};
 use crate::devices::DeviceRoom;
 use crate::setup::OpenFault;
 use crate::spare::Spare;
-use buf_pool::Pool;
+use buf_pool::Reserve;
 use eng_clients::{ClientRooms, Rebuilds};
 use eng_cols::{Cols, Column, Loss};
 use eng_job::Lists;
@@ -22,7 +22,7 @@ use stripe_lock::Locks;
 pub struct CoreRoom<D> {
     pub cols: Cols,
     pub devices: DeviceRoom<D>,
-    pub pool: Pool,
+    pub pool: Reserve,
     pub locks: Locks,
     pub lists: Lists,
     pub clients: ClientRooms,

@@ -1,22 +1,25 @@
 //! The room of a core is taken.
 ghost use Rattle.std.specs.Prelude.{◌≡◌, ◌<◌, ◌≤◌, ◌*◌, ℕ, [], length, replicate, IfOk};
-ghost use Rattle.buf_pool.specs.Pool.{IsFresh};
+ghost use Rattle.buf_pool.specs.Reserve.{IsStocked};
 ghost use Rattle.stripe_lock.specs.Table.{IsIdle};
 ghost use Rattle.eng_cols.specs.Cols.{Dead};
 ghost use Rattle.eng_log.specs.Laid.{items_before, sectors_before, IsLaidOut};
 ghost use Rattle.eng_clients.specs.Fresh.{AreRoomsFor};
-ghost use Rattle.eng_parts.specs.Fresh.{fresh_log, IsRoomFor};
+ghost use Rattle.eng_log.specs.Given.{items_at};
+ghost use Rattle.eng_plan.specs.Pooled.{row_leases};
+ghost use Rattle.eng_parts.specs.Fresh.{fresh_log, all_leases, stocked, IsRoomFor};
 
 use crate::core_room::CoreRoom;
 use crate::devices::DeviceRoom;
 use crate::memory::Memory;
 use crate::spare::Spare;
 use blk_plain::limits;
-use buf_pool::Pool;
+use buf_pool::Reserve;
 use eng_clients::{ClientRooms, Rebuilds};
 use eng_cols::Cols;
 use eng_job::Lists;
 use eng_log::{Handed, Log};
+use eng_plan::{own_leases, row_leases};
 use eng_world::Item;
 use graph_check::Scratch;
 use graph_mean::Graph;
@@ -38,12 +41,49 @@ fn cols_for<L: Layout>(alloc: Global, layout: &L) -> Result<Cols, Memory>
     Ok(Cols::with_room(alloc, layout.columns(), layout.stripes())?)
 }
 
-// Buffers of the layout's units.
-fn pool_for<L: Layout>(alloc: Global, layout: &L) -> Result<Pool, Memory>
-    ensures unit { IfOk result (λ pool. pool.unit ≡ 512 * (L.shape layout.now).unit_sectors) }
-    ensures fresh { IfOk result (λ pool. IsFresh pool 2048) }
+// The most buffers that one of the client's items leases.
+fn row_of<L: Layout>(layout: &L, clients: &[Vec<Item>], client: u32, graphs: &[Graph]) -> u32
+    ensures { result
+        ≡ row_leases (L.shape layout.now) graphs.now (items_at clients.now client) }
 {
-    Ok(Pool::open(alloc, limits::BUFFERS, 512 * layout.unit_sectors())?)
+    match clients.get(client as usize) {
+        None => 0,
+        Some(items) => row_leases(layout, items.as_slice(), graphs),
+    }
+}
+
+// The buffers that the clients' items and the engine's own can lease at once.
+fn all_leases<L: Layout>(layout: &L, clients: &[Vec<Item>], graphs: &[Graph]) -> u64
+    ensures { result ≡ all_leases (L.shape layout.now) graphs.now clients.now }
+{
+    let mut all = u64::from(own_leases(layout));
+    for client in 0..limits::CLIENTS {
+        all += u64::from(row_of(layout, clients, client, graphs));
+    }
+    all
+}
+
+// How many have memory: as many as can be leased at once, or as many as a pool has.
+fn stocked<L: Layout>(layout: &L, clients: &[Vec<Item>], graphs: &[Graph]) -> u32
+    ensures count { result ≡ stocked (L.shape layout.now) graphs.now clients.now }
+    ensures few { result ≤ 2048 }
+{
+    all_leases(layout, clients, graphs).min(u64::from(limits::BUFFERS)) as u32
+}
+
+// Buffers of the layout's units.
+fn pool_for<L: Layout>(
+    alloc: Global,
+    layout: &L,
+    clients: &[Vec<Item>],
+    graphs: &[Graph],
+) -> Result<Reserve, Memory>
+    ensures unit { IfOk result (λ pool. pool.unit ≡ 512 * (L.shape layout.now).unit_sectors) }
+    ensures stocked { IfOk result
+        (λ pool. IsStocked pool (stocked (L.shape layout.now) graphs.now clients.now)) }
+{
+    let count = stocked(layout, clients, graphs);
+    Ok(Reserve::open(alloc, count, 512 * layout.unit_sectors())?)
 }
 
 // A history for each operation that there may be; and a trace, if it is kept, with the failure of each column, the
@@ -90,7 +130,7 @@ fn clients_for(alloc: Global, clients: &[Vec<Item>]) -> Result<ClientRooms, Memo
 #[derive(Drop)]
 struct Shaped {
     cols: Cols,
-    pool: Pool,
+    pool: Reserve,
     log: Log,
 }
 
@@ -117,6 +157,7 @@ fn shaped_for<L: Layout>(
     layout: &L,
     trace: bool,
     clients: &[Vec<Item>],
+    graphs: &[Graph],
 ) -> Result<Shaped, Memory>
     requires clients { length clients.now ≤ 16 }
     requires sectors { sectors_before clients.now 16 ≤ 262144 }
@@ -127,7 +168,8 @@ fn shaped_for<L: Layout>(
     }) }
     ensures unit { IfOk result
         (λ shaped. shaped.pool.unit ≡ 512 * (L.shape layout.now).unit_sectors) }
-    ensures fresh { IfOk result (λ shaped. IsFresh shaped.pool 2048) }
+    ensures stocked { IfOk result
+        (λ shaped. IsStocked shaped.pool (stocked (L.shape layout.now) graphs.now clients.now)) }
     ensures log { IfOk result
         (λ shaped. shaped.log ≡ fresh_log (L.shape layout.now) trace shaped.log.handed) }
     ensures laid { IfOk result
@@ -135,7 +177,7 @@ fn shaped_for<L: Layout>(
 {
     Ok(Shaped {
         cols: cols_for(alloc, layout)?,
-        pool: pool_for(alloc, layout)?,
+        pool: pool_for(alloc, layout, clients, graphs)?,
         log: log_for(alloc, layout, trace, clients)?,
     })
 }
@@ -184,10 +226,10 @@ impl<D: Drop> CoreRoom<D> {
         requires clients { length clients.now ≤ 16 }
         requires items { items_before clients.now 16 ≤ 65536 }
         requires sectors { sectors_before clients.now 16 ≤ 262144 }
-        ensures { IfOk result (IsRoomFor (L.shape layout.now) devices clients.now trace) }
+        ensures { IfOk result
+            (IsRoomFor (L.shape layout.now) devices clients.now graphs.now trace) }
     {
-        let _ = graphs;
-        let shaped = shaped_for(alloc, layout, trace, clients)?;
+        let shaped = shaped_for(alloc, layout, trace, clients, graphs)?;
         let tools = tools_for(alloc, devices)?;
         let desks = desks_for(alloc, layout.stripes(), clients)?;
         Ok(CoreRoom {

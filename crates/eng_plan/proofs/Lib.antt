@@ -1,3 +1,5 @@
 pub mod Lacking
 pub mod Maps
 pub mod Choosing
+pub mod SpanStripes
+pub mod Pooling

@@ -5,6 +5,8 @@
 
 mod checked;
 mod planning;
+mod pooled;
 
 pub use checked::plan_and_check;
 pub use planning::{kind_of, lease_size, list_missing, mode_by, span_count, split_op};
+pub use pooled::{leases_are_no_greater, own_leases, row_leases};

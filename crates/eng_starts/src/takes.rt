@@ -1,6 +1,7 @@
 //! An operation is taken, or its graph refused.
 ghost use Rattle.std.specs.Prelude.{◌≡◌, ◌<◌, ◌≤◌, ◌*◌, ℕ, Some, OnOk, IfErr, true, length, slice_set};
 ghost use Rattle.buf_pool.specs.Pool.{Leases, StandsApart};
+ghost use Rattle.buf_pool.specs.Reserve.{AreThere};
 ghost use Rattle.stripe_lock.specs.Table.{Conflict, HoldsNothing, Acquires, owners_of};
 ghost use Rattle.eng_one.specs.Counts.{CanStart};
 ghost use Rattle.eng_cols.specs.Cols.{IsFor};
@@ -15,7 +16,7 @@ ghost use Rattle.eng_state.specs.Moves.{id_of};
 ghost use Rattle.eng_plan.specs.Asked.{IsInside, mode_by, lease_by, lease_for};
 ghost use Rattle.eng_world.specs.Planning.{span_count};
 ghost use Rattle.eng_clients.specs.Planned.{IsPlanned, CanRun, IsRefusedFor};
-ghost use Rattle.eng_state.specs.Serves.{Serves, Stands, CanTake};
+ghost use Rattle.eng_state.specs.Serves.{Serves, Stands, CanTake, HasThere};
 ghost use Rattle.eng_state.specs.Sound.{IsSound};
 ghost use Rattle.eng_state.specs.Out.{IsOut};
 ghost use Rattle.eng_state.specs.Steps.{Follows};
@@ -80,7 +81,7 @@ fn lock<L: Layout, D: Disk>(array: &mut Array<L, D>, client: u32, mode: Mode)
 // Leases the operation so many buffers.
 fn lend<L: Layout, D: Disk>(array: &mut Array<L, D>, client: u32, count: u32)
     requires client { client < length array.old.clients }
-    requires fits { count ≤ length array.old.pool.free }
+    requires there { AreThere array.old.pool count }
     ensures leased { Leases array.old.pool count (desk_at array.new.clients client).lease
         array.new.pool }
     ensures apart { StandsApart array.old.pool (desk_at array.new.clients client).lease
@@ -154,8 +155,8 @@ fn settle<L: Layout, D: Disk>(array: &mut Array<L, D>, client: u32, op: Op, file
     requires runs { CanRun array.old.graphs.items (desk_at array.old.clients client) }
     requires is_free { Conflict array.old.locks client
         (desk_at array.old.clients client).map.stripes (mode_by op) → ⊥ }
-    requires fits { lease_for (L.shape array.old.layout) array.old.graphs.items op file
-        ≤ length array.old.pool.free }
+    requires buffers { AreThere array.old.pool
+        (lease_for (L.shape array.old.layout) array.old.graphs.items op file) }
     ensures { Settled L.Layout array.old client op file array.new }
 {
     lock(array, client, mode_by(op));
@@ -184,8 +185,8 @@ fn take_planned<L: Layout, D: Disk>(
     requires runs { CanRun array.old.graphs.items (desk_at array.old.clients client) }
     requires is_free { Conflict array.old.locks client
         (desk_at array.old.clients client).map.stripes (mode_by op) → ⊥ }
-    requires fits { lease_for (L.shape array.old.layout) array.old.graphs.items op file
-        ≤ length array.old.pool.free }
+    requires buffers { AreThere array.old.pool
+        (lease_for (L.shape array.old.layout) array.old.graphs.items op file) }
     requires place { array.old.log.keeps ≡ true
         → length array.old.log.trace < array.old.log.trace_room }
     ensures { (mid : Array L D) × Settled L.Layout array.old client op file mid
@@ -217,6 +218,7 @@ fn take_op<L: Layout, D: Disk>(array: &mut Array<L, D>, client: u32, op: Op, fil
     requires sound { IsSound L.Layout D.Disk array.old }
     requires stands { Stands L.Layout array.old }
     requires can { CanTake L.Layout array.old client }
+    requires there { HasThere L.Layout array.old client }
     requires serves { Serves array.old.graphs.items (L.shape array.old.layout)
         (desk_at array.old.clients client) op file }
     requires place { array.old.log.keeps ≡ true
@@ -236,6 +238,7 @@ fn take_item<L: Layout, D: Disk>(array: &mut Array<L, D>, client: u32)
     requires sound { IsSound L.Layout D.Disk array.old }
     requires stands { Stands L.Layout array.old }
     requires can { CanTake L.Layout array.old client }
+    requires there { HasThere L.Layout array.old client }
     requires place { array.old.log.keeps ≡ true
         → length array.old.log.trace < array.old.log.trace_room }
     ensures { IsTaken L.Layout array.old client (event.Take (id_of array.old.clients client))
@@ -253,12 +256,13 @@ fn take_item<L: Layout, D: Disk>(array: &mut Array<L, D>, client: u32)
     }
 }
 
-/// Takes the client's operation, which waits: it is planned, holds its stripes, leases its buffers and begins. Where
-/// the checker refuses its graph, it is replied so in the same event.
+/// Takes the client's operation, which waits and whose buffers are there: it is planned, holds its stripes, leases its
+/// buffers and begins. Where the checker refuses its graph, it is replied so in the same event.
 pub fn take<L: Layout, D: Disk>(array: &mut Array<L, D>, client: u32)
     requires sound { IsSound L.Layout D.Disk array.old }
     requires stands { Stands L.Layout array.old }
     requires can { CanTake L.Layout array.old client }
+    requires there { HasThere L.Layout array.old client }
     requires place { array.old.log.keeps ≡ true
         → length array.old.log.trace < array.old.log.trace_room }
     ensures step { Follows L.Layout D.Disk array.old (event.Take (id_of array.old.clients client))

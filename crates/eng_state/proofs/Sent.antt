@@ -7,7 +7,7 @@ use denote.Struct.Field.{row_field, u32-field}
 use denote.Enum.Enum.{Enum}
 use denote.Enum.Declared.{shape as shape_of}
 use Rattle.std.specs.contracts.option.Option as option
-use Rattle.buf_pool.proofs.Sent.{pool_send}
+use Rattle.buf_pool.proofs.Sent.{reserve_send}
 use Rattle.stripe_lock.proofs.Sent.{locks_send}
 use Rattle.graph_mean.specs.contracts.graph.Graph as graph
 use Rattle.graph_mean.proofs.Sent.{graph_send}
@@ -37,7 +37,7 @@ array_send L D l d = declared_send (array.the_type L D) (
     (
       devices_send D d,
       (
-        pool_send,
+        reserve_send,
         (
           locks_send,
           (

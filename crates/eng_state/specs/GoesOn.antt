@@ -1,5 +1,5 @@
--- What the end of a node leaves of the core: its layout, its graphs, how many clients were handed in, and what its clients serve.
-use Rattle.std.specs.Prelude.{◌≡◌, ℕ}
+-- What the end of a node leaves of the core: its layout, its graphs, how many clients were handed in, how many buffers are there, and what its clients serve.
+use Rattle.std.specs.Prelude.{◌≡◌, ℕ, length}
 use Rattle.eng_clients.specs.declared.stage.Stage.TheVariants.{Runs}
 use Rattle.eng_state.specs.declared.array.Array.{Array}
 use Rattle.eng_clients.specs.Desk.{Desk, desk_at}
@@ -18,4 +18,5 @@ pub record GoesOn {L D : Type 0} (old new : Array L D) : Type 0 where
   pub layout : new.layout ≡ old.layout
   pub graphs : new.graphs ≡ old.graphs
   pub spare : new.spare ≡ old.spare
+  pub there : length new.pool.seats ≡ length old.pool.seats
   pub desks : (k : ℕ) → ServesOn (desk_at old.clients k) (desk_at new.clients k)

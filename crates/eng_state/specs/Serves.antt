@@ -1,6 +1,7 @@
 -- What a core keeps of the operations that wait or run, beside what `IsSound` says.
 use Rattle.std.specs.Prelude.{◌≡◌, ◌≢◌, ◌<◌, ◌≤◌, ℕ, List, length, Option, Some, None, IsSome}
 use Rattle.blk_plain.specs.declared.op.Op.{Op}
+use Rattle.buf_pool.specs.Reserve.{AreThere}
 use Rattle.stripe_lock.specs.Table.{mode_of}
 use Rattle.stripe_lock.specs.declared.mode.Mode.{Mode}
 use Rattle.stripe_lock.specs.declared.mode.Mode.TheVariants.{Share}
@@ -50,6 +51,10 @@ module _ {L D : Type 0} (lay : LayoutGhosts L) where
     pub waits : (desk_at core.clients c).stage ≡ Waits
     pub is_free : (op : Op) (file : Option ℕ) → item_at (desk_at core.clients c) ≡ Some (item.Run op file) → (k s : ℕ) (m : Mode) → k ≢ c → Concerns (lay.shape core.layout) op s → mode_of core.locks k s ≡ Some m → (mode_by op ≡ Share) × (m ≡ Share)
     pub fits : (op : Op) (file : Option ℕ) → item_at (desk_at core.clients c) ≡ Some (item.Run op file) → lease_for (lay.shape core.layout) core.graphs.items op file ≤ length core.pool.free
+
+  -- and so many of those that are free are there
+  abbrev pub HasThere : Array L D → ℕ → Type 0
+  HasThere core c = (op : Op) (file : Option ℕ) → item_at (desk_at core.clients c) ≡ Some (item.Run op file) → AreThere core.pool (lease_for (lay.shape core.layout) core.graphs.items op file)
 
   -- the operation is undone
   pub record CanBack (core : Array L D) (c : ℕ) : Type 0 where

@@ -1,5 +1,5 @@
 //! The core's parts.
-use buf_pool::Pool;
+use buf_pool::Reserve;
 use eng_clients::{Clients, Rebuilds};
 use eng_cols::{Cols, Loss};
 use eng_job::Lists;
@@ -15,7 +15,7 @@ pub struct Array<L, D> {
     pub layout: L,
     pub cols: Cols,
     pub devices: Devices<D>,
-    pub pool: Pool,
+    pub pool: Reserve,
     pub locks: Locks,
     // A list for each job that isn't out.
     pub lists: Lists,

@@ -2,7 +2,7 @@ use Rattle.std.proofs.Common.{ap, ◌∙◌, subst, sym}
 use Rattle.blk_plain.specs.declared.op.Op.{Op}
 use Rattle.eng_plan.specs.Asked.{IsInside, stripes_by}
 use Rattle.eng_plan.proofs.Maps.{not-past}
-use Rattle.eng_choice.proofs.FreeStripes.{span-many, whole-many, short-few}
+use Rattle.eng_plan.proofs.SpanStripes.{span-many, whole-many, short-few}
 use Rattle.eng_choice.proofs.takable.count_stripes.Goals as goal
 
 pub returns-in-Write-clause-count : goal.returns-in-Write-clause-count

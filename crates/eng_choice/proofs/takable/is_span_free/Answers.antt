@@ -3,7 +3,8 @@ use Rattle.std.specs.Prelude.{Contains}
 use Rattle.std.specs.List.{range_with_len}
 use Rattle.blk_plain.specs.Plain.{is_in}
 use Rattle.lay_core.specs.Touched.{HasBlock}
-use Rattle.eng_choice.proofs.FreeStripes.{free-where, listed, span-each}
+use Rattle.eng_plan.proofs.SpanStripes.{span-each}
+use Rattle.eng_choice.proofs.FreeStripes.{free-where, listed}
 use Rattle.eng_choice.proofs.takable.is_span_free.Goals as goal
 
 pub returns : goal.returns

@@ -1,6 +1,6 @@
 use Rattle.std.proofs.Common.{ℕ, ◌+◌, ◌-◌, ap, ◌∙◌, arith}
 use Rattle.lay_core.specs.Layout.{stripe_of}
-use Rattle.eng_choice.proofs.FreeStripes.{fits, upwards, counted}
+use Rattle.eng_plan.proofs.SpanStripes.{fits, upwards, counted}
 use Rattle.eng_choice.proofs.takable.stripes_of.Goals as goal
 
 pub home-first-requires : goal.home-first-requires

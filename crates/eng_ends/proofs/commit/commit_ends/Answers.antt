@@ -6,7 +6,7 @@ use Rattle.eng_log.specs.Log.{Logged, noted, entered}
 use Rattle.eng_state.specs.Moves.{id_of}
 use Rattle.eng_ends.proofs.Committing.{commit-follows, commit-sound, commit-stays}
 use Rattle.blk_plain.specs.declared.op.Outcome.TheVariants.{Good}
-use Rattle.eng_state.proofs.GoingOn.{goes-logged, goes-ended}
+use Rattle.eng_state.proofs.GoingOn.{goes-logged, goes-ended, same-seats}
 use Rattle.eng_parts.specs.Shelf.{Shelved}
 use Rattle.eng_state.specs.EndsNode.{EndsNode}
 use Rattle.std.proofs.Common.{None, refl}
@@ -32,7 +32,7 @@ returns-clause-home g c =
     (subst (λ (i : OpId). EndsNode g.L.Layout g.D.Disk old c.args.client c.args.node e None (record mid { log = noted (entered mid.log i) (event.Good i c.args.node) })) (sym c.id-id.ensures) (record {
       step = commit-follows g.L.Layout g.D.Disk old mid c.args.client c.args.node c.requires.sound c.requires.not_lost c.requires.out c.requires.commit h;
       sound = commit-sound g.L.Layout g.D.Disk old mid c.args.client c.args.node c.requires.sound c.requires.not_lost c.requires.out c.requires.commit h;
-      goes = goes-logged old mid (record mid { log = noted (entered mid.log id) e }) (noted (entered mid.log id) e) refl (goes-ended g.L.Layout g.D.Disk old mid c.args.client c.args.node c.requires.sound c.requires.out Good h.clients h.layout h.graphs h.spare);
+      goes = goes-logged old mid (record mid { log = noted (entered mid.log id) e }) (noted (entered mid.log id) e) refl (goes-ended g.L.Layout g.D.Disk old mid c.args.client c.args.node c.requires.sound c.requires.out Good h.clients h.layout h.graphs h.spare (same-seats h.pool));
       devices = ap (λ (s : Shelved g.row.D.Denot). s.slots) h.devices;
       stays = commit-stays g.L.Layout g.D.Disk old mid c.args.client c.args.node c.requires.sound c.requires.not_lost c.requires.out c.requires.commit h;
     })))

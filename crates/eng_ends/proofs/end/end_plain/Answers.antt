@@ -27,6 +27,6 @@ returns-clause-home g c =
     home-noted g.L.Layout g.D.Disk old end c.note.new.self c.args.client c.args.node c.id-id.result None c.note.ensures c.id-id.ensures
     (end-follows g.L.Layout g.D.Disk old end c.args.client c.args.node c.requires.sound c.requires.not_lost c.requires.out c.requires.end c.requires.plain t)
     (plain-sound g.L.Layout g.D.Disk old end c.args.client c.args.node c.requires.sound c.requires.not_lost c.requires.out c.requires.end c.requires.plain t)
-    (goes-terminated g.L.Layout g.D.Disk old end c.args.client c.args.node c.requires.sound c.requires.out Good reply.Done t.clients t.layout t.graphs t.spare)
+    (goes-terminated g.L.Layout g.D.Disk old end c.args.client c.args.node c.requires.sound c.requires.out Good reply.Done t.clients t.layout t.graphs t.spare t.pool.seats)
     (ap (λ (s : Shelved g.row.D.Denot). s.slots) t.devices)
     (over-stays g.L.Layout g.D.Disk old end c.args.client c.args.node reply.Done c.requires.sound c.requires.out c.requires.end t end.log)

@@ -8,7 +8,7 @@ use Rattle.eng_log.specs.Log.{Logged, noted}
 use Rattle.eng_state.specs.Moves.{CameHome, id_of}
 use Rattle.eng_state.proofs.Running.{runs_below}
 use Rattle.eng_ends.proofs.EndingRead.{read-follows, read-sound, read-stays, buf-below}
-use Rattle.eng_state.proofs.GoingOn.{goes-ended}
+use Rattle.eng_state.proofs.GoingOn.{goes-ended, came-seats}
 use Rattle.eng_parts.specs.Shelf.{Shelved}
 use Rattle.eng_state.proofs.SlotsHome.{came-slots}
 use Rattle.eng_state.proofs.Ending.{ends-good}
@@ -63,6 +63,6 @@ returns-clause-home g c =
     home-noted g.L.Layout g.D.Disk old mid c.note.new.self c.args.client c.args.node c.id-id.result (Some coming.disk) c.note.ensures c.id-id.ensures
     (read-follows g.L.Layout g.D.Disk old mid c.args.client c.args.node coming.disk r.first r.count coming.buffer c.requires.sound r.back h)
     (read-sound g.L.Layout g.D.Disk old mid c.args.client c.args.node coming.disk r.first r.count coming.buffer c.requires.sound r.back h)
-    (goes-ended g.L.Layout g.D.Disk old mid c.args.client c.args.node c.requires.sound r.back.out Good h.clients h.layout h.graphs h.spare)
+    (goes-ended g.L.Layout g.D.Disk old mid c.args.client c.args.node c.requires.sound r.back.out Good h.clients h.layout h.graphs h.spare (came-seats h))
     (came-slots old.devices mid.devices coming.disk r.back.at _ (ap (λ (s : Shelved g.row.D.Denot). s.slots) h.devices) r.back.spot)
     (read-stays g.L.Layout g.D.Disk old mid c.args.client c.args.node coming.disk r.first r.count coming.buffer c.requires.sound r.back h)

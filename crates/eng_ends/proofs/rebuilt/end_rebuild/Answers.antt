@@ -39,6 +39,6 @@ returns-clause-home g c =
     home-noted g.L.Layout g.D.Disk old end c.note.new.self c.args.client c.args.node c.id-id.result None c.note.ensures c.id-id.ensures
     (rebuild-follows g.L.Layout g.D.Disk old mid end c.args.client c.args.node c.requires.out c.requires.end s.ends s.sound t c.requires.not_lost c.requires.rebuild)
     (rebuild-sound g.L.Layout g.D.Disk old mid end c.args.client c.args.node c.requires.out c.requires.end s.ends s.sound t)
-    (goes-further old mid end (goes-stripe y old mid c.args.client s.ends) (goes-terminated g.L.Layout g.D.Disk mid end c.args.client c.args.node s.sound out Good reply.Done t.clients t.layout t.graphs t.spare))
+    (goes-further old mid end (goes-stripe y old mid c.args.client s.ends) (goes-terminated g.L.Layout g.D.Disk mid end c.args.client c.args.node s.sound out Good reply.Done t.clients t.layout t.graphs t.spare t.pool.seats))
     (ap (λ (s : Shelved g.row.D.Denot). s.slots) t.devices ∙ stripe-slots old mid y c.args.client s.ends)
     (rebuild-stays g.L.Layout g.D.Disk old mid end c.args.client c.args.node c.requires.out c.requires.end s.ends s.sound t)

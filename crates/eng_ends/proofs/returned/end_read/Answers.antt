@@ -56,6 +56,6 @@ returns-clause-home g c =
     home-noted g.L.Layout g.D.Disk old end c.note.new.self c.args.client c.args.node c.id-id.result None c.note.ensures c.id-id.ensures
     (data-follows g.L.Layout g.D.Disk old end mid.log.handed.bytes c.args.client c.args.node c.requires.sound c.requires.not_lost c.requires.out c.requires.end span reads.0 reads.1 c.requires.laid c.stands.ensures copied.copied t)
     (data-sound g.L.Layout g.D.Disk old end mid.log.handed.bytes c.args.client c.args.node c.requires.sound c.requires.not_lost c.requires.out c.requires.end span reads.0 reads.1 c.requires.laid c.stands.ensures copied.copied t)
-    (goes-terminated g.L.Layout g.D.Disk old end c.args.client c.args.node c.requires.sound c.requires.out Good reply.Data t.clients t.layout t.graphs t.spare)
+    (goes-terminated g.L.Layout g.D.Disk old end c.args.client c.args.node c.requires.sound c.requires.out Good reply.Data t.clients t.layout t.graphs t.spare t.pool.seats)
     (ap (λ (s : Shelved g.row.D.Denot). s.slots) t.devices)
     (over-stays g.L.Layout g.D.Disk (record old { cols = old.cols; log = log }) end c.args.client c.args.node reply.Data (stripe-sound g.L.Layout g.D.Disk old c.requires.sound old.cols log c.requires.sound.seated) c.requires.out c.requires.end t end.log)

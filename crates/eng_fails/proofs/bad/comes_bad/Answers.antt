@@ -14,7 +14,7 @@ use Rattle.eng_fails.specs.Called.{CallCameBack}
 use Rattle.eng_fails.proofs.EndingBad as ending
 use Rattle.eng_fails.proofs.FinishingBad.{bad-sound, bad-stays}
 use Rattle.eng_fails.proofs.LosingBad.{back-at, sound-at, lost-follows}
-use Rattle.eng_state.proofs.GoingOn.{goes-logged, goes-ended, goes-further, goes-struck}
+use Rattle.eng_state.proofs.GoingOn.{goes-logged, goes-ended, goes-further, came-seats, goes-struck}
 use Rattle.eng_state.specs.Out.{OthersStay}
 use Rattle.eng_fails.proofs.HomeStays.{struck-stays}
 use Rattle.eng_state.proofs.SlotsHome.{came-slots, mid-slots, struck-slots}
@@ -93,7 +93,7 @@ returns-clause-home g c =
           (bad-sound g.L.Layout g.D.Disk mid c.args.client c.args.node c.args.coming.disk first count c.args.coming.buffer outcome s b.0 fin _ h);
       goes = goes-logged old fin c.note.new.self _ c.note.ensures
           (goes-further old mid fin (goes-struck old mid r.at is)
-          (goes-ended g.L.Layout g.D.Disk mid fin c.args.client c.args.node s b.0.out Bad h.clients h.layout h.graphs h.spare));
+          (goes-ended g.L.Layout g.D.Disk mid fin c.args.client c.args.node s b.0.out Bad h.clients h.layout h.graphs h.spare (came-seats h)));
       devices = ap (λ (a : Array g.row.L.Denot g.row.D.Denot). a.devices.slots) c.note.ensures
           ∙ came-slots old.devices fin.devices c.args.coming.disk r.at _
           (mid-slots old.devices fin.devices c.args.coming.disk r.at mid.devices b.0.at h.devices b.2

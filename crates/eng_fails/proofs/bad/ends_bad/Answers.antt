@@ -12,7 +12,7 @@ use Rattle.eng_state.specs.Moves.{id_of, CameHome}
 use Rattle.eng_state.specs.Bad.{FailedIfAlive, CallBack}
 use Rattle.eng_fails.specs.Called.{CallCameBack}
 use Rattle.eng_fails.proofs.FinishingBad.{failed-sound_if, back-kept, bad-sound, bad-stays, bad-follows, log-kept}
-use Rattle.eng_state.proofs.GoingOn.{goes-logged, goes-ended, goes-further, goes-if-alive}
+use Rattle.eng_state.proofs.GoingOn.{goes-logged, goes-ended, goes-further, came-seats, goes-if-alive}
 use Rattle.eng_state.specs.Out.{OthersStay}
 use Rattle.eng_fails.proofs.HomeStays.{if-alive-stays}
 use Rattle.eng_state.proofs.SlotsHome.{came-slots, mid-slots, alive-slots}
@@ -74,7 +74,7 @@ returns-clause-home g c =
           (bad-sound g.L.Layout g.D.Disk mid c.args.client c.args.node c.args.coming.disk first count c.args.coming.buffer outcome s b.0 fin _ h);
       goes = goes-logged old fin c.note.new.self _ c.note.ensures
           (goes-further old mid fin (goes-if-alive g.L.Layout old mid c.in-Some.at.column c.fail_if_alive.ensures)
-          (goes-ended g.L.Layout g.D.Disk mid fin c.args.client c.args.node s b.0.out Bad h.clients h.layout h.graphs h.spare));
+          (goes-ended g.L.Layout g.D.Disk mid fin c.args.client c.args.node s b.0.out Bad h.clients h.layout h.graphs h.spare (came-seats h)));
       devices = ap (λ (a : Array g.row.L.Denot g.row.D.Denot). a.devices.slots) c.note.ensures
           ∙ came-slots old.devices fin.devices c.args.coming.disk r.at _
           (mid-slots old.devices fin.devices c.args.coming.disk r.at mid.devices b.0.at h.devices b.2

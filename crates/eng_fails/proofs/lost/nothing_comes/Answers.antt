@@ -9,7 +9,7 @@ use Rattle.eng_state.specs.Sound.{IsSound}
 use Rattle.eng_state.proofs.Ending.{ends-good}
 use Rattle.eng_fails.proofs.LosingPlain.{nothing-follows, nothing-sound, nothing-stays}
 use Rattle.blk_plain.specs.declared.op.Outcome.TheVariants.{Good}
-use Rattle.eng_state.proofs.GoingOn.{goes-logged, goes-ended}
+use Rattle.eng_state.proofs.GoingOn.{goes-logged, goes-ended, same-seats}
 use Rattle.eng_state.specs.Out.{OthersStay}
 use Rattle.eng_parts.specs.Shelf.{Shelved}
 use Rattle.eng_fails.proofs.lost.nothing_comes.Goals as goal
@@ -31,7 +31,7 @@ returns-clause-home g c =
           (subst (λ (id : OpId). IsSound g.L.Layout g.D.Disk (record mid { log = noted mid.log (event.Good id c.args.node) })) (sym c.id-id.ensures)
           (nothing-sound g.L.Layout g.D.Disk old mid c.args.client c.args.node c.requires.lost.0 c.requires.sound c.requires.lost.1 c.requires.out c.requires.kind h));
       goes = goes-logged old mid c.note.new.self _ c.note.ensures
-          (goes-ended g.L.Layout g.D.Disk old mid c.args.client c.args.node c.requires.sound c.requires.out Good h.clients h.layout h.graphs h.spare);
+          (goes-ended g.L.Layout g.D.Disk old mid c.args.client c.args.node c.requires.sound c.requires.out Good h.clients h.layout h.graphs h.spare (same-seats h.pool));
       devices = ap (λ (s : Array g.row.L.Denot g.row.D.Denot). s.devices.slots) c.note.ensures ∙ ap (λ (s : Shelved g.row.D.Denot). s.slots) h.devices;
       stays = subst (λ (s : Array g.row.L.Denot g.row.D.Denot). OthersStay g.D.Disk g.L.Layout c.args.client c.args.node old s) (sym c.note.ensures)
           (nothing-stays g.L.Layout g.D.Disk old mid c.args.client c.args.node c.requires.lost.0 c.requires.sound c.requires.lost.1 c.requires.out c.requires.kind h);

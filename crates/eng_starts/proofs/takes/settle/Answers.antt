@@ -1,5 +1,6 @@
 use Rattle.std.proofs.Common.{◌≡◌, ◌≤◌, ◌*◌, ℕ, List, length, sym, ap, subst, ◌∙◌, arith}
 use Rattle.buf_pool.specs.Pool as held
+use Rattle.buf_pool.specs.Reserve.{AreThere}
 use Rattle.stripe_lock.specs.Table as table
 use Rattle.stripe_lock.specs.declared.mode.Mode.{Mode}
 use Rattle.eng_one.specs.Counts.{CanStart}
@@ -101,8 +102,8 @@ returns g c =
       now = settling.now-4 old s1 s2 c.args.client c.requires.client c.lock.ensures.rest c.lend.ensures.now s3 c.start.ensures s4 c.fill_buffers.ensures.rest;
     }
 
-pub lend-requires-clause-fits : goal.lend-requires-clause-fits
-lend-requires-clause-fits g c =
+pub lend-requires-clause-there : goal.lend-requires-clause-there
+lend-requires-clause-there g c =
     let old : Array g.row.L.Denot g.row.D.Denot = c.args.array.now in
     let y = g.L.Layout.shape old.layout in
     let d = desk_at old.clients c.args.client in
@@ -110,6 +111,5 @@ lend-requires-clause-fits g c =
     c.size-count.ensures
     ∙ (ap (λ (s : Array g.row.L.Denot g.row.D.Denot). lease_by (g.L.Layout.shape s.layout) s.graphs.items (length (desk_at s.clients c.args.client).map.stripes) (span_count c.args.op) c.args.file) c.lock.ensures.rest
     ∙ ap (λ (n : ℕ). lease_by y old.graphs.items n (span_count c.args.op) c.args.file) (op-count y (g.met.L.Layout.is_layout old.layout) c.args.op d.map c.requires.planned.split)) in
-    let pool = ap (λ (s : Array g.row.L.Denot g.row.D.Denot). length s.pool.free) c.lock.ensures.rest in
-    let fits = c.requires.fits in
-    omega (arith, count, pool, fits)
+    subst (λ (p : held.PoolView). AreThere p c.size-count.result) (sym (ap (λ (s : Array g.row.L.Denot g.row.D.Denot). s.pool) c.lock.ensures.rest))
+    (subst (λ (n : ℕ). AreThere old.pool n) (sym count) c.requires.buffers)

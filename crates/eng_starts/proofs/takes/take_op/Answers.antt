@@ -1,4 +1,5 @@
-use Rattle.std.proofs.Common.{◌≡◌, subst, inl, inr}
+use Rattle.std.proofs.Common.{◌≡◌, subst, sym, inl, inr}
+use Rattle.buf_pool.specs.Reserve.{AreThere}
 use Rattle.eng_world.specs.declared.item.Item.TheVariants as item
 use Rattle.eng_world.specs.declared.item.Traced.TheVariants as event
 use Rattle.eng_world.specs.declared.item.Reply.TheVariants as reply
@@ -7,6 +8,7 @@ use Rattle.eng_state.specs.declared.array.Array.{Array}
 use Rattle.eng_clients.specs.Desk.{desk_at, with_reply}
 use Rattle.std.specs.Prelude.{slice_set}
 use Rattle.eng_log.specs.Log.{noted}
+use Rattle.eng_plan.specs.Asked.{lease_for}
 use Rattle.eng_state.specs.Moves.{id_of}
 use Rattle.eng_state.proofs.Asking.{waits-below}
 use Rattle.eng_state.proofs.Served.{item-below}
@@ -17,6 +19,11 @@ pub take_planned-requires-clause-is_free : goal.take_planned-requires-clause-is_
 take_planned-requires-clause-is_free g c =
     let old : Array g.row.L.Denot g.row.D.Denot = c.args.array.now in
     no-conflict g.L.Layout old c.plan.new.array c.args.client c.args.op c.args.file (waits-below g.L.Layout g.D.Disk old c.args.client c.requires.sound c.requires.can) c.plan.ensures.planned c.requires.sound.layout c.requires.can c.requires.serves
+
+pub take_planned-requires-clause-buffers : goal.take_planned-requires-clause-buffers
+take_planned-requires-clause-buffers g c =
+    subst (λ (s : Array g.row.L.Denot g.row.D.Denot). AreThere s.pool (lease_for (g.L.Layout.shape s.layout) s.graphs.items c.args.op c.args.file)) (sym c.plan.ensures.planned.now)
+    (c.requires.there c.args.op c.args.file c.requires.serves.item)
 
 pub refuse-requires-clause-item : goal.refuse-requires-clause-item
 refuse-requires-clause-item g c =

@@ -1,3 +1,4 @@
+use Rattle.eng_array.proofs.Buffers.{has-there}
 use Rattle.eng_array.proofs.SteadyTake.{stands, take-room, take-steady}
 use Rattle.eng_array.proofs.HappeningCalls.{take-happens, take-jobs}
 use Rattle.eng_array.proofs.calls.Core.take.Goals as goal
@@ -7,6 +8,9 @@ take-requires-clause-stands g c = stands g.L.Layout g.D.Disk c.args.self.now.arr
 
 pub take-requires-clause-place : goal.take-requires-clause-place
 take-requires-clause-place g c = take-room g.L.Layout g.D.Disk c.args.self.now.array c.args.self.now.array c.args.client c.requires.steady c.requires.can.not_lost c.requires.can
+
+pub take-requires-clause-there : goal.take-requires-clause-there
+take-requires-clause-there g c = has-there g.L.Layout g.D.Disk c.args.self.now.array c.requires.steady c.requires.can.not_lost c.args.client c.requires.can
 
 pub returns-clause-steady : goal.returns-clause-steady
 returns-clause-steady g c = take-steady g.L.Layout g.D.Disk c.args.self.now.array c.take.new.array c.args.client c.requires.steady c.requires.can.not_lost c.requires.can c.take.ensures.became c.take.ensures.sound c.take.ensures.step
