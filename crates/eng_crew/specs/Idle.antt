@@ -1,5 +1,6 @@
 -- When a worker may end.
 use Rattle.std.specs.Prelude.{◌≡◌, ◌⊎◌, Option, Some, None}
+use Rattle.std.specs.Global.{Box}
 use Rattle.blk_disk.specs.declared.disk.Disk.{Ghosts as DiskGhosts}
 use Rattle.lay_core.specs.declared.layout.Layout.{Ghosts as LayoutGhosts}
 use Rattle.eng_job.specs.declared.job.Job.{Job}
@@ -25,13 +26,13 @@ module _ {L D : Type 0} (lay : LayoutGhosts L) where
 
 module _ {R L D : Type 0} where
   -- the pass is this turn's and outside, with no job
-  abbrev pub IsReady : Turn R (Core L D) (Option (Job D)) → Pass R (Core L D) (Option (Job D)) → Type 0
+  abbrev pub IsReady : Turn R (Box (Core L D)) (Option (Job D)) → Pass R (Box (Core L D)) (Option (Job D)) → Type 0
   IsReady t p = IsOf p t × IsOutside p × (ticket_of p ≡ None)
 
   -- and it has one share
-  abbrev pub IsSpare : Turn R (Core L D) (Option (Job D)) → Pass R (Core L D) (Option (Job D)) → Type 0
+  abbrev pub IsSpare : Turn R (Box (Core L D)) (Option (Job D)) → Pass R (Box (Core L D)) (Option (Job D)) → Type 0
   IsSpare t p = IsReady t p × (share_of p ≡ 1)
 
   -- the core that the pass left last is idle, and comes after the opening
-  abbrev pub HasIdleMark : LayoutGhosts L → DiskGhosts D → Core L D → Pass R (Core L D) (Option (Job D)) → Type 0
-  HasIdleMark lay disk opening p = (m : Core L D) × (mark_of p ≡ Some m) × IsIdle lay m.array × After lay disk opening.array m.array
+  abbrev pub HasIdleMark : LayoutGhosts L → DiskGhosts D → Box (Core L D) → Pass R (Box (Core L D)) (Option (Job D)) → Type 0
+  HasIdleMark lay disk opening p = (m : Box (Core L D)) × (mark_of p ≡ Some m) × IsIdle lay m.value.array × After lay disk opening.value.array m.value.array

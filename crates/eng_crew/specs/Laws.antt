@@ -1,5 +1,6 @@
 -- The rule of the crew's turn, and its laws.
 use Rattle.std.proofs.Common.{◌≡◌, ℕ, ◌+◌, List, [], ◌∷◌, ◌++◌, sum_by, refl, sym, subst, arith, Option, None}
+use Rattle.std.specs.Global.{Box}
 use Rattle.std.proofs.lemmas.List.Sums.{sum_by_push, sum_by-append, sum_by-cons}
 use Rattle.blk_disk.specs.declared.disk.Disk.{Ghosts as DiskGhosts}
 use Rattle.lay_core.specs.declared.layout.Layout.{Ghosts as LayoutGhosts}
@@ -148,3 +149,29 @@ module _ {L D : Type 0} (lay : LayoutGhosts L) (disk : DiskGhosts D) where
 
   pub after_step : (v w : Core L D) (t u : Option (Job D)) → TurnsTo v t w u → ComesAfter v w
   after_step v w t u step = steps_later v w t u step.0 step.1
+
+  -- ## The rule, of a core in its box
+
+  abbrev pub BoxFits : Box (Core L D) → Box (Core L D) → List (Option (Job D)) → Type 0
+  BoxFits opening now tickets = FitsIn opening.value now.value tickets
+
+  abbrev pub BoxTurns : Box (Core L D) → Option (Job D) → Box (Core L D) → Option (Job D) → Type 0
+  BoxTurns old t new u = TurnsTo old.value t new.value u
+
+  abbrev pub BoxAfter : Box (Core L D) → Box (Core L D) → Type 0
+  BoxAfter old new = ComesAfter old.value new.value
+
+  pub box_comes : (o v : Box (Core L D)) (xs : List (Option (Job D))) → BoxFits o v xs → BoxFits o v (xs ++ None ∷ [])
+  box_comes o v xs f = empty_comes o.value v.value xs f
+
+  pub box_goes : (o v : Box (Core L D)) (xs ys : List (Option (Job D))) → BoxFits o v (xs ++ None ∷ ys) → BoxFits o v (xs ++ ys)
+  box_goes o v xs ys f = empty_goes o.value v.value xs ys f
+
+  pub box_itself : (v : Box (Core L D)) → BoxAfter v v
+  box_itself v = after_itself v.value
+
+  pub box_later : (u v w : Box (Core L D)) → BoxAfter u v → BoxAfter v w → BoxAfter u w
+  box_later u v w a b = after_later u.value v.value w.value a b
+
+  pub box_step : (v w : Box (Core L D)) (t u : Option (Job D)) → BoxTurns v t w u → BoxAfter v w
+  box_step v w t u step = after_step v.value w.value t u step

@@ -14,7 +14,7 @@ use eng_array::Core;
 use eng_turn::{Pass, Turn};
 use lay_core::Layout;
 use raid_progress::Progress;
-use std::alloc::Global;
+use std::alloc::{AllocFailed, Global};
 use std::sync::Wait;
 use std::thread;
 use std::thread::Threads;
@@ -28,8 +28,8 @@ pub struct Memory;
 /// came home. Where the system makes no more threads, this one does the work
 /// of those that are missing. Each worker tells every now and then how many items have a reply, of so many in all.
 ///
-/// All passes are made, and the memory for them taken, before the first event. `Memory` where there was none: it comes
-/// only then, and the core comes back as it was.
+/// All passes are made, and the memory for them, for the turn and for the box in which the core lies meanwhile is taken,
+/// before the first event. `Memory` where there was none: it comes only then, and the core comes back as it was.
 pub fn run_crew<
     L: Layout + Drop + Send,
     D: Disk + Drop + Send,
@@ -55,16 +55,20 @@ pub fn run_crew<
     let Ok(mut others) = Vec::with_capacity(alloc, workers as usize) else {
         return Err((core, Memory))
     };
-    let (turn, mut pass) = match Turn::<CrewRule<L, D>>::open(alloc, core) {
+    let boxed = match Box::new(alloc, core) {
+        Ok(boxed) => boxed,
+        Err(AllocFailed { value: core }) => return Err((core, Memory)),
+    };
+    let (turn, mut pass) = match Turn::<CrewRule<L, D>>::open(alloc, boxed) {
         Ok(opened) => opened,
-        Err((core, _)) => return Err((core, Memory)),
+        Err((boxed, _)) => return Err((Box::into_inner(boxed), Memory)),
     };
     split_all(&turn, &mut pass, &mut others, workers - 1);
     let pass = crew(rt, &turn, pass, others, progress, all);
-    let Some(core) = turn.close(pass) else {
+    let Some(boxed) = turn.close(pass) else {
         unreachable!()
     };
-    Ok(core)
+    Ok(Box::into_inner(boxed))
 }
 
 // As many more passes, of one share each.

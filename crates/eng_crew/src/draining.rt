@@ -48,7 +48,7 @@ fn drain_one<L: Layout, D: Disk>(core: &mut Core<L, D>) -> bool
     ensures falls { result ≡ true → Falls core.old.array core.new.array }
     ensures idle { result ≡ false → IsIdle L.Layout core.new.array }
 {
-    let (found, ticket) = go_on(core);
+    let (found, ticket) = go_on(core, None);
     finish_now(core, ticket);
     match found {
         Found::Event => true,

@@ -21,7 +21,8 @@ fn within<L: Layout + Drop, D: Disk + Drop>(turn: &Turn<CrewRule<L, D>>) -> u32 
 }
 
 /// A turn of a pass that has this job, if it has one: that is performed first, beside the others, and comes home in the
-/// turn. What was found to do then, and the job of a node that was fired and has work.
+/// turn. What was found to do then, the clients tried from the last one on, and the job of a node that was fired and has
+/// work.
 ///
 /// `None` where there are workers enough at the core: then nothing was looked for, and the pass has no job any more.
 pub(crate) fn turn_by<L: Layout + Drop, D: Disk + Drop, W: Wait>(
@@ -29,6 +30,7 @@ pub(crate) fn turn_by<L: Layout + Drop, D: Disk + Drop, W: Wait>(
     turn: &Turn<CrewRule<L, D>>,
     pass: &mut Pass<CrewRule<L, D>>,
     job: Option<Job<D>>,
+    last: u32,
     pace: &mut Pace,
 ) -> Option<(Found, Option<Job<D>>)>
     requires mine { IsOf pass.old turn.now × IsOutside pass.old }
@@ -41,8 +43,8 @@ pub(crate) fn turn_by<L: Layout + Drop, D: Disk + Drop, W: Wait>(
         ((turned.1 ≡ None) × HasIdleMark L.Layout D.Disk (opening_of turn.now) pass.new)) }
 {
     match job {
-        None => turn_without(rt, turn, pass),
-        Some(job) => turn_with(rt, turn, pass, job, pace),
+        None => turn_without(rt, turn, pass, last),
+        Some(job) => turn_with(rt, turn, pass, job, last, pace),
     }
 }
 
@@ -51,6 +53,7 @@ fn turn_without<L: Layout + Drop, D: Disk + Drop, W: Wait>(
     rt: &W,
     turn: &Turn<CrewRule<L, D>>,
     pass: &mut Pass<CrewRule<L, D>>,
+    last: u32,
 ) -> Option<(Found, Option<Job<D>>)>
     requires mine { IsOf pass.old turn.now × IsOutside pass.old }
     requires ticket { ticket_of pass.old ≡ None }
@@ -65,7 +68,7 @@ fn turn_without<L: Layout + Drop, D: Disk + Drop, W: Wait>(
         return None;
     }
     let mut core = turn.enter(rt, pass);
-    let (found, ticket) = go_far(&mut core, within(turn));
+    let (found, ticket) = go_far(&mut *core, last, within(turn));
     turn.leave(pass, core, &ticket);
     Some((found, ticket))
 }
@@ -77,6 +80,7 @@ fn turn_with<L: Layout + Drop, D: Disk + Drop, W: Wait>(
     turn: &Turn<CrewRule<L, D>>,
     pass: &mut Pass<CrewRule<L, D>>,
     mut job: Job<D>,
+    last: u32,
     pace: &mut Pace,
 ) -> Option<(Found, Option<Job<D>>)>
     requires mine { IsOf pass.old turn.now × IsOutside pass.old }
@@ -96,7 +100,7 @@ fn turn_with<L: Layout + Drop, D: Disk + Drop, W: Wait>(
         turn.leave(pass, core, &None);
         return None;
     }
-    let (found, ticket) = go_far(&mut core, within(turn));
+    let (found, ticket) = go_far(&mut *core, last, within(turn));
     turn.leave(pass, core, &ticket);
     Some((found, ticket))
 }

@@ -1,10 +1,11 @@
 //! The events of one turn, and what they give to do outside.
-ghost use Rattle.std.specs.Prelude.{◌≡◌, ◌≤◌, ◌⊎◌, None, Some, false, true};
+ghost use Rattle.std.specs.Prelude.{◌≡◌, ◌≤◌, ◌⊎◌, None, Some, false, true, IfSome};
+ghost use Rattle.eng_choice.specs.Picked.{IsStuck};
 ghost use Rattle.eng_state.specs.Doing.{CanDo};
 ghost use Rattle.eng_state.specs.Out.{IsOut};
 ghost use Rattle.eng_array.specs.Progress.{left_of, Falls};
 ghost use Rattle.eng_array.specs.Steady.{IsSteady};
-ghost use Rattle.eng_array.specs.Tickets.{Turned, Acts};
+ghost use Rattle.eng_array.specs.Tickets.{Quiet, Turned, Acts};
 ghost use Rattle.eng_crew.specs.Idle.{IsIdle};
 ghost use Rattle.eng_crew.specs.Laws.{TurnsTo};
 
@@ -68,14 +69,33 @@ fn without_event<L: Layout, D: Disk>(core: &Core<L, D>) -> Found
     }
 }
 
-/// One event, if there is one but the end of a job; and the job of a node that was fired.
-pub(crate) fn go_on<L: Layout, D: Disk>(core: &mut Core<L, D>) -> (Found, Option<Job<D>>)
+// The event that is done next: the clients are tried from one on, if it is said, else in their ring.
+fn choose<L: Layout, D: Disk>(core: &mut Core<L, D>, from: Option<u32>) -> Option<Event>
+    requires { IsSteady L.Layout D.Disk core.old.array }
+    ensures stuck { result ≡ None → IsStuck L.Layout core.new.array }
+    ensures can { IfSome result (CanDo L.Layout core.new.array) }
+    ensures steady { IsSteady L.Layout D.Disk core.new.array }
+    ensures quiet { Quiet L.Layout D.Disk core.old.array core.new.array }
+    ensures none { result ≡ None → core.new.array ≡ core.old.array }
+{
+    match from {
+        Some(client) => core.pick_from(client),
+        None => core.pick(),
+    }
+}
+
+/// One event, if there is one but the end of a job; and the job of a node that was fired. The clients are tried from one
+/// on, if it is said.
+pub(crate) fn go_on<L: Layout, D: Disk>(
+    core: &mut Core<L, D>,
+    from: Option<u32>,
+) -> (Found, Option<Job<D>>)
     requires { IsSteady L.Layout D.Disk core.old.array }
     ensures turned { Turned L.Layout D.Disk core.old.array None core.new.array result.1 }
     ensures event { result.0 ≡ Found.Event → Falls core.old.array core.new.array }
     ensures idle { (result.0 ≡ Found.Event) ⊎ ((result.1 ≡ None) × IsIdle L.Layout core.new.array) }
 {
-    let Some(event) = core.pick() else {
+    let Some(event) = choose(core, from) else {
         return (without_event(core), None)
     };
     let job = act(core, event);
@@ -113,14 +133,18 @@ fn end_at_once<L: Layout, D: Disk>(core: &mut Core<L, D>, mut job: Job<D>)
 
 // One event, if there is one but the end of a job; and the end of the node that it fired, where that has no work, or work
 // that is to be done at once. Else its job.
-fn go_by<L: Layout, D: Disk>(core: &mut Core<L, D>, at_once: bool) -> (Found, Option<Job<D>>)
+fn go_by<L: Layout, D: Disk>(
+    core: &mut Core<L, D>,
+    from: u32,
+    at_once: bool,
+) -> (Found, Option<Job<D>>)
     requires { IsSteady L.Layout D.Disk core.old.array }
     ensures turned { TurnsTo L.Layout D.Disk core.old None core.new result.1 }
     ensures steady { IsSteady L.Layout D.Disk core.new.array }
     ensures event { result.0 ≡ Found.Event → Falls core.old.array core.new.array }
     ensures idle { (result.0 ≡ Found.Event) ⊎ ((result.1 ≡ None) × IsIdle L.Layout core.new.array) }
 {
-    let (found, ticket) = go_on(core);
+    let (found, ticket) = go_on(core, Some(from));
     let Some(job) = ticket else {
         return (found, None)
     };
@@ -132,9 +156,11 @@ fn go_by<L: Layout, D: Disk>(core: &mut Core<L, D>, at_once: bool) -> (Found, Op
 }
 
 /// Events, one after another, until a node is fired that has work, or there is no event but the end of a job; and the
-/// job of that node. As often as is said, such work is done at once, and the node ends.
+/// job of that node. As often as is said, such work is done at once, and the node ends. The clients are tried from the same
+/// one on each time, so that a worker goes on with a client's operation while it can: what it works on is near it.
 pub(crate) fn go_far<L: Layout, D: Disk + Drop>(
     core: &mut Core<L, D>,
+    from: u32,
     at_once: u32,
 ) -> (Found, Option<Job<D>>)
     requires { IsSteady L.Layout D.Disk core.old.array }
@@ -143,7 +169,7 @@ pub(crate) fn go_far<L: Layout, D: Disk + Drop>(
 {
     let mut left = at_once;
     loop {
-        match go_by(core, left != 0) {
+        match go_by(core, from, left != 0) {
             (Found::Event, None) => left = left.saturating_sub(1),
             (found, ticket) => return (found, ticket),
         }

@@ -8,6 +8,7 @@ use crate::rule::CrewRule;
 use crate::turns::{Found, LOOK};
 use crate::waiting::Pace;
 use blk_disk::Disk;
+use eng_array::Job;
 use eng_turn::{Pass, Turn};
 use lay_core::Layout;
 use raid_progress::Progress;
@@ -15,6 +16,14 @@ use std::sync::Wait;
 
 // A worker ends after so many turns in a row in which there was nothing to do.
 const EMPTY: u32 = 1_048_576;
+
+// The client whose job it is; where there is none, the one before.
+fn client_of<D>(job: &Option<Job<D>>, before: u32) -> u32 {
+    match job {
+        Some(job) => job.client,
+        None => before,
+    }
+}
 
 /// Takes turns until every item has its reply and no job is out, or until 1,048,576 turns in a row found nothing to do.
 /// The pass must be this turn's and outside, with no job; it is so again, and has the share that it had.
@@ -37,18 +46,22 @@ pub fn work<L: Layout + Drop, D: Disk + Drop, W: Wait, P: Progress>(
 {
     let mut pace = Pace::new();
     let mut held = None;
+    let mut last: u32 = 0;
     let mut empty = 0;
     let mut turns: u32 = 0;
     for _ in rt.forever() {
         turns = turns.wrapping_add(1);
         if turns % LOOK == 0 {
             progress.tell(look(rt, turn, pass, &held), all);
+            // Nobody's items wait for all of another's.
+            last = last.wrapping_add(1);
         }
-        let Some((found, job)) = turn_by(rt, turn, pass, held, &mut pace) else {
+        let Some((found, job)) = turn_by(rt, turn, pass, held, last, &mut pace) else {
             held = None;
             pace.wait(rt, turn);
             continue;
         };
+        last = client_of(&job, last);
         held = job;
         match found {
             Found::Event => {
