@@ -30,11 +30,11 @@ use Rattle.top_close.specs.Settled.{LosesDevice}
 use Rattle.top_close.specs.Stage.{DiesIn, IsGivenUp, IsGivenUpIn}
 use Rattle.top_rounds.specs.Rounds.{HaveRounds, in_end}
 use Rattle.top_rounds.proofs.RoundLaws.{given_after, none_given_in}
-use Rattle.top_run.specs.Ran.{IsDeadBy, Ran as Run, RanPlain, RisesAt, WasFailed, begun_for}
+use Rattle.top_run.specs.Ran.{IsDeadBy, Ran as Run, RanPlain, RisesAt, begun_for}
 use Rattle.top_run.specs.Told.{IsToldFailed, IsToldUnbuilt}
 use Rattle.top_run.specs.Work.{Ending, Service, Work}
 use Rattle.top_run.proofs.Starting.{rebuilds-none}
-use Rattle.top_serve.specs.Served.{IsKeptAs, IsUnbuilt}
+use Rattle.top_serve.specs.Served.{IsKeptAs, IsUnbuilt, WasFailed}
 use Rattle.top_serve.specs.Setups.{with_start}
 use Rattle.top_words.specs.Asked.{Action, Io, Sweep, Show, ShowMap, Init, Check, Rewrite, Print, Fail, ShowLabel, Label as Labels, Rebuild, Resume, profile_of}
 use Rattle.top_words.specs.declared.profile.Deed.TheVariants as deed

@@ -1,6 +1,6 @@
 -- Both columns of a loss are gone in the end, whatever was done.
 use Rattle.std.specs.Prelude.{◌≡◌, ◌⊎◌, ℕ, Bool, List, Option, Some, None, slice_get}
-use Rattle.std.proofs.Common.{inl, inr, sym, subst, ◌∙◌}
+use Rattle.std.proofs.Common.{inl, inr, refl, sym, subst, ◌∙◌}
 use Rattle.blk_disk.specs.declared.disk.Disk.{Ghosts}
 use Rattle.lay_core.specs.Layout.{Shape}
 use Rattle.eng_cols.specs.declared.column.Column.{Column}
@@ -22,7 +22,6 @@ use Rattle.top_duty.specs.Duty.{Admitted, OnArray, columns_of, layout_of}
 use Rattle.top_duty.specs.Start.{has_failed}
 use Rattle.top_open.specs.declared.fronts.Front.{Front}
 use Rattle.top_run.proofs.Caused.{loss-caused}
-use Rattle.top_run.specs.Ran.{IsLossAtEnd}
 use Rattle.top_run.specs.Work.{Ending}
 use Rattle.top_words.specs.Asked.{profile_of}
 use Rattle.top_words.specs.declared.profile.Deed.{Deed}
@@ -40,28 +39,29 @@ LossIsOfGone y o = (loss : Loss) → loss_of o ≡ Some loss → AreGone y (colu
 only_dies : (cause : ℕ → Type 0) (old new : List Column) → Dies cause old new → (c : ℕ) → (slice_get new c ≡ slice_get old c) ⊎ (slice_get new c ≡ Some column.Dead)
 only_dies cause old new dies c = elim (dies.each c) [ inl same ↦ inl same | inr dead ↦ inr dead.0 ]
 
--- ## Runs
-
-module _ (y : Shape) (graphs : Graphs) (start : World) (events : List Traced) (now : World) (kept last : List Column) (closes : ClosesAs y now.columns kept) (cause : ℕ → Type 0) (dies : Dies cause kept last)
-    (why : (loss : Loss) → now.lost ≡ Some loss → IsLossOf y graphs start events now loss) where
-  run_loss : (lost : Option Loss) (loss : Loss) → lost ≡ Some loss → IsLossAtEnd y now (states_of y last) lost → AreGone y last loss
-  run_loss None loss e is = absurd (let z : ⊥ = cc e in z)
-  run_loss (Some other) loss e (inl in_run) =
-      let same : other ≡ loss = cc e in
-      let was = why other in_run in
-      subst (λ (l : Loss). AreGone y last l) same (run_are_gone y was.after.columns now.columns kept last other was.is_lost closes was.each (only_dies cause kept last dies))
-  run_loss (Some other) loss e (inr in_end) =
-      let same : other ≡ loss = cc e in
-      subst (λ (l : Loss). AreGone y last l) same (set_are_gone y last other in_end.1)
-
--- ## Without a core
-
 -- the loss is that of the columns in the end
 end_loss : (y : Shape) (last : List Column) (lost : Option Loss) (loss : Loss) → lost ≡ Some loss → IsLossBy y None (states_of y last) lost → AreGone y last loss
 end_loss y last None loss e is = absurd (let z : ⊥ = cc e in z)
 end_loss y last (Some other) loss e is =
     let same : other ≡ loss = cc e in
     subst (λ (l : Loss). AreGone y last l) same (set_are_gone y last other is)
+
+-- ## Runs
+
+module _ (y : Shape) (graphs : Graphs) (start : World) (events : List Traced) (now : World) (kept last : List Column) (closes : ClosesAs y now.columns kept) (cause : ℕ → Type 0) (dies : Dies cause kept last)
+    (why : (loss : Loss) → now.lost ≡ Some loss → IsLossOf y graphs start events now loss) where
+  run_loss : (lost : Option Loss) (loss : Loss) → lost ≡ Some loss → IsLossBy y now.lost (states_of y last) lost → AreGone y last loss
+  run_loss lost loss e is = go now.lost refl is
+    where
+      go : (was : Option Loss) → now.lost ≡ was → IsLossBy y was (states_of y last) lost → AreGone y last loss
+      go None none is = end_loss y last lost loss e is
+      go (Some other) in_run is =
+          let z : Some other ≡ Some loss = sym is ∙ e in
+          let same : other ≡ loss = cc in
+          let was = why other in_run in
+          subst (λ (l : Loss). AreGone y last l) same (run_are_gone y was.after.columns now.columns kept last other was.is_lost closes was.each (only_dies cause kept last dies))
+
+-- ## Without a core
 
 module _ {D : Type 0} (g : Ghosts D) where
   module _ (y : Shape) (columns : List Column) (old back : List (Option D)) (act : Done) (e : Ending) where

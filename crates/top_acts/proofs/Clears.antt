@@ -24,9 +24,11 @@ use Rattle.top_close.specs.Stage.{DiesIn, IsGivenUp, IsGivenUpIn, IsInUse, IsSta
 use Rattle.top_close.proofs.CallLaws.{more-then}
 use Rattle.top_close.proofs.SettledLaws.{device_within}
 use Rattle.top_close.proofs.StageLaws.{live_before, live_less, stage-then, stage_as}
+use Rattle.top_rounds.specs.Calls.{WritesSome, WritesWithin}
 use Rattle.top_rounds.specs.Labels.{seating_in, seating_of, with_round}
 use Rattle.top_rounds.specs.Passes.{HoldsLabel, IsFirstInUse}
 use Rattle.top_rounds.specs.Rounds.{CountsRounds, HoldsTried, clean_in_end}
+use Rattle.top_rounds.proofs.CallLaws.{some-before, some-behind, within-then}
 use Rattle.top_rounds.proofs.RoundLaws.{any_death, counts-none, counts-then, counts_few, given_kept, round_again, tried-then}
 use Rattle.top_acts.specs.Begun.{HasSeats}
 use Rattle.top_acts.specs.Cleared.{ClearsIn, EndCleared, EndingCalls, EndsInSteps, EndsMapped, EndsMappedSettled, HoldsOr, IsEndingCall, TriesToClear}
@@ -36,7 +38,7 @@ use Rattle.top_acts.specs.Marking.{HoldsMap, IsKeptInUse, MarksAll}
 use Rattle.top_acts.specs.Stages.{IsClosing}
 use Rattle.top_acts.proofs.Endings.{calls_ending, endings-then, marked_ending}
 use Rattle.top_acts.proofs.InTurn.{AreApart}
-use Rattle.top_acts.proofs.Marked.{IsMarkCall, marks_dies, marks_second, marks_stage, marks_uncalled}
+use Rattle.top_acts.proofs.Marked.{IsMarkCall, marks_dies, marks_second, marks_stage, marks_times, marks_uncalled}
 use Rattle.top_acts.proofs.Seated.{seats-kept, seats-then}
 use Rattle.top_acts.proofs.Ended.{no_loss}
 use Rattle.top_acts.proofs.Settled.{Death, death_of}
@@ -64,11 +66,13 @@ module _ {D : Type 0} (g : Ghosts D) where
     pub stage : IsStage g (IsKeptInUse true columns) (λ d. All (IsEndingCall true)) lost columns after old new
     pub counter : CountsRounds 1 label next (length stage.rises)
     pub others : IsUncalled columns old new
+    pub times : (d : ℕ) → WritesWithin label.counter next.counter (calls_of g old d) (calls_of g new d)
     pub label_is : next ≡ with_round label next.counter (clean_in_end lost label.clean) (seating_in next)
     pub seated : HasSeats g lost next columns after old new
     pub seating : lost ≡ None → seating_in next ≡ seating_of after
     pub given_up : IsGivenUpIn lost after
     pub held : (c d : ℕ) → HasDeviceOn after c d → HoldsLabel g new next c d
+    pub labelled : (c d : ℕ) → HasDeviceOn after c d → WritesSome (calls_of g old d) (calls_of g new d)
     pub settled : lost ≡ None → (c d : ℕ) → HasDeviceOn after c d → EndsSettled (calls_of g new d)
     pub given : (c d : ℕ) → IsGivenUp lost columns c → HasDeviceOn columns c d → (RisesOn g old new d → ⊥) → HoldsTried g label next.counter old new c d
     pub each : EndingCalls g true lost was (settled_in_end lost) columns after old new
@@ -90,11 +94,13 @@ module _ {D : Type 0} (g : Ghosts D) where
     stage = closing_stage was label next columns after old new lost k;
     counter = k.counted.counter;
     others = k.counted.others;
+    times = k.counted.times;
     label_is = k.label_is;
     seated = k.seated;
     seating = k.seating;
     given_up = k.given_up;
     held = k.held;
+    labelled = k.labelled;
     settled = k.settled;
     given = k.given;
     each = calls_ending g true lost was (settled_in_end lost) columns after old new k.each;
@@ -107,11 +113,13 @@ module _ {D : Type 0} (g : Ghosts D) where
     stage = k.counted.stage;
     counter = k.counted.counter;
     others = k.counted.others;
+    times = k.counted.times;
     label_is = k.label_is;
     seated = k.seated;
     seating = k.seating;
     given_up = k.given_up;
     held = k.held;
+    labelled = k.labelled;
     settled = k.settled;
     given = k.given;
     each = calls_ending g false lost was (settled_in_end lost) columns after old new k.each;
@@ -142,6 +150,10 @@ module _ {D : Type 0} (g : Ghosts D) where
     before_it : (c d : ℕ) → HasDeviceOn after c d → HasDeviceOn mid c d
     before_it c d h = live_before (LosesDevice g mid dev new) mid after c d (marks_dies g blank mid after dev new m) h
 
+    -- no label is written by the clear
+    times_both : (d : ℕ) → WritesWithin label.counter next.counter (calls_of g old d) (calls_of g new d)
+    times_both d = within-then label.counter next.counter next.counter (calls_of g old d) (calls_of g dev d) (calls_of g new d) (e.times d) (marks_times g blank mid after dev new m next.counter d)
+
     others_both : IsUncalled columns old new
     others_both d none = marks_uncalled g blank mid after dev new m d (λ c h. none c (live c d h)) ∙ e.others d none
 
@@ -166,11 +178,13 @@ module _ {D : Type 0} (g : Ghosts D) where
           (λ d n f. f) kept_mid (λ d. All-append (IsEndingCall true));
       counter = counts-then 1 0 label next next e.stage.rises [] e.counter (counts-none next next refl);
       others = others_both;
+      times = times_both;
       label_is = e.label_is;
       seated = seats-kept g columns mid old dev new (IsKeptInUse true columns) (IsKeptInUse true mid) e.stage.frame clearing.frame next after e.stage.dies e.seated (marks_dies g blank mid after dev new m);
       seating = λ _. e.seating refl ∙ ap seating_of (sym same);
       given_up = tt;
       held = label_there;
+      labelled = λ c d h. some-before (All (IsEndingCall true)) (calls_of g old d) (calls_of g dev d) (calls_of g new d) (e.labelled c d (before_it c d h)) (clearing.told d);
       settled = λ _ c d h. settled_mark (calls_of g new d) (calls_of g dev d) (subst (MarksOn (calls_of g dev d) (calls_of g new d)) (ap is_some h) (m.marked.once c d (device_within mid c d (before_it c d h)) (before_it c d h)));
       given = λ c d gave. absurd gave;
       each = turns;
@@ -262,12 +276,14 @@ module _ {D : Type 0} (g : Ghosts D) where
             most = omega (arith, e.counter.most, k.counted.counter.most, length-append (e.stage.rises ++ death.why.device ∷ []) k.counted.stage.rises, length-append e.stage.rises (death.why.device ∷ []));
           };
           others = λ d none. k.counted.others d (λ c h. none c (live c d (before_it c d h))) ∙ others_both d none;
+          times = λ d. within-then label.counter next.counter last.counter (calls_of g old d) (calls_of g new d) (calls_of g more d) (times_both d) (k.counted.times d);
           label_is = round_again label next last label.clean last.counter (clean_in_end lost label.clean) (seating_in last) e.label_is
               (k.label_is ∙ ap (λ x. with_round next last.counter (clean_in_end lost x) (seating_in last)) (ap (λ (l : Label). l.clean) e.label_is));
           seated = seats-then g columns after old new more (IsKeptInUse true columns) (IsKeptInUse true after) both.frame behind.frame lost last end both.dies k.seated;
           seating = k.seating;
           given_up = k.given_up;
           held = k.held;
+          labelled = λ c d h. some-behind (All (IsEndingCall true)) (calls_of g old d) (calls_of g new d) (calls_of g more d) (both.told d) (k.labelled c d h);
           settled = k.settled;
           given = given_anew;
           each = endings-then g true lost (DiesIn g None columns old new) (DiesIn g lost after new more) was true (settled_in_end lost) columns after end old new more apart both.dies behind.dies turns k.counted.others
@@ -281,11 +297,13 @@ module _ {D : Type 0} (g : Ghosts D) where
     stage = e.stage;
     counter = e.counter;
     others = e.others;
+    times = e.times;
     label_is = e.label_is;
     seated = e.seated;
     seating = e.seating;
     given_up = e.given_up;
     held = e.held;
+    labelled = e.labelled;
     settled = e.settled;
     given = e.given;
     each = e.each;

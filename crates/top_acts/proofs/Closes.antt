@@ -2,7 +2,7 @@
 use Rattle.std.proofs.Common.{◌≡◌, ◌∙◌, ℕ, ◌+◌, ◌≤◌, Bool, true, List, length, Option, sym, ap, subst, inl, inr, arith}
 use Rattle.std.specs.Prelude.{Some, None, All}
 use Rattle.blk_disk.specs.declared.disk.Disk.{Ghosts}
-use Rattle.blk_disk.specs.Devices.{RisesOn}
+use Rattle.blk_disk.specs.Devices.{RisesOn, calls_of}
 use Rattle.blk_disk.proofs.DeviceLaws.{changes-refl, rises-wider}
 use Rattle.eng_cols.specs.declared.column.Column.{Column}
 use Rattle.eng_cols.specs.declared.spot.Loss.{Loss}
@@ -14,6 +14,7 @@ use Rattle.top_rounds.specs.Passes.{IsFirstInUse}
 use Rattle.top_close.specs.Stage.{DiesIn, IsGivenUp}
 use Rattle.top_rounds.specs.Rounds.{HoldsTried, clean_in_end}
 use Rattle.top_close.proofs.StageLaws.{live_before}
+use Rattle.top_rounds.proofs.CallLaws.{some-behind}
 use Rattle.top_rounds.proofs.RoundLaws.{given_kept, round_again, tried-then, counts-then, counts_few}
 use Rattle.top_acts.specs.Closed.{AreCounted, CallInTurn, IsBroken, ClosesLabelled, settled_in_end}
 use Rattle.top_acts.specs.Stages.{IsClosing}
@@ -28,7 +29,7 @@ module _ {D : Type 0} (g : Ghosts D) where
 
   module _ (label before next : Label) (columns mid after : List Column) (old dev new : List (Option D)) (was : AreCounted g None 0 label before columns mid old dev) (same : before ≡ with_round label before.counter label.clean (seating_in before)) where
     pub broken_again : IsBroken g before next mid after dev new → AreCounted g None 0 label next columns after old new
-    broken_again b = counted-then g None 0 label before next columns mid after old dev new was b.counted.stage b.counted.others 0 (counts-then 0 0 label before next was.stage.rises b.counted.stage.rises was.counter b.counted.counter)
+    broken_again b = counted-then g None 0 label before next columns mid after old dev new was b.counted.stage b.counted.others b.counted.times 0 (counts-then 0 0 label before next was.stage.rises b.counted.stage.rises was.counter b.counted.counter)
 
     pub label_again : (clean : ℕ) → next ≡ with_round before next.counter clean (seating_in next) → next ≡ with_round label next.counter clean (seating_in next)
     label_again clean is = round_again label before next label.clean next.counter clean (seating_in next) same is
@@ -60,12 +61,13 @@ module _ {D : Type 0} (g : Ghosts D) where
 
     pub closed_then : (a : Bool) (lost : Option Loss) → AreApart columns → CallInTurn g None a true columns mid old dev → ((c d : ℕ) → HasDeviceOn mid c d → HoldsTried g label (before.counter + 1) old dev c d) → ClosesLabelled g true before next mid after dev new lost → ClosesLabelled g a label next columns after old new lost
     closed_then a lost apart turns holds h = record {
-      counted = counted-then g lost 0 label before next columns mid after old dev new was h.counted.stage h.counted.others 1 (counts-then 0 1 label before next was.stage.rises h.counted.stage.rises was.counter h.counted.counter);
+      counted = counted-then g lost 0 label before next columns mid after old dev new was h.counted.stage h.counted.others h.counted.times 1 (counts-then 0 1 label before next was.stage.rises h.counted.stage.rises was.counter h.counted.counter);
       label_is = label_again (clean_in_end lost label.clean) (h.label_is ∙ ap (λ k. with_round before next.counter (clean_in_end lost k) (seating_in next)) (ap (λ (l : Label). l.clean) same));
       seated = seats-then g columns mid old dev new (IsFirstInUse columns) (IsFirstInUse mid) was.stage.frame h.counted.stage.frame lost next after was.stage.dies h.seated;
       seating = h.seating;
       given_up = h.given_up;
       held = h.held;
+      labelled = λ c d live. some-behind (All IsClosing) (calls_of g old d) (calls_of g dev d) (calls_of g new d) (was.stage.told d) (h.labelled c d live);
       settled = h.settled;
       given = given_then lost holds h;
       each = in_turn-then g lost (DiesIn g None columns old dev) (DiesIn g lost mid dev new) a true (settled_in_end lost) columns mid after old dev new apart was.stage.dies h.counted.stage.dies turns h.counted.others h.each;

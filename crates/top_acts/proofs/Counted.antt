@@ -1,17 +1,19 @@
 -- Rounds of labels, and the settling between them.
-use Rattle.std.proofs.Common.{◌∙◌, ℕ, List, ◌++◌, length, Option, None, refl, inl}
+use Rattle.std.proofs.Common.{◌∙◌, ℕ, List, ◌++◌, length, Option, None, refl, inl, arith}
 use Rattle.std.specs.Prelude.{All}
 use Rattle.std.proofs.lemmas.List.Elements.{All-append, All-nil, All-weaker}
 use Rattle.blk_disk.specs.declared.disk.Disk.{Ghosts}
+use Rattle.blk_disk.specs.Devices.{calls_of}
 use Rattle.eng_cols.specs.declared.column.Column.{Column}
 use Rattle.eng_cols.specs.declared.spot.Loss.{Loss}
 use Rattle.raid_label.specs.declared.label.Label.{Label}
 use Rattle.top_close.specs.Settled.{HasDeviceOn}
 use Rattle.top_close.specs.Stage.{DiesIn, IsStage, IsUncalled}
 use Rattle.top_close.proofs.StageLaws.{live_before, stage-none, stage-then, stage_as}
-use Rattle.top_rounds.specs.Calls.{IsLabelWrite}
+use Rattle.top_rounds.specs.Calls.{IsLabelWrite, WritesWithin}
 use Rattle.top_rounds.specs.Passes.{IsFirstInUse}
 use Rattle.top_rounds.specs.Rounds.{AreRounds, CountsRounds}
+use Rattle.top_rounds.proofs.CallLaws.{within-none, within-then}
 use Rattle.top_rounds.proofs.RoundLaws.{counts-none, stage_of_rounds}
 use Rattle.top_acts.specs.Closed.{AreCounted}
 use Rattle.top_acts.specs.Stages.{IsClosing}
@@ -23,6 +25,7 @@ module _ {D : Type 0} (g : Ghosts D) where
     stage = stage-none g (IsFirstInUse columns) (λ d. All IsClosing) columns ds (λ d. All-nil IsClosing);
     counter = counts-none label label refl;
     others = λ d none. refl;
+    times = λ d. within-none label.counter label.counter (calls_of g ds d) (omega arith);
   }
 
   -- rounds are counted
@@ -32,9 +35,11 @@ module _ {D : Type 0} (g : Ghosts D) where
         (λ d m h. h) (λ d calls. All-weaker IsLabelWrite IsClosing (λ c w. inl w) calls) (stage_of_rounds g lost label next columns mid after old new r);
     counter = record { least = r.least; most = r.most };
     others = r.others;
+    times = r.times;
   }
 
-  module _ (lost : Option Loss) (k : ℕ) (label before next : Label) (columns mid after : List Column) (old dev new : List (Option D)) (was : AreCounted g None k label before columns mid old dev) (is : IsStage g (IsFirstInUse mid) (λ d. All IsClosing) lost mid after dev new) (others : IsUncalled mid dev new) where
+  module _ (lost : Option Loss) (k : ℕ) (label before next : Label) (columns mid after : List Column) (old dev new : List (Option D)) (was : AreCounted g None k label before columns mid old dev) (is : IsStage g (IsFirstInUse mid) (λ d. All IsClosing) lost mid after dev new) (others : IsUncalled mid dev new)
+      (times : (d : ℕ) → WritesWithin before.counter next.counter (calls_of g dev d) (calls_of g new d)) where
     pub live : (c d : ℕ) → HasDeviceOn mid c d → HasDeviceOn columns c d
     live c d h = live_before (DiesIn g None columns old dev) columns mid c d was.stage.dies h
 
@@ -45,4 +50,5 @@ module _ {D : Type 0} (g : Ghosts D) where
           (λ d m h. h) (λ d m h. record { col = h.col; live = live h.col d h.live; first = h.first }) (λ d. All-append IsClosing);
       counter = counter;
       others = λ d none. others d (λ c h. none c (live c d h)) ∙ was.others d none;
+      times = λ d. within-then label.counter before.counter next.counter (calls_of g old d) (calls_of g dev d) (calls_of g new d) (was.times d) (times d);
     }

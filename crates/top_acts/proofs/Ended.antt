@@ -1,8 +1,8 @@
 -- The end of an array that is lost, and of one that is settled first.
 use Rattle.std.proofs.Common.{◌≡◌, ◌∙◌, ℕ, ◌≤◌, Bool, List, true, false, length, Option, Some, None, refl, sym, ap, subst, inl, inr}
-use Rattle.std.specs.Prelude.{count_by, is_some}
+use Rattle.std.specs.Prelude.{All, count_by, is_some}
 use Rattle.blk_disk.specs.declared.disk.Disk.{Ghosts}
-use Rattle.blk_disk.specs.Devices.{RisesOn, sector_of}
+use Rattle.blk_disk.specs.Devices.{RisesOn, calls_of, sector_of}
 use Rattle.blk_disk.proofs.DeviceLaws.{changes-refl, rises-wider}
 use Rattle.lay_core.specs.Layout.{Shape}
 use Rattle.eng_cols.specs.declared.column.Column.{Column}
@@ -20,13 +20,15 @@ use Rattle.top_rounds.specs.Labels.{seating_in, with_round}
 use Rattle.top_rounds.specs.Passes.{IsFirstInUse}
 use Rattle.top_close.specs.Stage.{DiesIn, IsGivenUp}
 use Rattle.top_rounds.specs.Rounds.{AreRounds, HaveRounds, HoldsTried, clean_in_end}
-use Rattle.top_rounds.proofs.RoundLaws.{counts-none, counts-then, given_kept}
+use Rattle.top_rounds.proofs.CallLaws.{some-behind}
+use Rattle.top_rounds.proofs.RoundLaws.{counts-none, counts-then, given_kept, rounds-some}
 use Rattle.top_acts.specs.Closed.{AreCounted, CallInTurn, ClosesLabelled}
 use Rattle.top_acts.specs.Failed.{IsLeftLost}
+use Rattle.top_acts.specs.Stages.{IsClosing}
 use Rattle.top_acts.proofs.Counted.{counted-then, counted_rounds}
 use Rattle.top_acts.proofs.InTurn.{AreApart, in_turn-then, in_turn-writes}
 use Rattle.top_acts.proofs.Seated.{seats-then, seats_of_rounds}
-use Rattle.top_acts.proofs.Settled.{settled, unsettled}
+use Rattle.top_acts.proofs.Settled.{settled, settled-times, unsettled}
 use Rattle.top_acts.proofs.Tried.{not_lost}
 
 pub no_loss : {A : Type 0} → false ≡ true → A
@@ -83,12 +85,13 @@ module _ {D : Type 0} (g : Ghosts D) where
       let rounds = h.1 in
       let last = counted_rounds g (Some loss) label next mid h.0 after dev new rounds in
       record {
-        counted = counted-then g (Some loss) 0 label label next columns mid after old dev new was last.stage last.others 1 (counts-then 0 1 label label next was.stage.rises rounds.rises was.counter last.counter);
+        counted = counted-then g (Some loss) 0 label label next columns mid after old dev new was last.stage last.others last.times 1 (counts-then 0 1 label label next was.stage.rises rounds.rises was.counter last.counter);
         label_is = is;
         seated = seats-then g columns mid old dev new (IsFirstInUse columns) (IsFirstInUse mid) was.stage.frame rounds.frame (Some loss) next after was.stage.dies (seats_of_rounds g (Some loss) label next mid h.0 after dev new rounds);
         seating = λ e. let z : Some loss ≡ None = e in absurd (let u : ⊥ = cc in u);
         given_up = rounds.given_up;
         held = rounds.held;
+        labelled = λ c d live. some-behind (All IsClosing) (calls_of g old d) (calls_of g dev d) (calls_of g new d) (was.stage.told d) (rounds-some g (Some loss) label next mid h.0 after dev new rounds c d live);
         settled = λ e. let z : Some loss ≡ None = e in absurd (let u : ⊥ = cc in u);
         given = given_settled label next columns mid h.0 after old dev new loss was still rounds;
         each = in_turn-then g (Some loss) (DiesIn g None columns old dev) (DiesIn g (Some loss) mid dev new) a b false columns mid after old dev new apart was.stage.dies last.stage.dies turns rounds.others (in_turn-writes g (Some loss) b mid after dev new rounds.each);
@@ -108,4 +111,5 @@ module _ {D : Type 0} (g : Ghosts D) where
     stage = settled g None columns after old new s;
     counter = counts-none label label refl;
     others = unsettled g columns after old new s;
+    times = settled-times g label.counter columns after old new s;
   }

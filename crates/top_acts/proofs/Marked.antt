@@ -22,7 +22,9 @@ use Rattle.top_close.specs.Settled.{HasDeviceOn, LosesDevice}
 use Rattle.top_close.specs.Stage.{IsStage, IsUncalled}
 use Rattle.top_close.proofs.SettledLaws.{device_within}
 use Rattle.top_close.proofs.StageLaws.{dies_lost, live_before, stage-plain, told-others}
+use Rattle.top_rounds.specs.Calls.{WritesWithin, is_label_write}
 use Rattle.top_rounds.specs.Passes.{CanBeLabelled}
+use Rattle.top_rounds.proofs.CallLaws.{within-other}
 use Rattle.top_acts.specs.Marking.{IsKeptInUse, IsMapWrite, MarksAll}
 
 -- ## Calls
@@ -30,6 +32,11 @@ use Rattle.top_acts.specs.Marking.{IsKeptInUse, IsMapWrite, MarksAll}
 -- a write of the map, or a settle
 abbrev pub IsMarkCall : Call → Type 0
 IsMarkCall call = IsMapWrite call ⊎ IsSettle call
+
+-- neither writes a label
+mark-other : (call : Call) → IsMarkCall call → is_label_write call ≡ false
+mark-other call (inl h) = subst (λ (c : Call). is_label_write c ≡ false) (sym h.1) refl
+mark-other call (inr h) = subst (λ (c : Call). is_label_write c ≡ false) (sym h.1) refl
 
 one_write : (good : Bool) → All IsMarkCall (call_of 1 1 512 good ∷ [])
 one_write good = All-cons IsMarkCall (call_of 1 1 512 good) [] (inl (good, refl)) (All-nil IsMarkCall)
@@ -110,6 +117,10 @@ module _ {D : Type 0} (g : Ghosts D) where
         (λ d. marks_more (calls_of g old d) (calls_of g new d) (m.marked.told d))
         (told-others g columns old new marks_uncalled)
         (dies_lost g lost columns after old new marks_dies)
+
+    -- no label was written
+    pub marks_times : (n : ℕ) (d : ℕ) → WritesWithin n n (calls_of g old d) (calls_of g new d)
+    marks_times n d = within-other IsMarkCall mark-other n (calls_of g old d) (calls_of g new d) (marks_more (calls_of g old d) (calls_of g new d) (m.marked.told d))
 
   there_still : (may : ℕ → Type 0) (x z : Option D) → StaysIf g may x z → IsSome x → IsSome z
   there_still may None z h some = let u : false ≡ true = some in absurd (let v : ⊥ = cc in v)

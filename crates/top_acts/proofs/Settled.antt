@@ -1,14 +1,18 @@
 -- What becomes of columns as their devices are settled.
-use Rattle.std.proofs.Common.{◌≡◌, ◌⊎◌, ◌∙◌, ℕ, suc, List, [], ◌∷◌, length, Option, Some, refl, ap, inl, inr, arith}
+use Rattle.std.proofs.Common.{◌≡◌, ◌⊎◌, ◌∙◌, ℕ, suc, false, List, [], ◌∷◌, length, Option, Some, refl, sym, ap, subst, inl, inr, arith}
 use Rattle.std.specs.Prelude.{slice_get, All}
 use Rattle.std.proofs.lemmas.List.Elements.{All-weaker}
+use Rattle.blk_disk.specs.declared.disk.Call.{Call}
 use Rattle.blk_disk.specs.declared.disk.Disk.{Ghosts}
+use Rattle.blk_disk.specs.Devices.{calls_of}
 use Rattle.eng_cols.specs.declared.column.Column.{Column}
 use Rattle.eng_cols.specs.declared.column.Column.TheVariants as column
 use Rattle.eng_cols.specs.declared.spot.Loss.{Loss}
 use Rattle.eng_cols.specs.Deaths.{Dies}
 use Rattle.top_close.specs.Settled.{AreSettled}
+use Rattle.top_rounds.specs.Calls.{WritesWithin, is_label_write}
 use Rattle.top_rounds.specs.Passes.{IsFirstInUse}
+use Rattle.top_rounds.proofs.CallLaws.{within-other}
 use Rattle.top_close.specs.Stage.{IsStage, IsUncalled}
 use Rattle.top_close.proofs.StageLaws.{stage-settled, stage_as}
 use Rattle.top_acts.specs.Stages.{IsClosing}
@@ -36,6 +40,10 @@ death_of cause (x ∷ xs) (y ∷ ys) dies = elim (dies.each 0) [
   ]
 ]
 
+-- a settle writes no label
+settle-other : (call : Call) → IsSettle call → is_label_write call ≡ false
+settle-other call h = subst (λ (c : Call). is_label_write c ≡ false) (sym h.1) refl
+
 module _ {D : Type 0} (g : Ghosts D) where
   -- devices were settled, and none is listed
   abbrev pub settled : (lost : Option Loss) (columns after : List Column) (old new : List (Option D)) → AreSettled g (length columns) columns after old new → IsStage g (IsFirstInUse columns) (λ d. All IsClosing) lost columns after old new
@@ -44,3 +52,7 @@ module _ {D : Type 0} (g : Ghosts D) where
 
   pub unsettled : (columns after : List Column) (old new : List (Option D)) → AreSettled g (length columns) columns after old new → IsUncalled columns old new
   unsettled columns after old new s d none = s.others d (λ c below live. none c live)
+
+  -- no label was written
+  pub settled-times : (n : ℕ) (columns after : List Column) (old new : List (Option D)) → AreSettled g (length columns) columns after old new → (d : ℕ) → WritesWithin n n (calls_of g old d) (calls_of g new d)
+  settled-times n columns after old new s d = within-other IsSettle settle-other n (calls_of g old d) (calls_of g new d) (s.told d)

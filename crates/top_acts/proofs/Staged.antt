@@ -9,7 +9,7 @@ use Rattle.eng_cols.specs.declared.spot.Loss.{Loss}
 use Rattle.eng_cols.specs.Cols.{ColumnState}
 use Rattle.raid_recon.specs.declared.kind.Sweep.{Sweep}
 use Rattle.raid_map.specs.Sweeping.{CallsMarked, IsMarkedCall}
-use Rattle.raid_recon.specs.Ends.{CallsUnits, IsUnitCall}
+use Rattle.raid_recon.specs.Ends.{CallsRows, IsRowsCall, IsUnitCall}
 use Rattle.raid_recon.proofs.Backs.{Back}
 use Rattle.top_close.proofs.CallLaws.{more-one, more-then}
 use Rattle.top_rounds.specs.Calls.{IsLabelWrite}
@@ -40,7 +40,7 @@ swept_only : (sweep : Sweeps) (y : Shape) (cols : List ColumnState) (d : ℕ) (c
 swept_only sweep y cols d calls h = record { front = []; swept = calls; back = []; all = sym (append-nil calls); at_first = refl; sweeps = h; at_last = refl }
 
 -- a sweep over all stripes
-pub staged-sweep : (kind : Sweep) (y : Shape) (cols : List ColumnState) (d : ℕ) (a b : Option (List Call)) → CallsUnits y cols d a b → StagesOn AreNone AreNone (Over kind) y cols d a b
+pub staged-sweep : (kind : Sweep) (y : Shape) (cols : List ColumnState) (d : ℕ) (a b : Option (List Call)) → CallsRows y cols d a b → StagesOn AreNone AreNone (Over kind) y cols d a b
 staged-sweep kind y cols d a None h = tt
 staged-sweep kind y cols d None (Some bs) h = h
 staged-sweep kind y cols d (Some xs) (Some bs) h = (h.0, h.1, swept_only (Over kind) y cols d h.0 (h.2, h.3))
@@ -69,9 +69,13 @@ abbrev unit_was : (y : Shape) (new old : List ColumnState) (d : ℕ) (c : Call) 
 unit_was y new old d c back u =
     record { stripe = u.stripe; unit = u.unit; at = u.at; in_array = u.in_array; in_stripe = u.in_stripe; stands = back.seats u.stripe u.unit u.at u.stands; device = u.device; call_is = u.call_is }
 
+abbrev rows_was : (y : Shape) (new old : List ColumnState) (d : ℕ) (c : Call) → Back y new old → IsRowsCall y new d c → IsRowsCall y old d c
+rows_was y new old d c back u =
+    record { stripe = u.stripe; unit = u.unit; at = u.at; in_array = u.in_array; in_stripe = u.in_stripe; stands = back.seats u.stripe u.unit u.at u.stands; device = u.device; call_is = u.call_is }
+
 sweep_was : (sweep : Sweeps) (y : Shape) (new old : List ColumnState) (d : ℕ) (calls : List Call) → Back y new old → AreSweep sweep y new d calls → AreSweep sweep y old d calls
 sweep_was Nothing y new old d calls back h = h
-sweep_was (Over kind) y new old d calls back h = (h.0, All-weaker (IsUnitCall y new d) (IsUnitCall y old d) (λ c u. unit_was y new old d c back u) calls h.1)
+sweep_was (Over kind) y new old d calls back h = (h.0, All-weaker (IsRowsCall y new d) (IsRowsCall y old d) (λ c u. rows_was y new old d c back u) calls h.1)
 sweep_was (Marked marks) y new old d calls back h =
     (h.0, All-weaker (IsMarkedCall y new marks d) (IsMarkedCall y old marks d) (λ c u. record { unit = unit_was y new old d c back u.unit; marked = u.marked }) calls h.1)
 
@@ -89,7 +93,7 @@ staged-before first last sweep y new old d xs ys back before s = record {
 
 none_swept : (sweep : Sweeps) (y : Shape) (cols : List ColumnState) (d : ℕ) → AreSweep sweep y cols d []
 none_swept Nothing y cols d = refl
-none_swept (Over kind) y cols d = (tt, All-nil (IsUnitCall y cols d))
+none_swept (Over kind) y cols d = (tt, All-nil (IsRowsCall y cols d))
 none_swept (Marked marks) y cols d = (tt, All-nil (IsMarkedCall y cols marks d))
 
 pub none_last : (lost : Option Loss) → AreLast lost []

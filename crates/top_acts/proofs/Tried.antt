@@ -14,7 +14,7 @@ use Rattle.eng_cols.specs.Cols.{ColumnState, device_set}
 use Rattle.eng_cols.specs.Deaths.{Dies}
 use Rattle.eng_cols.specs.Lost.{NotLost}
 use Rattle.raid_label.specs.declared.label.Label.{Label}
-use Rattle.top_close.specs.Calls.{EndsSettled}
+use Rattle.top_close.specs.Calls.{EndsSettled, IsSettle}
 use Rattle.top_close.specs.Dying.{AnyCause}
 use Rattle.eng_cols.specs.Stripes.{states_of}
 use Rattle.top_close.specs.Ended.{IsLossBy}
@@ -25,14 +25,15 @@ use Rattle.top_rounds.specs.Passes.{IsFirstInUse}
 use Rattle.top_close.specs.Stage.{DiesIn, IsGivenUp, IsGivenUpIn, IsInUse, device_count, IsStage}
 use Rattle.top_rounds.specs.Rounds.{AreRounds, HoldsTried, clean_in_end}
 use Rattle.top_close.proofs.StageLaws.{live_before, live_less}
-use Rattle.top_rounds.proofs.RoundLaws.{any_death, counts-none, counts-then}
+use Rattle.top_rounds.proofs.CallLaws.{some-before}
+use Rattle.top_rounds.proofs.RoundLaws.{any_death, counts-none, counts-then, rounds-some}
 use Rattle.top_acts.specs.Begun.{HasSeats}
 use Rattle.top_acts.specs.Closed.{CallInTurn, IsBroken, ClosesLabelled, TriesToClose, settled_in_end}
 use Rattle.top_acts.proofs.Counted.{counted-then, counted_rounds}
 use Rattle.top_acts.proofs.InTurn.{AreApart, in_turn-settles, in_turn-then, in_turn-writes}
 use Rattle.top_acts.proofs.Named.{only_lose}
 use Rattle.top_acts.proofs.Seated.{seats-kept, seats_of_rounds}
-use Rattle.top_acts.proofs.Settled.{Death, death_of, settled, unsettled}
+use Rattle.top_acts.proofs.Settled.{Death, death_of, settled, settled-times, unsettled}
 use Rattle.top_acts.specs.Stages.{IsClosing}
 use Rattle.std.proofs.lemmas.List.{length-append}
 
@@ -98,13 +99,14 @@ module _ {D : Type 0} (g : Ghosts D) (y : Shape) (label next : Label) (columns m
       let none = not_lost y (states_of y after) lost lost_is (subst (λ l. NotLost y (states_of y l)) (sym same) kept) in
       let quiet = settled g lost mid after dev new s in
       record {
-        counted = counted-then g lost 1 label next next columns mid after old dev new (counted_rounds g None label next columns mid mid old dev rounds) quiet (unsettled g mid after dev new s) 1
+        counted = counted-then g lost 1 label next next columns mid after old dev new (counted_rounds g None label next columns mid mid old dev rounds) quiet (unsettled g mid after dev new s) (settled-times g next.counter mid after dev new s) 1
             (counts-then 1 0 label next next rounds.rises [] (record { least = rounds.least; most = rounds.most }) (counts-none next next refl));
         label_is = label_is ∙ ap (λ k. with_round label next.counter k (seating_in next)) (sym (ap (λ o. clean_in_end o label.clean) none));
         seated = subst (λ o. HasSeats g o next columns after old new) (sym none) seats;
         seating = λ _. rounds.seating ∙ ap seating_of (sym same);
         given_up = subst (λ o. IsGivenUpIn o after) (sym none) tt;
         held = λ c d live told. changes_sector g (λ _ _. ⊥) dev new d 0 s.frame told (λ h. h) ∙ rounds.held c d (subst (λ l. HasDeviceOn l c d) same live) told;
+        labelled = λ c d live. some-before (All IsSettle) (calls_of g old d) (calls_of g dev d) (calls_of g new d) (rounds-some g None label next columns mid mid old dev rounds c d (subst (λ l. HasDeviceOn l c d) same live)) (s.told d);
         settled = λ _. last;
         given = λ c d gave. absurd (subst (λ o. IsGivenUp o columns c) none gave);
         each = subst (λ o. CallInTurn g o true (settled_in_end o) columns after old new) (sym none) turns;
@@ -148,7 +150,7 @@ module _ {D : Type 0} (g : Ghosts D) (y : Shape) (label next : Label) (columns m
 
   broken : Death (LosesDevice g mid dev new) after → IsBroken g label next columns after old new
   broken death = record {
-    counted = counted-then g None 1 label next next columns mid after old dev new (counted_rounds g None label next columns mid mid old dev rounds) (broke death) (unsettled g mid after dev new s) 0
+    counted = counted-then g None 1 label next next columns mid after old dev new (counted_rounds g None label next columns mid mid old dev rounds) (broke death) (unsettled g mid after dev new s) (settled-times g next.counter mid after dev new s) 0
         (record { least = omega (arith, rounds.least); most = omega (arith, rounds.most, length-append rounds.rises (death.why.device ∷ [])) });
     label_is = label_is;
     fewer = omega (arith, fewer death, rounds.fewer);

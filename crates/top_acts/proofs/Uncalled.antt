@@ -11,7 +11,7 @@ use Rattle.eng_cols.specs.Cols.{ColumnState, HasDevice}
 use Rattle.eng_cols.proofs.Spots.{seat-device}
 use Rattle.eng_cols.specs.Stripes.{states_of}
 use Rattle.raid_map.specs.Sweeping.{CallsMarked, IsMarkedCall}
-use Rattle.raid_recon.specs.Ends.{CallsUnits, IsUnitCall}
+use Rattle.raid_recon.specs.Ends.{CallsRows, IsRowsCall, IsUnitCall}
 use Rattle.top_close.specs.Calls.{NoCalls}
 use Rattle.top_close.specs.Stage.{ToldNothing}
 use Rattle.top_acts.proofs.Named.{live_of}
@@ -23,10 +23,17 @@ none_of_units y cols d (x ∷ xs) none all =
     let u = All-get_or (IsUnitCall y cols d) (x ∷ xs) 0 x (omega arith) all in
     absurd (none u.at.column (subst (λ k. HasDevice cols u.at.column k) (sym u.device) (seat-device y cols u.stripe u.unit u.at u.stands)))
 
-no_units : (y : Shape) (cols : List ColumnState) (d : ℕ) (a b : Option (List Call)) → ((c : ℕ) → HasDevice cols c d → ⊥) → CallsUnits y cols d a b → NoCalls a b
+-- nor of rows
+none_of_rows : (y : Shape) (cols : List ColumnState) (d : ℕ) (calls : List Call) → ((c : ℕ) → HasDevice cols c d → ⊥) → All (IsRowsCall y cols d) calls → calls ≡ []
+none_of_rows y cols d [] none all = refl
+none_of_rows y cols d (x ∷ xs) none all =
+    let u = All-get_or (IsRowsCall y cols d) (x ∷ xs) 0 x (omega arith) all in
+    absurd (none u.at.column (subst (λ k. HasDevice cols u.at.column k) (sym u.device) (seat-device y cols u.stripe u.unit u.at u.stands)))
+
+no_units : (y : Shape) (cols : List ColumnState) (d : ℕ) (a b : Option (List Call)) → ((c : ℕ) → HasDevice cols c d → ⊥) → CallsRows y cols d a b → NoCalls a b
 no_units y cols d a None none h = tt
 no_units y cols d None (Some bs) none h = h
-no_units y cols d (Some xs) (Some bs) none h = (h.0, h.1, none_of_units y cols d h.0 none h.3)
+no_units y cols d (Some xs) (Some bs) none h = (h.0, h.1, none_of_rows y cols d h.0 none h.3)
 
 no_marked : (y : Shape) (cols : List ColumnState) (marks : ℕ → Bool) (d : ℕ) (a b : Option (List Call)) → ((c : ℕ) → HasDevice cols c d → ⊥) → CallsMarked y cols marks d a b → NoCalls a b
 no_marked y cols marks d a None none h = tt
@@ -38,5 +45,5 @@ module _ {D : Type 0} (g : Ghosts D) where
   pub told-marked : (y : Shape) (marks : ℕ → Bool) (columns : List Column) (old new : List (Option D)) → ((d : ℕ) → CallsMarked y (states_of y columns) marks d (calls_of g old d) (calls_of g new d)) → ToldNothing g columns old new
   told-marked y marks columns old new calls d none = no_marked y (states_of y columns) marks d (calls_of g old d) (calls_of g new d) (λ c has. none c (live_of y columns c d has)) (calls d)
 
-  pub told-units : (y : Shape) (columns : List Column) (old new : List (Option D)) → ((d : ℕ) → CallsUnits y (states_of y columns) d (calls_of g old d) (calls_of g new d)) → ToldNothing g columns old new
+  pub told-units : (y : Shape) (columns : List Column) (old new : List (Option D)) → ((d : ℕ) → CallsRows y (states_of y columns) d (calls_of g old d) (calls_of g new d)) → ToldNothing g columns old new
   told-units y columns old new calls d none = no_units y (states_of y columns) d (calls_of g old d) (calls_of g new d) (λ c has. none c (live_of y columns c d has)) (calls d)

@@ -14,6 +14,7 @@ use Rattle.top_close.specs.Calls.{EndsSettled, MoreOn}
 use Rattle.top_close.specs.Ended.{IsLossBy}
 use Rattle.top_close.specs.Settled.{AreSettled, HasDeviceOn, has_device}
 use Rattle.top_close.specs.Stage.{IsGivenUp, IsGivenUpIn, IsStage, IsUncalled, device_count}
+use Rattle.top_rounds.specs.Calls.{WritesSome, WritesWithin}
 use Rattle.top_rounds.specs.Labels.{seating_in, seating_of, with_round}
 use Rattle.top_rounds.specs.Passes.{HoldsLabel, IsFirstInUse}
 use Rattle.top_rounds.specs.Rounds.{CountsRounds, HoldsTried, clean_in_end}
@@ -74,16 +75,18 @@ module _ {D : Type 0} (g : Ghosts D) where
   TriesToClear blank label next columns after old new None lost false = (mid : List Column) × (dev : List (Option D)) × MarksAll g blank columns mid old dev
       × (suc (device_count mid) ≤ device_count columns) × ClosesLabelled g true label next mid after dev new lost
 
-  -- The array was closed, as one is whose maps aren't cleared; and where maps are cleared, and the array isn't lost, each device in use in the end holds the map that is given for that, and its last two calls wrote that and settled; one whose count of faults didn't rise holds that in its sector 1, or what it held. A device that fails as its map is cleared makes its column dead, and begins rounds of labels anew, and those are followed by clears again. One round is named. Of a lost array no map is cleared behind the loss.
+  -- The array was closed, as one is whose maps aren't cleared; and where maps are cleared, and the array isn't lost, each device in use in the end holds the map that is given for that, and its last two calls wrote that and settled; one whose count of faults didn't rise holds that in its sector 1, or what it held. A device that fails as its map is cleared makes its column dead, and begins rounds of labels anew, and those are followed by clears again. One round is named, and each device was written at most one label a round: as many as the counter is greater by, and one at least where it is in use in the end. Of a lost array no map is cleared behind the loss.
   pub record EndsMapped (clear : Option Map) (was : Bool) (label next : Label) (columns after : List Column) (old new : List (Option D)) (lost : Option Loss) : Type 0 where
     pub stage : IsStage g (MayEnd (is_some clear) columns) (λ d. All (IsEndingCall (is_some clear))) lost columns after old new
     pub counter : CountsRounds 1 label next (length stage.rises)
     pub others : IsUncalled columns old new
+    pub times : (d : ℕ) → WritesWithin label.counter next.counter (calls_of g old d) (calls_of g new d)
     pub label_is : next ≡ with_round label next.counter (clean_in_end lost label.clean) (seating_in next)
     pub seated : HasSeats g lost next columns after old new
     pub seating : lost ≡ None → seating_in next ≡ seating_of after
     pub given_up : IsGivenUpIn lost after
     pub held : (c d : ℕ) → HasDeviceOn after c d → HoldsLabel g new next c d
+    pub labelled : (c d : ℕ) → HasDeviceOn after c d → WritesSome (calls_of g old d) (calls_of g new d)
     pub settled : lost ≡ None → (c d : ℕ) → HasDeviceOn after c d → EndsSettled (calls_of g new d)
     pub given : (c d : ℕ) → IsGivenUp lost columns c → HasDeviceOn columns c d → (RisesOn g old new d → ⊥) → HoldsTried g label next.counter old new c d
     pub each : EndingCalls (is_some clear) lost was (settled_in_end lost) columns after old new

@@ -7,6 +7,7 @@ use Rattle.eng_cols.specs.declared.spot.Loss.{Loss}
 use Rattle.raid_label.specs.declared.label.Label.{Label}
 use Rattle.top_close.specs.Calls.{EndsSettled}
 use Rattle.top_close.specs.Settled.{AreSettled, HasDeviceOn, has_device}
+use Rattle.top_rounds.specs.Calls.{WritesSome, WritesWithin}
 use Rattle.top_rounds.specs.Labels.{seating_in, seating_of, with_round}
 use Rattle.top_rounds.specs.Passes.{HoldsLabel, IsFirstInUse}
 use Rattle.top_close.specs.Stage.{IsGivenUp, IsGivenUpIn, IsUncalled, device_count, IsStage}
@@ -25,13 +26,14 @@ module _ {D : Type 0} (g : Ghosts D) where
   CallInTurn lost was is columns after old new = (c d : ℕ) → HasDeviceOn columns c d → InTurnOn (has_device (slice_get after c)) was (calls_of g old d) (calls_of g new d) is
       ⊎ (IsGivenUp lost columns c × ((settled : Bool) × InTurnOn true was (calls_of g old d) (calls_of g new d) settled))
 
-  -- Labels were written in rounds: so many, and at most one more for each of the devices that are listed. No sector has changed but that of the label on devices that were in use; the calls are label writes and settles alone, and no other device was called.
+  -- Labels were written in rounds: so many, and at most one more for each of the devices that are listed. No sector has changed but that of the label on devices that were in use; the calls are label writes and settles alone, and no other device was called. Each was written at most one label a round: as many as the counter is greater by.
   pub record AreCounted (lost : Option Loss) (rounds : ℕ) (label next : Label) (columns after : List Column) (old new : List (Option D)) : Type 0 where
     pub stage : IsStage g (IsFirstInUse columns) (λ d. All IsClosing) lost columns after old new
     pub counter : CountsRounds rounds label next (length stage.rises)
     pub others : IsUncalled columns old new
+    pub times : (d : ℕ) → WritesWithin label.counter next.counter (calls_of g old d) (calls_of g new d)
 
-  -- One round is named. Each device in use in the end has its label, which isn't clean where the array is lost, and says what the columns of the last round were, which are those in the end unless the array is lost; of a lost one no column is filling any more, and the device of one that was, if its count of faults didn't rise, has what it had, or the label of a round before the last. Each device in use was called in turn: label writes, and settles none of which comes right behind another, none behind a call that failed; `was` says whether its call before was a settle. Its last is a settle, or a label write where the array is lost.
+  -- One round is named. Each device in use in the end was written its label, once where the counter is greater by one, and has it; it isn't clean where the array is lost, and says what the columns of the last round were, which are those in the end unless the array is lost; of a lost one no column is filling any more, and the device of one that was, if its count of faults didn't rise, has what it had, or the label of a round before the last. Each device in use was called in turn: label writes, and settles none of which comes right behind another, none behind a call that failed; `was` says whether its call before was a settle. Its last is a settle, or a label write where the array is lost.
   pub record ClosesLabelled (was : Bool) (label next : Label) (columns after : List Column) (old new : List (Option D)) (lost : Option Loss) : Type 0 where
     pub counted : AreCounted lost 1 label next columns after old new
     pub label_is : next ≡ with_round label next.counter (clean_in_end lost label.clean) (seating_in next)
@@ -39,6 +41,7 @@ module _ {D : Type 0} (g : Ghosts D) where
     pub seating : lost ≡ None → seating_in next ≡ seating_of after
     pub given_up : IsGivenUpIn lost after
     pub held : (c d : ℕ) → HasDeviceOn after c d → HoldsLabel g new next c d
+    pub labelled : (c d : ℕ) → HasDeviceOn after c d → WritesSome (calls_of g old d) (calls_of g new d)
     pub settled : lost ≡ None → (c d : ℕ) → HasDeviceOn after c d → EndsSettled (calls_of g new d)
     pub given : (c d : ℕ) → IsGivenUp lost columns c → HasDeviceOn columns c d → (RisesOn g old new d → ⊥) → HoldsTried g label next.counter old new c d
     pub each : CallInTurn lost was (settled_in_end lost) columns after old new

@@ -5,7 +5,7 @@ use Rattle.blk_disk.specs.Disk.{call_of}
 use Rattle.lay_core.specs.Layout.{Shape}
 use Rattle.eng_cols.specs.Cols.{ColumnState}
 use Rattle.raid_map.specs.Sweeping.{IsMarkedCall}
-use Rattle.raid_recon.specs.Ends.{AreGoodButLast, IsUnitCall}
+use Rattle.raid_recon.specs.Ends.{AreGoodButLast, IsRowsCall}
 use Rattle.top_close.specs.Calls.{IsSettle, MoreOn}
 use Rattle.top_rounds.specs.Calls.{IsLabelWrite}
 use Rattle.top_acts.specs.Sweeps.{Sweeps, Nothing, Over, Marked}
@@ -44,10 +44,10 @@ SettlesFirst calls = (good : Bool) × (more : List Call) × (calls ≡ call_of 2
 abbrev pub SettlesFirstOn : Option (List Call) → Option (List Call) → Type 0
 SettlesFirstOn before now = MoreOn SettlesFirst before now
 
--- the calls of a sweep on device d: reads of whole units that stand there, and writes of whole check units, none behind one that failed, and of marked stripes alone where those are swept; none where nothing is swept
+-- the calls of a sweep on device d: reads of whole rows from a unit on that stands there, and writes of whole check units, none behind one that failed, and of whole units of marked stripes alone where those are swept; none where nothing is swept
 abbrev pub AreSweep : Sweeps → Shape → List ColumnState → ℕ → List Call → Type 0
 AreSweep Nothing y cols d calls = calls ≡ []
-AreSweep (Over kind) y cols d calls = AreGoodButLast calls × All (IsUnitCall y cols d) calls
+AreSweep (Over kind) y cols d calls = AreGoodButLast calls × All (IsRowsCall y cols d) calls
 AreSweep (Marked marks) y cols d calls = AreGoodButLast calls × All (IsMarkedCall y cols marks d) calls
 
 -- Calls of device d: such ones at first, then those of the sweep, then such ones.

@@ -11,7 +11,7 @@ use Rattle.raid_label.specs.declared.label.Label.{Label}
 use Rattle.raid_recon.specs.declared.kind.Sweep.{Sweep}
 use Rattle.eng_cols.specs.Stripes.{states_of}
 use Rattle.raid_recon.specs.Array.{Failed}
-use Rattle.raid_recon.specs.Ends.{MayRewrite, ChecksHold, IsCounted, CallsUnits}
+use Rattle.raid_recon.specs.Ends.{MayRewrite, ChecksHold, IsCounted, CallsRows}
 use Rattle.raid_map.specs.Sweeping.{IsSweptTo, IsCountedTo, UnsoundAreMarked, CallsMarked}
 use Rattle.top_close.specs.Ended.{IsLossBy}
 use Rattle.top_acts.specs.Failed.{EndsFailed}
@@ -36,7 +36,7 @@ module _ {D : Type 0} (g : Ghosts D) (kind : Sweep) (y : Shape) where
     pub checks : y.checks ≡ 1 → g.tells → ChecksHold g y columns after old new
     pub counted : y.checks ≡ 1 → IsCounted g kind y columns after old n
     pub none : y.checks ≡ 0 → (n ≡ 0) × ((after ≡ columns) × (new ≡ old))
-    pub calls : (d : ℕ) → CallsUnits y (states_of y columns) d (calls_of g old d) (calls_of g new d)
+    pub calls : (d : ℕ) → CallsRows y (states_of y columns) d (calls_of g old d) (calls_of g new d)
 
 module _ {D : Type 0} (g : Ghosts D) where
   -- one of the two, or none

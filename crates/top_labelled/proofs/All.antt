@@ -1,7 +1,8 @@
 -- All that is said of a run over an array with labels.
-use Rattle.std.proofs.Common.{◌≡◌, ◌⊎◌, inl, inr, ℕ, ◌<◌, ◌≤◌, List, Bool, true, length, Option, Some, None, refl, sym, ◌∙◌, ap, subst, arith}
+use Rattle.std.proofs.Common.{◌≡◌, ◌⊎◌, inl, inr, ℕ, ◌+◌, ◌<◌, ◌≤◌, List, ◌++◌, Bool, true, length, Option, Some, None, refl, sym, ◌∙◌, ap, subst, arith}
 use Rattle.std.specs.Prelude.{Vec, ◌&&◌, ◌||◌, count_by, is_some, not}
 use Rattle.std.specs.declared.alloc.Global.{Global}
+use Rattle.blk_disk.specs.declared.disk.Call.{Call}
 use Rattle.blk_disk.specs.declared.disk.Disk.{Ghosts as DiskGhosts}
 use Rattle.blk_disk.specs.Devices.{Changes, RisesOn, calls_of, size_of}
 use Rattle.lay_core.specs.Layout.{IsLayout, Shape}
@@ -27,13 +28,15 @@ use Rattle.raid_map.specs.Asking.{file_of}
 use Rattle.raid_map.specs.Regions.{Marks as Map}
 use Rattle.raid_recon.specs.Array.{IsArray}
 use Rattle.top_acts.specs.Begun.{HasBegun}
+use Rattle.top_acts.specs.Cleared.{EndsInSteps}
 use Rattle.top_acts.specs.Mapped.{LooksAtMaps, is_any_marked, unmarked}
 use Rattle.top_acts.proofs.Having.{has_live}
 use Rattle.top_acts.proofs.Named.{live_of}
-use Rattle.top_close.specs.Calls.{NoCalls}
+use Rattle.top_close.specs.Calls.{MoreOn, NoCalls}
 use Rattle.top_close.specs.Settled.{HasDeviceOn, LosesDevice}
 use Rattle.top_close.specs.Stage.{IsInUse}
 use Rattle.top_close.proofs.StageLaws.{live_before}
+use Rattle.top_rounds.specs.Calls.{label_writes}
 use Rattle.top_serve.specs.Setups.{IsFew, graphs_in}
 use Rattle.top_serve.specs.Served as served
 use Rattle.top_serve.proofs.Deaths.{later}
@@ -43,17 +46,17 @@ use Rattle.top_run.specs.Ends.{EndsSo}
 use Rattle.top_run.specs.Ran.{Ran}
 use Rattle.top_run.proofs.All.{runs, runs-graphs, runs-kept, runs-now}
 use Rattle.top_labelled.specs.Begun.{BeginsLabelled, IsColumnWithin, began_of, is_kept, notice_in, opened_as, sweeps_in, without, writes_maps}
-use Rattle.top_labelled.specs.Between.{HasEnded, clear_if}
+use Rattle.top_labelled.specs.Between.{HasEnded}
 use Rattle.top_labelled.specs.Given.{RebuildsIf}
-use Rattle.top_labelled.specs.Maps.{MapsEnd, MapsInOrder}
+use Rattle.top_labelled.specs.Maps.{MapsEnd, MapsInOrder, blank, clear_if}
 use Rattle.top_labelled.specs.Marked.{MarksAsked}
-use Rattle.top_labelled.specs.Ran.{HasFailedSince, IsRelabelled, LeavesLabelled, MayChangeLabelled, RanLabelled, line_of, onto}
+use Rattle.top_labelled.specs.Ran.{ClosesInSteps, HasFailedSince, IsRelabelled, LeavesLabelled, MayChangeLabelled, RanLabelled, closing_label, line_of, onto}
 use Rattle.top_labelled.proofs.Ending.{count, ends}
 use Rattle.top_labelled.proofs.Exactly.{exactly}
 use Rattle.top_labelled.proofs.Holding.{holding}
 use Rattle.top_labelled.proofs.Kept.{FillsOn}
 use Rattle.top_labelled.proofs.Labels.{relabelled}
-use Rattle.top_labelled.proofs.Leaving.{ends-so, frame, had-begun, leaves, live-kept, loses, rises-before, rises-behind, since, stays}
+use Rattle.top_labelled.proofs.Leaving.{ends-so, frame, had-begun, leaves, live-kept, loses, none-behind, rises-before, rises-behind, since, stays, turn-behind}
 use Rattle.top_labelled.proofs.Looking.{begins-has, begins-read}
 use Rattle.top_labelled.proofs.Ordered.{still-tells}
 use Rattle.top_labelled.proofs.Restart.{rebuilds-alone, rebuilds-within, target-alone, target-sized}
@@ -214,6 +217,33 @@ module _ {L D : Type 0} (lay : LayoutGhosts L) (disk : DiskGhosts D) (old : Setu
       (λ c d k live was. staying c d live (record { col = k; live = was })) e.closes (λ none. e.first (unlost none))
       (λ none. ap (λ (o : Option Map). is_some o) clear_is ∙ lost-so (writes_maps (is_kept map newest) begins.union) closed.lost (unmarked y.stripes newest.serial) (ap (λ b. b || is_any_marked begins.union) is) (unlost none))
 
+  -- ## The end, step by step
+
+  steps-now : EndsInSteps disk (clear_if (writes_maps (is_kept map newest) begins.union && not (is_some s.now.lost)) (blank disk a newest taken)) y s.now.lost (closing_label first) e.last closed.columns.items v.ending.columns back-from back v.ending.lost
+  steps-now =
+      subst (λ (o : Option Loss). EndsInSteps disk (clear_if (writes_maps (is_kept map newest) begins.union && not (is_some o)) (blank disk a newest taken)) y o (closing_label first) e.last closed.columns.items v.ending.columns back-from back v.ending.lost) s.tells.lost
+      (subst (λ (m : Option Map). EndsInSteps disk m y closed.lost (closing_label first) e.last closed.columns.items v.ending.columns back-from back v.ending.lost) clear_is
+      (subst (λ l. EndsInSteps disk clear (lay.shape l) closed.lost (closing_label first) e.last closed.columns.items v.ending.columns back-from back v.ending.lost) s.tells.layout e.steps))
+
+  -- no more labels are written behind the run than the counter rises by
+  times-now : (d : ℕ) (told : List Call) → calls_of disk back d ≡ Some told → (closing : List Call) × (told ≡ s.now.calls d ++ closing) × (first.counter + label_writes closing ≤ e.last.counter)
+  times-now d told is = turn-behind disk (λ more. first.counter + label_writes more ≤ e.last.counter) (calls_of disk back-from d) (s.now.calls d) told (s.leaves.calls d)
+      (subst (λ o. MoreOn (λ more. first.counter + label_writes more ≤ e.last.counter) (calls_of disk back-from d) o) is (e.closes.times d))
+
+  labelled-now : (c d : ℕ) (told : List Call) → HasDeviceOn v.ending.columns c d → calls_of disk back d ≡ Some told → (closing : List Call) × (told ≡ s.now.calls d ++ closing) × (1 ≤ label_writes closing)
+  labelled-now c d told live is = turn-behind disk (λ more. 1 ≤ label_writes more) (calls_of disk back-from d) (s.now.calls d) told (s.leaves.calls d)
+      (subst (λ o. MoreOn (λ more. 1 ≤ label_writes more) (calls_of disk back-from d) o) is (e.closes.labelled c d live))
+
+  closes-now : ClosesInSteps disk a newest taken v back (writes_maps (is_kept map newest) begins.union) closed.columns.items first e.last s.now
+  closes-now = record {
+    served = back-from;
+    holds = λ tells d n k within. sym (s.leaves.contents tells d n k within);
+    calls = λ d told is. none-behind disk (calls_of disk back-from d) (s.now.calls d) told (s.leaves.calls d) is;
+    steps = steps-now;
+    labelled = labelled-now;
+    times = times-now;
+  }
+
   -- ## All of it
 
   pub ran : RanLabelled disk a newest old.devices.items v back faulty map
@@ -235,6 +265,9 @@ module _ {L D : Type 0} (lay : LayoutGhosts L) (disk : DiskGhosts D) (old : Setu
         (subst (λ (cs : List Column). LeavesLabelled disk a newest old.devices.items v back (writes_maps (is_kept map newest) begins.union) began cs s.now) (sym run-over.2)
         (leaves lay disk old asked began faulty map devices columns begun closed newest first layout filling can begins named began_is s clear clears device v back e));
     since = since lay disk old asked began faulty map devices columns begun closed newest first layout filling can begins named began_is s clear clears device v back e;
+    closes =
+        subst (λ (w : World). ClosesInSteps disk a newest taken v back (writes_maps (is_kept map newest) begins.union) run.ends.kept first e.last w) (sym run-over.1)
+        (subst (λ (cs : List Column). ClosesInSteps disk a newest taken v back (writes_maps (is_kept map newest) begins.union) cs first e.last s.now) (sym run-over.2) closes-now);
     maps =
         subst (λ (w : World). MapsEnd disk a newest taken v back map begins.read begins.union begins.marks run.graphs w) (sym run-over.1)
         (subst (λ (gs : Graphs). MapsEnd disk a newest taken v back map begins.read begins.union begins.marks gs s.now) (sym run-over.3) maps-now);

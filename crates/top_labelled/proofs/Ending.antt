@@ -22,10 +22,10 @@ use Rattle.top_close.specs.Stage.{IsGivenUp}
 use Rattle.top_close.proofs.SettledLaws.{set_here}
 use Rattle.top_close.proofs.StageLaws.{live_before}
 use Rattle.top_serve.specs.Served as served
-use Rattle.top_serve.specs.Served.{IsKeptAs}
+use Rattle.top_serve.specs.Served.{IsKeptAs, WasFailed}
 use Rattle.top_serve.specs.Setups.{with_start}
 use Rattle.top_run.specs.Work.{Service, Work}
-use Rattle.top_run.specs.Ran.{IsDeadBy, RisesAt, Ran, WasFailed}
+use Rattle.top_run.specs.Ran.{IsDeadBy, RisesAt, Ran}
 use Rattle.top_run.specs.declared.service.Line.{Line}
 use Rattle.top_run.specs.declared.service.Told.TheVariants as told
 use Rattle.top_labelled.specs.Begun.{IsAnew, IsColumnWithin, opened_as, without}

@@ -29,8 +29,7 @@ use Rattle.top_close.specs.Stage.{DiesIn, HaveFailed, IsGivenUp, IsInUse, IsStag
 use Rattle.top_rounds.specs.Rounds.{IsTriedOn, clean_in_end}
 use Rattle.top_run.specs.Work.{Service, Work}
 use Rattle.top_labelled.specs.Begun.{notice_in, sweeps_in}
-use Rattle.top_labelled.specs.Between.{closing_label}
-use Rattle.top_labelled.specs.Ran.{IsRelabelled}
+use Rattle.top_labelled.specs.Ran.{IsRelabelled, closing_label}
 use Rattle.top_labelled.proofs.Lists.{pairs-append, in-use-or-not}
 use Rattle.top_labelled.proofs.Looking.{begun-stage}
 use Rattle.top_labelled.proofs.Without.{some-same}

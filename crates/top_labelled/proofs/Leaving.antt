@@ -84,7 +84,7 @@ ends-wider a b wide true was is calls h = turn-wider a b wide was is calls h
 ends-wider a b wide false was is calls h = (h.0, h.1, h.2, h.3, turn-wider a b wide was h.2 h.0 h.4, fails-wider a b wide h.2 h.1 h.5)
 
 -- calls that are told, behind those of the run
-turn-behind : {D : Type 0} (g : DiskGhosts D) (P : List Call → Type 0) (o : Option (List Call)) (calls told : List Call) → AreTold g o calls → MoreOn P o (Some told) → (closing : List Call) × (told ≡ calls ++ closing) × P closing
+pub turn-behind : {D : Type 0} (g : DiskGhosts D) (P : List Call → Type 0) (o : Option (List Call)) (calls told : List Call) → AreTold g o calls → MoreOn P o (Some told) → (closing : List Call) × (told ≡ calls ++ closing) × P closing
 turn-behind g P None calls told are on = absurd on
 turn-behind g P (Some before) calls told are on = (on.0, on.1 ∙ ap (λ l. l ++ on.0) (sym are), on.2)
 

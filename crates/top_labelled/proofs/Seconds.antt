@@ -23,8 +23,8 @@ use Rattle.top_close.specs.Stage.{DiesIn, IsInUse, IsStage}
 use Rattle.top_close.proofs.StageLaws.{live_before}
 use Rattle.top_run.specs.Work.{Service, Work}
 use Rattle.top_labelled.specs.Begun.{BeginsLabelled, BeginsUnless, is_kept, notice_in, sweeps_in, writes_maps}
-use Rattle.top_labelled.specs.Between.{clear_if, closing_label}
-use Rattle.top_labelled.specs.Maps.{IsKeptOrMap}
+use Rattle.top_labelled.specs.Maps.{IsKeptOrMap, clear_if}
+use Rattle.top_labelled.specs.Ran.{closing_label}
 use Rattle.top_labelled.proofs.Looking.{begins-stage}
 use Rattle.top_labelled.proofs.Unserved.{kept-clean, map-of, second-marks, second-round}
 use Rattle.top_labelled.proofs.Without.{never}

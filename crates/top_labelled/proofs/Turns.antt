@@ -29,8 +29,8 @@ use Rattle.top_close.proofs.SettledLaws.{device_within}
 use Rattle.top_close.proofs.StageLaws.{live_before}
 use Rattle.top_run.specs.Work.{Service, Work}
 use Rattle.top_labelled.specs.Begun.{BeginsLabelled, BeginsUnless, notice_in, sweeps_in}
-use Rattle.top_labelled.specs.Between.{closing_label}
 use Rattle.top_labelled.specs.Maps.{ClearsLast, MapsInOrder, MarksFirst}
+use Rattle.top_labelled.specs.Ran.{closing_label}
 use Rattle.top_labelled.proofs.Lists.{in-use-or-not}
 use Rattle.top_labelled.proofs.Ordered.{IsMarkOrRead, came-so, still-tells, told-cleared, told-marked, told-quiet}
 use Rattle.top_labelled.proofs.Without.{never}

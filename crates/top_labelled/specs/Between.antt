@@ -35,18 +35,10 @@ use Rattle.top_labelled.specs.declared.labelled.Outcome.{Outcome}
 use Rattle.top_labelled.specs.declared.labelled.Outcome.TheVariants as outcome
 use Rattle.top_labelled.specs.declared.beginning.Started.{Started}
 use Rattle.top_labelled.specs.Begun.{BeginsUnless, IsSeatedIf, IsColumnWithin, is_in_place, is_kept, notice_in, sweeps_in, without, writes_maps}
+use Rattle.top_labelled.specs.Maps.{clear_if}
 use Rattle.top_labelled.specs.Marked.{MarksAsked}
 use Rattle.top_labelled.specs.declared.opening.AskedOpening.{AskedOpening}
-use Rattle.top_labelled.specs.Ran.{line_of, onto}
-
--- the label of a round that says that the array was closed in order
-abbrev pub closing_label : Label → Label
-closing_label label = record label { clean = 1 }
-
--- the map by which maps are cleared, if they are to be
-abbrev pub clear_if : Bool → Map → Option Map
-clear_if false map = None
-clear_if true map = Some map
+use Rattle.top_labelled.specs.Ran.{closing_label, line_of, onto}
 
 -- Unless the array was lost, as its maps were read, it was begun, and then the column was made dead that is to be rebuilt anew, where one is; and this begins of the rebuild. What was before that death is named.
 pub record HasOpened {D : Type 0} (g : DiskGhosts D) (y : Shape) (asked : AskedOpening) (notice : Notice) (union : Map) (unread : Option Loss) (newest next : Label) (columns after : List Column) (old new : List (Option D)) (lost : Option Loss) (began : Option Start) : Type 0 where

@@ -16,6 +16,11 @@ use Rattle.top_run.specs.Work.{Service, Work}
 use Rattle.top_labelled.specs.Begun.{is_kept}
 use Rattle.top_labelled.specs.Marked.{MarksExactly}
 
+-- the map by which maps are cleared, if they are to be
+abbrev pub clear_if : Bool → Map → Option Map
+clear_if false map = None
+clear_if true map = Some map
+
 module _ {D : Type 0} (g : Ghosts D) (a : Work) (newest : Label) (taken : List (Option D)) where
   -- a map without marks of the array
   abbrev pub blank : Map

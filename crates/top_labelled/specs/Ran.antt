@@ -1,5 +1,5 @@
 -- What a run of clients over an array with labels is, and what it leaves.
-use Rattle.std.specs.Prelude.{◌≡◌, ◌⊎◌, ◌<◌, ◌≤◌, ◌+◌, ℕ, List, ◌∷◌, ◌++◌, length, All, Bool, true, false, Option, Some, None, slice_get}
+use Rattle.std.specs.Prelude.{◌≡◌, ◌⊎◌, ◌<◌, ◌≤◌, ◌+◌, ◌&&◌, not, ℕ, List, ◌∷◌, ◌++◌, length, All, Bool, true, false, Option, Some, None, is_some, slice_get}
 use Rattle.blk_disk.specs.declared.disk.Call.{Call}
 use Rattle.blk_disk.specs.declared.disk.Disk.{Ghosts}
 use Rattle.blk_disk.specs.Disk.{call_of}
@@ -22,10 +22,10 @@ use Rattle.raid_label.specs.Bytes.{bytes_of}
 use Rattle.top_acts.specs.Begun.{HasSeats, MayBegin}
 use Rattle.top_acts.specs.Closed.{settled_in_end}
 use Rattle.top_acts.specs.Failed.{EndsFailed}
-use Rattle.top_acts.specs.Cleared.{AreEndingInTurn, EndsInTurn}
+use Rattle.top_acts.specs.Cleared.{AreEndingInTurn, EndsInSteps, EndsInTurn}
 use Rattle.top_acts.specs.Sweeps.{Notice, rounds_for, wrote_round}
 use Rattle.top_close.specs.Calls.{EndsSettled}
-use Rattle.top_rounds.specs.Calls.{IsLabelWrite}
+use Rattle.top_rounds.specs.Calls.{IsLabelWrite, label_writes}
 use Rattle.top_close.specs.Reserved.{IsReserved}
 use Rattle.top_close.specs.Settled.{HasDeviceOn, has_device}
 use Rattle.top_rounds.specs.Labels.{for_column, seating_in, seating_of, with_round}
@@ -37,11 +37,11 @@ use Rattle.top_run.specs.declared.service.Line.{Line}
 use Rattle.top_run.specs.declared.service.Told.{Told}
 use Rattle.top_run.specs.declared.service.Told.TheVariants as told
 use Rattle.top_run.specs.Told.{IsToldUnbuilt}
-use Rattle.top_run.specs.Ran.{RisesAt, Ran, WasFailed, states_in}
+use Rattle.top_run.specs.Ran.{RisesAt, Ran, states_in}
 use Rattle.top_serve.specs.Setups.{with_start}
-use Rattle.top_serve.specs.Served.{IsKeptAs}
+use Rattle.top_serve.specs.Served.{IsKeptAs, WasFailed}
 use Rattle.top_labelled.specs.Begun.{BeginsLabelled, HoldsBlocks, IsAnew, began_of, is_kept, notice_in, opened_as, sweeps_in, without, writes_maps}
-use Rattle.top_labelled.specs.Maps.{IsKeptOrMap, MapsEnd, MapsInOrder}
+use Rattle.top_labelled.specs.Maps.{IsKeptOrMap, MapsEnd, MapsInOrder, blank, clear_if}
 
 -- ## The line of a rebuild
 
@@ -80,6 +80,12 @@ line_at_end lost (Some line) = Some (record line { told = told_at_end lost line.
 abbrev pub line_of : Shape → Option Start → Option ℕ → List Column → Option Loss → Option Line
 line_of y start device kept lost = line_at_end lost (line_kept y start device kept)
 
+-- ## The end of a run
+
+-- the label of a round that says that the array was closed in order
+abbrev pub closing_label : Label → Label
+closing_label label = record label { clean = 1 }
+
 -- `a` says what is asked, over the array as it was opened: the column that is to be rebuilt is what it was then.
 module _ {D : Type 0} (g : Ghosts D) (a : Work) (newest : Label) (taken : List (Option D)) where
   -- ## A run
@@ -101,7 +107,16 @@ module _ {D : Type 0} (g : Ghosts D) (a : Work) (newest : Label) (taken : List (
       pub settled : s.ending.lost ≡ None → (c d : ℕ) → HasDevice (states_of a.layout s.ending.columns) c d → EndsSettled (calls_of g back d)
       pub frame : Changes g (MayChangeLabelled mapped began) taken back
 
-    -- Two rounds are named, or where a map takes the place of the first one: the label of the last has a counter that is greater by that, and by at most one more for each device whose count of faults rose. It is clean unless the array is lost. It says what the columns of its round were, which are those in the end unless the array is lost; of a lost one no column is filling any more. Each device in use in the end has it. Another device whose count of faults didn't rise has what it had, or, of its own column, the label of the opening round, which is older; that of a column that was filling as the core was closed, on a lost array, may have the label of a round between the two.
+    -- The devices as the core was closed tell the run's calls, and hold what it left. From there the array was closed, step by step: labels, and behind them maps that are cleared, where maps were written in the call and the array wasn't lost in the run; none is where its closing lost it, and each of those in use is cleared once, but that a device that fails as it is cleared begins labels and clears anew. Behind the run a device was written at most one label a round, as many as the counter is greater by, and one at least where it is in use in the end.
+    pub record ClosesInSteps (mapped : Bool) (kept : List Column) (first last : Label) (now : World) : Type 0 where
+      pub served : List (Option D)
+      pub holds : g.tells → (d n k : ℕ) → k < 512 → contents_of g served d n k ≡ now.contents d n k
+      pub calls : (d : ℕ) (told : List Call) → calls_of g served d ≡ Some told → told ≡ now.calls d
+      pub steps : EndsInSteps g (clear_if (mapped && not (is_some now.lost)) (blank g a newest taken)) a.layout now.lost (closing_label first) last kept s.ending.columns served back s.ending.lost
+      pub labelled : (c d : ℕ) (told : List Call) → HasDeviceOn s.ending.columns c d → calls_of g back d ≡ Some told → (closing : List Call) × (told ≡ now.calls d ++ closing) × (1 ≤ label_writes closing)
+      pub times : (d : ℕ) (told : List Call) → calls_of g back d ≡ Some told → (closing : List Call) × (told ≡ now.calls d ++ closing) × (first.counter + label_writes closing ≤ last.counter)
+
+    -- Two rounds are named, or where a map takes the place of the first one: the label of the last has a counter that is greater by that, and by at most one more for each device whose count of faults rose. It is clean unless the array is lost. It says what the columns of its round were, which are those in the end unless the array is lost; of a lost one no column is filling any more. Each device in use in the end has it. Another device whose count of faults didn't rise has what it had, or, of its own column, the label of the opening round, which is older; that of a column that was filling as the core was closed, on a lost array, may have the label of a round between the two, which was tried at the close before the array was lost, and so says clean.
     pub record IsRelabelled (notice : Notice) (begun kept : List Column) (first last : Label) : Type 0 where
       pub rises : List ℕ
       pub failed : HaveFailed g taken back rises
@@ -115,7 +130,7 @@ module _ {D : Type 0} (g : Ghosts D) (a : Work) (newest : Label) (taken : List (
       pub held : (c d : ℕ) → HasDeviceOn s.ending.columns c d → HoldsLabel g back last c d
       pub rest : g.tells → (d : ℕ) → 1 ≤ size_of g taken d → ((c : ℕ) → HasDeviceOn s.ending.columns c d → ⊥) → (RisesOn g taken back d → ⊥)
           → (sector_of g back d 0 ≡ sector_of g taken d 0)
-          ⊎ (((c : ℕ) × (wrote_round notice None ≡ true) × HasDeviceOn begun c d × (sector_of g back d 0 ≡ bytes_of (for_column first c))) ⊎ ((c : ℕ) × IsGivenUp s.ending.lost kept c × HasDeviceOn kept c d × IsTriedOn g (record first { clean = 1 }) last.counter back c d))
+          ⊎ (((c : ℕ) × (wrote_round notice None ≡ true) × HasDeviceOn begun c d × (sector_of g back d 0 ≡ bytes_of (for_column first c))) ⊎ ((c : ℕ) × IsGivenUp s.ending.lost kept c × HasDeviceOn kept c d × IsTriedOn g (closing_label first) last.counter back c d))
 
     -- the device onto which the rebuild goes was the column's own, and has failed as the array was begun
     pub record HasFailedSince (opened : List (Option D)) : Type 0 where
@@ -142,6 +157,7 @@ module _ {D : Type 0} (g : Ghosts D) (a : Work) (newest : Label) (taken : List (
       pub holds : HoldsBlocks g a newest taken opened begun begins.read begins.union run.start.blocks
       pub leaves : LeavesLabelled (writes_maps (is_kept map newest) begins.union) began run.ends.kept run.now
       pub since : Changes g (MayChangeLabelled (writes_maps (is_kept map newest) begins.union) began) opened back
+      pub closes : ClosesInSteps (writes_maps (is_kept map newest) begins.union) run.ends.kept first last run.now
       pub maps : MapsEnd g a newest taken s back map begins.read begins.union begins.marks run.graphs run.now
       pub order : is_kept map newest ≡ true → MapsInOrder g a taken s back
       pub labels : IsRelabelled (notice_in (is_kept map newest) begins.marks) begun run.ends.kept first last

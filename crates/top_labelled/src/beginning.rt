@@ -1,8 +1,10 @@
 //! The array is begun.
+ghost use Rattle.std.specs.Prelude.{◌≡◌};
 ghost use Rattle.top_acts.specs.Mapped.{AreUnmarked};
 ghost use Rattle.top_serve.specs.Setups.{shape_in};
 ghost use Rattle.top_labelled.specs.Given.{CanRunLabelled};
-ghost use Rattle.top_labelled.specs.Between.{IsBegun};
+ghost use Rattle.top_labelled.specs.Begun.{is_kept, writes_maps};
+ghost use Rattle.top_labelled.specs.Between.{IsBegun, asked_of};
 
 use crate::in_place::is_in_place;
 use crate::labelled::Labelled;
@@ -10,10 +12,11 @@ use crate::line::onto;
 use crate::marking::mark_asked;
 use crate::opening::{AskedOpening, opened};
 use blk_disk::StopDisk;
-use eng_array::{Loss, Setup, Start};
+use eng_array::{Column, Loss, Setup, Start};
 use eng_cols::Cols;
 use lay_core::Layout;
 use raid_label::Label;
+use raid_map::Map;
 use raid_progress::Progress;
 use raid_recon::SweepRoom;
 use top_acts::{Maps, look_at_maps};
@@ -35,8 +38,35 @@ pub(crate) struct Started<L, D> {
     pub clears: bool,
 }
 
-/// Reads the maps, writes the opening round, or marks the devices in its place, sweeps the check units where the newest label isn't clean, and lets the
-/// column die that is to be rebuilt anew.
+// What is asked of the opening of an array with this label and these columns.
+fn asked_of(
+    start: Option<Start>,
+    failed: bool,
+    map: bool,
+    label: &Label,
+    columns: &[Column],
+) -> AskedOpening
+    ensures { result ≡ asked_of start failed (is_kept map label.now) columns.now }
+{
+    AskedOpening {
+        start,
+        failed,
+        was_in_place: is_in_place(start, columns),
+        keeps: map && label.clean == 1,
+    }
+}
+
+// Whether maps are written, and so cleared in the end: one is kept, or those that were read mark some
+// region together.
+fn writes_maps(keeps: bool, union: &Map) -> bool
+    ensures { result ≡ writes_maps keeps union.now }
+{
+    keeps || union.count() > 0
+}
+
+/// Reads the maps, writes the opening round, or marks the devices in its place, sweeps the check units
+/// where the newest label isn't clean, or those that the maps mark, and lets the column die that is to
+/// be rebuilt anew.
 pub(crate) fn begun<L: Layout + Drop, D: StopDisk + Drop, P: Progress>(
     labelled: Labelled<L, D>,
     mut maps: Maps,
@@ -46,63 +76,30 @@ pub(crate) fn begun<L: Layout + Drop, D: StopDisk + Drop, P: Progress>(
     requires maps { AreUnmarked (shape_in L.Layout labelled.setup) labelled.label.serial maps }
     ensures { IsBegun L.Layout D.Disk labelled result }
 {
-    let Labelled {
-        setup,
-        mut label,
-        judge,
-        room,
-        start,
-        failed,
-        map,
-    } = labelled;
-    let Setup {
-        layout,
-        mut devices,
-        columns,
-        clients,
-        graphs,
-        trace,
-    } = setup;
-    let device = onto(start, &columns);
+    let mut setup = labelled.setup;
+    let mut label = labelled.label;
+    let start = labelled.start;
+    let device = onto(start, &setup.columns);
+    let asked = asked_of(start, labelled.failed, labelled.map, &label, &setup.columns);
+    let mut devices = setup.devices;
     let mut hand = Hand {
         ending: Ending {
-            columns,
+            columns: setup.columns,
             lost: None,
         },
-        judge,
+        judge: labelled.judge,
     };
-    let mut room = SweepRoom::new(room, progress);
-    let was = is_in_place(start, &hand.ending.columns);
+    let room = &mut SweepRoom::new(labelled.room, progress);
     let slice = devices.as_mut_slice();
-    look_at_maps(&layout, slice, &mut hand, &mut maps.union);
-    let keeps = map && label.clean == 1;
+    let (layout, graphs, clients) = (&setup.layout, &setup.graphs, &setup.clients);
+    look_at_maps(layout, slice, &mut hand, &mut maps.union);
     let read = &hand.ending.columns;
-    mark_asked(keeps, &layout, &graphs, &clients, read, start, &mut maps);
-    let clears = keeps || maps.union.count() > 0;
-    let began = opened(
-        AskedOpening {
-            start,
-            failed,
-            was_in_place: was,
-            keeps,
-        },
-        &layout,
-        slice,
-        &mut hand,
-        &mut label,
-        &mut room,
-        &mut maps,
-    );
+    mark_asked(asked.keeps, layout, graphs, clients, read, start, &mut maps);
+    let began = opened(asked, layout, slice, &mut hand, &mut label, room, &mut maps);
     let Hand { ending, judge } = hand;
     let Ending { columns, lost } = ending;
-    let setup = Setup {
-        layout,
-        devices,
-        columns,
-        clients,
-        graphs,
-        trace,
-    };
+    setup.devices = devices;
+    setup.columns = columns;
     Started {
         setup,
         label,
@@ -111,7 +108,7 @@ pub(crate) fn begun<L: Layout + Drop, D: StopDisk + Drop, P: Progress>(
         asked: start,
         device,
         began,
+        clears: writes_maps(asked.keeps, &maps.union),
         maps,
-        clears,
     }
 }

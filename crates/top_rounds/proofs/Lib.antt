@@ -1,4 +1,4 @@
-mod CallLaws
+pub mod CallLaws
 mod Devices
 pub mod PassLaws
 mod SeatLaws

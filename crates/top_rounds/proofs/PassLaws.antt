@@ -17,7 +17,8 @@ use Rattle.top_close.specs.Settled.{HasDeviceOn, has_device, HaveDevices, LosesD
 use Rattle.top_close.proofs.CallLaws.{more_all-none, more_all-one, more_all-then}
 use Rattle.top_close.proofs.SettledLaws.{device_within, if_dies, if_live, if_other, set_here}
 use Rattle.top_close.proofs.StageLaws.{live_before}
-use Rattle.top_rounds.specs.Calls.{IsLabelWrite, WritesOn}
+use Rattle.top_rounds.specs.Calls.{IsLabelWrite, WritesOn, WritesWithin}
+use Rattle.top_rounds.proofs.CallLaws.{within-none, within-one}
 use Rattle.top_rounds.specs.Passes.{AreLabelled, CanBeLabelled, HoldsLabel, IsFirstInUse, IsTry, LabelsColumn}
 
 -- ## Lists of columns
@@ -40,6 +41,7 @@ module _ {D : Type 0} (g : Ghosts D) where
     others = λ d none. refl;
     left = λ c h. refl;
     told = λ d. more_all-none IsLabelWrite (calls_of g ds d);
+    times = λ d. within-none 0 1 (calls_of g ds d) (omega arith);
   }
 
   -- the next column has no device
@@ -58,6 +60,7 @@ module _ {D : Type 0} (g : Ghosts D) where
     others = λ d none. was.others d (λ c below. none c (omega (arith, below)));
     left = λ c h. was.left c (omega (arith, h));
     told = was.told;
+    times = was.times;
   }
 
   module _ (n : ℕ) (label : Label) (columns mid after : List Column) (old dev new : List (Option D)) (good : Bool) (have : HaveDevices columns old) (was : AreLabelled g n label columns mid old dev) (step : LabelsColumn g n label mid after dev new good) where
@@ -135,6 +138,17 @@ module _ {D : Type 0} (g : Ghosts D) where
           subst (λ o. WritesOn (calls_of g dev k) o) (ap (λ o. option_and_then g.calls o) (sym (step.labelling.others k apart))) (more_all-none IsLabelWrite (calls_of g dev k))
     ]
 
+    -- the device had its one label; another as many as before
+    times : (k : ℕ) → WritesWithin 0 1 (calls_of g old k) (calls_of g new k)
+    unfolding d
+    times k = elim (cases_order k d) [
+      | inl e ↦ subst (λ j. WritesWithin 0 1 (calls_of g old j) (calls_of g new j)) (sym e)
+          (subst (λ o. WritesWithin 0 1 o (calls_of g new d)) (ap (λ o. option_and_then g.calls o) fresh) (within-one good (calls_of g dev d) (calls_of g new d) step.labelling.told))
+      | inr order ↦
+          let apart : k ≢ d = λ e. elim order [ inl lt ↦ omega (arith, e, lt) | inr gt ↦ omega (arith, e, gt) ] in
+          subst (λ o. WritesWithin 0 1 (calls_of g old k) o) (ap (λ o. option_and_then g.calls o) (sym (step.labelling.others k apart))) (was.times k)
+    ]
+
     pub labelled-more : AreLabelled g (n + 1) label columns after old new
     unfolding d
     labelled-more = record {
@@ -151,6 +165,7 @@ module _ {D : Type 0} (g : Ghosts D) where
       others = λ k none. step.labelling.others k (λ e. none n (omega arith) (live ∙ ap (λ j. Some j) (sym e))) ∙ was.others k (λ c below. none c (omega (arith, below)));
       left = λ c h. ap (λ (l : List Column). slice_get l c) step.after_is ∙ (if_other mid n c good (λ e. omega (arith, h, e)) ∙ was.left c (omega (arith, h)));
       told = λ k. more_all-then IsLabelWrite (calls_of g old k) (calls_of g dev k) (calls_of g new k) (was.told k) (told k);
+      times = times;
     }
 
     -- the write failed, and none before

@@ -31,9 +31,9 @@ use Rattle.top_rounds.specs.Labels.{IsNumbered, Seating, given_up, seating_in, s
 use Rattle.top_rounds.specs.Passes.{AreLabelled, CanBeLabelled, EndsByDeath, EndsPass, IsFirstInUse}
 use Rattle.top_close.specs.Stage.{DiesIn, IsGivenUp, IsGivenUpIn, IsInUse, IsStage, IsUncalled, device_count}
 use Rattle.top_rounds.specs.Rounds.{AreRounds, AreWritten, CountsRounds, HaveRounds, HaveTried, HoldsTried, clean_in_end}
-use Rattle.top_rounds.specs.Calls.{IsLabelWrite, IsLabelled, WritesOn, WritesTo, WritesUntil, WritesWell}
+use Rattle.top_rounds.specs.Calls.{IsLabelWrite, IsLabelled, WritesOn, WritesSome, WritesTo, WritesUntil, WritesWell, WritesWithin}
 use Rattle.eng_cols.specs.Settable.{IsSettable}
-use Rattle.top_rounds.proofs.CallLaws.{to-until, well-to}
+use Rattle.top_rounds.proofs.CallLaws.{some-to, to-until, well-to, within-none, within-then, within_as}
 use Rattle.top_close.proofs.StageLaws.{given_before, live_before, live_less, told-others}
 
 -- ## Columns that die
@@ -197,6 +197,7 @@ module _ {D : Type 0} (g : Ghosts D) where
     others = λ d none. refl;
     dies = dies-refl (LosesDevice g columns ds ds) columns;
     told = λ d. more_all-none IsLabelWrite (calls_of g ds d);
+    times = λ d. within-none label.counter label.counter (calls_of g ds d) (omega arith);
     each = λ c d live. subst (λ b. WritesUntil b (calls_of g ds d) (calls_of g ds d)) (sym (ap is_some live)) (more_all-none IsLabelled (calls_of g ds d));
     holds = λ c d live tells. inl refl;
   }
@@ -237,6 +238,11 @@ module _ {D : Type 0} (g : Ghosts D) where
 
     told : (d : ℕ) → WritesOn (calls_of g old d) (calls_of g new d)
     told d = more_all-then IsLabelWrite (calls_of g old d) (calls_of g dev d) (calls_of g new d) (tried.told d) (pass.told d)
+
+    -- one label more at most
+    times : next.counter ≡ before.counter + 1 → (d : ℕ) → WritesWithin label.counter next.counter (calls_of g old d) (calls_of g new d)
+    times counter d = within-then label.counter before.counter next.counter (calls_of g old d) (calls_of g dev d) (calls_of g new d) (tried.times d)
+        (within_as 0 1 before.counter next.counter (calls_of g dev d) (calls_of g new d) (omega (arith, counter)) (pass.times d))
 
     -- a device that no column of the pass has isn't called by it
     quiet : (d : ℕ) → ((k : ℕ) → k < n → HasDeviceOn mid k d → ⊥) → calls_of g dev d ≡ calls_of g new d
@@ -312,6 +318,7 @@ module _ {D : Type 0} (g : Ghosts D) where
       ended = died_behind;
       given_up = given_after (LosesDevice g mid dev new) lost mid after pass.dies none;
       told = told;
+      times = times counter;
       each = λ c d live. each_called c d live (omega (arith, all, tried.dies.count, gave.count, device_within columns c d live));
       given = given_holds counter none;
     }
@@ -386,6 +393,7 @@ module _ {D : Type 0} (g : Ghosts D) where
           others = others None label before next columns mid mid after old dev new tried same_still n pass apart;
           dies = dies-then (LosesDevice g columns old new) columns mid after (died_before None label before next columns mid mid after old dev new tried same_still n pass apart) (died_behind None label before next columns mid mid after old dev new tried same_still n pass apart);
           told = told None label before next columns mid mid after old dev new tried same_still n pass apart;
+          times = times None label before next columns mid mid after old dev new tried same_still n pass apart counter;
           each = each_until;
           holds = holds_until counter is;
         }
@@ -437,6 +445,21 @@ module _ {D : Type 0} (g : Ghosts D) where
     gone = r.gone;
     fewer = r.fewer;
   }
+
+  -- a device that is in use in the end was written its label
+  pub rounds-some : (lost : Option Loss) (label next : Label) (columns mid after : List Column) (old new : List (Option D)) → AreRounds g lost label next columns mid after old new → (c d : ℕ) → HasDeviceOn after c d → WritesSome (calls_of g old d) (calls_of g new d)
+  rounds-some lost label next columns mid after old new r c d live =
+      let between : HasDeviceOn mid c d = live_before (LosesDevice g columns old new) mid after c d r.ended live in
+      elim (r.each c d (live_before (DiesIn g lost columns old new) columns mid c d r.began between)) [
+        | inl told ↦ some-to (has_device (slice_get after c)) (calls_of g old d) (calls_of g new d) told
+        | inr given ↦ elim (r.ended.each c) [
+          | inr dead ↦ let z : Some d ≡ None = sym live ∙ ap device_set dead.0 in absurd (let u : ⊥ = cc in u)
+          | inl same ↦ elim (r.began.each c) [
+            | inr dead ↦ let z : Some d ≡ None = sym between ∙ ap device_set dead.0 in absurd (let u : ⊥ = cc in u)
+            | inl kept ↦ absurd (none_to_give lost after c r.given_up (given_kept lost columns after c (same ∙ kept) given.0))
+          ]
+        ]
+      ]
 
   -- the counter is greater by no more than there were rounds and columns
   pub counts_few : (may : ℕ → ℕ → Type 0) (calls : ℕ → List Call → Type 0) (lost : Option Loss) (rounds : ℕ) (label next : Label) (columns after : List Column) (old new : List (Option D)) (s : IsStage g may calls lost columns after old new) → CountsRounds rounds label next (length s.rises) → length columns ≤ 32 → next.counter ≤ label.counter + rounds + 32

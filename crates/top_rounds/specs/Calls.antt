@@ -1,5 +1,5 @@
 -- The calls by which a device gets its label.
-use Rattle.std.specs.Prelude.{◌≡◌, List, [], ◌∷◌, ◌++◌, All, Bool, true, false, Option}
+use Rattle.std.specs.Prelude.{◌≡◌, ◌≤◌, ◌+◌, ◌==◌, ◌&&◌, ℕ, List, [], ◌∷◌, ◌++◌, All, Bool, true, false, Option, count_by}
 use Rattle.blk_disk.specs.declared.disk.Call.{Call}
 use Rattle.blk_disk.specs.Disk.{call_of}
 use Rattle.top_close.specs.Calls.{MoreOn}
@@ -31,3 +31,21 @@ WritesTo good before now = MoreOn (EndsBy good) before now
 abbrev pub WritesUntil : Bool → Option (List Call) → Option (List Call) → Type 0
 WritesUntil true before now = WritesWell before now
 WritesUntil false before now = WritesTo false before now
+
+-- ## How many there are
+
+-- a write that begins at sector 0, whether it went well or not
+abbrev pub is_label_write : Call → Bool
+is_label_write call = (call.kind == 1) && (call.first == 0)
+
+-- how many of the calls write a label
+unfoldable pub label_writes : List Call → ℕ
+label_writes calls = count_by is_label_write calls
+
+-- Of those that came no more write a label than a counter rose by, from the one number to the other.
+abbrev pub WritesWithin : (from to : ℕ) → Option (List Call) → Option (List Call) → Type 0
+WritesWithin from to before now = MoreOn (λ more. from + label_writes more ≤ to) before now
+
+-- one of those that came writes a label
+abbrev pub WritesSome : Option (List Call) → Option (List Call) → Type 0
+WritesSome before now = MoreOn (λ more. 1 ≤ label_writes more) before now

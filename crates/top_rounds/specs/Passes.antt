@@ -10,7 +10,7 @@ use Rattle.raid_label.specs.declared.label.Label.{Label}
 use Rattle.raid_label.specs.Bytes.{bytes_of}
 use Rattle.top_close.specs.Reserved.{IsReserved}
 use Rattle.top_close.specs.Settled.{HasDeviceOn, HaveDevices, has_device, LosesDevice}
-use Rattle.top_rounds.specs.Calls.{WritesOn}
+use Rattle.top_rounds.specs.Calls.{WritesOn, WritesWithin}
 use Rattle.top_rounds.specs.Labels.{IsNumbered, for_column}
 
 -- the sector of the label on the device of a column
@@ -46,7 +46,7 @@ module _ {D : Type 0} (g : Ghosts D) where
     pub labelling : IsLabelling device (for_column label c) old new good
     pub after_is : after ≡ (if good then columns else slice_set columns c column.Dead)
 
-  -- The first n columns got their labels. No sector has changed but sector 0 of devices in use; a column has died where its device failed, and no other died; the device of each of the first n that has one had one call more, to write sector 0, and the column has it still, and the label is there, exactly where that went well; no other device was called.
+  -- The first n columns got their labels. No sector has changed but sector 0 of devices in use; a column has died where its device failed, and no other died; the device of each of the first n that has one had one call more, to write sector 0, and the column has it still, and the label is there, exactly where that went well; no other device was called. None got more than one label.
   pub record AreLabelled (n : ℕ) (label : Label) (columns after : List Column) (old new : List (Option D)) : Type 0 where
     pub frame : Changes g (IsFirstInUse columns) old new
     pub dies : Dies (LosesDevice g columns old new) columns after
@@ -55,6 +55,7 @@ module _ {D : Type 0} (g : Ghosts D) where
     pub others : (d : ℕ) → ((c : ℕ) → c < n → HasDeviceOn columns c d → ⊥) → device_at new d ≡ device_at old d
     pub left : (c : ℕ) → n ≤ c → slice_get after c ≡ slice_get columns c
     pub told : (d : ℕ) → WritesOn (calls_of g old d) (calls_of g new d)
+    pub times : (d : ℕ) → WritesWithin 0 1 (calls_of g old d) (calls_of g new d)
 
   -- the last of so many columns is the one that died
   pub record EndsByDeath (n : ℕ) (columns after : List Column) (old new : List (Option D)) : Type 0 where

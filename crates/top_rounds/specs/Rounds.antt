@@ -9,7 +9,7 @@ use Rattle.eng_cols.specs.Deaths.{Dies}
 use Rattle.raid_label.specs.declared.label.Label.{Label}
 use Rattle.raid_label.specs.Bytes.{bytes_of}
 use Rattle.top_close.specs.Settled.{HasDeviceOn, has_device, LosesDevice}
-use Rattle.top_rounds.specs.Calls.{WritesOn, WritesTo, WritesUntil, WritesWell}
+use Rattle.top_rounds.specs.Calls.{WritesOn, WritesTo, WritesUntil, WritesWell, WritesWithin}
 use Rattle.top_rounds.specs.Labels.{for_column, given_up, seating_in, seating_of, with_round}
 use Rattle.top_rounds.specs.Passes.{HoldsLabel, IsFirstInUse}
 use Rattle.top_close.specs.Stage.{DiesIn, HaveFailed, IsGivenUp, IsGivenUpIn, IsInUse, IsUncalled, device_count}
@@ -46,7 +46,7 @@ module _ {D : Type 0} (g : Ghosts D) where
   abbrev pub HoldsTried : Label → ℕ → List (Option D) → List (Option D) → ℕ → ℕ → Type 0
   HoldsTried label below old new c d = g.tells → (sector_of g new d 0 ≡ sector_of g old d 0) ⊎ IsTriedOn label below new c d
 
-  -- Rounds were tried, and each ended by a failed write: the counter is greater by one for each, and the devices that failed were in use and are no column's now. A device that was in use had no call behind one that failed; one that is still has what it had, or the label of one of the rounds.
+  -- Rounds were tried, and each ended by a failed write: the counter is greater by one for each, and the devices that failed were in use and are no column's now. A device that was in use had no call behind one that failed; one that is still has what it had, or the label of one of the rounds. Each had at most one call a round: as many as the counter is greater by.
   pub record HaveTried (label next : Label) (columns mid : List Column) (old new : List (Option D)) : Type 0 where
     pub rises : List ℕ
     pub counter : next.counter ≡ label.counter + length rises
@@ -58,10 +58,11 @@ module _ {D : Type 0} (g : Ghosts D) where
     pub others : IsUncalled columns old new
     pub dies : Dies (LosesDevice g columns old new) columns mid
     pub told : (d : ℕ) → WritesOn (calls_of g old d) (calls_of g new d)
+    pub times : (d : ℕ) → WritesWithin label.counter next.counter (calls_of g old d) (calls_of g new d)
     pub each : (c d : ℕ) → HasDeviceOn columns c d → WritesUntil (has_device (slice_get mid c)) (calls_of g old d) (calls_of g new d)
     pub holds : (c d : ℕ) → HasDeviceOn mid c d → HoldsTried label (next.counter + 1) old new c d
 
-  -- Rounds were written. The counter is greater by at least 1, and by at most 1 more for each device that was in use, whose count of faults rose, and that is no column's in the end. The last round began with the columns `mid`, and the device of each column in the end has its label. How the label writes of each device that was in use went is `AreWritten`. The device of a column that was filling in a lost array, if its count of faults didn't rise, has what it had, or the label of a round before the last.
+  -- Rounds were written. The counter is greater by at least 1, and by at most 1 more for each device that was in use, whose count of faults rose, and that is no column's in the end. The last round began with the columns `mid`, and the device of each column in the end has its label. How the label writes of each device that was in use went is `AreWritten`; there is at most one a round, as many as the counter is greater by, so that where that is 1 each device in use in the end got its label once. The device of a column that was filling in a lost array, if its count of faults didn't rise, has what it had, or the label of a round before the last.
   pub record AreRounds (lost : Option Loss) (label next : Label) (columns mid after : List Column) (old new : List (Option D)) : Type 0 where
     pub rises : List ℕ
     pub failed : HaveFailed g old new rises
@@ -78,6 +79,7 @@ module _ {D : Type 0} (g : Ghosts D) where
     pub ended : Dies (LosesDevice g columns old new) mid after
     pub given_up : IsGivenUpIn lost after
     pub told : (d : ℕ) → WritesOn (calls_of g old d) (calls_of g new d)
+    pub times : (d : ℕ) → WritesWithin label.counter next.counter (calls_of g old d) (calls_of g new d)
     pub each : (c d : ℕ) → HasDeviceOn columns c d → AreWritten lost columns after c (calls_of g old d) (calls_of g new d)
     pub given : (c d : ℕ) → IsGivenUp lost columns c → HasDeviceOn columns c d → (RisesOn g old new d → ⊥) → HoldsTried label next.counter old new c d
 

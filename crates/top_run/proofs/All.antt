@@ -63,18 +63,20 @@ module _ {L D : Type 0} (lay : LayoutGhosts L) (disk : DiskGhosts D) (setup : Se
   abbrev so : EndsSo lay closed disk v back
   so = ends-so lay closed disk v back none e
 
-  module _ (law : IsLayout (lay.shape setup.layout)) where
-    abbrev run : Ran disk (work_of lay setup None) setup.devices.items v back
-    run = runs lay disk setup None closed given few s v back so law
+  law : IsLayout (lay.shape setup.layout)
+  law = subst (λ (l : L). IsLayout (lay.shape l)) s.tells.layout e.law
 
-    pub has-run : RanPlain disk (work_of lay setup None) setup.devices.items v back
-    has-run = record {
-      run = run;
-      leaves =
-          subst (λ w. LeavesSettled disk (work_of lay setup None) setup.devices.items v back run.ends.kept w) (sym (runs-now lay disk setup None closed given few s v back so law))
-          (subst (λ kept. LeavesSettled disk (work_of lay setup None) setup.devices.items v back kept s.now) (sym (runs-kept lay disk setup None closed given few s v back so law)) (leaves lay disk setup closed given s none v back e));
-      none = (refl, ap (λ (u : Service). u.line) e.told);
-    }
+  abbrev run : Ran disk (work_of lay setup None) setup.devices.items v back
+  run = runs lay disk setup None closed given few s v back so law
+
+  pub has-run : RanPlain disk (work_of lay setup None) setup.devices.items v back
+  has-run = record {
+    run = run;
+    leaves =
+        subst (λ w. LeavesSettled disk (work_of lay setup None) setup.devices.items v back run.ends.kept w) (sym (runs-now lay disk setup None closed given few s v back so law))
+        (subst (λ kept. LeavesSettled disk (work_of lay setup None) setup.devices.items v back kept s.now) (sym (runs-kept lay disk setup None closed given few s v back so law)) (leaves lay disk setup closed given s none v back e));
+    none = (refl, ap (λ (u : Service). u.line) e.told);
+  }
 
   pub stands : StandFor v.clients v.replies v.sectors
   stands = runs-stand lay disk setup None closed given few s v back so

@@ -29,7 +29,7 @@ use Rattle.top_serve.specs.Served as served
 use Rattle.top_run.specs.Work.{Service}
 use Rattle.top_run.specs.Works.{work_of}
 use Rattle.top_run.specs.Ends.{EndsSo}
-use Rattle.top_run.specs.Ran.{AsksAsScripts, IsLossAtEnd, IsStoppedBy, ColumnsEnd}
+use Rattle.top_run.specs.Ran.{AsksAsScripts, IsStoppedBy, ColumnsEnd}
 use Rattle.top_run.proofs.Columns.{ending-dies}
 use Rattle.top_run.proofs.Causing.{came, dead-by}
 
@@ -37,11 +37,8 @@ at-place : {A : Type 0} (l : List A) (k : ℕ) (x : A) → slice_get l k ≡ Som
 at-place l k x is = (k, slice_get_within l k x is, get_or_from_slice_get l k x x is)
 
 -- the loss of before, or that of the columns in the end
-pub loss-at-end : (y : Shape) (now : World) (before lost : Option Loss) (columns : List ColumnState) → now.lost ≡ before → ended.IsLossBy y before columns lost → IsLossAtEnd y now columns lost
-loss-at-end y now (Some loss) None columns is h = let z : None ≡ Some loss = h in absurd (let u : ⊥ = cc in u)
-loss-at-end y now (Some loss) (Some other) columns is h = inl (is ∙ sym h)
-loss-at-end y now None None columns is h = (is, h)
-loss-at-end y now None (Some loss) columns is h = inr (is, h)
+pub loss-at-end : (y : Shape) (now : World) (before lost : Option Loss) (columns : List ColumnState) → now.lost ≡ before → ended.IsLossBy y before columns lost → ended.IsLossBy y now.lost columns lost
+loss-at-end y now before lost columns is h = subst (λ (o : Option Loss). ended.IsLossBy y o columns lost) (sym is) h
 
 -- an array that isn't lost in the end wasn't lost before it
 pub not-before : (y : Shape) (before lost : Option Loss) (columns : List ColumnState) → ended.IsLossBy y before columns lost → lost ≡ None → before ≡ None

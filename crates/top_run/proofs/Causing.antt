@@ -15,22 +15,19 @@ use Rattle.eng_array.specs.declared.start.Start.{Start}
 use Rattle.top_close.specs.Stage.{IsGivenUp}
 use Rattle.top_serve.specs.Setups.{graphs_in, with_start}
 use Rattle.top_serve.specs.Served as served
-use Rattle.top_serve.specs.Served.{IsKeptAs}
+use Rattle.top_serve.specs.Served.{IsKeptAs, WasFailed}
 use Rattle.top_run.specs.Work.{Service}
 use Rattle.top_run.specs.Works.{work_of}
 use Rattle.top_run.specs.Ends.{EndsSo}
-use Rattle.top_run.specs.Ran.{WasFailed, RisesAt, IsDeadBy, IsFailedBy, EndsAs, Causes}
+use Rattle.top_run.specs.Ran.{RisesAt, IsDeadBy, IsFailedBy, EndsAs, Causes}
 use Rattle.top_run.proofs.Columns.{rise-before, ending-dies, kept-filling, not-so}
-
-failed-so : (now : World) (c : ℕ) → served.WasFailed now c → WasFailed now c
-failed-so now c f = record { id = f.id; asked = f.asked; replied = f.replied }
 
 module _ {L D : Type 0} (lay : LayoutGhosts L) (disk : DiskGhosts D) (setup : Setup L D) (how : Option Start) (closed : Closed L D) (given : IsSetup lay disk setup) (s : served.IsServed lay disk setup how closed) (v : Service) (back : List (Option D)) (e : EndsSo lay closed disk v back) where
   abbrev Rises : ℕ → Type 0
   Rises = RisesAt disk (work_of lay setup how) setup.devices.items v back
 
   pub dead-by : (c : ℕ) → served.IsDeadBy lay disk setup how closed s.now c → WasFailed s.now c ⊎ Rises c
-  dead-by c (inl failed) = inl (failed-so s.now c failed)
+  dead-by c (inl failed) = inl failed
   dead-by c (inr rose) = inr (rose.0, rose.1, rise-before lay disk setup how closed given s v back e rose.0 rose.2)
 
   abbrev Unbuilt : ℕ → Type 0
@@ -68,7 +65,7 @@ module _ {L D : Type 0} (lay : LayoutGhosts L) (disk : DiskGhosts D) (setup : Se
 
   failed-by : (d : ℕ) → served.IsFailedBy lay disk setup how closed s.now d → IsFailedBy disk (work_of lay setup how) setup.devices.items v back s.now d
   failed-by d (inl rose) = inl (rise-before lay disk setup how closed given s v back e d rose)
-  failed-by d (inr failed) = inr (failed.0, failed.1, failed-so s.now failed.0 failed.2)
+  failed-by d (inr failed) = inr (failed.0, failed.1, failed.2)
 
   pub causes : Causes disk (work_of lay setup how) setup.devices.items v back (graphs_in setup) s.start s.events s.now
   causes = record {

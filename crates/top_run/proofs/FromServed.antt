@@ -3,8 +3,8 @@ use Rattle.std.proofs.Common.{◌≡◌, ◌≢◌, inl, inr, ℕ, zero, suc, �
 use Rattle.std.specs.Prelude.{Vec, slice_get, slice_index_or, sum_by}
 use Rattle.std.specs.declared.alloc.Global.{Global}
 use Rattle.std.proofs.lemmas.Bool.{cases_lt}
-use Rattle.std.proofs.lemmas.List.{get_or-take, get_or-drop, take_all}
-use Rattle.std.proofs.lemmas.Option.{slice_get_past, slice_get_within, slice_get-get_or}
+use Rattle.std.proofs.lemmas.List.{get_or_past, get_or-take, get_or-drop, take_all}
+use Rattle.std.proofs.lemmas.Option.{slice_get_past, slice_get-get_or}
 use Rattle.blk_plain.specs.declared.op.Op.TheVariants as op
 use Rattle.blk_disk.specs.declared.disk.Disk.{Ghosts as DiskGhosts}
 use Rattle.blk_disk.specs.Disk.{sector_at}
@@ -21,7 +21,7 @@ use Rattle.eng_parts.specs.declared.setup.Setup.{Setup}
 use Rattle.eng_parts.specs.declared.setup.Closed.{Closed}
 use Rattle.eng_plan.specs.Asked.{no_graph}
 use Rattle.eng_log.specs.Given.{items_in, items_at}
-use Rattle.eng_log.specs.Handed.{region_at}
+use Rattle.eng_log.specs.Handed.{handed_byte, region_at}
 use Rattle.eng_log.specs.Laid as laid
 use Rattle.eng_clients.specs.Replied.{replies_in}
 use Rattle.eng_array.specs.declared.start.Start.{Start}
@@ -148,14 +148,6 @@ module _ {L D : Type 0} (lay : LayoutGhosts L) (disk : DiskGhosts D) (setup : Se
   not-last : (c : ℕ) → c < 16 → c ≢ 16
   not-last c lt is = omega (arith, lt, is)
 
-  -- a reply of one of sixteen is to an item
-  among : (c i : ℕ) (r : Reply) → c < 16 → slice_get (s.now.clients c).replies i ≡ Some r → i < length (items_at setup.clients.items c)
-  among c i r lt is =
-      let within = slice_get_within (s.now.clients c).replies i r is in
-      let all = s.rests.replied c in
-      let same = ap (λ (l : List Item). length l) (s.rests.items c (not-last c lt)) in
-      omega (arith, within, all, same)
-
   -- what is handed a block is one of sixteen
   is-client : (c i b : ℕ) → b < told.item_sectors (slice_index_or (told.items_at service.clients c) i told.no_item) → c < 16
   is-client c i b within = elim (cases_lt c 16) [
@@ -166,31 +158,62 @@ module _ {L D : Type 0} (lay : LayoutGhosts L) (disk : DiskGhosts D) (setup : Se
         absurd (omega (arith, within, sectors))
   ]
 
-  byte-from : disk.tells → (c i b k : ℕ) → slice_get (s.now.clients c).replies i ≡ Some reply.Data → b < told.item_sectors (slice_index_or (told.items_at service.clients c) i told.no_item) → k < 512 → (s.now.clients c).handed i b k ≡ told_byte service c i b k
-  byte-from tells c i b k is within kb =
+  -- and so much for an item
+  is-item : (c i b : ℕ) → b < told.item_sectors (slice_index_or (told.items_at service.clients c) i told.no_item) → i < length (items_at setup.clients.items c)
+  is-item c i b within = elim (cases_lt i (length (items_at setup.clients.items c))) [
+    | inl lt ↦ lt
+    | inr past ↦
+        let sectors : told.item_sectors (slice_index_or (told.items_at service.clients c) i told.no_item) ≡ 0 =
+        ap (λ (l : List Item). told.item_sectors (slice_index_or l i told.no_item)) (told-items c) ∙ ap told.item_sectors (get_or_past (items_at setup.clients.items c) i told.no_item past) in
+        absurd (omega (arith, within, sectors))
+  ]
+
+  -- the region of an item is as long as its read
+  in-region : (c i b : ℕ) → b < told.item_sectors (slice_index_or (told.items_at service.clients c) i told.no_item) → b < (region_at (served.handed_in closed) c i).count
+  in-region c i b within =
+      let here = is-item c i b within in
+      let count = ap (λ (r : Region). r.count) ((s.hands.rows c (is-client c i b within)).each i here) in
+      let asked : told.item_sectors (slice_index_or (told.items_at closed.clients.items c) i told.no_item) ≡ laid.sectors_at (items_at setup.clients.items c) i =
+      ap (λ (l : List Item). told.item_sectors (slice_index_or l i told.no_item)) (told-items c) ∙ item-count (items_at setup.clients.items c) i here in
+      omega (arith, within, asked, count)
+
+  -- a byte of it is the one that is told
+  byte-at : (c i b k : ℕ) → b < told.item_sectors (slice_index_or (told.items_at service.clients c) i told.no_item) → k < 512 → handed_byte (served.handed_in closed) c i b k ≡ told_byte service c i b k
+  byte-at c i b k within kb =
       let lt = is-client c i b within in
-      let here = among c i reply.Data lt is in
+      let here = is-item c i b within in
       let items : List Item = items_at setup.clients.items c in
       let row = (s.hands.rows c lt).each i here in
       let first : (region_at (served.handed_in closed) c i).first ≡ laid.sectors_before setup.clients.items c + below (laid.sectors_at items) i = ap (λ (r : Region). r.first) row in
-      let count : (region_at (served.handed_in closed) c i).count ≡ laid.sectors_at items i = ap (λ (r : Region). r.count) row in
-      let asked : told.item_sectors (slice_index_or (told.items_at closed.clients.items c) i told.no_item) ≡ laid.sectors_at items i =
-      ap (λ (l : List Item). told.item_sectors (slice_index_or l i told.no_item)) (told-items c) ∙ item-count items i here in
       let clients : told.sectors_before closed.clients.items c ≡ laid.sectors_before setup.clients.items c =
       sectors-alike closed.clients.items c ∙ before-same closed.clients.items setup.clients.items s.tells.items c in
       let behind : told.row_sectors (take i (told.items_at closed.clients.items c)) ≡ below (laid.sectors_at items) i =
       ap (λ (l : List Item). told.row_sectors (take i l)) (told-items c) ∙ items-before items i in
       let place : 512 * ((region_at (served.handed_in closed) c i).first + b) + k ≡ 512 * told.sectors_before closed.clients.items c + (512 * told.row_sectors (take i (told.items_at closed.clients.items c)) + (512 * b + k)) = omega (arith, first, clients, behind) in
-      s.hands.handed tells c i b k is (omega (arith, within, asked, count)) kb
-      ∙ (sector-byte closed.sectors ((region_at (served.handed_in closed) c i).first + b) k kb
+      sector-byte closed.sectors ((region_at (served.handed_in closed) c i).first + b) k kb
       ∙ (ap (λ n. get_or closed.sectors n 0) place
-      ∙ sym (item-byte closed.sectors (told.items_at closed.clients.items c) (512 * told.sectors_before closed.clients.items c) i (told.item_sectors (slice_index_or (told.items_at closed.clients.items c) i told.no_item)) (512 * b + k) (omega (arith, within, kb)))))
+      ∙ sym (item-byte closed.sectors (told.items_at closed.clients.items c) (512 * told.sectors_before closed.clients.items c) i (told.item_sectors (slice_index_or (told.items_at closed.clients.items c) i told.no_item)) (512 * b + k) (omega (arith, within, kb))))
+
+  byte-from : disk.tells → (c i b k : ℕ) → slice_get (s.now.clients c).replies i ≡ Some reply.Data → b < told.item_sectors (slice_index_or (told.items_at service.clients c) i told.no_item) → k < 512 → (s.now.clients c).handed i b k ≡ told_byte service c i b k
+  byte-from tells c i b k is within kb = s.hands.handed.read tells c i b k is (in-region c i b within) kb ∙ byte-at c i b k within kb
+
+  zero-from : (c i b k : ℕ) → (slice_get (s.now.clients c).replies i ≡ Some reply.Data → ⊥) → b < told.item_sectors (slice_index_or (told.items_at service.clients c) i told.no_item) → k < 512 → told_byte service c i b k ≡ 0
+  zero-from c i b k none within kb = sym (byte-at c i b k within kb) ∙ s.hands.handed.zeros c i b k none (in-region c i b within) kb
 
   replies-told : (c : ℕ) → c ≢ 16 → told.replies_at service.replies c ≡ (s.now.clients c).replies
   replies-told c other = replies-alike (slice_get closed.replies.items c) ∙ s.tells.replies c other
 
   items-told : (c : ℕ) → c ≢ 16 → told.items_at service.clients c ≡ (s.now.clients c).items
   items-told c other = told-items c ∙ sym (s.rests.items c other)
+
+  -- there is a sector for each block that is read, and none else
+  sectors-from : length service.sectors ≡ 512 * sum_by (λ (row : Vec Item Global). told.row_sectors row.items) service.clients
+  sectors-from =
+      let count = s.tells.clients in
+      let all : take 16 closed.clients.items ≡ closed.clients.items = take_all 16 closed.clients.items (omega (arith, few, count)) in
+      let alike : told.sectors_before closed.clients.items 16 ≡ laid.sectors_before setup.clients.items 16 = sectors-alike closed.clients.items 16 ∙ before-same closed.clients.items setup.clients.items s.tells.items 16 in
+      let whole : told.sectors_before closed.clients.items 16 ≡ sum_by (λ (row : Vec Item Global). told.row_sectors row.items) closed.clients.items = ap (λ (l : List (Vec Item Global)). sum_by (λ (row : Vec Item Global). told.row_sectors row.items) l) all in
+      s.hands.all ∙ ap (λ (n : ℕ). 512 * n) (sym alike ∙ whole)
 
   -- each item has its reply, and each block that is read its sector
   pub stands-from : told.StandFor service.clients service.replies service.sectors
@@ -200,13 +223,7 @@ module _ {L D : Type 0} (lay : LayoutGhosts L) (disk : DiskGhosts D) (setup : Se
         let most = s.tells.few in
         let other = not-last c (omega (arith, lt, most)) in
         ap (λ (l : List Reply). length l) (replies-told c other) ∙ (s.rests.replied c ∙ ap (λ (l : List Item). length l) (sym (items-told c other)));
-    enough =
-        let count = s.tells.clients in
-        let all : take 16 closed.clients.items ≡ closed.clients.items = take_all 16 closed.clients.items (omega (arith, few, count)) in
-        let alike : told.sectors_before closed.clients.items 16 ≡ laid.sectors_before setup.clients.items 16 = sectors-alike closed.clients.items 16 ∙ before-same closed.clients.items setup.clients.items s.tells.items 16 in
-        let whole : told.sectors_before closed.clients.items 16 ≡ sum_by (λ (row : Vec Item Global). told.row_sectors row.items) closed.clients.items = ap (λ (l : List (Vec Item Global)). sum_by (λ (row : Vec Item Global). told.row_sectors row.items) l) all in
-        let room = s.hands.enough in
-        omega (arith, alike, whole, room);
+    enough = let all = sectors-from in omega (arith, all);
   }
 
   pub tells-from : Tells disk a setup.devices.items service s.events s.now
@@ -219,5 +236,7 @@ module _ {L D : Type 0} (lay : LayoutGhosts L) (disk : DiskGhosts D) (setup : Se
     history = s.tells.history;
     trace = s.tells.trace ∙ trace-alike setup.trace s.events;
     stands = stands-from;
+    sectors = sectors-from;
     handed = byte-from;
+    zeros = zero-from;
   }

@@ -22,8 +22,9 @@ use Rattle.raid_script.specs.Replies.{items_in, items_at}
 use Rattle.raid_script.proofs.OwnItems.{own_items}
 use Rattle.top_sweep.specs.Apart.{Touches, IsApart, id_of}
 use Rattle.top_run.specs.Work.{Work, Service}
-use Rattle.top_run.specs.Ran.{IsLossAtEnd, Ran}
+use Rattle.top_run.specs.Ran.{Ran}
 use Rattle.top_run.specs.InTurn.{plain_reply}
+use Rattle.top_run.proofs.AtEnd.{not-before}
 use Rattle.top_run.proofs.Caused.{replies-caused}
 use Rattle.top_run.proofs.InTurnAlone.{items-all}
 use Rattle.top_run.proofs.InTurnOps.{EachRuns, AllRun, own_of, row_asks, ops-at, item-of}
@@ -40,7 +41,7 @@ module _ {D : Type 0} (g : Ghosts D) (a : Work) (taken : List (Option D)) (s : S
   -- ## The array isn't lost
 
   no-loss : r.now.lost ≡ None
-  no-loss = (subst (λ (l : Option Loss). IsLossAtEnd a.layout r.now (states_of a.layout s.ending.columns) l) none r.ends.lost).0
+  no-loss = not-before a.layout r.now.lost s.ending.lost (states_of a.layout s.ending.columns) r.ends.lost none
 
   -- ## Items
 

@@ -34,17 +34,19 @@ use Rattle.eng_array.specs.declared.start.Start.TheVariants as start
 use Rattle.raid_script.specs.Asked.{seen, Fails}
 use Rattle.raid_script.specs.Replies.{items_in, items_at}
 use Rattle.top_close.specs.Dying.{AnyCause}
+use Rattle.top_close.specs.Ended.{IsLossBy}
 use Rattle.top_close.proofs.DyingLaws.{columns_die, dies_apart, dies_unfilled, lost_no_less}
 use Rattle.top_close.proofs.ClosingLaws.{closing_dead, closing_lost}
 use Rattle.top_close.specs.Stage.{IsGivenUp}
-use Rattle.top_serve.specs.Served.{IsKeptAs, IsUnbuilt}
+use Rattle.top_serve.specs.Served.{IsKeptAs, IsUnbuilt, WasFailed}
 use Rattle.top_serve.specs.Setups.{with_start}
 use Rattle.top_serve.proofs.Alike.{IsOther, other-or-not, start-other}
 use Rattle.top_serve.proofs.Behind.{IsFresh}
 use Rattle.top_serve.proofs.Closings.{none-count}
 use Rattle.top_run.specs.Work.{Work, Service}
-use Rattle.top_run.specs.Ran.{WasFailed, IsDeadBy, IsLossAtEnd, EndsAs, RisesAt, IsFailedBy, begun_for, Ran, RanPlain}
+use Rattle.top_run.specs.Ran.{IsDeadBy, EndsAs, RisesAt, IsFailedBy, begun_for, Ran, RanPlain}
 use Rattle.top_run.specs.Outliving.{HasFail, done_reply, MayDie, OutlivesCall, HasFaulted, IsAnswered, IsReplyTo, AllAnswered}
+use Rattle.top_run.proofs.AtEnd.{not-before}
 use Rattle.top_run.proofs.Columns.{device-on, device-same, given-unspread, kept-same, kept-unspread, no-device, not-so}
 use Rattle.top_run.proofs.Caused.{loss-caused, replies-caused}
 use Rattle.top_run.proofs.Kept.{one-kept}
@@ -294,20 +296,20 @@ module _ {D : Type 0} (g : Ghosts D) (a : Work) (taken back : List (Option D)) (
       lost-excludes y was.after.columns loss was.is_lost (lost_no_less y was.after.columns ran.now.columns (record { count = was.count; each = was.each }) now)
 
   pub runs-outlived : OutlivesCall g a taken back → s.ending.lost ≡ None
-  runs-outlived outlives = by s.ending.lost refl ran.ends.lost
+  runs-outlived outlives = by ran.now.lost s.ending.lost refl refl ran.ends.lost
     where
       kept : NotLost y last
       kept = lost_no_less y last (states_of y rest) (columns_die AnyCause y s.ending.columns rest only-dead (dies_unfilled AnyCause s.ending.columns rest only-dead none-left) one-ending) (outlives rest died-so)
 
-      by : (o : Option Loss) → s.ending.lost ≡ o → IsLossAtEnd y ran.now last o → s.ending.lost ≡ None
-      by None is h = is
-      by (Some loss) is (inl h) = absurd (lost-still loss h kept)
-      by (Some loss) is (inr h) = absurd (lost-excludes y last loss h.1 kept)
+      by : (was o : Option Loss) → ran.now.lost ≡ was → s.ending.lost ≡ o → IsLossBy y was last o → s.ending.lost ≡ None
+      by (Some loss) o now is h = absurd (lost-still loss now kept)
+      by None None now is h = is
+      by None (Some loss) now is h = absurd (lost-excludes y last loss h kept)
 
   -- so a run that isn't lost in the end was never lost
   never-lost : s.ending.lost ≡ None → (loss : Loss) → ran.now.lost ≡ Some loss → ⊥
   never-lost none loss is =
-      let z : Some loss ≡ None = sym is ∙ (subst (λ o. IsLossAtEnd y ran.now last o) none ran.ends.lost).0 in
+      let z : Some loss ≡ None = sym is ∙ not-before y ran.now.lost s.ending.lost last ran.ends.lost none in
       let u : ⊥ = cc in u
 
   -- ## Devices that failed

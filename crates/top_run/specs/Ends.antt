@@ -2,6 +2,7 @@
 use Rattle.std.specs.Prelude.{◌≡◌, ◌⊎◌, ◌≤◌, ℕ, true, List, length, Option, None, count_by}
 use Rattle.blk_disk.specs.declared.disk.Disk.{Ghosts as DiskGhosts}
 use Rattle.blk_disk.specs.Devices.{Changes, calls_of}
+use Rattle.lay_core.specs.Layout.{IsLayout}
 use Rattle.lay_core.specs.declared.layout.Layout.{Ghosts as LayoutGhosts}
 use Rattle.eng_cols.specs.Cols.{is_set_filling, is_set_spread}
 use Rattle.eng_cols.specs.Deaths.{Dies}
@@ -23,8 +24,9 @@ module _ {L D : Type 0} (lay : LayoutGhosts L) (closed : Closed L D) where
     pub filling : count_by is_set_filling closed.columns.items ≤ 1
     pub spread : count_by is_set_spread closed.columns.items ≤ 1
 
-  -- What was served has ended: what is told but for columns and loss is what was handed back, and nothing of a rebuild; the devices in use are settled; and the loss is that of before, or else of the columns in the end.
+  -- What was served has ended, over a layout that has its laws: what is told but for columns and loss is what was handed back, and nothing of a rebuild; the devices in use are settled; and the loss is that of before, or else of the columns in the end.
   pub record RunIsEnded (disk : DiskGhosts D) (s : Service) (back : List (Option D)) : Type 0 where
+    pub law : IsLayout (lay.shape closed.layout)
     pub told : s ≡ service_of closed None s.ending
     pub settled : AreSettled disk (length closed.columns.items) closed.columns.items s.ending.columns closed.devices.items back
     pub last : (c d : ℕ) → HasDeviceOn s.ending.columns c d → EndsSettled (calls_of disk back d)

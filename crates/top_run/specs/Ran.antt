@@ -1,5 +1,5 @@
 -- What a run of clients is, and what it leaves.
-use Rattle.std.specs.Prelude.{◌≡◌, ◌≢◌, ◌⊎◌, ◌<◌, ◌≤◌, ◌+◌, ◌*◌, ℕ, List, [], ◌∷◌, ◌++◌, length, Bool, true, false, Option, Some, None, map, drop, reverse, slice_get, slice_index, slice_index_or, Contains}
+use Rattle.std.specs.Prelude.{◌≡◌, ◌≢◌, ◌⊎◌, ◌<◌, ◌≤◌, ◌+◌, ◌*◌, ℕ, List, [], ◌∷◌, ◌++◌, length, Bool, true, false, Option, Some, None, map, drop, reverse, slice_get, slice_index, slice_index_or, sum_by, Contains}
 use Rattle.blk_plain.specs.declared.op.Op.{Op}
 use Rattle.blk_plain.specs.declared.op.OpId.{OpId}
 use Rattle.blk_disk.specs.declared.disk.Call.{Call}
@@ -16,8 +16,6 @@ use Rattle.eng_cols.specs.declared.spot.Loss.{Loss}
 use Rattle.eng_cols.specs.Cols.{ColumnState, HasDevice}
 use Rattle.eng_cols.specs.Contents.{Agrees, AnyStripe, InSync}
 use Rattle.eng_cols.specs.Deaths.{Dies}
-use Rattle.eng_cols.specs.Lost.{IsLost, NotLost}
-use Rattle.eng_world.specs.declared.item.Item.TheVariants as item
 use Rattle.eng_world.specs.declared.item.Reply.TheVariants as reply
 use Rattle.eng_world.specs.declared.item.Traced.{Traced}
 use Rattle.eng_world.specs.declared.item.Traced.TheVariants as event
@@ -25,9 +23,8 @@ use Rattle.eng_world.specs.Planning.{Graphs}
 use Rattle.eng_world.specs.Plain.{replay}
 use Rattle.eng_world.specs.World.{World}
 use Rattle.eng_world.specs.Step.{IsOpening, EventsLead}
-use Rattle.eng_world.specs.Legal.{AreOps, ReplyOf, RepliesFit}
+use Rattle.eng_world.specs.Legal.{AreOps, RepliesFit}
 use Rattle.eng_world.specs.Invariant.{IsTold, AllReplied}
-use Rattle.eng_world.specs.Causes.{ItemAt}
 use Rattle.eng_world.specs.Rebuilding.{SpreadAlike}
 use Rattle.eng_world.specs.Rows.{IsInRows}
 use Rattle.eng_cols.specs.Stripes.{states_of}
@@ -35,12 +32,13 @@ use Rattle.eng_state.specs.Shows.{AreTold}
 use Rattle.eng_array.specs.Starts.{column_of}
 use Rattle.eng_array.specs.declared.start.Start.{Start}
 use Rattle.raid_script.specs.Asked.{Asked, Other, seen}
-use Rattle.raid_script.specs.Replies.{StandFor, item_bytes, item_sectors, items_at, no_item, replies_at, sectors_before}
+use Rattle.raid_script.specs.Replies.{StandFor, item_bytes, item_sectors, items_at, no_item, replies_at, row_sectors, sectors_before}
 use Rattle.top_serve.specs.Setups.{started_from, with_start}
 use Rattle.top_serve.specs.Caused.{RestsOn, WentBadOn}
-use Rattle.top_serve.specs.Served.{BeginsBy, FillsBy, IsKeptAs, IsRebuiltBy, IsUnbuilt, SpreadsAlone, done_before}
+use Rattle.top_serve.specs.Served.{BeginsBy, FillsBy, IsKeptAs, IsRebuiltBy, IsUnbuilt, SpreadsAlone, WasFailed, done_before}
 use Rattle.top_close.specs.Calls.{EndsSettled}
 use Rattle.top_close.specs.Closes.{ClosesAs}
+use Rattle.top_close.specs.Ended.{IsLossBy}
 use Rattle.top_close.specs.Settled.{HasDeviceOn, has_device}
 use Rattle.top_close.specs.Stage.{IsGivenUp, IsGivenUpIn}
 use Rattle.top_run.specs.Work.{Work, Service}
@@ -60,17 +58,6 @@ trace_of false events = []
 -- byte k of block b of what item i of client c is handed, by what is printed
 abbrev pub told_byte : Service → ℕ → ℕ → ℕ → ℕ → ℕ
 told_byte s c i b k = slice_index (item_bytes (items_at s.clients c) (drop (512 * sectors_before s.clients c) s.sectors) i (item_sectors (slice_index_or (items_at s.clients c) i no_item))) (512 * b + k)
-
--- an item asks that the column fail, and was replied ok
-pub record WasFailed (now : World) (c : ℕ) : Type 0 where
-  pub id : OpId
-  pub asked : ItemAt now id (item.Fail c)
-  pub replied : ReplyOf now id reply.Okay
-
--- what the array was lost by in the run, and else by its columns in the end; if it was lost in either
-abbrev pub IsLossAtEnd : Shape → World → List ColumnState → Option Loss → Type 0
-IsLossAtEnd y now cols None = (now.lost ≡ None) × NotLost y cols
-IsLossAtEnd y now cols (Some loss) = (now.lost ≡ Some loss) ⊎ ((now.lost ≡ None) × IsLost y cols loss)
 
 -- each item is one that a script may have: so it is no rebuild
 abbrev pub AsksAsScripts : Work → Type 0
@@ -115,7 +102,7 @@ module _ {D : Type 0} (g : Ghosts D) (a : Work) (taken : List (Option D)) where
       pub replied : AllReplied now
       pub out : now.out ≡ 0
 
-    -- What is told of it: the items that were asked of at most sixteen clients, a reply to each, the history and the events, and what reads hand out, a sector for each block that they ask, which are their blocks where devices tell what they hold. Of client 16, which rebuilds, neither items nor replies are told.
+    -- What is told of it: the items that were asked of at most sixteen clients, a reply to each, the history and the events, and what reads hand out, a sector for each block that they ask and none else: where the reply is data its blocks, where devices tell what they hold, and zeros where it's another one. Of client 16, which rebuilds, neither items nor replies are told.
     pub record Tells (events : List Traced) (now : World) : Type 0 where
       pub asked : map (λ items. map seen items.items) s.clients ≡ a.clients
       pub few : length s.clients ≤ 16
@@ -125,7 +112,9 @@ module _ {D : Type 0} (g : Ghosts D) (a : Work) (taken : List (Option D)) where
       pub history : s.history ≡ now.history
       pub trace : s.trace ≡ trace_of a.trace events
       pub stands : StandFor s.clients s.replies s.sectors
+      pub sectors : length s.sectors ≡ 512 * sum_by (λ row. row_sectors row.items) s.clients
       pub handed : g.tells → (c i b k : ℕ) → slice_get (now.clients c).replies i ≡ Some reply.Data → b < item_sectors (slice_index_or (items_at s.clients c) i no_item) → k < 512 → (now.clients c).handed i b k ≡ told_byte s c i b k
+      pub zeros : (c i b k : ℕ) → (slice_get (now.clients c).replies i ≡ Some reply.Data → ⊥) → b < item_sectors (slice_index_or (items_at s.clients c) i no_item) → k < 512 → told_byte s c i b k ≡ 0
 
     module _ (back : List (Option D)) where
       -- ## What it means
@@ -170,7 +159,7 @@ module _ {D : Type 0} (g : Ghosts D) (a : Work) (taken : List (Option D)) where
         pub stopped : (start : Start) → a.start ≡ Some start → slice_get kept (column_of start) ≡ Some column.Dead → IsStoppedBy now start
         pub dies : Dies (λ c. RisesAt c ⊎ IsGivenUp s.ending.lost kept c) kept s.ending.columns
         pub given_up : IsGivenUpIn s.ending.lost s.ending.columns
-        pub lost : IsLossAtEnd a.layout now (states_of a.layout s.ending.columns) s.ending.lost
+        pub lost : IsLossBy a.layout now.lost (states_of a.layout s.ending.columns) s.ending.lost
 
       -- ## Causes
 

@@ -1,5 +1,5 @@
 -- What is handed back is what the run tells: items and replies, columns, history, trace, and what reads handed out.
-use Rattle.std.proofs.Common.{◌≡◌, ◌≢◌, inl, inr, ℕ, ◌<◌, List, [], ◌∷◌, ◌++◌, length, Bool, true, false, Option, refl, sym, ◌∙◌, ap, subst, arith}
+use Rattle.std.proofs.Common.{◌≡◌, ◌≢◌, inl, inr, ℕ, ◌<◌, ◌*◌, List, [], ◌∷◌, ◌++◌, length, Bool, true, false, Option, refl, sym, ◌∙◌, ap, subst, arith}
 use Rattle.std.specs.Prelude.{reverse, slice_index_or}
 use Rattle.std.proofs.lemmas.Bool.{cases_lt}
 use Rattle.std.proofs.lemmas.Option.{slice_get_past}
@@ -14,9 +14,10 @@ use Rattle.eng_log.specs.declared.region.Region.{Region}
 use Rattle.eng_parts.specs.declared.setup.Setup.{Setup}
 use Rattle.eng_parts.specs.declared.setup.Closed.{Closed}
 use Rattle.eng_log.specs.Given.{items_at}
-use Rattle.eng_log.specs.Handed.{Handout, AreRegions, region_at, handed_byte}
+use Rattle.eng_log.specs.Handed.{Handout, Hands, all_sectors}
 use Rattle.eng_log.specs.Laid.{sectors_before, IsRow}
 use Rattle.eng_log.specs.Log.{Logged}
+use Rattle.eng_log.proofs.Laying.{laid-sectors}
 use Rattle.eng_clients.specs.Replied.{replies_in, replies_at}
 use Rattle.eng_state.specs.declared.array.Array.{Array}
 use Rattle.eng_array.specs.declared.start.Start.{Start}
@@ -29,7 +30,6 @@ use Rattle.top_serve.specs.Served.{trace_of, handed_in, CoreTells, HandsOut}
 use Rattle.top_serve.proofs.Behind.{ready}
 use Rattle.top_serve.proofs.Between.{Course, no-items}
 use Rattle.top_serve.proofs.Begins.{replied}
-use Rattle.top_serve.proofs.Enough.{all-enough}
 use Rattle.top_serve.proofs.Framed.{layout-back, spare-back, untraced, regions-same}
 use Rattle.top_serve.proofs.Closings.{closes-judged, closes-one, closes-one-spread, one-count}
 use Rattle.top_serve.proofs.Starting.{first_of}
@@ -134,9 +134,15 @@ module _ {L D : Type 0} (lay : LayoutGhosts L) (disk : DiskGhosts D) (setup : Se
   rows-back : (c : ℕ) → c < 16 → IsRow (items_at setup.clients.items c) (sectors_before setup.clients.items c) (length (items_at setup.clients.items c)) (slice_index_or closed.regions.items c [])
   rows-back c lt = subst (λ (rows : List (List Region)). IsRow (items_at setup.clients.items c) (sectors_before setup.clients.items c) (length (items_at setup.clients.items c)) (slice_index_or rows c [])) (sym regions-back) (p.between.opened.laid.rows c lt)
 
+  -- there are as many sectors as the regions have, which are those of the opening
+  sectors-back : all_sectors last.log.handed ≡ sectors_before setup.clients.items 16
+  sectors-back =
+      ap (λ (rows : List (List Region)). all_sectors (record { bytes = []; regions = rows })) (regions-same lay disk setup how first last closed p)
+      ∙ laid-sectors setup.clients.items (shape_in lay setup).stripes first.log.handed p.between.opened.laid
+
   pub hands : HandsOut lay disk setup how closed p.now
   hands = record {
     rows = rows-back;
-    enough = all-enough setup.clients.items (handed_in closed) (subst (λ (h : Handout). AreRegions h) (sym handed-back) p.between.regions) rows-back 16 (omega arith);
-    handed = λ told c i b k is within kb. subst (λ (h : Handout). (p.now.clients c).handed i b k ≡ handed_byte h c i b k) (sym handed-back) (p.shows_now.handed told c i b k is (subst (λ (h : Handout). b < (region_at h c i).count) handed-back within) kb);
+    all = ap (λ (bytes : List ℕ). length bytes) p.between.closes.is_closed.sectors ∙ (p.between.regions.all ∙ ap (λ (n : ℕ). 512 * n) sectors-back);
+    handed = subst (λ (h : Handout). Hands disk.tells h p.now.clients) (sym handed-back) p.shows_now.handed;
   }

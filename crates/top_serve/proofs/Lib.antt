@@ -10,7 +10,6 @@ pub mod MayBegin
 pub mod Closings
 pub mod Between
 pub mod Behind
-pub mod Enough
 pub mod Framed
 pub mod Begins
 pub mod Blames

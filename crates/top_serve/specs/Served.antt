@@ -30,7 +30,7 @@ use Rattle.eng_rest.specs.Left.{IsOwn}
 use Rattle.eng_parts.specs.declared.setup.Setup.{Setup}
 use Rattle.eng_parts.specs.declared.setup.Closed.{Closed}
 use Rattle.eng_log.specs.Given.{items_at}
-use Rattle.eng_log.specs.Handed.{Handout, region_at, handed_byte}
+use Rattle.eng_log.specs.Handed.{Handout, Hands}
 use Rattle.eng_log.specs.Laid.{sectors_before, IsRow}
 use Rattle.eng_clients.specs.Replied.{replies_at}
 use Rattle.eng_cols.specs.Stripes.{done_at, states_of}
@@ -154,11 +154,11 @@ module _ {L D : Type 0} (lay : LayoutGhosts L) (disk : DiskGhosts D) (setup : Se
       pub lost : closed.lost ≡ now.lost
       pub trace : closed.trace.items ≡ trace_of setup.trace events
 
-    -- The regions lie one behind the other, one for each item, as long as its read, and there are bytes for all of them; and data replies hand out what is there, which is said where devices tell what they hold.
+    -- The regions lie one behind the other, one for each item, as long as its read, and there are no bytes but theirs; data replies hand out what is there, which is said where devices tell what they hold, and what else is there is zero.
     pub record HandsOut (now : World) : Type 0 where
       pub rows : (c : ℕ) → c < 16 → IsRow (items_at setup.clients.items c) (sectors_before setup.clients.items c) (length (items_at setup.clients.items c)) (slice_index_or closed.regions.items c [])
-      pub enough : 512 * sectors_before setup.clients.items 16 ≤ length closed.sectors
-      pub handed : disk.tells → (c i b k : ℕ) → slice_get (now.clients c).replies i ≡ Some reply.Data → b < (region_at (handed_in closed) c i).count → k < 512 → (now.clients c).handed i b k ≡ handed_byte (handed_in closed) c i b k
+      pub all : length closed.sectors ≡ 512 * sectors_before setup.clients.items 16
+      pub handed : Hands disk.tells (handed_in closed) now.clients
 
     -- the sector may have changed: it is one of the array's rows, on a device that was in a column or is filled; or the device has no such sector
     abbrev pub CoreMayChange : ℕ → ℕ → Type 0

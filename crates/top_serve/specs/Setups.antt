@@ -62,9 +62,9 @@ module _ {L D : Type 0} (lay : LayoutGhosts L) where
   IsServeRefusal setup (fault.Lost loss) = IsLostBy setup loss
   IsServeRefusal setup fault.Memory = Unit {0}
 
-  -- the room is one for what is to be served: its layout, as many devices, its items, and its trace
+  -- the room is one for what is to be served: its layout, as many devices, its items and graphs, and its trace
   abbrev pub IsRoomOf : Setup L D → CoreRoom D → Type 0
-  IsRoomOf setup room = IsRoomFor (shape_in setup) (length setup.devices.items) setup.clients.items setup.trace room
+  IsRoomOf setup room = IsRoomFor (shape_in setup) (length setup.devices.items) setup.clients.items setup.graphs.items setup.trace room
 
   -- the check units of the array fit its data, by what its devices hold
   abbrev pub WasInSync : DiskGhosts D → Setup L D → Type 0

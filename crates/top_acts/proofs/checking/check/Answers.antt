@@ -1,7 +1,9 @@
 use Rattle.std.proofs.Common.{◌≡◌, ◌∙◌, ap, length, subst, sym}
 use Rattle.eng_cols.specs.Settable.{IsSettable}
 use Rattle.eng_cols.specs.Stripes.{states_of}
+use Rattle.raid_recon.specs.Ahead.{rows_ahead}
 use Rattle.raid_recon.specs.Array.{Failed}
+use Rattle.raid_recon.proofs.Windows.{rows-few}
 use Rattle.top_rounds.specs.Rounds.{in_end}
 use Rattle.top_rounds.proofs.RoundLaws.{any_death, settable_after, whole_slice}
 use Rattle.top_acts.specs.Checked.{IsChecked}
@@ -45,6 +47,8 @@ returns-in-Some-clause-checked g c =
       none = s.none;
       frame = s.frame;
       dies = s.dies;
+      rows = rows_ahead y c.args.room.now;
+      room = rows-few y c.args.room.now (g.met.L.Layout.is_layout c.args.layout.now);
       swept = s.swept;
       calls = s.calls;
       after_is = j.ensures.columns ∙ ap (in_end j.new.hand.ending.lost) same;
@@ -70,6 +74,8 @@ returns-in-None-clause-checked g c =
       none = s.none;
       frame = s.frame;
       dies = s.dies;
+      rows = rows_ahead y c.args.room.now;
+      room = rows-few y c.args.room.now (g.met.L.Layout.is_layout c.args.layout.now);
       swept = s.swept;
       calls = s.calls;
       after_is = j.ensures.columns ∙ ap (in_end j.new.hand.ending.lost) same;

@@ -3,9 +3,16 @@ use Rattle.std.proofs.lemmas.Option.{slice_get-get_or}
 use Rattle.eng_cols.specs.Cols.{device_set}
 use Rattle.top_close.specs.Settled.{HasDeviceOn}
 use Rattle.top_rounds.proofs.Devices.{there_within}
-use Rattle.top_rounds.proofs.PassLaws.{labelled-more, labelled-skip, still_there, still_same, try-failed, try-whole}
+use Rattle.top_rounds.proofs.PassLaws.{labelled-more, labelled-none, labelled-skip, still_there, still_same, try-failed, try-whole}
 use Rattle.top_rounds.proofs.pass.write_until_one_fails.Goals as goal
 use Rattle.top_rounds.proofs.pass.write_until_one_fails.Goals.{in-Some+else-not-write_column, in_default}
+
+pub loop-column-init : goal.loop-column-init
+loop-column-init g c = record { labelled = labelled-none g.D.Disk c.args.label.now c.args.columns.now c.args.devices.now; same = refl }
+
+pub write_column-requires-clause-live : goal.write_column-requires-clause-live
+write_column-requires-clause-live g c =
+    ap device_set (slice_get-get_or c.loop-column.columns c.loop-column.column _ (omega (arith, c.loop-column-test.true, c.loop-column.auto.columns))) ∙ (sym c.device.ensures ∙ c.in-Some.is)
 
 pub write_column-requires-clause-there : goal.write_column-requires-clause-there
 write_column-requires-clause-there g c =

@@ -19,4 +19,4 @@ returns g c =
       ending = record { columns = c.settle.new.hand.ending.columns.items; lost = c.settle.new.hand.ending.lost };
     } in
     subst (λ back. RunIsEnded g.L.Layout c.args.closed g.D.Disk v back) (sym (lent-back devices.items new devices.len a))
-    (is-ended g.L.Layout c.args.closed g.D.Disk v c.as_mut_slice.result.now new refl c.as_mut_slice.ensures.value c.settle.ensures.settled c.settle.ensures.last c.settle.ensures.lost)
+    (is-ended g.L.Layout c.args.closed g.D.Disk v c.as_mut_slice.result.now new (g.met.L.Layout.is_layout c.args.closed.layout) refl c.as_mut_slice.ensures.value c.settle.ensures.settled c.settle.ensures.last c.settle.ensures.lost)

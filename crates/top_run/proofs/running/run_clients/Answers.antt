@@ -10,7 +10,6 @@ pub returns-in-Ok-clause-ran : goal.returns-in-Ok-clause-ran
 returns-in-Ok-clause-ran g c =
     let none = none-closed g.L.Layout g.D.Disk c.args.setup c.in-Ok.closed c.requires.setup c.in-Ok.ensures.served c.requires.filling in
     has-run g.L.Layout g.D.Disk c.args.setup c.in-Ok.closed c.requires.setup c.requires.few c.in-Ok.ensures.served none (service_seen c.ended.result.0) c.ended.result.1.items c.ended.ensures
-    ((g.met.L.Layout g.world.𝓛 g.world.𝓜 g.world.𝓡 ((λ s k. k), (λ k. k), (λ k. k), (λ k. k))).is_layout c.args.setup.layout)
 
 pub returns-in-Ok-clause-stands : goal.returns-in-Ok-clause-stands
 returns-in-Ok-clause-stands g c =
