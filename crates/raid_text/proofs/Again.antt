@@ -114,7 +114,7 @@ no_comment (b ∷ bs) h =
     let more : 1 + position_or_len (λ b. eqb b 35) bs ≡ suc (position_or_len (λ b. eqb b 35) bs) = omega arith in
     rw (not_comment b both.0, more) (ap (λ (rest : Text). b ∷ rest) (no_comment bs both.1))
 
-whole_body : (line : Text) → list_all may_stand line ≡ true → body_of line ≡ line
+pub whole_body : (line : Text) → list_all may_stand line ≡ true → body_of line ≡ line
 unfolding body_of
 whole_body line h = rw (last_byte line (length line - 1) h) (no_comment line h)
 
@@ -130,7 +130,7 @@ begins ((b ∷ bs) ∷ []) (some, are) = rw (not_blank b (first_byte b bs (and_p
 begins ((b ∷ bs) ∷ v ∷ words) (some, are) = rw (not_blank b (first_byte b bs (and_parts (is_word (b ∷ bs)) (list_all is_word (v ∷ words)) are).0)) refl
 
 -- a line before byte 10 is the first line
-first_line : (line rest : Text) → list_all may_stand line ≡ true → raw_lines (line ++ 10 ∷ rest) ≡ line ∷ raw_lines rest
+pub first_line : (line rest : Text) → list_all may_stand line ≡ true → raw_lines (line ++ 10 ∷ rest) ≡ line ∷ raw_lines rest
 unfolding raw_lines
 first_line line rest h =
     let some : 0 < length (slice_split (λ (b : ℕ). eqb b 10) rest) = omega (arith, length-slice_split (λ (b : ℕ). eqb b 10) rest) in

@@ -1,5 +1,5 @@
 //! Where lines, comments and words begin and end.
-ghost use Rattle.std.specs.Prelude.{◌≡◌, ◌<◌, ◌≤◌, ◌∷◌, [], length, IfSome, IfNone, not, ◌==◌};
+ghost use Rattle.std.specs.Prelude.{◌≡◌, ◌<◌, ◌≤◌, ◌∷◌, [], length, slice_index, IfSome, IfNone, not, ◌==◌};
 ghost use Rattle.std.specs.List.{position_or_len};
 ghost use Rattle.std.specs.Str.Lines.{strip_carriage_return};
 ghost use Rattle.raid_text.specs.Text.{raw_lines, body_of, has_word, is_sound, words_of, is_blank, is_word_byte, may_stand};
@@ -12,8 +12,8 @@ fn first_at(bytes: &[u8], byte: u8) -> usize
     bytes.iter().position(|b| *b == byte).unwrap_or(bytes.len())
 }
 
-/// The first line of a text that isn't empty, and the text behind it.
-pub fn split_line(text: &[u8]) -> (&[u8], &[u8])
+// The first line of a text that isn't empty, and the text behind it.
+fn split_line(text: &[u8]) -> (&[u8], &[u8])
     requires { 0 < length text.now }
     ensures lines { raw_lines text.now ≡ result.0.now ∷ raw_lines result.1.now }
     ensures shorter { length result.1.now < length text.now }
@@ -37,9 +37,9 @@ fn without_return(line: &[u8]) -> &[u8]
     }
 }
 
-/// What stands on a line before its comment.
+// What stands on a line before its comment.
 #[tactic(auto, unfolding(crate::specs::Text::body_of))]
-pub fn body(line: &[u8]) -> &[u8]
+fn body(line: &[u8]) -> &[u8]
     ensures { result.now ≡ body_of line.now }
 {
     let line = without_return(line);
@@ -59,9 +59,9 @@ fn is_word_byte(b: u8) -> bool
     (33 <= b && b <= 126) && b != b'#'
 }
 
-/// Whether each byte separates words or may stand in one.
+// Whether each byte separates words or may stand in one.
 #[tactic(auto, unfolding(crate::specs::Text::is_sound))]
-pub fn is_sound(body: &[u8]) -> bool
+fn is_sound(body: &[u8]) -> bool
     ensures { result ≡ is_sound body.now }
 {
     body.iter().all(|b| may_stand(*b))
@@ -72,6 +72,82 @@ fn may_stand(b: u8) -> bool
     ensures { result ≡ may_stand b }
 {
     is_blank(b) || is_word_byte(b)
+}
+
+// The place of the first byte that may not stand outside a comment, or the length where there is none.
+fn first_odd(bytes: &[u8]) -> usize
+    ensures place { result ≡ position_or_len (λ b. not (may_stand b)) bytes.now }
+    ensures within { result ≤ length bytes.now }
+{
+    bytes
+        .iter()
+        .position(|b| !may_stand(*b))
+        .unwrap_or(bytes.len())
+}
+
+/// A line that was cut off a text: all of it, what stands before its comment, whether each byte of that separates words
+/// or may stand in one, and the text behind the line.
+#[derive(Clone, Copy)]
+pub(crate) struct Cut<'a> {
+    pub(crate) line: &'a [u8],
+    pub(crate) body: &'a [u8],
+    pub(crate) sound: bool,
+    pub(crate) behind: &'a [u8],
+}
+
+// The first line of a text that isn't empty, whatever stands on it.
+fn cut_any(text: &[u8]) -> Cut<'_>
+    requires { 0 < length text.now }
+    ensures lines { raw_lines text.now ≡ result.line.now ∷ raw_lines result.behind.now }
+    ensures body { result.body.now ≡ body_of result.line.now }
+    ensures sound { result.sound ≡ is_sound result.body.now }
+    ensures shorter { length result.behind.now < length text.now }
+{
+    let (line, behind) = split_line(text);
+    let body = body(line);
+    Cut {
+        line,
+        body,
+        sound: is_sound(body),
+        behind,
+    }
+}
+
+// The first line, which ends there: at the first byte that may not stand outside a comment.
+fn cut_plain(text: &[u8], end: usize) -> Cut<'_>
+    requires first { end ≡ position_or_len (λ b. not (may_stand b)) text.now }
+    requires there { end < length text.now }
+    requires ends { slice_index text.now end ≡ 10 }
+    ensures lines { raw_lines text.now ≡ result.line.now ∷ raw_lines result.behind.now }
+    ensures body { result.body.now ≡ body_of result.line.now }
+    ensures sound { result.sound ≡ is_sound result.body.now }
+    ensures shorter { length result.behind.now < length text.now }
+{
+    let line = &text[..end];
+    Cut {
+        line,
+        body: line,
+        sound: true,
+        behind: &text[end + 1..],
+    }
+}
+
+/// The first line of a text that isn't empty.
+///
+/// Most lines end at the first byte that may not stand outside a comment, which one pass finds.
+pub(crate) fn cut_line(text: &[u8]) -> Cut<'_>
+    requires { 0 < length text.now }
+    ensures lines { raw_lines text.now ≡ result.line.now ∷ raw_lines result.behind.now }
+    ensures body { result.body.now ≡ body_of result.line.now }
+    ensures sound { result.sound ≡ is_sound result.body.now }
+    ensures shorter { length result.behind.now < length text.now }
+{
+    let end = first_odd(text);
+    if end < text.len() && text[end] == b'\n' {
+        cut_plain(text, end)
+    } else {
+        cut_any(text)
+    }
 }
 
 /// Whether a byte doesn't separate words.

@@ -3,7 +3,7 @@ ghost use Rattle.std.specs.Prelude.{◌≡◌, ◌≤◌, ◌∷◌, [], length,
 ghost use Rattle.raid_text.specs.Seen.{left, line_count, passed_count, seen, words_left};
 ghost use Rattle.raid_text.specs.Text.{is_sound, is_word, lines_in, raw_lines, words_of};
 
-use crate::cuts::{body, has_word, is_sound, split_line, split_word};
+use crate::cuts::{cut_line, has_word, split_word};
 use crate::readers::{Line, Lines, Words};
 
 impl<'a> Lines<'a> {
@@ -34,14 +34,14 @@ impl<'a> Lines<'a> {
         ensures same { line_count self.new ≡ line_count self.old }
     {
         while !self.rest.is_empty() {
-            let (line, behind) = split_line(self.rest);
-            self.rest = behind;
+            let line = cut_line(self.rest);
+            self.rest = line.behind;
             self.passed += 1;
-            let body = body(line);
-            if has_word(body) {
+            if has_word(line.body) {
                 return Some(Line {
                     at: self.passed,
-                    body,
+                    body: line.body,
+                    sound: line.sound,
                 });
             }
         }
@@ -69,7 +69,7 @@ impl<'a> Line<'a> {
     pub fn sound(&self) -> bool
         ensures { result ≡ is_sound (seen self.now).body }
     {
-        is_sound(self.body)
+        self.sound
     }
 
     /// The words of a sound line, one after another.

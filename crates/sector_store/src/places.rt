@@ -4,10 +4,15 @@ ghost use Rattle.sector_store.specs.Places.{kept_at, AreWhole, Keeps, KeepsApart
 
 use blk_plain::SECTOR;
 
-/// Whether two sectors have the same bytes. Each pair of bytes is looked at, so that the compiler takes many at once.
+/// Whether two sectors have the same bytes.
+///
+/// Where the first two are the same, each pair is looked at, so that the compiler takes many at once.
 pub(crate) fn are_equal(one: &[u8; SECTOR], other: &[u8; SECTOR]) -> bool
     ensures { IsTrue result ↔ (one.now ≡ other.now) }
 {
+    if one[0] != other[0] {
+        return false;
+    }
     let mut equal = true;
     for k in 0..SECTOR {
         equal &= one[k] == other[k];
