@@ -15,14 +15,14 @@ use std::sync::Wait;
 use std::sync::atomic::{AtomicU64, Ordering};
 
 // A pass that finds the value away pauses so many times before it is counted, and parks.
-const PAUSES: u32 = 7;
+const PAUSES: u32 = 11;
 
 // The word is below this where there is one pass, which may have the value.
 const SEVERAL: u64 = 4;
 
 // Pauses the processor, twice as long for each look that there was.
 fn pause(looks: u32)
-    requires { looks < 7 }
+    requires { looks < 11 }
 {
     for _ in 0..1u32 << looks {
         spin_loop();
