@@ -14,6 +14,7 @@ impl<D: Disk> Job<D> {
     ///
     /// Where the sectors don't lie on the device, or a buffer is too short for them, it does nothing
     /// and answers Good; the engine fires no such job. Takes no memory.
+    #[inline(always)]
     pub fn perform(&mut self) -> Outcome
         ensures { Performed D.Disk self.old self.new result }
     {

@@ -1,5 +1,5 @@
 -- An accepted graph that runs without a failure has its task's effect in the end.
-use Rattle.std.proofs.Common.{◌≡◌, ◌⊎◌, ◌≢◌, ℕ, true, Option, ◌&&◌, List, [], ◌∷◌, All, sym, ap, ◌∙◌}
+use Rattle.std.proofs.Common.{◌≡◌, ℕ, true, Option, ◌&&◌, List, [], ◌∷◌, All, sym, ap, ◌∙◌}
 use Rattle.std.specs.Prelude.{◌==◌, if◌then◌else◌, is_some}
 use Rattle.std.proofs.lemmas.List.Elements.{All-head, All-tail}
 use Rattle.graph_mean.specs.declared.step.Phase.TheVariants.{Ended}

@@ -1,5 +1,5 @@
 //! What each node of a graph waits for as its run begins.
-ghost use Rattle.std.specs.Prelude.{◌≡◌, ℕ, ◌<◌, ◌≤◌, ◌==◌, length, slice_index_or};
+ghost use Rattle.std.specs.Prelude.{◌≡◌, ℕ, ◌<◌, ◌≤◌, ◌==◌, ◌||◌, if◌then◌else◌, length, slice_index_or, vec_capacity};
 ghost use Rattle.graph_mean.specs.Graph.{vertex_at};
 ghost use Rattle.eng_one.specs.Bits.{has};
 ghost use Rattle.eng_one.specs.Counts.{CanStart, AreFollowers};
@@ -7,41 +7,46 @@ ghost use Rattle.eng_one.specs.Followers.{IsBare};
 
 use crate::followers::Followers;
 use crate::node_set::NodeSet;
+use crate::room::append;
 use graph_mean::Graph;
 
-// Counts the antecedents of each node.
-pub(crate) fn count_all(graph: &Graph, unmet: &mut [u32])
-    requires can { CanStart graph.now.drawn }
-    requires all { length unmet.old ≡ length graph.now.drawn.nodes }
-    ensures { (k : ℕ) → k < length graph.now.drawn.nodes
-        → slice_index_or unmet.new k 0 ≡ length (vertex_at graph.now.drawn k).antes }
+// Puts a node into the set, if it waits for none.
+fn insert_if_none(ready: &mut NodeSet, node: u32, count: u32)
+    requires { node < 2048 }
+    ensures { (k : ℕ) → has ready.new k
+        ≡ (if k == node then (count == 0) || has ready.old k else has ready.old k) }
 {
-    for n in 0..graph.nodes() {
-        unmet[n as usize] = graph.antes(n).len() as u32;
+    if count == 0 {
+        ready.insert(node);
     }
 }
 
-// Makes each node a follower of its antecedents.
-pub(crate) fn enter_all(graph: &Graph, followers: &mut Followers)
+// Counts the antecedents of each node, makes it a follower of each of them, and puts it into the set where it has none.
+// What was counted and what was in the set is forgotten.
+pub(crate) fn begin_all(
+    graph: &Graph,
+    unmet: &mut Vec<u32>,
+    followers: &mut Followers,
+    ready: &mut NodeSet,
+)
     requires can { CanStart graph.now.drawn }
+    requires room { length graph.now.drawn.nodes ≤ vec_capacity unmet.old }
     requires bare { IsBare followers.old (length graph.now.drawn.nodes) }
     ensures all { AreFollowers graph.now.drawn followers.new }
     ensures nodes { length followers.new.first ≡ length graph.now.drawn.nodes }
+    ensures counts { (k : ℕ) → k < length graph.now.drawn.nodes
+        → slice_index_or unmet.new.items k 0 ≡ length (vertex_at graph.now.drawn k).antes }
+    ensures long { length unmet.new.items ≡ length graph.now.drawn.nodes }
+    ensures room { vec_capacity unmet.old ≤ vec_capacity unmet.new }
+    ensures ready { (k : ℕ) → has ready.new k ≡ (slice_index_or unmet.new.items k 1 == 0) }
 {
-    for n in 0..graph.nodes() {
-        followers.enter(n, graph.antes(n));
-    }
-}
-
-// Fills the set with the nodes that wait for none. What was in it is forgotten.
-pub(crate) fn fill_without_antes(unmet: &[u32], ready: &mut NodeSet)
-    requires { length unmet.now ≤ 2048 }
-    ensures { (k : ℕ) → has ready.new k ≡ (slice_index_or unmet.now k 1 == 0) }
-{
+    unmet.clear();
     ready.clear();
-    for n in 0..unmet.len() {
-        if unmet[n] == 0 {
-            ready.insert(n as u32);
-        }
+    for n in 0..graph.nodes() {
+        let antes = graph.antes(n);
+        let count = antes.len() as u32;
+        append(unmet, count);
+        followers.enter(n, antes);
+        insert_if_none(ready, n, count);
     }
 }

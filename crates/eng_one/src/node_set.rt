@@ -35,12 +35,14 @@ impl NodeSet {
         }
     }
 
-    // No node is in it any more.
+    // No node is in it any more. Where none was, as behind a graph that has ended, no word is written.
     pub(crate) fn clear(&mut self)
         ensures { (k : ℕ) → has self.new k ≡ false }
     {
-        self.words = [0; 32];
-        self.blocks = 0;
+        if self.blocks > 0 {
+            self.words = [0; 32];
+            self.blocks = 0;
+        }
     }
 
     pub(crate) fn contains(&self, node: u32) -> bool

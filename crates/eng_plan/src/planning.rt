@@ -77,8 +77,8 @@ pub fn split_op<L: Layout>(layout: &L, op: &Op, map: &mut StripeMap)
 }
 
 /// How it holds its stripes.
-pub fn mode_by(op: Op) -> Mode
-    ensures { result ≡ mode_by op }
+pub fn mode_by(op: &Op) -> Mode
+    ensures { result ≡ mode_by op.now }
 {
     match op {
         Op::Read { .. } => Mode::Share,
@@ -145,10 +145,10 @@ fn if_seated<L: Layout>(layout: &L, cols: &Cols, stripe: u32, missing: Option<u8
 }
 
 // The unit of the stripe that counts as missing for the operation.
-fn missing_for<L: Layout>(layout: &L, cols: &Cols, op: Op, stripe: u32) -> Option<u8>
+fn missing_for<L: Layout>(layout: &L, cols: &Cols, op: &Op, stripe: u32) -> Option<u8>
     requires fit { IsFor (L.shape layout.now) cols.now }
     requires stripe { stripe < cols.now.stripes }
-    ensures { result ≡ missing_for (L.shape layout.now) cols.now.states op stripe }
+    ensures { result ≡ missing_for (L.shape layout.now) cols.now.states op.now stripe }
 {
     let missing = missing_unit(layout, cols, stripe);
     match op {
@@ -161,7 +161,7 @@ fn missing_for<L: Layout>(layout: &L, cols: &Cols, op: Op, stripe: u32) -> Optio
 pub fn list_missing<L: Layout>(
     layout: &L,
     cols: &Cols,
-    op: Op,
+    op: &Op,
     stripes: &[u32],
     missing: &mut Vec<Option<u8>>,
 )
@@ -169,7 +169,7 @@ pub fn list_missing<L: Layout>(
     requires stripes { All (λ s. s < cols.now.stripes) stripes.now }
     requires room { length stripes.now ≤ vec_capacity missing.old }
     ensures items { missing.new.items
-        ≡ map (missing_for (L.shape layout.now) cols.now.states op) stripes.now }
+        ≡ map (missing_for (L.shape layout.now) cols.now.states op.now) stripes.now }
     ensures room { vec_capacity missing.old ≤ vec_capacity missing.new }
 {
     missing.clear();
@@ -191,16 +191,16 @@ fn kind_for(unit: Option<u8>) -> Kind
 }
 
 /// What kind of operation it is.
-pub fn kind_of<L: Layout>(layout: &L, cols: &Cols, op: Op) -> Kind
+pub fn kind_of<L: Layout>(layout: &L, cols: &Cols, op: &Op) -> Kind
     requires fit { IsFor (L.shape layout.now) cols.now }
-    requires op { IsInside (L.shape layout.now) op }
-    ensures kind { result ≡ kind_of (L.shape layout.now) cols.now.states op }
+    requires op { IsInside (L.shape layout.now) op.now }
+    ensures kind { result ≡ kind_of (L.shape layout.now) cols.now.states op.now }
     ensures unit { HasUnitBelow (L.shape layout.now).width result }
 {
     match op {
         Op::Write { .. } | Op::Writes { .. } => Kind::Write,
         Op::Read { .. } => Kind::Read,
-        Op::Rebuild { stripe } => kind_for(missing_unit(layout, cols, stripe)),
+        Op::Rebuild { stripe } => kind_for(missing_unit(layout, cols, *stripe)),
         Op::Sync { .. } => Kind::Sync,
     }
 }

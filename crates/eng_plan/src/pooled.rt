@@ -12,6 +12,7 @@ ghost use Rattle.eng_plan.specs.Pooled.{stripe_blocks, most_of_span, most_of_spa
 use blk_plain::{Op, Patches, Span, limits};
 use eng_world::Item;
 use graph_mean::Graph;
+use item_list::Items;
 use lay_core::Layout;
 
 fn stripe_blocks<L: Layout>(layout: &L) -> u32
@@ -106,12 +107,12 @@ fn item_leases<L: Layout>(layout: &L, item: &Item, graphs: &[Graph]) -> u32
 }
 
 /// The most buffers that one of the items leases. A client leases for one at a time.
-pub fn row_leases<L: Layout>(layout: &L, items: &[Item], graphs: &[Graph]) -> u32
-    ensures { result ≡ row_leases (L.shape layout.now) graphs.now items.now }
+pub fn row_leases<L: Layout>(layout: &L, items: &Items, graphs: &[Graph]) -> u32
+    ensures { result ≡ row_leases (L.shape layout.now) graphs.now items.now.items }
 {
     let mut most = 0;
     for i in 0..items.len() {
-        most = most.max(item_leases(layout, &items[i], graphs));
+        most = most.max(item_leases(layout, &items.get(i), graphs));
     }
     most
 }

@@ -1,6 +1,7 @@
 //! What no clause can show: how many pieces the checker looks at, by graphs that were worked out by hand.
 ghost use Rattle.std.specs.Prelude.{◌<◌, ◌≤◌};
 
+use crate::judging::same;
 use blk_plain::Span;
 use eng_plan::plan_and_check;
 use graph_check::Scratch;
@@ -39,10 +40,10 @@ fn a_write_has_a_piece_between_neighbouring_ends(rt: HostRuntime) -> Result<(), 
     let alloc = rt.alloc();
     let five = Raid5::new(5, 128, 64)?;
     // Each range of a full stripe's write is a whole unit.
-    assert_eq!(rt; pieces_of_write(alloc, &five, 0, 512)?, 1);
+    same(&rt, pieces_of_write(alloc, &five, 0, 512)?, 1);
     // Each range ends at offset 100, behind which the unit has 28 sectors more.
-    assert_eq!(rt; pieces_of_write(alloc, &five, 0, 100)?, 2);
+    same(&rt, pieces_of_write(alloc, &five, 0, 100)?, 2);
     // Of the first stripe the last 8 offsets of a unit are written, and of the second all.
-    assert_eq!(rt; pieces_of_write(alloc, &five, 504, 520)?, 3);
+    same(&rt, pieces_of_write(alloc, &five, 504, 520)?, 3);
     Ok(())
 }

@@ -9,7 +9,7 @@ use std::process::Abort;
 use std::test::Fail;
 
 // Writes, a read that writes, and a rebuild.
-const WRITES_AND_A_REBUILD: [Row; 5] = [
+const WRITES_AND_A_REBUILD: &[Row] = &[
     Row {
         name: "large write",
         kind: Kind::Write,
@@ -88,11 +88,11 @@ const WRITES_AND_A_REBUILD: [Row; 5] = [
 ];
 
 fn writes_and_a_rebuild(rt: &impl Abort, alloc: Global) -> Result<(), Fail> {
-    see_rows(rt, alloc, &PARITY, &WRITES_AND_A_REBUILD)
+    see_rows(rt, alloc, &PARITY, WRITES_AND_A_REBUILD)
 }
 
 // A read of a missing unit, rebuilds and syncs.
-const READS_AND_SYNCS: [Row; 5] = [
+const READS_AND_SYNCS: &[Row] = &[
     Row {
         name: "read of a missing unit",
         kind: Kind::Read,
@@ -170,11 +170,11 @@ const READS_AND_SYNCS: [Row; 5] = [
 ];
 
 fn reads_and_syncs(rt: &impl Abort, alloc: Global) -> Result<(), Fail> {
-    see_rows(rt, alloc, &PARITY, &READS_AND_SYNCS)
+    see_rows(rt, alloc, &PARITY, READS_AND_SYNCS)
 }
 
 // Where there is no check unit.
-const WITHOUT_A_CHECK_UNIT: [Row; 3] = [
+const WITHOUT_A_CHECK_UNIT: &[Row] = &[
     Row {
         name: "write of two units",
         kind: Kind::Write,
@@ -214,7 +214,7 @@ const WITHOUT_A_CHECK_UNIT: [Row; 3] = [
 ];
 
 fn without_a_check_unit(rt: &impl Abort, alloc: Global) -> Result<(), Fail> {
-    see_rows(rt, alloc, &STRIPED, &WITHOUT_A_CHECK_UNIT)
+    see_rows(rt, alloc, &STRIPED, WITHOUT_A_CHECK_UNIT)
 }
 
 #[test]

@@ -53,13 +53,15 @@ fn a_graph_past_a_limit_is_large_before_all_else(rt: HostRuntime) -> Result<(), 
     let mut map = StripeMap::with_room(rt.alloc())?;
     let span = Span { first: 0, count: 1 };
     aim(&rt, &PARITY, &mut task, &mut map, Kind::Read, span);
-    for (nodes, bufs, edges, want) in [
+    const ROWS: &[(u32, u32, u32, Refusal)] = &[
         (2049, 0, 0, Refusal::Large),
         (1, 2049, 0, Refusal::Large),
         (2, 0, 16385, Refusal::Large),
         (2048, 2048, 0, Refusal::Commits { count: 2048 }),
         (2, 0, 16384, Refusal::Commits { count: 2 }),
-    ] {
+    ];
+    for row in ROWS {
+        let (nodes, bufs, edges, want) = *row;
         fill(&rt, &mut graph, nodes, bufs, edges);
         let answer = check(&graph, &task, &[None], &mut room).err();
         same(&rt, answer, Some(want));

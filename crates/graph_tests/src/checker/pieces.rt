@@ -157,13 +157,13 @@ const WHOLE: Row = Row {
 };
 
 // Graphs of three pieces, in one room, and of one.
-const IN_THREE: [(Row, u32); 3] = [(RIGHT, 3), (REFUSED, 0), (WRONG, 3)];
+const IN_THREE: &[(Row, u32)] = &[(RIGHT, 3), (REFUSED, 0), (WRONG, 3)];
 
-const IN_ONE: [(Row, u32); 1] = [(WHOLE, 1)];
+const IN_ONE: &[(Row, u32)] = &[(WHOLE, 1)];
 
 #[test]
 fn pieces_are_those_of_the_last_check(rt: HostRuntime) -> Result<(), Fail> {
-    see_pieces(&rt, rt.alloc(), &SMALL, &IN_THREE)?;
-    see_pieces(&rt, rt.alloc(), &WIDE, &IN_ONE)?;
+    see_pieces(&rt, rt.alloc(), &SMALL, IN_THREE)?;
+    see_pieces(&rt, rt.alloc(), &WIDE, IN_ONE)?;
     Ok(())
 }

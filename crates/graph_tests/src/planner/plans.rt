@@ -117,7 +117,7 @@ fn write(first: u64, count: u32) -> Asked {
 }
 
 // A write that reads the other data units, and one that reads what it writes and the check unit.
-const LARGE: [&str; 8] = [
+const LARGE: &[&str] = &[
     "read 2 2",
     "read 3 3",
     "xor 4 2 3 0 1 after 0 1",
@@ -128,7 +128,7 @@ const LARGE: [&str; 8] = [
     "terminate after 4 5 6",
 ];
 
-const SMALL: [&str; 7] = [
+const SMALL: &[&str] = &[
     "read 0 1",
     "read 3 2",
     "xor 3 1 2 0 after 0 1",
@@ -141,14 +141,14 @@ const SMALL: [&str; 7] = [
 #[test]
 fn a_write_reads_the_fewer_units(rt: HostRuntime) -> Result<(), Fail> {
     // Small would read units 0, 1 and the check unit; large reads units 2 and 3.
-    let _graph = see_plan(&rt, rt.alloc(), &FIVE, write(0, 2), &LARGE)?;
+    let _graph = see_plan(&rt, rt.alloc(), &FIVE, write(0, 2), LARGE)?;
     // Both would read two units, so it is small.
-    let _graph = see_plan(&rt, rt.alloc(), &FOUR, write(0, 1), &SMALL)?;
+    let _graph = see_plan(&rt, rt.alloc(), &FOUR, write(0, 1), SMALL)?;
     Ok(())
 }
 
 // Writes of all data units, with and without a check unit.
-const WHOLE: [&str; 8] = [
+const WHOLE: &[&str] = &[
     "xor 4 0 1 2 3",
     "commit after 0",
     "write 0 0 after 1",
@@ -159,7 +159,7 @@ const WHOLE: [&str; 8] = [
     "terminate after 2 3 4 5 6",
 ];
 
-const UNCHECKED: [&str; 4] = [
+const UNCHECKED: &[&str] = &[
     "commit",
     "write 1 0 after 0",
     "write 2 1 after 0",
@@ -168,14 +168,14 @@ const UNCHECKED: [&str; 4] = [
 
 #[test]
 fn a_write_of_all_units_reads_nothing(rt: HostRuntime) -> Result<(), Fail> {
-    let _graph = see_plan(&rt, rt.alloc(), &FIVE, write(0, 4), &WHOLE)?;
+    let _graph = see_plan(&rt, rt.alloc(), &FIVE, write(0, 4), WHOLE)?;
     // Without a check unit nothing is read either.
-    let _graph = see_plan(&rt, rt.alloc(), &PLAIN, write(1, 2), &UNCHECKED)?;
+    let _graph = see_plan(&rt, rt.alloc(), &PLAIN, write(1, 2), UNCHECKED)?;
     Ok(())
 }
 
 // A write in three pieces, and its buffers.
-const IN_PIECES: [&str; 14] = [
+const IN_PIECES: &[&str] = &[
     "read 0 1",
     "read 1 7",
     "xor 2 1 0 after 0",
@@ -192,7 +192,7 @@ const IN_PIECES: [&str; 14] = [
     "terminate after 6 7 8 9 10 11 12",
 ];
 
-const PIECES: [&str; 9] = [
+const PIECES: &[&str] = &[
     "stripe 0 from 0 count 1 new 1",
     "stripe 0 from 0 count 1",
     "stripe 0 from 0 count 1",
@@ -205,7 +205,7 @@ const PIECES: [&str; 9] = [
 ];
 
 // A write of one unit of each of two stripes.
-const IN_STRIPES: [&str; 10] = [
+const IN_STRIPES: &[&str] = &[
     "read 0 1",
     "read 1 4",
     "xor 2 1 0 after 0",
@@ -221,15 +221,15 @@ const IN_STRIPES: [&str; 10] = [
 #[test]
 fn pieces_are_cut_where_the_touched_units_change(rt: HostRuntime) -> Result<(), Fail> {
     // Unit 0 from offset 1 on, unit 1 up to offset 2: unit 1 alone, both, unit 0 alone.
-    let graph = see_plan(&rt, rt.alloc(), &OF_FOUR, write(1, 6), &IN_PIECES)?;
-    see_bufs(&rt, rt.alloc(), &graph, &PIECES)?;
+    let graph = see_plan(&rt, rt.alloc(), &OF_FOUR, write(1, 6), IN_PIECES)?;
+    see_bufs(&rt, rt.alloc(), &graph, PIECES)?;
     // Two stripes, one unit of each.
-    let _graph = see_plan(&rt, rt.alloc(), &THREE, write(1, 2), &IN_STRIPES)?;
+    let _graph = see_plan(&rt, rt.alloc(), &THREE, write(1, 2), IN_STRIPES)?;
     Ok(())
 }
 
 // Writes where unit 1 is missing: of unit 0, and of unit 1.
-const BESIDE: [&str; 7] = [
+const BESIDE: &[&str] = &[
     "read 0 1",
     "read 2 2",
     "xor 3 1 2 0 after 0 1",
@@ -239,7 +239,7 @@ const BESIDE: [&str; 7] = [
     "terminate after 4 5",
 ];
 
-const INSTEAD: [&str; 5] = [
+const INSTEAD: &[&str] = &[
     "read 0 1",
     "xor 2 1 0 after 0",
     "commit after 0 1",
@@ -254,13 +254,13 @@ fn a_write_goes_on_without_a_missing_unit(rt: HostRuntime) -> Result<(), Fail> {
         gone: Some(1),
         ..write(0, 1)
     };
-    let _graph = see_plan(&rt, rt.alloc(), &THREE, asked, &BESIDE)?;
+    let _graph = see_plan(&rt, rt.alloc(), &THREE, asked, BESIDE)?;
     // Unit 1 is written: the check unit stands for it.
     let asked = Asked {
         gone: Some(1),
         ..write(1, 1)
     };
-    let _graph = see_plan(&rt, rt.alloc(), &THREE, asked, &INSTEAD)?;
+    let _graph = see_plan(&rt, rt.alloc(), &THREE, asked, INSTEAD)?;
     Ok(())
 }
 
@@ -272,14 +272,14 @@ const READ: Asked = Asked {
     target: false,
 };
 
-const BOTH: [&str; 4] = [
+const BOTH: &[&str] = &[
     "read 0 0",
     "read 1 1",
     "commit after 0 1",
     "terminate after 2",
 ];
 
-const MADE: [&str; 5] = [
+const MADE: &[&str] = &[
     "read 0 0",
     "read 2 1",
     "xor 2 0 1 after 0 1",
@@ -289,13 +289,13 @@ const MADE: [&str; 5] = [
 
 #[test]
 fn a_read_returns_what_a_missing_unit_held(rt: HostRuntime) -> Result<(), Fail> {
-    let graph = see_plan(&rt, rt.alloc(), &THREE, READ, &BOTH)?;
+    let graph = see_plan(&rt, rt.alloc(), &THREE, READ, BOTH)?;
     see_returns(&rt, &graph, &[(0, 0), (1, 1)]);
     let asked = Asked {
         gone: Some(1),
         ..READ
     };
-    let graph = see_plan(&rt, rt.alloc(), &THREE, asked, &MADE)?;
+    let graph = see_plan(&rt, rt.alloc(), &THREE, asked, MADE)?;
     see_returns(&rt, &graph, &[(0, 0), (1, 2)]);
     Ok(())
 }
@@ -308,7 +308,7 @@ const REBUILD: Asked = Asked {
     target: true,
 };
 
-const REBUILT: [&str; 6] = [
+const REBUILT: &[&str] = &[
     "read 0 0",
     "read 2 1",
     "xor 2 0 1 after 0 1",
@@ -318,17 +318,17 @@ const REBUILT: [&str; 6] = [
 ];
 
 // Nothing is done.
-const NOTHING: [&str; 2] = ["commit", "terminate after 0"];
+const NOTHING: &[&str] = &["commit", "terminate after 0"];
 
 #[test]
 fn a_rebuild_makes_its_unit_from_all_others(rt: HostRuntime) -> Result<(), Fail> {
-    let _graph = see_plan(&rt, rt.alloc(), &OF_TWO, REBUILD, &REBUILT)?;
+    let _graph = see_plan(&rt, rt.alloc(), &OF_TWO, REBUILD, REBUILT)?;
     // Without a target nothing is done.
     let asked = Asked {
         target: false,
         ..REBUILD
     };
-    let _graph = see_plan(&rt, rt.alloc(), &OF_TWO, asked, &NOTHING)?;
+    let _graph = see_plan(&rt, rt.alloc(), &OF_TWO, asked, NOTHING)?;
     Ok(())
 }
 
@@ -345,7 +345,7 @@ fn a_rebuild_of_a_unit_that_is_there_does_nothing(rt: HostRuntime) -> Result<(),
             target,
             ..REBUILD
         };
-        let _graph = see_plan(&rt, rt.alloc(), &OF_TWO, asked, &NOTHING)?;
+        let _graph = see_plan(&rt, rt.alloc(), &OF_TWO, asked, NOTHING)?;
     }
     Ok(())
 }
@@ -358,7 +358,7 @@ const SYNC: Asked = Asked {
     target: false,
 };
 
-const SYNCED: [&str; 6] = [
+const SYNCED: &[&str] = &[
     "read 0 0",
     "read 1 1",
     "xor 2 0 1 after 0 1",
@@ -367,11 +367,11 @@ const SYNCED: [&str; 6] = [
     "terminate after 4",
 ];
 
-const WHOLE_UNITS: [&str; 3] = ["stripe 0 from 0 count 2"; 3];
+const WHOLE_UNITS: &[&str] = &["stripe 0 from 0 count 2"; 3];
 
 #[test]
 fn a_sync_makes_the_check_unit_from_the_data_units(rt: HostRuntime) -> Result<(), Fail> {
-    let graph = see_plan(&rt, rt.alloc(), &OF_TWO, SYNC, &SYNCED)?;
-    see_bufs(&rt, rt.alloc(), &graph, &WHOLE_UNITS)?;
+    let graph = see_plan(&rt, rt.alloc(), &OF_TWO, SYNC, SYNCED)?;
+    see_bufs(&rt, rt.alloc(), &graph, WHOLE_UNITS)?;
     Ok(())
 }

@@ -81,8 +81,9 @@ fn abandon(run: &mut Run, graph: &Graph, node: u32) -> bool
 fn a_bad_read_rolls_back_at_once_where_no_node_is_out(rt: HostRuntime) -> Result<(), Fail> {
     let graph = graphs::small(rt.alloc())?;
     let mut run = Run::open(rt.alloc())?;
-    let paths: [(&[u32], u32); 4] = [(&[], 0), (&[], 1), (&[1], 0), (&[0], 1)];
-    for (path, bad) in paths {
+    const PATHS: &[(&[u32], u32)] = &[(&[], 0), (&[], 1), (&[1], 0), (&[0], 1)];
+    for row in PATHS {
+        let (path, bad) = *row;
         holds(&rt, replay(&mut run, &graph, path));
         holds(&rt, fail(&mut run, &graph, bad));
         same_at(&rt, bad, (run.phase(), run.out()), (Phase::Undone, 0));

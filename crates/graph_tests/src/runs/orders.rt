@@ -121,7 +121,7 @@ fn five_writes_between_commit_and_terminator_go_in_every_order(
 fn a_node_is_ready_once_those_that_it_follows_have_ended(rt: HostRuntime) -> Result<(), Fail> {
     let graph = graphs::whole(rt.alloc())?;
     let mut run = Run::open(rt.alloc())?;
-    let paths: [(&[u32], Phase, &[u32]); 6] = [
+    const PATHS: &[(&[u32], Phase, &[u32])] = &[
         (&[], Phase::Before, &[0]),
         (&[0], Phase::Before, &[1]),
         (&[0, 1], Phase::After, &[2, 3, 4, 5, 6]),
@@ -129,7 +129,8 @@ fn a_node_is_ready_once_those_that_it_follows_have_ended(rt: HostRuntime) -> Res
         (&[0, 1, 6, 4, 2, 3, 5], Phase::After, &[7]),
         (&[0, 1, 2, 3, 4, 5, 6, 7], Phase::Ended, &[]),
     ];
-    for (path, phase, ready) in paths {
+    for row in PATHS {
+        let (path, phase, ready) = *row;
         holds(&rt, replay(&mut run, &graph, path));
         see_phase(&rt, &run, phase, 0);
         see_ready(&rt, &run, &graph, ready);
@@ -139,13 +140,15 @@ fn a_node_is_ready_once_those_that_it_follows_have_ended(rt: HostRuntime) -> Res
 
 // Once nodes 0, 1 and 3 of the whole stripe's write have ended, these are the first from each number on.
 fn see_least(rt: &impl Abort, run: &Run) {
-    for (from, want) in [
+    const LEAST: &[(u32, Option<u32>)] = &[
         (0, Some(2)),
         (3, Some(4)),
         (6, Some(6)),
         (7, None),
         (u32::MAX, None),
-    ] {
+    ];
+    for row in LEAST {
+        let (from, want) = *row;
         same_at(rt, from, run.least_ready(from), want);
     }
 }

@@ -1,17 +1,18 @@
 use Rattle.std.proofs.Common.{◌≡◌, ℕ, sym, ap, ◌∙◌, slice_get}
 use Rattle.std.specs.Prelude.{max}
+use Rattle.std.proofs.lemmas.Option.{get_or_from_slice_get, slice_get_within}
 use Rattle.eng_plan.specs.Pooled.{item_leases, greatest}
 use Rattle.eng_plan.proofs.Pooling.{greatest-none, greatest-one, item-read, max-is}
 use Rattle.eng_plan.proofs.pooled.row_leases.Goals as goal
 
 pub loop-i-init : goal.loop-i-init
-loop-i-init g c = greatest-none (λ k. item_leases (g.L.Layout.shape c.args.layout.now) c.args.graphs.now (slice_get c.args.items.now k))
+loop-i-init g c = greatest-none (λ k. item_leases (g.L.Layout.shape c.args.layout.now) c.args.graphs.now (slice_get c.args.items.now.items k))
 
 pub loop-i-preserved : goal.loop-i-preserved
 loop-i-preserved g c =
     let y = g.L.Layout.shape c.args.layout.now in
-    let f : ℕ → ℕ = λ k. item_leases y c.args.graphs.now (slice_get c.args.items.now k) in
-    let one : c.item_leases.result ≡ f c.loop-i.i = item-read y c.args.graphs.now c.args.items.now c.loop-i.i c.index-items-i.result c.item_leases.result c.loop-i-test.true c.index-items-i.is c.item_leases.ensures in
+    let f : ℕ → ℕ = λ k. item_leases y c.args.graphs.now (slice_get c.args.items.now.items k) in
+    let one : c.item_leases.result ≡ f c.loop-i.i = item-read y c.args.graphs.now c.args.items.now.items c.loop-i.i c.get.result c.item_leases.result (slice_get_within c.args.items.now.items c.loop-i.i c.get.result c.get.ensures) (sym (get_or_from_slice_get c.args.items.now.items c.loop-i.i c.get.result c.get.result c.get.ensures)) c.item_leases.ensures in
     let all : c.loop-i.most ≡ greatest f c.loop-i.i = c.loop-i.invariant in
     let most : c.max-most.result ≡ max c.loop-i.most c.item_leases.result = c.max-most.ensures ∙ max-is c.loop-i.most c.item_leases.result in
     most

@@ -4,4 +4,4 @@ use Rattle.eng_plan.proofs.pooled.row_leases.Given as goal
 
 -- the greatest of those so far
 abbrev pub invariant-loop-i : goal.invariant-loop-i
-invariant-loop-i g l = l.most ≡ greatest (λ k. item_leases (g.L.Layout.shape l.layout) l.graphs (slice_get l.items k)) l.i
+invariant-loop-i g l = l.most ≡ greatest (λ k. item_leases (g.L.Layout.shape l.layout) l.graphs (slice_get l.items.items k)) l.i

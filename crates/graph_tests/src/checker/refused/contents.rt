@@ -10,7 +10,7 @@ use std::process::Abort;
 use std::test::Fail;
 
 // What is left on the units.
-const LEFT: [Row; 5] = [
+const LEFT: &[Row] = &[
     Row {
         name: "a check unit made of the new data alone",
         kind: Kind::Write,
@@ -95,11 +95,11 @@ const LEFT: [Row; 5] = [
 
 /// Each of these graphs is refused as its row says.
 pub(super) fn left(rt: &impl Abort, alloc: Global) -> Result<(), Fail> {
-    see_rows(rt, alloc, &PARITY, &LEFT)
+    see_rows(rt, alloc, &PARITY, LEFT)
 }
 
 // What is returned.
-const RETURNED: [Row; 5] = [
+const RETURNED: &[Row] = &[
     Row {
         name: "no return",
         kind: Kind::Read,
@@ -168,5 +168,5 @@ const RETURNED: [Row; 5] = [
 
 /// Each of these graphs is refused as its row says.
 pub(super) fn returned(rt: &impl Abort, alloc: Global) -> Result<(), Fail> {
-    see_rows(rt, alloc, &PARITY, &RETURNED)
+    see_rows(rt, alloc, &PARITY, RETURNED)
 }

@@ -10,7 +10,7 @@ use std::process::Abort;
 use std::test::Fail;
 
 // Too few or too many, and nodes that the terminator doesn't follow.
-const COMMITS_AND_ENDS: [Row; 5] = [
+const COMMITS_AND_ENDS: &[Row] = &[
     Row {
         name: "no commit",
         kind: Kind::Write,
@@ -75,5 +75,5 @@ const COMMITS_AND_ENDS: [Row; 5] = [
 
 /// Each of these graphs is refused as its row says.
 pub(super) fn commits_and_ends(rt: &impl Abort, alloc: Global) -> Result<(), Fail> {
-    see_rows(rt, alloc, &PARITY, &COMMITS_AND_ENDS)
+    see_rows(rt, alloc, &PARITY, COMMITS_AND_ENDS)
 }

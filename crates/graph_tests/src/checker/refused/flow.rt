@@ -10,7 +10,7 @@ use std::process::Abort;
 use std::test::Fail;
 
 // How often buffers are made, and when.
-const MAKING: [Row; 4] = [
+const MAKING: &[Row] = &[
     Row {
         name: "new data made by a node",
         kind: Kind::Write,
@@ -74,11 +74,11 @@ const MAKING: [Row; 4] = [
 
 /// Each of these graphs is refused as its row says.
 pub(super) fn making(rt: &impl Abort, alloc: Global) -> Result<(), Fail> {
-    see_rows(rt, alloc, &PARITY, &MAKING)
+    see_rows(rt, alloc, &PARITY, MAKING)
 }
 
 // The commit, and missing units.
-const TURNING: [Row; 5] = [
+const TURNING: &[Row] = &[
     Row {
         name: "a read that the commit does not follow",
         kind: Kind::Write,
@@ -143,5 +143,5 @@ const TURNING: [Row; 5] = [
 
 /// Each of these graphs is refused as its row says.
 pub(super) fn turning(rt: &impl Abort, alloc: Global) -> Result<(), Fail> {
-    see_rows(rt, alloc, &PARITY, &TURNING)
+    see_rows(rt, alloc, &PARITY, TURNING)
 }

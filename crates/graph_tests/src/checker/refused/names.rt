@@ -10,7 +10,7 @@ use std::process::Abort;
 use std::test::Fail;
 
 // Names of what there isn't, and the order of nodes.
-const FOREIGN_AND_DISORDERED: [Row; 5] = [
+const FOREIGN_AND_DISORDERED: &[Row] = &[
     Row {
         name: "a buffer of a stripe that there is not",
         kind: Kind::Write,
@@ -84,5 +84,5 @@ const FOREIGN_AND_DISORDERED: [Row; 5] = [
 
 /// Each of these graphs is refused as its row says.
 pub(super) fn foreign_and_disordered(rt: &impl Abort, alloc: Global) -> Result<(), Fail> {
-    see_rows(rt, alloc, &PARITY, &FOREIGN_AND_DISORDERED)
+    see_rows(rt, alloc, &PARITY, FOREIGN_AND_DISORDERED)
 }

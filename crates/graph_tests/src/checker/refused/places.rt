@@ -10,7 +10,7 @@ use std::process::Abort;
 use std::test::Fail;
 
 // Two writes of a sector, and buffers of wrong ranges.
-const UNITS_AND_RANGES: [Row; 5] = [
+const UNITS_AND_RANGES: &[Row] = &[
     Row {
         name: "two writes of a sector",
         kind: Kind::Write,
@@ -86,5 +86,5 @@ const UNITS_AND_RANGES: [Row; 5] = [
 
 /// Each of these graphs is refused as its row says.
 pub(super) fn units_and_ranges(rt: &impl Abort, alloc: Global) -> Result<(), Fail> {
-    see_rows(rt, alloc, &PARITY, &UNITS_AND_RANGES)
+    see_rows(rt, alloc, &PARITY, UNITS_AND_RANGES)
 }

@@ -10,7 +10,7 @@ use std::process::Abort;
 use std::test::Fail;
 
 // What is named, the order, and the ends.
-const BY_FORM: [Row; 5] = [
+const BY_FORM: &[Row] = &[
     Row {
         name: "a stripe that there is not",
         kind: Kind::Read,
@@ -78,11 +78,11 @@ const BY_FORM: [Row; 5] = [
 
 /// Each of these graphs is refused as its row says.
 pub(super) fn by_form(rt: &impl Abort, alloc: Global) -> Result<(), Fail> {
-    see_rows(rt, alloc, &STRIPED, &BY_FORM)
+    see_rows(rt, alloc, &STRIPED, BY_FORM)
 }
 
 // When buffers are made and used, and which units.
-const BY_FLOW: [Row; 5] = [
+const BY_FLOW: &[Row] = &[
     Row {
         name: "a write that does not follow its read",
         kind: Kind::Read,
@@ -150,11 +150,11 @@ const BY_FLOW: [Row; 5] = [
 
 /// Each of these graphs is refused as its row says.
 pub(super) fn by_flow(rt: &impl Abort, alloc: Global) -> Result<(), Fail> {
-    see_rows(rt, alloc, &STRIPED, &BY_FLOW)
+    see_rows(rt, alloc, &STRIPED, BY_FLOW)
 }
 
 // Ranges, values and returns.
-const BY_CONTENTS: [Row; 5] = [
+const BY_CONTENTS: &[Row] = &[
     Row {
         name: "new data past what is to be written",
         kind: Kind::Write,
@@ -227,5 +227,5 @@ const BY_CONTENTS: [Row; 5] = [
 
 /// Each of these graphs is refused as its row says.
 pub(super) fn by_contents(rt: &impl Abort, alloc: Global) -> Result<(), Fail> {
-    see_rows(rt, alloc, &STRIPED, &BY_CONTENTS)
+    see_rows(rt, alloc, &STRIPED, BY_CONTENTS)
 }
