@@ -5,8 +5,8 @@ use Rattle.std.specs.declared.alloc.Global.{Global}
 use Rattle.std.proofs.lemmas.Bool.{cases_eq}
 use Rattle.std.proofs.lemmas.List.{get_or_push, get_or_append_left}
 use Rattle.eng_cols.specs.declared.spot.Loss.{Loss}
-use Rattle.eng_world.specs.declared.item.Item.{Item}
 use Rattle.eng_world.specs.declared.item.Reply.{Reply}
+use Rattle.item_list.specs.ItemList.{ItemList}
 use Rattle.eng_clients.specs.Desk.{Desk, no_desk}
 use Rattle.eng_log.specs.Given.{items_in}
 use Rattle.eng_clients.specs.Replied.{replies_of, replies_in, AreClosed}
@@ -21,7 +21,7 @@ slice-here [] y = refl
 slice-here (x ∷ xs) y = slice-here xs y
 
 -- one client more
-pub closed-more : (lost : Option Loss) (desks : List Desk) (d : Desk) (items : List (Vec Item Global)) (replies : List (Vec Reply Global)) (a : Vec Item Global) (b : Vec Reply Global) → AreClosed lost desks (length desks) items replies → a.items ≡ d.items → b.items ≡ replies_of lost d → AreClosed lost (desks ++ d ∷ []) (length (desks ++ d ∷ [])) (items ++ a ∷ []) (replies ++ b ∷ [])
+pub closed-more : (lost : Option Loss) (desks : List Desk) (d : Desk) (items : List ItemList) (replies : List (Vec Reply Global)) (a : ItemList) (b : Vec Reply Global) → AreClosed lost desks (length desks) items replies → a.items ≡ d.items → b.items ≡ replies_of lost d → AreClosed lost (desks ++ d ∷ []) (length (desks ++ d ∷ [])) (items ++ a ∷ []) (replies ++ b ∷ [])
 closed-more lost desks d items replies a b h i r = record {
   items_count = omega (arith, ni, more, ia);
   replies_count = omega (arith, nr, more, ra);

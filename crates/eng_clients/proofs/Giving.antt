@@ -2,10 +2,9 @@
 use Rattle.std.proofs.Common.{◌≡◌, ◌≢◌, ◌<◌, ◌≤◌, ◌+◌, ◌++◌, ◌∙◌, ℕ, zero, suc, List, [], ◌∷◌, Option, Some, None, length, take, drop, get_or, ap, sym, refl, arith, inl, inr}
 use Rattle.std.proofs.lemmas.Bool.{cases_eq}
 use Rattle.std.proofs.lemmas.List.{get_or_push, get_or_append_left, take_at}
-use Rattle.std.specs.Prelude.{Vec, slice_get, slice_set}
-use Rattle.std.specs.declared.alloc.Global.{Global}
+use Rattle.std.specs.Prelude.{slice_get, slice_set}
 use Rattle.std.proofs.lemmas.Option.{slice_get_past, slice_get_read}
-use Rattle.eng_world.specs.declared.item.Item.{Item}
+use Rattle.item_list.specs.ItemList.{ItemList}
 use Rattle.eng_log.specs.Given.{items_in, items_at}
 
 get-set-other : {X : Type 0} (xs : List X) (c k : ℕ) (y : X) → k ≢ c → slice_get (slice_set xs c y) k ≡ slice_get xs k
@@ -16,15 +15,15 @@ get-set-other (x ∷ xs) (suc c) zero y ne = refl
 get-set-other (x ∷ xs) (suc c) (suc k) y ne = get-set-other xs c k y (λ e. ne (ap suc e))
 
 -- those of one client leave
-pub given-here : (given : List (Vec Item Global)) (c : ℕ) (items : Vec Item Global) → c < length given → items ≡ get_or given c items → items_at given c ≡ items.items
+pub given-here : (given : List ItemList) (c : ℕ) (items : ItemList) → c < length given → items ≡ get_or given c items → items_at given c ≡ items.items
 given-here given c items lt is = ap items_in (slice_get_read given (length given) c items refl lt is)
 
 -- and those of the others stay
-pub given-others : (given : List (Vec Item Global)) (c k : ℕ) (none : Vec Item Global) → k ≢ c → items_at (slice_set given c none) k ≡ items_at given k
+pub given-others : (given : List ItemList) (c k : ℕ) (none : ItemList) → k ≢ c → items_at (slice_set given c none) k ≡ items_at given k
 given-others given c k none ne = ap items_in (get-set-other given c k none ne)
 
 -- past the last client there are none
-pub given-past : (given : List (Vec Item Global)) (c : ℕ) → length given ≤ c → items_at given c ≡ []
+pub given-past : (given : List ItemList) (c : ℕ) → length given ≤ c → items_at given c ≡ []
 given-past given c le = ap items_in (slice_get_past given c le)
 
 -- what a slice of all items leaves in their place

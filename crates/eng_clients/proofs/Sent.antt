@@ -11,6 +11,7 @@ use Rattle.buf_pool.proofs.Sent.{lease_send}
 use Rattle.lay_core.proofs.Sent.{stripe_map_send}
 use Rattle.graph_mean.proofs.Sent.{graph_send, task_send}
 use Rattle.eng_one.proofs.Sent.{run_send}
+use Rattle.item_list.proofs.Sent.{items_send}
 use Rattle.eng_cols.specs.contracts.spot.Spot as spot
 use Rattle.eng_world.specs.contracts.item.Item as item
 use Rattle.eng_world.specs.contracts.item.Reply as reply
@@ -25,7 +26,7 @@ use Rattle.eng_log.proofs.Sent.{byte_send, number_send}
 pub option_send : (X : RattleType) → IsSend X → IsSend (option.the_row X)
 option_send X x = let E = option.the_type X in recorded_send (Enum (shape_of E)) E.D E.to E.to_one (enum_send (shape_of E) (tt, ((x, tt), tt)))
 
-pub item_send : IsSend item.the_row
+item_send : IsSend item.the_row
 item_send = search sendable depth 60 fits 10000
 
 pub reply_send : IsSend reply.the_row
@@ -41,26 +42,29 @@ stage_send = search sendable depth 20
 
 client_send : IsSend client.the_row
 client_send = view_send _ _ _ _ _ (declared_send client.TheInside.the_type (
-  Vec-send item.the_row item_send,
+  items_send,
   (
-    Vec-send reply.the_row reply_send,
+    option_send item.the_row item_send,
     (
-      stage_send,
+      Vec-send reply.the_row reply_send,
       (
-        run_send,
+        stage_send,
         (
-          graph_send,
+          run_send,
           (
-            task_send,
+            graph_send,
             (
-              stripe_map_send,
+              task_send,
               (
-                Vec-send (option.the_row u8-field.row) (option_send u8-field.row byte_send),
+                stripe_map_send,
                 (
-                  lease_send,
+                  Vec-send (option.the_row u8-field.row) (option_send u8-field.row byte_send),
                   (
-                    Vec-send (option.the_row spot.the_row) (option_send spot.the_row spot_send),
-                    (option_send u32-field.row number_send, (option_send u32-field.row number_send, tt)),
+                    lease_send,
+                    (
+                      Vec-send (option.the_row spot.the_row) (option_send spot.the_row spot_send),
+                      (option_send u32-field.row number_send, (option_send u32-field.row number_send, tt)),
+                    ),
                   ),
                 ),
               ),
@@ -76,4 +80,4 @@ pub clients_send : IsSend clients.the_row
 clients_send = view_send _ _ _ _ _ (declared_send clients.TheInside.the_type (Vec-send client.the_row client_send, (search sendable depth 20, tt)))
 
 pub rebuilds_send : IsSend rebuilds.the_row
-rebuilds_send = view_send _ _ _ _ _ (declared_send rebuilds.TheInside.the_type (number_send, (Vec-send item.the_row item_send, (Vec-send reply.the_row reply_send, tt))))
+rebuilds_send = view_send _ _ _ _ _ (declared_send rebuilds.TheInside.the_type (number_send, (items_send, (Vec-send reply.the_row reply_send, tt))))

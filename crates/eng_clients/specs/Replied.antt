@@ -5,6 +5,7 @@ use Rattle.eng_cols.specs.declared.spot.Loss.{Loss}
 use Rattle.eng_world.specs.declared.item.Item.{Item}
 use Rattle.eng_world.specs.declared.item.Reply.{Reply}
 use Rattle.eng_world.specs.declared.item.Reply.TheVariants as reply
+use Rattle.item_list.specs.ItemList.{ItemList}
 use Rattle.eng_clients.specs.Desk.{Desk, desk_at}
 use Rattle.eng_log.specs.Given.{items_at}
 
@@ -26,7 +27,7 @@ abbrev pub replies_at : List (Vec Reply Global) → ℕ → List Reply
 replies_at clients c = replies_in (slice_get clients c)
 
 -- the first so many clients, with their items, and their replies once the array is lost by this, if it is
-pub record AreClosed (lost : Option Loss) (desks : List Desk) (count : ℕ) (items : List (Vec Item Global)) (replies : List (Vec Reply Global)) : Type 0 where
+pub record AreClosed (lost : Option Loss) (desks : List Desk) (count : ℕ) (items : List ItemList) (replies : List (Vec Reply Global)) : Type 0 where
   pub items_count : length items ≡ count
   pub replies_count : length replies ≡ count
   pub items_each : (c : ℕ) → c < count → items_at items c ≡ (desk_at desks c).items

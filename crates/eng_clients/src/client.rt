@@ -1,5 +1,5 @@
 //! A client, with the operation that it runs.
-ghost use Rattle.std.specs.Prelude.{◌≡◌, ◌<◌, ◌≤◌, ℕ, Some, None, true, false, length, slice_index, get_or};
+ghost use Rattle.std.specs.Prelude.{◌≡◌, ◌<◌, ◌≤◌, ℕ, Some, None, true, false, length, slice_get, slice_index, get_or};
 ghost use Rattle.graph_mean.specs.Graph.{kind_at, buf_at};
 ghost use Rattle.eng_one.specs.Control.{mark_of, IsReadyIn, IsWrite, MayEnd};
 ghost use Rattle.graph_mean.specs.Task.{is_rebuild_of};
@@ -17,6 +17,7 @@ use eng_cols::Spot;
 use eng_one::Run;
 use eng_world::{Item, Reply};
 use graph_mean::{Buf, Graph, Kind, Node, Phase, Status, Task};
+use item_list::Items;
 use lay_core::StripeMap;
 pub use open::ClientRoom;
 use std::marker::Model;
@@ -24,7 +25,9 @@ use std::marker::Model;
 /// A client.
 #[derive(Drop)]
 pub struct Client {
-    pub(crate) items: Vec<Item>,
+    pub(crate) items: Items,
+    // The item that it serves now or next, so that each is taken out of the list once.
+    pub(crate) item: Option<Item>,
     pub(crate) replies: Vec<Reply>,
     pub(crate) stage: Stage,
     pub(crate) run: Run,
@@ -39,7 +42,7 @@ pub struct Client {
 }
 
 impl Model for Client {
-    ghost use Rattle.std.specs.Prelude.{◌≡◌, ◌≤◌, length, vec_capacity};
+    ghost use Rattle.std.specs.Prelude.{◌≡◌, ◌≤◌, length, slice_get, vec_capacity};
     ghost use Rattle.eng_clients.specs.Desk.{Desk};
 
     ghost Value = { Desk };
@@ -61,10 +64,22 @@ impl Model for Client {
 
     ghost invariant = { λ c. record {
       replies : (length c.items.items ≤ 4294967295) × (length c.replies.items ≤ length c.items.items) × (length c.items.items ≤ vec_capacity c.replies);
+      item : c.item ≡ slice_get c.items.items (length c.replies.items);
       missing : 16 ≤ vec_capacity c.missing;
       spots : length c.spots.items ≡ 2048;
       graph : (c.graph.node_room ≡ 2048) × (c.graph.buf_room ≡ 2048) × (c.graph.edge_room ≡ 16384);
     } };
+}
+
+// The item at a place, if there is one.
+pub(crate) fn item_in(items: &Items, at: usize) -> Option<Item>
+    ensures { result ≡ slice_get items.now.items at }
+{
+    if at < items.len() {
+        Some(items.get(at))
+    } else {
+        None
+    }
 }
 
 impl Client {
@@ -182,6 +197,7 @@ impl Client {
         ensures { self.new ≡ with_reply self.old reply }
     {
         self.replies.push_reserved(reply);
+        self.item = item_in(&self.items, self.replies.len());
         self.stage = Stage::Nothing;
         self.lease.clear();
     }

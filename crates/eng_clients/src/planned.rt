@@ -22,29 +22,29 @@ use lay_core::Layout;
 
 /// What a client asks for: an operation, and the number of the graph of the file that it names, if it names one.
 #[derive(Clone, Copy)]
-pub struct Asked {
-    pub op: Op,
+pub struct Asked<'a> {
+    pub op: &'a Op,
     pub file: Option<u32>,
 }
 
 impl Client {
     // Its operation's stripes and their touched parts.
-    fn cut<L: Layout>(&mut self, layout: &L, op: Op)
-        requires { IsInside (L.shape layout.now) op }
-        ensures split { IsOpSplit (L.shape layout.now) op self.new.map }
+    fn cut<L: Layout>(&mut self, layout: &L, op: &Op)
+        requires { IsInside (L.shape layout.now) op.now }
+        ensures split { IsOpSplit (L.shape layout.now) op.now self.new.map }
         ensures rest { self.new ≡ record self.old { map = self.new.map } }
     {
-        split_op(layout, &op, &mut self.map);
+        split_op(layout, op, &mut self.map);
     }
 
     // The units of its stripes that count as missing.
-    fn miss<L: Layout>(&mut self, layout: &L, cols: &Cols, op: Op)
+    fn miss<L: Layout>(&mut self, layout: &L, cols: &Cols, op: &Op)
         requires fit { IsFor (L.shape layout.now) cols.now }
         requires stripes { All (λ s. s < cols.now.stripes) self.old.map.stripes }
         requires few { length self.old.map.stripes ≤ 16 }
         ensures { self.new ≡ record self.old {
           missing = map
-              (missing_for (L.shape layout.now) cols.now.states op) self.old.map.stripes;
+              (missing_for (L.shape layout.now) cols.now.states op.now) self.old.map.stripes;
         } }
     {
         list_missing(layout, cols, op, self.map.stripes(), &mut self.missing);
@@ -122,26 +122,27 @@ impl Client {
         &mut self,
         layout: &L,
         cols: &Cols,
-        asked: Asked,
+        asked: Asked<'_>,
         graphs: &[Graph],
         scratch: &mut Scratch,
     ) -> Result<(), Refusal>
         requires fit { IsFor (L.shape layout.now) cols.now }
-        requires op { IsInside (L.shape layout.now) asked.op }
+        requires op { IsInside (L.shape layout.now) asked.op.now }
         requires kept { NotLost (L.shape layout.now) cols.now.states }
         requires file { (n : ℕ) → asked.file ≡ Some n → n < length graphs.now }
-        ensures planned { IsPlanned (L.shape layout.now) graphs.now cols.now.states asked.op
-            asked.file self.new }
+        ensures planned { IsPlanned (L.shape layout.now) graphs.now cols.now.states
+            asked.entry.op.now
+            asked.entry.file self.new }
         ensures rest { self.new ≡ record self.old {
           map = self.new.map;
           missing = self.new.missing;
           task = self.new.task;
           graph = self.new.graph;
-          file = asked.file;
+          file = asked.entry.file;
         } }
         ensures passes { OnOk result (CanRun graphs.now self.new) }
         ensures refused { IfErr result
-            (λ cause. IsRefusedFor graphs.now asked.file self.new cause) }
+            (λ cause. IsRefusedFor graphs.now asked.entry.file self.new cause) }
     {
         let Asked { op, file } = asked;
         self.cut(layout, op);

@@ -3,12 +3,12 @@ ghost use Rattle.std.specs.Prelude.{◌≡◌, ◌<◌, ◌≤◌, ◌++◌, [],
 ghost use Rattle.eng_clients.specs.Desk.{desk_at};
 ghost use Rattle.eng_clients.specs.Listing.{rebuild};
 
-use crate::client::Client;
+use crate::client::{Client, item_in};
 use crate::clients::Clients;
 use crate::memory::Memory;
-use blk_plain::Op;
 use eng_one::with_bit;
-use eng_world::{Item, Reply};
+use eng_world::Reply;
+use item_list::Items;
 use std::alloc::Global;
 use std::marker::Model;
 use std::mem;
@@ -17,7 +17,7 @@ use std::mem;
 #[derive(Drop)]
 pub struct Rebuilds {
     room: u32,
-    items: Vec<Item>,
+    items: Items,
     replies: Vec<Reply>,
 }
 
@@ -30,7 +30,7 @@ impl Model for Rebuilds {
     ghost view = { λ r. record { items = r.items.items; room = r.room } };
 
     ghost invariant = { λ r. record {
-      items : (length r.items.items ≤ r.room) × (r.room ≤ vec_capacity r.items);
+      items : (length r.items.items ≤ r.room) × (r.room ≤ r.items.room);
       replies : (r.replies.items ≡ []) × (r.room ≤ vec_capacity r.replies);
     } };
 }
@@ -42,7 +42,7 @@ impl Rebuilds {
     {
         Ok(Rebuilds {
             room,
-            items: Vec::with_capacity(alloc, room as usize)?,
+            items: Items::with_capacity(alloc, room as usize)?,
             replies: Vec::with_capacity(alloc, room as usize)?,
         })
     }
@@ -52,10 +52,7 @@ impl Rebuilds {
         requires { length self.old.items < self.old.room }
         ensures { self.new ≡ record self.old { items = self.old.items ++ rebuild stripe ∷ [] } }
     {
-        self.items.push_reserved(Item::Run {
-            op: Op::Rebuild { stripe },
-            graph: None,
-        });
+        self.items.push_rebuild(stripe);
     }
 
     /// A client without items gets what is listed, and the room with it.
@@ -81,5 +78,6 @@ fn hand_to(rebuilds: &mut Rebuilds, client: &mut Client)
 {
     mem::swap(&mut rebuilds.items, &mut client.items);
     mem::swap(&mut rebuilds.replies, &mut client.replies);
+    client.item = item_in(&client.items, 0);
     rebuilds.room = 0;
 }

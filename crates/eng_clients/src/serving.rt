@@ -21,7 +21,7 @@ impl Client {
     pub fn item(&self) -> Option<&Item>
         ensures { option_map (λ i. i.now) result ≡ item_at self.now }
     {
-        self.items.get(self.replies.len())
+        self.item.as_ref()
     }
 
     /// The device by which its operation was abandoned.

@@ -54,21 +54,22 @@ impl Clients {
         client: u32,
         layout: &L,
         cols: &Cols,
-        asked: Asked,
+        asked: Asked<'_>,
         graphs: &[Graph],
         scratch: &mut Scratch,
     ) -> Result<(), Refusal>
         requires client { client < length self.old }
         requires fit { IsFor (L.shape layout.now) cols.now }
-        requires op { IsInside (L.shape layout.now) asked.op }
+        requires op { IsInside (L.shape layout.now) asked.op.now }
         requires kept { NotLost (L.shape layout.now) cols.now.states }
         requires file { (n : ℕ) → asked.file ≡ Some n → n < length graphs.now }
-        ensures planned { Replanned (L.shape layout.now) graphs.now cols.now.states asked.op
-            asked.file (desk_at self.old client) (desk_at self.new client) }
+        ensures planned { Replanned (L.shape layout.now) graphs.now cols.now.states
+            asked.entry.op.now
+            asked.entry.file (desk_at self.old client) (desk_at self.new client) }
         ensures now { self.new ≡ slice_set self.old client (desk_at self.new client) }
         ensures passes { OnOk result (CanRun graphs.now (desk_at self.new client)) }
         ensures refused { IfErr result
-            (λ cause. IsRefusedFor graphs.now asked.file (desk_at self.new client) cause) }
+            (λ cause. IsRefusedFor graphs.now asked.entry.file (desk_at self.new client) cause) }
     {
         self.list[client as usize].plan(layout, cols, asked, graphs, scratch)
     }

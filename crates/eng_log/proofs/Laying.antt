@@ -1,11 +1,11 @@
 -- Regions one behind the other: what they are once all are laid out.
 use Rattle.std.proofs.Common.{◌≡◌, ℕ, zero, suc, ◌<◌, ◌≤◌, ◌+◌, ◌*◌, ◌⊎◌, List, [], ◌∷◌, ◌++◌, length, get_or, replicate, subst, sym, ap, ◌∙◌, arith, inl, inr, refl}
-use Rattle.std.specs.Prelude.{slice_index_or, Vec}
-use Rattle.std.specs.declared.alloc.Global.{Global}
+use Rattle.std.specs.Prelude.{slice_index_or}
 use Rattle.std.proofs.lemmas.Bool.{cases_lt, cases_eq}
 use Rattle.std.proofs.lemmas.Option.{slice_get_read}
 use Rattle.std.proofs.lemmas.List.{get_or_past, get_or_push, get_or_append_left, get_or-replicate, length-replicate, length_push}
 use Rattle.eng_world.specs.declared.item.Item.{Item}
+use Rattle.item_list.specs.ItemList.{ItemList}
 use Rattle.eng_rest.specs.Left.{below}
 use Rattle.eng_log.specs.declared.region.Region.{Region}
 use Rattle.eng_log.specs.Given.{items_at}
@@ -56,7 +56,7 @@ row-more items first i row r so is = record {
   ];
 }
 
-pub rows-more : (given : List (Vec Item Global)) (n : ℕ) (rows : List (List Region)) (row : List Region) → AreRows given n rows → IsRow (items_at given n) (sectors_before given n) (length (items_at given n)) row → AreRows given (n + 1) (rows ++ row ∷ [])
+pub rows-more : (given : List ItemList) (n : ℕ) (rows : List (List Region)) (row : List Region) → AreRows given n rows → IsRow (items_at given n) (sectors_before given n) (length (items_at given n)) row → AreRows given (n + 1) (rows ++ row ∷ [])
 rows-more given n rows row so is = record {
   count = let e = length_push rows row in let c = so.count in omega (arith, e, c);
   each = λ c lt. elim (cases_eq c n) [
@@ -67,7 +67,7 @@ rows-more given n rows row so is = record {
   ];
 }
 
-pub all-laid : (given : List (Vec Item Global)) (own : ℕ) (rows : List (List Region)) (h : Handout) → length given ≤ 16 → AreRows given 16 rows → h.regions ≡ rows ++ replicate own no_region ∷ [] → h.bytes ≡ replicate (512 * sectors_before given 16) 0 → IsLaidOut given own h
+pub all-laid : (given : List ItemList) (own : ℕ) (rows : List (List Region)) (h : Handout) → length given ≤ 16 → AreRows given 16 rows → h.regions ≡ rows ++ replicate own no_region ∷ [] → h.bytes ≡ replicate (512 * sectors_before given 16) 0 → IsLaidOut given own h
 all-laid given own rows h few so regions bytes = record {
   few = few;
   count = ap (λ (l : List (List Region)). length l) regions ∙ (let e = length_push rows (replicate own no_region) in let c = so.count in omega (arith, e, c));
@@ -79,7 +79,7 @@ all-laid given own rows h few so regions bytes = record {
 
 -- ## What is so of all
 
-module _ (given : List (Vec Item Global)) (own : ℕ) (h : Handout) (laid : IsLaidOut given own h) where
+module _ (given : List ItemList) (own : ℕ) (h : Handout) (laid : IsLaidOut given own h) where
   -- one that has a sector is an item's
   pub record IsHere (c i : ℕ) : Type 0 where
     pub client : c < 16
@@ -195,7 +195,7 @@ module _ (given : List (Vec Item Global)) (own : ℕ) (h : Handout) (laid : IsLa
 pub none-yet : (items : List Item) (first : ℕ) → IsRow items first 0 []
 none-yet items first = record { count = refl; each = λ i lt. absurd (let u : ⊥ = omega (arith, lt) in u) }
 
-pub no-rows : (given : List (Vec Item Global)) → AreRows given 0 []
+pub no-rows : (given : List ItemList) → AreRows given 0 []
 no-rows given = record { count = refl; each = λ i lt. absurd (let u : ⊥ = omega (arith, lt) in u) }
 
 pub below-none : (f : ℕ → ℕ) → below f 0 ≡ 0

@@ -11,7 +11,7 @@ mod patched;
 mod region;
 
 pub use fill::fill_fresh;
-pub use given::items_of;
+pub use given::count_of;
 pub use handed::{Handed, Regions};
 pub use log::Log;
 pub use memory::Memory;

@@ -9,13 +9,13 @@ use denote.Enum.Declared.{shape as shape_of}
 use Rattle.std.specs.contracts.option.Option as option
 use Rattle.std.specs.contracts.snapshot.Snapshot as snapshot
 use Rattle.eng_cols.specs.contracts.column.Column as column
-use Rattle.eng_world.specs.contracts.item.Item as item
 use Rattle.eng_world.specs.contracts.item.Reply as reply
 use Rattle.eng_parts.specs.contracts.devices.Devices as devices
 use Rattle.eng_parts.specs.contracts.slot.Slot as slot
 use Rattle.eng_parts.specs.contracts.spare.Spare as spare
 use Rattle.eng_log.proofs.Sent.{flag_send, number_send}
-use Rattle.eng_clients.proofs.Sent.{option_send, item_send, reply_send}
+use Rattle.item_list.proofs.Sent.{items_send}
+use Rattle.eng_clients.proofs.Sent.{option_send, reply_send}
 
 -- ## Values
 
@@ -34,4 +34,4 @@ pub devices_send : (D : RattleType) → IsSend D → IsSend (devices.the_row D)
 devices_send D d = view_send _ _ _ _ _ (declared_send (devices.TheInside.the_type D) (Vec-send (slot.the_row D) (slot_send D d), (Vec-send bool-field.row flag_send, (Vec-send (option.the_row D) (option_send D d), tt))))
 
 pub spare_send : IsSend spare.the_row
-spare_send = view_send _ _ _ _ _ (declared_send spare.TheInside.the_type (number_send, (Vec-send _ (Vec-send item.the_row item_send), (Vec-send _ (Vec-send reply.the_row reply_send), (Vec-send column.the_row column_send, tt)))))
+spare_send = view_send _ _ _ _ _ (declared_send spare.TheInside.the_type (number_send, (Vec-send _ items_send, (Vec-send _ (Vec-send reply.the_row reply_send), (Vec-send column.the_row column_send, tt)))))

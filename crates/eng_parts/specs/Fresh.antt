@@ -1,13 +1,12 @@
 -- The parts of a core before anything has begun, and the room that is one for a layout.
-use Rattle.std.specs.Prelude.{◌≡◌, ◌<◌, ◌≤◌, ◌+◌, ◌*◌, ℕ, List, [], length, Bool, Vec, min, replicate, if◌then◌else◌}
-use Rattle.std.specs.declared.alloc.Global.{Global}
+use Rattle.std.specs.Prelude.{◌≡◌, ◌<◌, ◌≤◌, ◌+◌, ◌*◌, ℕ, List, [], length, Bool, min, replicate, if◌then◌else◌}
 use Rattle.buf_pool.specs.Reserve.{IsStocked}
 use Rattle.stripe_lock.specs.Table.{IsIdle}
 use Rattle.lay_core.specs.Layout.{Shape}
 use Rattle.graph_mean.specs.Graph.{Held}
 use Rattle.eng_cols.specs.Cols.{ColumnState, Dead}
 use Rattle.eng_cols.specs.Lost.{IsLost}
-use Rattle.eng_world.specs.declared.item.Item.{Item}
+use Rattle.item_list.specs.ItemList.{ItemList}
 use Rattle.eng_parts.specs.declared.core_room.CoreRoom.{CoreRoom}
 use Rattle.eng_parts.specs.declared.setup.OpenFault.{OpenFault}
 use Rattle.eng_parts.specs.declared.setup.OpenFault.TheVariants as fault
@@ -32,15 +31,15 @@ fresh_log y trace handed = record {
 }
 
 -- the buffers that the clients' items and the engine's own can lease at once
-abbrev pub all_leases : Shape → List Held → List (Vec Item Global) → ℕ
+abbrev pub all_leases : Shape → List Held → List ItemList → ℕ
 all_leases y graphs given = below (λ c. row_leases y graphs (items_at given c)) 16 + own_leases y
 
 -- those that have memory: as many, or as many as a pool has
-abbrev pub stocked : Shape → List Held → List (Vec Item Global) → ℕ
+abbrev pub stocked : Shape → List Held → List ItemList → ℕ
 stocked y graphs given = min (all_leases y graphs given) 2048
 
 -- The room is one for this layout, so many devices and these items: all columns are dead, all buffers free, and as many there as can be leased at once, no stripe is held, each client has room for its items, not too many in all, and there is a rebuild's place for each stripe.
-pub record IsRoomFor {D : Type 0} (y : Shape) (most : ℕ) (given : List (Vec Item Global)) (graphs : List Held) (trace : Bool) (room : CoreRoom D) : Type 0 where
+pub record IsRoomFor {D : Type 0} (y : Shape) (most : ℕ) (given : List ItemList) (graphs : List Held) (trace : Bool) (room : CoreRoom D) : Type 0 where
   pub cols : room.cols ≡ record { states = replicate y.columns Dead; stripes = y.stripes }
   pub devices : room.devices ≡ most
   pub unit : room.pool.unit ≡ 512 * y.unit_sectors

@@ -20,9 +20,9 @@ use eng_cols::Cols;
 use eng_job::Lists;
 use eng_log::{Handed, Log};
 use eng_plan::{own_leases, row_leases};
-use eng_world::Item;
 use graph_check::Scratch;
 use graph_mean::Graph;
+use item_list::Items;
 use lay_core::Layout;
 use std::alloc::Global;
 use stripe_lock::Locks;
@@ -42,18 +42,18 @@ fn cols_for<L: Layout>(alloc: Global, layout: &L) -> Result<Cols, Memory>
 }
 
 // The most buffers that one of the client's items leases.
-fn row_of<L: Layout>(layout: &L, clients: &[Vec<Item>], client: u32, graphs: &[Graph]) -> u32
+fn row_of<L: Layout>(layout: &L, clients: &[Items], client: u32, graphs: &[Graph]) -> u32
     ensures { result
         ≡ row_leases (L.shape layout.now) graphs.now (items_at clients.now client) }
 {
     match clients.get(client as usize) {
         None => 0,
-        Some(items) => row_leases(layout, items.as_slice(), graphs),
+        Some(items) => row_leases(layout, items, graphs),
     }
 }
 
 // The buffers that the clients' items and the engine's own can lease at once.
-fn all_leases<L: Layout>(layout: &L, clients: &[Vec<Item>], graphs: &[Graph]) -> u64
+fn all_leases<L: Layout>(layout: &L, clients: &[Items], graphs: &[Graph]) -> u64
     ensures { result ≡ all_leases (L.shape layout.now) graphs.now clients.now }
 {
     let mut all = u64::from(own_leases(layout));
@@ -64,7 +64,7 @@ fn all_leases<L: Layout>(layout: &L, clients: &[Vec<Item>], graphs: &[Graph]) ->
 }
 
 // How many have memory: as many as can be leased at once, or as many as a pool has.
-fn stocked<L: Layout>(layout: &L, clients: &[Vec<Item>], graphs: &[Graph]) -> u32
+fn stocked<L: Layout>(layout: &L, clients: &[Items], graphs: &[Graph]) -> u32
     ensures count { result ≡ stocked (L.shape layout.now) graphs.now clients.now }
     ensures few { result ≤ 2048 }
 {
@@ -75,7 +75,7 @@ fn stocked<L: Layout>(layout: &L, clients: &[Vec<Item>], graphs: &[Graph]) -> u3
 fn pool_for<L: Layout>(
     alloc: Global,
     layout: &L,
-    clients: &[Vec<Item>],
+    clients: &[Items],
     graphs: &[Graph],
 ) -> Result<Reserve, Memory>
     ensures unit { IfOk result (λ pool. pool.unit ≡ 512 * (L.shape layout.now).unit_sectors) }
@@ -92,7 +92,7 @@ fn log_for<L: Layout>(
     alloc: Global,
     layout: &L,
     trace: bool,
-    clients: &[Vec<Item>],
+    clients: &[Items],
 ) -> Result<Log, Memory>
     requires clients { length clients.now ≤ 16 }
     requires sectors { sectors_before clients.now 16 ≤ 262144 }
@@ -116,7 +116,7 @@ fn log_for<L: Layout>(
 }
 
 // Room for the clients' items.
-fn clients_for(alloc: Global, clients: &[Vec<Item>]) -> Result<ClientRooms, Memory>
+fn clients_for(alloc: Global, clients: &[Items]) -> Result<ClientRooms, Memory>
     requires clients { length clients.now ≤ 16 }
     requires items { items_before clients.now 16 ≤ 65536 }
     ensures { IfOk result (AreRoomsFor clients.now) }
@@ -156,7 +156,7 @@ fn shaped_for<L: Layout>(
     alloc: Global,
     layout: &L,
     trace: bool,
-    clients: &[Vec<Item>],
+    clients: &[Items],
     graphs: &[Graph],
 ) -> Result<Shaped, Memory>
     requires clients { length clients.now ≤ 16 }
@@ -197,7 +197,7 @@ fn tools_for<D: Drop>(alloc: Global, devices: u32) -> Result<Tools<D>, Memory>
 }
 
 // There is room for each client's items, and a rebuild's place for each stripe.
-fn desks_for(alloc: Global, stripes: u32, clients: &[Vec<Item>]) -> Result<Desks, Memory>
+fn desks_for(alloc: Global, stripes: u32, clients: &[Items]) -> Result<Desks, Memory>
     requires clients { length clients.now ≤ 16 }
     requires items { items_before clients.now 16 ≤ 65536 }
     ensures clients { IfOk result (λ desks. AreRoomsFor clients.now desks.clients) }
@@ -219,7 +219,7 @@ impl<D: Drop> CoreRoom<D> {
         alloc: Global,
         layout: &L,
         devices: u32,
-        clients: &[Vec<Item>],
+        clients: &[Items],
         graphs: &[Graph],
         trace: bool,
     ) -> Result<CoreRoom<D>, Memory>

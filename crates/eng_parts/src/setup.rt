@@ -2,8 +2,9 @@
 use blk_plain::OpId;
 use eng_cols::{Column, Loss};
 use eng_log::Regions;
-use eng_world::{Item, Reply, Traced};
+use eng_world::{Reply, Traced};
 use graph_mean::Graph;
+use item_list::Items;
 use sector_store::Store;
 
 /// What a core is opened over: the devices by number, what each column is, the items of each client, the graphs that
@@ -13,7 +14,7 @@ pub struct Setup<L, D> {
     pub layout: L,
     pub devices: Vec<Option<D>>,
     pub columns: Vec<Column>,
-    pub clients: Vec<Vec<Item>>,
+    pub clients: Vec<Items>,
     pub graphs: Vec<Graph>,
     pub trace: bool,
 }
@@ -37,7 +38,7 @@ pub struct Closed<L, D> {
     pub layout: L,
     pub devices: Vec<Option<D>>,
     pub columns: Vec<Column>,
-    pub clients: Vec<Vec<Item>>,
+    pub clients: Vec<Items>,
     pub replies: Vec<Vec<Reply>>,
     pub history: Vec<OpId>,
     pub trace: Vec<Traced>,

@@ -4,7 +4,8 @@ ghost use Rattle.std.specs.Prelude.{◌≡◌, ◌≤◌, IfOk, [], vec_capacity
 use crate::memory::Memory;
 use blk_plain::limits;
 use eng_cols::Column;
-use eng_world::{Item, Reply};
+use eng_world::Reply;
+use item_list::Items;
 use std::alloc::Global;
 use std::marker::Model;
 
@@ -13,7 +14,7 @@ use std::marker::Model;
 #[derive(Drop)]
 pub struct Spare {
     pub(crate) clients: u32,
-    pub(crate) items: Vec<Vec<Item>>,
+    pub(crate) items: Vec<Items>,
     pub(crate) replies: Vec<Vec<Reply>>,
     pub(crate) columns: Vec<Column>,
 }
@@ -36,7 +37,7 @@ impl Model for Spare {
 /// What a spare holds: so many clients, and empty lists with room for 16 clients and 32 columns.
 pub struct SpareLists {
     pub clients: u32,
-    pub items: Vec<Vec<Item>>,
+    pub items: Vec<Items>,
     pub replies: Vec<Vec<Reply>>,
     pub columns: Vec<Column>,
 }

@@ -1,13 +1,11 @@
 -- What a run asks for is marked, where the items of its script are.
 use Rattle.std.proofs.Common.{◌≡◌, ◌∙◌, ◌⊎◌, ◌<◌, ℕ, Bool, true, List, Option, Some, None, sym, ap, subst, inl, inr}
-use Rattle.std.specs.Prelude.{Vec}
-use Rattle.std.specs.declared.alloc.Global.{Global}
 use Rattle.blk_plain.specs.declared.op.Op.{Op}
 use Rattle.lay_core.specs.Layout.{Shape}
-use Rattle.eng_world.specs.declared.item.Item.{Item}
 use Rattle.eng_world.specs.declared.item.Item.TheVariants as item
 use Rattle.eng_world.specs.World.{World}
 use Rattle.eng_world.specs.Planning.{Graphs, Concerns}
+use Rattle.item_list.specs.ItemList.{ItemList}
 use Rattle.raid_map.specs.Regions.{region_of, Marks, is_marked}
 use Rattle.raid_map.specs.Mapped.{ReadWrites, MayWrite, AreAskedFor}
 use Rattle.raid_map.specs.Asking.{FileWrites, MayWriteBy, ScriptMayWrite, MarksAlso, LibraryOnlyReads, IsItemOf, AreMarkedFor, IsMarkedRebuild, AreItemsOf}
@@ -23,7 +21,7 @@ may-by : (graphs : Graphs) → LibraryOnlyReads graphs → (o : Op) (graph : Opt
 may-by graphs quiet o graph (inl h) = inl h
 may-by graphs quiet o graph (inr h) = inr (by-file graphs quiet graph h)
 
-pub script-asked : (y : Shape) (graphs : Graphs) (clients : List (Vec Item Global)) (regions : ℕ → Bool) (w : World) → AreMarkedFor y regions (ScriptMayWrite y graphs.file clients)
+pub script-asked : (y : Shape) (graphs : Graphs) (clients : List ItemList) (regions : ℕ → Bool) (w : World) → AreMarkedFor y regions (ScriptMayWrite y graphs.file clients)
     → LibraryOnlyReads graphs → AreItemsOf y clients regions w → AreAskedFor y graphs regions w
 script-asked y graphs clients regions w marked quiet from c n o graph s at may reach within concerns = go (from c n (item.Run o graph) at)
   where

@@ -1,10 +1,9 @@
 -- Regions that are marked for stripes, one after the other.
 use Rattle.std.proofs.Common.{◌≡◌, ◌≢◌, ◌∙◌, ◌⊎◌, ℕ, ◌+◌, ◌<◌, ◌≤◌, true, false, List, length, Some, slice_get, refl, sym, ap, subst, inl, inr, arith}
-use Rattle.std.specs.Prelude.{Result, Ok, Err, Contains, Vec, slice_set}
+use Rattle.std.specs.Prelude.{Result, Ok, Err, Contains, slice_set}
 use Rattle.std.proofs.lemmas.Bool.{cases_eq, cases_lt}
 use Rattle.std.proofs.lemmas.List.{get_or-set_other, length-set, get_or_past}
 use Rattle.std.proofs.lemmas.Option.{slice_get-get_or, slice_get_within}
-use Rattle.std.specs.declared.alloc.Global.{Global}
 use Rattle.blk_plain.specs.declared.op.Op.TheVariants as op
 use Rattle.blk_plain.specs.declared.op.Patches.{Patches}
 use Rattle.blk_plain.specs.declared.op.Span.{Span}
@@ -15,6 +14,7 @@ use Rattle.graph_mean.specs.declared.graph.Node.{Node}
 use Rattle.graph_mean.specs.declared.graph.Node.TheVariants.{Rd, Wr, Xor, Cmt, Trm}
 use Rattle.graph_mean.specs.Graph.{View, Vertex, no_vertex, kind_at}
 use Rattle.eng_world.specs.declared.item.Item.{Item}
+use Rattle.item_list.specs.ItemList.{ItemList}
 use Rattle.raid_map.specs.Regions.{region_of, Marks, is_marked}
 use Rattle.raid_map.specs.Mapped.{HasWrite}
 use Rattle.raid_map.specs.Asking.{node_writes, MayWriteIn, SomeMayWrite, ScriptMayWrite, Reaches, MarksAlso}
@@ -160,9 +160,9 @@ pub firsts-items : (y : Shape) (file : ℕ → View) (items : List Item) (old ne
 firsts-items y file items old new m =
     also-same (FirstOnes (MayWriteIn y file) items (length items)) (SomeMayWrite y file items) old new (λ s within h. (h.0, h.1, h.3, h.4)) (λ s within h. (h.0, h.1, slice_get_within items h.0 h.1 h.2, h.2, h.3)) m
 
-pub firsts-clients : (y : Shape) (file : ℕ → View) (clients : List (Vec Item Global)) (old new : Marks) → MarksAlso (FirstOnes (λ (v : Vec Item Global). SomeMayWrite y file v.items) clients (length clients)) old new → MarksAlso (ScriptMayWrite y file clients) old new
+pub firsts-clients : (y : Shape) (file : ℕ → View) (clients : List ItemList) (old new : Marks) → MarksAlso (FirstOnes (λ (v : ItemList). SomeMayWrite y file v.items) clients (length clients)) old new → MarksAlso (ScriptMayWrite y file clients) old new
 firsts-clients y file clients old new m =
-    also-same (FirstOnes (λ (v : Vec Item Global). SomeMayWrite y file v.items) clients (length clients)) (ScriptMayWrite y file clients) old new (λ s within h. (h.0, h.1, h.3, h.4)) (λ s within h. (h.0, h.1, slice_get_within clients h.0 h.1 h.2, h.2, h.3)) m
+    also-same (FirstOnes (λ (v : ItemList). SomeMayWrite y file v.items) clients (length clients)) (ScriptMayWrite y file clients) old new (λ s within h. (h.0, h.1, h.3, h.4)) (λ s within h. (h.0, h.1, slice_get_within clients h.0 h.1 h.2, h.2, h.3)) m
 
 -- ## Operations
 

@@ -1,6 +1,5 @@
 -- In which regions the items of a script may write.
-use Rattle.std.specs.Prelude.{◌≡◌, ◌<◌, ◌≤◌, ◌⊎◌, ◌↔◌, ℕ, List, All, length, Bool, true, false, Option, Some, None, Vec, slice_get, slice_index_or}
-use Rattle.std.specs.declared.alloc.Global.{Global}
+use Rattle.std.specs.Prelude.{◌≡◌, ◌<◌, ◌≤◌, ◌⊎◌, ◌↔◌, ℕ, List, All, length, Bool, true, false, Option, Some, None, slice_get, slice_index_or}
 use Rattle.blk_plain.specs.declared.op.Op.{Op}
 use Rattle.blk_plain.specs.declared.op.Op.TheVariants.{Write, Writes, Read, Rebuild, Sync}
 use Rattle.blk_plain.specs.Plain.{AreSound, spans_of}
@@ -14,6 +13,7 @@ use Rattle.eng_world.specs.declared.item.Item.{Item}
 use Rattle.eng_world.specs.declared.item.Item.TheVariants as item
 use Rattle.eng_world.specs.World.{World, IsRead}
 use Rattle.eng_world.specs.Planning.{Graphs, InReach, Concerns}
+use Rattle.item_list.specs.ItemList.{ItemList}
 use Rattle.raid_map.specs.Regions.{region_of, Marks, is_marked}
 use Rattle.raid_map.specs.Mapped.{HasWrite}
 
@@ -64,8 +64,8 @@ abbrev pub SomeMayWrite : Shape → (ℕ → View) → List Item → ℕ → Typ
 SomeMayWrite y file items s = (n : ℕ) × (asked : Item) × (slice_get items n ≡ Some asked) × MayWriteIn y file asked s
 
 -- one of these clients' items may
-abbrev pub ScriptMayWrite : Shape → (ℕ → View) → List (Vec Item Global) → ℕ → Type 0
-ScriptMayWrite y file clients s = (c : ℕ) × (items : Vec Item Global) × (slice_get clients c ≡ Some items) × SomeMayWrite y file items.items s
+abbrev pub ScriptMayWrite : Shape → (ℕ → View) → List ItemList → ℕ → Type 0
+ScriptMayWrite y file clients s = (c : ℕ) × (items : ItemList) × (slice_get clients c ≡ Some items) × SomeMayWrite y file items.items s
 
 -- The map marks what it marked, and the regions of these stripes.
 pub record MarksAlso (stripes : ℕ → Type 0) (old new : Marks) : Type 0 where
@@ -81,8 +81,8 @@ abbrev pub LibraryOnlyReads : Graphs → Type 0
 LibraryOnlyReads graphs = (t : Aim) (missing : Missing) → t.kind ≡ kind.Read → HasWrite (graphs.library t missing) → ⊥
 
 -- it is one of these clients' items
-abbrev pub IsItemOf : List (Vec Item Global) → Item → Type 0
-IsItemOf clients asked = (c : ℕ) × (items : Vec Item Global) × (slice_get clients c ≡ Some items) × (n : ℕ) × (slice_get items.items n ≡ Some asked)
+abbrev pub IsItemOf : List ItemList → Item → Type 0
+IsItemOf clients asked = (c : ℕ) × (items : ItemList) × (slice_get clients c ≡ Some items) × (n : ℕ) × (slice_get items.items n ≡ Some asked)
 
 -- the regions of these stripes are marked
 abbrev pub AreMarkedFor : Shape → (ℕ → Bool) → (ℕ → Type 0) → Type 0
@@ -93,5 +93,5 @@ abbrev pub IsMarkedRebuild : Shape → (ℕ → Bool) → Item → Type 0
 IsMarkedRebuild y regions asked = (stripe : ℕ) × (graph : Option ℕ) × (asked ≡ item.Run (Rebuild stripe) graph) × (regions (region_of y.stripes stripe) ≡ true)
 
 -- each item is one of the script's, or the rebuild of a stripe whose region is marked
-abbrev pub AreItemsOf : Shape → List (Vec Item Global) → (ℕ → Bool) → World → Type 0
+abbrev pub AreItemsOf : Shape → List ItemList → (ℕ → Bool) → World → Type 0
 AreItemsOf y clients regions w = (c n : ℕ) (asked : Item) → slice_get (w.clients c).items n ≡ Some asked → IsItemOf clients asked ⊎ IsMarkedRebuild y regions asked

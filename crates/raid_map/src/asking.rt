@@ -9,6 +9,7 @@ use crate::map::Map;
 use blk_plain::{Op, Patches, Span};
 use eng_world::Item;
 use graph_mean::{Graph, Node};
+use item_list::Items;
 use lay_core::{Layout, StripeMap, split, split_all};
 
 fn node_writes(node: Node) -> bool
@@ -156,17 +157,17 @@ fn mark_item<L: Layout>(
 fn mark_items<L: Layout>(
     layout: &L,
     graphs: &[Graph],
-    items: &[Item],
+    items: &Items,
     room: &mut StripeMap,
     map: &mut Map,
 )
-    requires spans { All IsSpanned items.now }
+    requires spans { All IsSpanned items.now.items }
     requires map { map.old.stripes ≡ (L.shape layout.now).stripes }
-    ensures { MarksAlso (SomeMayWrite (L.shape layout.now) (file_of graphs.now) items.now)
+    ensures { MarksAlso (SomeMayWrite (L.shape layout.now) (file_of graphs.now) items.now.items)
         map.old map.new }
 {
     for i in 0..items.len() {
-        mark_item(layout, graphs, &items[i], room, map);
+        mark_item(layout, graphs, &items.get(i), room, map);
     }
 }
 
@@ -176,7 +177,7 @@ fn mark_items<L: Layout>(
 pub fn mark_script<L: Layout>(
     layout: &L,
     graphs: &[Graph],
-    clients: &[Vec<Item>],
+    clients: &[Items],
     room: &mut StripeMap,
     map: &mut Map,
 )
@@ -186,6 +187,6 @@ pub fn mark_script<L: Layout>(
         map.old map.new }
 {
     for c in 0..clients.len() {
-        mark_items(layout, graphs, clients[c].as_slice(), room, map);
+        mark_items(layout, graphs, &clients[c], room, map);
     }
 }

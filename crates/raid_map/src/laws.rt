@@ -1,6 +1,5 @@
 //! What holds of every run with a map, wherever it is stopped. These functions do nothing.
-ghost use Rattle.std.specs.Prelude.{◌≡◌, ◌<◌, ℕ, List, Vec, Option, Bool, true, Contains, length, slice_index};
-ghost use Rattle.std.specs.declared.alloc.Global.{Global};
+ghost use Rattle.std.specs.Prelude.{◌≡◌, ◌<◌, ℕ, List, Option, Bool, true, Contains, length, slice_index};
 ghost use Rattle.lay_core.specs.Layout.{Shape, IsLayout};
 ghost use Rattle.graph_mean.specs.declared.task.Kind.TheVariants as kind;
 ghost use Rattle.graph_mean.specs.Graph.{View};
@@ -10,9 +9,9 @@ ghost use Rattle.eng_cols.specs.declared.column.Column.{Column};
 ghost use Rattle.eng_cols.specs.Cols.{ColumnState, HasDevice};
 ghost use Rattle.eng_cols.specs.Contents.{Contents, InSync};
 ghost use Rattle.eng_cols.specs.Stripes.{states_of};
-ghost use Rattle.eng_world.specs.declared.item.Item.{Item};
 ghost use Rattle.eng_world.specs.World.{World};
 ghost use Rattle.eng_world.specs.Planning.{Graphs, Promises};
+ghost use Rattle.item_list.specs.ItemList.{ItemList};
 ghost use Rattle.raid_recon.specs.Array.{IsArray};
 ghost use Rattle.raid_map.specs.Regions.{region_of, regions_in, IsMap, IsBytesOf, Marks, is_marked, Adds};
 ghost use Rattle.raid_map.specs.Stops.{IsImage};
@@ -125,12 +124,12 @@ pub fn a_union_has_what_its_maps_mark()
 /// Regions in which the items of a script may write, with those of the stripes that are rebuilt, are all that a run
 /// over these items and rebuilds asks for.
 pub fn regions_of_a_script_are_enough()
-    ensures asked { (y : Shape) (graphs : Graphs) (clients : List (Vec Item Global))
+    ensures asked { (y : Shape) (graphs : Graphs) (clients : List ItemList)
         → (regions : ℕ → Bool) (w : World)
         → AreMarkedFor y regions (ScriptMayWrite y graphs.file clients)
         → LibraryOnlyReads graphs → AreItemsOf y clients regions w
         → AreAskedFor y graphs regions w }
-    ensures marked { (y : Shape) (file : ℕ → View) (clients : List (Vec Item Global))
+    ensures marked { (y : Shape) (file : ℕ → View) (clients : List ItemList)
         → (old new : Marks) → old.stripes ≡ y.stripes
         → MarksAlso (ScriptMayWrite y file clients) old new
         → AreMarkedFor y (is_marked new.marks) (ScriptMayWrite y file clients) }

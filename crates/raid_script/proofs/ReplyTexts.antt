@@ -8,6 +8,7 @@ use Rattle.std.proofs.lemmas.Option.{slice_get_read}
 use Rattle.eng_world.specs.declared.item.Item.{Item}
 use Rattle.eng_world.specs.declared.item.Reply.{Reply}
 use Rattle.eng_world.specs.declared.item.Reply.TheVariants as reply
+use Rattle.item_list.specs.ItemList.{ItemList}
 use Rattle.raid_script.specs.Replies.{item_sectors, row_sectors, no_item, item_text, place_text, row_text, items_in, replies_in, sectors_before, client_text}
 
 -- the lines of an item of a row, where its bytes are these
@@ -27,7 +28,7 @@ pub row_more : (items : List Item) (i : ℕ) (x : Item) (n : ℕ) → i < length
 row_more items i x n h x_is n_is = sum_by_more item_sectors items i x h ∙ ap (λ (k : ℕ). row_sectors (take i items) + k) (ap item_sectors (sym x_is) ∙ sym n_is)
 
 -- the lines of a client, where its rows are these
-pub client_is : (clients : List (Vec Item Global)) (replies : List (Vec Reply Global)) (bytes part : List ℕ) (c : ℕ) (xs : Vec Item Global) (rs : Vec Reply Global) (items : List Item) (told : List Reply) (at : ℕ)
+pub client_is : (clients : List ItemList) (replies : List (Vec Reply Global)) (bytes part : List ℕ) (c : ℕ) (xs : ItemList) (rs : Vec Reply Global) (items : List Item) (told : List Reply) (at : ℕ)
     → c < length clients → c < length replies → xs ≡ get_or clients c xs → rs ≡ get_or replies c rs → items ≡ xs.items → told ≡ rs.items → at ≡ 512 * sectors_before clients c → part ≡ drop at bytes
     → client_text clients replies bytes c ≡ row_text c items told part
 client_is clients replies bytes part c xs rs items told at h k xs_is rs_is items_is told_is at_is part_is =
@@ -36,11 +37,11 @@ client_is clients replies bytes part c xs rs items told at h k xs_is rs_is items
     ∙ ap (λ (bs : List ℕ). row_text c items told bs) (ap (λ (n : ℕ). drop n bytes) (sym at_is) ∙ sym part_is))
 
 -- the sectors of one client more
-pub before_more : (clients : List (Vec Item Global)) (c : ℕ) (xs : Vec Item Global) (items : List Item) → c < length clients → xs ≡ get_or clients c xs → items ≡ xs.items
+pub before_more : (clients : List ItemList) (c : ℕ) (xs : ItemList) (items : List Item) → c < length clients → xs ≡ get_or clients c xs → items ≡ xs.items
     → sectors_before clients (c + 1) ≡ sectors_before clients c + row_sectors items
 before_more clients c xs items h xs_is items_is =
-    sum_by_more (λ (row : Vec Item Global). row_sectors row.items) clients c xs h
-    ∙ ap (λ (n : ℕ). sectors_before clients c + n) (ap (λ (row : Vec Item Global). row_sectors row.items) (sym xs_is) ∙ ap row_sectors (sym items_is))
+    sum_by_more (λ (row : ItemList). row_sectors row.items) clients c xs h
+    ∙ ap (λ (n : ℕ). sectors_before clients c + n) (ap (λ (row : ItemList). row_sectors row.items) (sym xs_is) ∙ ap row_sectors (sym items_is))
 
 -- those of one item more are among all
 pub row_within : (items : List Item) (i : ℕ) (x : Item) (n : ℕ) → i < length items → x ≡ get_or items i x → n ≡ item_sectors x → row_sectors (take i items) + n ≤ row_sectors items
@@ -51,10 +52,10 @@ row_within items i x n h x_is n_is =
     omega (arith, more, split, whole)
 
 -- and those of one client more
-pub before_within : (clients : List (Vec Item Global)) (c : ℕ) (xs : Vec Item Global) (items : List Item) → c < length clients → xs ≡ get_or clients c xs → items ≡ xs.items
+pub before_within : (clients : List ItemList) (c : ℕ) (xs : ItemList) (items : List Item) → c < length clients → xs ≡ get_or clients c xs → items ≡ xs.items
     → sectors_before clients c + row_sectors items ≤ sum_by (λ row. row_sectors row.items) clients
 before_within clients c xs items h xs_is items_is =
     let more = before_more clients c xs items h xs_is items_is in
-    let split = sum_by-append (λ (row : Vec Item Global). row_sectors row.items) (take (c + 1) clients) (drop (c + 1) clients) in
-    let whole = ap (λ (l : List (Vec Item Global)). sum_by (λ (row : Vec Item Global). row_sectors row.items) l) (take-append-drop (c + 1) clients) in
+    let split = sum_by-append (λ (row : ItemList). row_sectors row.items) (take (c + 1) clients) (drop (c + 1) clients) in
+    let whole = ap (λ (l : List ItemList). sum_by (λ (row : ItemList). row_sectors row.items) l) (take-append-drop (c + 1) clients) in
     omega (arith, more, split, whole)

@@ -7,6 +7,7 @@ use Rattle.std.proofs.lemmas.Option.{slice_get_read}
 use Rattle.eng_world.specs.declared.item.Item.{Item}
 use Rattle.eng_world.specs.declared.item.Reply.{Reply}
 use Rattle.eng_world.specs.declared.item.Reply.TheVariants as reply
+use Rattle.item_list.specs.ItemList.{ItemList}
 use Rattle.raid_script.specs.Replies.{item_sectors, row_sectors, no_item, items_in, replies_in, sectors_before}
 use Rattle.raid_script.specs.Summary.{data_sum, place_sum, row_sum, client_sum}
 
@@ -23,7 +24,7 @@ place_sum_is items replies bytes part i x e n at h many x_is n_is at_is part_is 
     (ap (λ (k : ℕ). take (512 * k) (drop (512 * row_sectors (take i items)) bytes)) (sym n_is) ∙ (ap (λ (k : ℕ). take (512 * n) (drop k bytes)) (sym at_is) ∙ sym part_is)))
 
 -- what a client was replied, where its rows are these
-pub client_sum_is : (clients : List (Vec Item Global)) (replies : List (Vec Reply Global)) (bytes part : List ℕ) (c : ℕ) (xs : Vec Item Global) (rs : Vec Reply Global) (items : List Item) (told : List Reply) (at : ℕ)
+pub client_sum_is : (clients : List ItemList) (replies : List (Vec Reply Global)) (bytes part : List ℕ) (c : ℕ) (xs : ItemList) (rs : Vec Reply Global) (items : List Item) (told : List Reply) (at : ℕ)
     → c < length clients → c < length replies → xs ≡ get_or clients c xs → rs ≡ get_or replies c rs → items ≡ xs.items → told ≡ rs.items → at ≡ 512 * sectors_before clients c → part ≡ drop at bytes
     → client_sum clients replies bytes c ≡ row_sum items told part
 client_sum_is clients replies bytes part c xs rs items told at h k xs_is rs_is items_is told_is at_is part_is =

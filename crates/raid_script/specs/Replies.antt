@@ -11,6 +11,7 @@ use Rattle.eng_world.specs.declared.item.Item.{Item}
 use Rattle.eng_world.specs.declared.item.Item.TheVariants as item
 use Rattle.eng_world.specs.declared.item.Reply.{Reply}
 use Rattle.eng_world.specs.declared.item.Reply.TheVariants as reply
+use Rattle.item_list.specs.ItemList.{ItemList}
 use Rattle.put_line.specs.Line.{line}
 use Rattle.raid_script.specs.Blocks.{blocks_text}
 
@@ -154,11 +155,11 @@ abbrev pub row_text : ℕ → List Item → List Reply → List ℕ → List ℕ
 row_text client items replies bytes = flat_map (place_text client items replies bytes) (range_with_len 0 (length items))
 
 -- the items, and the replies, of the client of this number
-abbrev pub items_in : Option (Vec Item Global) → List Item
+abbrev pub items_in : Option ItemList → List Item
 items_in None = []
 items_in (Some items) = items.items
 
-abbrev pub items_at : List (Vec Item Global) → ℕ → List Item
+abbrev pub items_at : List ItemList → ℕ → List Item
 items_at clients c = items_in (slice_get clients c)
 
 abbrev pub replies_in : Option (Vec Reply Global) → List Reply
@@ -169,19 +170,19 @@ abbrev pub replies_at : List (Vec Reply Global) → ℕ → List Reply
 replies_at replies c = replies_in (slice_get replies c)
 
 -- the sectors of the clients before this one
-abbrev pub sectors_before : List (Vec Item Global) → ℕ → ℕ
+abbrev pub sectors_before : List ItemList → ℕ → ℕ
 sectors_before clients c = sum_by (λ row. row_sectors row.items) (take c clients)
 
 -- the lines of client c, whose bytes stand behind those of the clients before it
-abbrev pub client_text : List (Vec Item Global) → List (Vec Reply Global) → List ℕ → ℕ → List ℕ
+abbrev pub client_text : List ItemList → List (Vec Reply Global) → List ℕ → ℕ → List ℕ
 client_text clients replies bytes c = row_text c (items_at clients c) (replies_at replies c) (drop (512 * sectors_before clients c) bytes)
 
 -- of the clients below 16, in their order
-abbrev pub replies_text : List (Vec Item Global) → List (Vec Reply Global) → List ℕ → List ℕ
+abbrev pub replies_text : List ItemList → List (Vec Reply Global) → List ℕ → List ℕ
 replies_text clients replies bytes = flat_map (client_text clients replies bytes) (range_with_len 0 (min (length clients) 16))
 
 -- The replies and bytes stand for these items: each item has its reply, and each item its sectors.
-pub record StandFor (clients : List (Vec Item Global)) (replies : List (Vec Reply Global)) (bytes : List ℕ) : Type 0 where
+pub record StandFor (clients : List ItemList) (replies : List (Vec Reply Global)) (bytes : List ℕ) : Type 0 where
   pub clients_answered : length clients ≤ length replies
   pub items_answered : (c : ℕ) → c < length clients → length (replies_at replies c) ≡ length (items_at clients c)
   pub enough : 512 * sum_by (λ row. row_sectors row.items) clients ≤ length bytes

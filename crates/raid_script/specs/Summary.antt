@@ -9,6 +9,7 @@ use Rattle.eng_world.specs.declared.item.Item.{Item}
 use Rattle.eng_world.specs.declared.item.Item.TheVariants as item
 use Rattle.eng_world.specs.declared.item.Reply.{Reply}
 use Rattle.eng_world.specs.declared.item.Reply.TheVariants as reply
+use Rattle.item_list.specs.ItemList.{ItemList}
 use Rattle.put_line.specs.Line.{line}
 use Rattle.raid_script.specs.Replies.{item_sectors, row_sectors, item_bytes, items_at, replies_at, sectors_before, no_item}
 
@@ -59,15 +60,15 @@ place_sum items replies bytes i = data_sum (slice_index_or replies i reply.Done)
 abbrev pub row_sum : List Item → List Reply → List ℕ → ℕ
 row_sum items replies bytes = sum_by (place_sum items replies bytes) (range_with_len 0 (length items))
 
-abbrev pub client_sum : List (Vec Item Global) → List (Vec Reply Global) → List ℕ → ℕ → ℕ
+abbrev pub client_sum : List ItemList → List (Vec Reply Global) → List ℕ → ℕ → ℕ
 client_sum clients replies bytes c = row_sum (items_at clients c) (replies_at replies c) (drop (512 * sectors_before clients c) bytes)
 
 -- what all were
-abbrev pub all_sum : List (Vec Item Global) → List (Vec Reply Global) → List ℕ → ℕ
+abbrev pub all_sum : List ItemList → List (Vec Reply Global) → List ℕ → ℕ
 all_sum clients replies bytes = sum_by (client_sum clients replies bytes) (range_with_len 0 (length clients))
 
 -- Both lines: how many clients and items there are; the sectors that they write and read, and the sum of what they were replied.
-abbrev pub summary_text : List (Vec Item Global) → List (Vec Reply Global) → List ℕ → List ℕ
+abbrev pub summary_text : List ItemList → List (Vec Reply Global) → List ℕ → List ℕ
 summary_text clients replies bytes =
     sweep_line (length clients) (sum_by (λ row. length row.items) clients)
     ++ written_line (sum_by (λ row. row_writes row.items) clients) (sum_by (λ row. row_sectors row.items) clients) (all_sum clients replies bytes)

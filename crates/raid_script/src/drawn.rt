@@ -8,6 +8,7 @@ use crate::memory::Memory;
 use crate::script::Script;
 use blk_plain::{Op, Pattern, Span};
 use eng_world::Item;
+use item_list::Items;
 use rand_core::SeedableRng;
 use rand_core::utils::NextWord;
 use rand_pcg::Lcg64Xsh32;
@@ -83,13 +84,13 @@ fn row_from(
     wide: u64,
     ops: u32,
     words: &mut Lcg64Xsh32,
-) -> Result<Vec<Item>, AllocError>
+) -> Result<Items, AllocError>
     requires some { 0 < wide }
     requires fits { (client + 1) * wide < 2 ^ 64 }
     ensures items { IfOk result (λ v. map seen v.items ≡ row_from client wide ops words.old) }
     ensures rest { IfOk result (λ _. words.new ≡ after (3 * ops) words.old) }
 {
-    let mut items = Vec::with_capacity(alloc, ops as usize)?;
+    let mut items = Items::with_capacity(alloc, ops as usize)?;
     for _i in 0..ops {
         items.push(item_from(client, wide, words))?;
     }

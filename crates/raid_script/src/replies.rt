@@ -9,6 +9,7 @@ use crate::runs::put_stored;
 use blk_disk::Failed;
 use blk_plain::Op;
 use eng_world::{Item, Reply};
+use item_list::Items;
 use put_line::Line;
 use raid_bay::Sink;
 use sector_store::Store;
@@ -116,28 +117,37 @@ fn put_item<K: Sink>(
 // these are.
 fn put_row<K: Sink>(
     client: usize,
-    items: &[Item],
+    items: &Items,
     replies: &[Reply],
     sectors: &Store,
     from: usize,
     line: &mut Line,
     out: &mut K,
 ) -> Result<usize, Failed>
-    requires answered { length replies.now ≡ length items.now }
-    requires enough { 512 * from + 512 * row_sectors items.now ≤ length sectors.now }
+    requires answered { length replies.now ≡ length items.now.items }
+    requires enough { 512 * from + 512 * row_sectors items.now.items ≤ length sectors.now }
     ensures output { K.tells → Puts (is_ok result) (K.output out.old)
-        (row_text client items.now replies.now (drop (512 * from) sectors.now))
+        (row_text client items.now.items replies.now (drop (512 * from) sectors.now))
         (K.output out.new) }
-    ensures passed { IfOk result (λ n. n ≡ row_sectors items.now) }
+    ensures passed { IfOk result (λ n. n ≡ row_sectors items.now.items) }
     ensures later { K.faults out.old ≤ K.faults out.new }
     ensures cause { OnErr result (Rose (K.faults out.old) (K.faults out.new)) }
 {
     // A call of the store makes known that its numbers are small.
     let _count = sectors.len();
     let mut at = 0;
-    for (i, item) in items.iter().enumerate() {
-        put_item((client, i), item, replies[i], sectors, from + at, line, out)?;
-        at += item_sectors(item) as usize;
+    for i in 0..items.len() {
+        let item = items.get(i);
+        put_item(
+            (client, i),
+            &item,
+            replies[i],
+            sectors,
+            from + at,
+            line,
+            out,
+        )?;
+        at += item_sectors(&item) as usize;
     }
     Ok(at)
 }
@@ -154,7 +164,7 @@ fn put_row<K: Sink>(
 /// It puts one line a call, and takes no memory. Failed, only where the sink's count of faults
 /// rose, has put a front of the text.
 pub fn put_replies<K: Sink>(
-    clients: &[Vec<Item>],
+    clients: &[Items],
     replies: &[Vec<Reply>],
     sectors: &Store,
     out: &mut K,
@@ -170,9 +180,8 @@ pub fn put_replies<K: Sink>(
     let _count = sectors.len();
     let mut at = 0;
     for client in 0..clients.len().min(PRINTED) {
-        let items = clients[client].as_slice();
         let told = replies[client].as_slice();
-        at += put_row(client, items, told, sectors, at, &mut line, out)?;
+        at += put_row(client, &clients[client], told, sectors, at, &mut line, out)?;
     }
     Ok(())
 }

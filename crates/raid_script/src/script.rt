@@ -6,13 +6,14 @@ use crate::entry::{Entry, item_from};
 use crate::join::Join;
 use blk_plain::{Patches, limits};
 use eng_world::Item;
+use item_list::Items;
 use std::alloc::{AllocError, Global};
 use std::marker::Model;
 
 /// The items of each client, in order, and the join lines. Contracts see what each item asks for.
 #[derive(Drop)]
 pub struct Script {
-    pub(crate) clients: Vec<Vec<Item>>,
+    pub(crate) clients: Vec<Items>,
     pub(crate) joins: Vec<Join>,
 }
 
@@ -25,7 +26,7 @@ impl Model for Script {
     ghost view = { λ s. record { clients = map (λ items. map seen items.items) s.clients.items; joins = s.joins.items } };
 }
 
-fn push_item(clients: &mut Vec<Vec<Item>>, client: u32, item: Item) -> Result<(), AllocError>
+fn push_item(clients: &mut Vec<Items>, client: u32, item: Item) -> Result<(), AllocError>
     requires { client < length clients.old.items }
     ensures { OnOk result (map (λ items. map seen items.items) clients.new.items
         ≡ with_asked (map (λ items. map seen items.items) clients.old.items) client (seen item)) }
@@ -63,7 +64,7 @@ impl Script {
     {
         let mut clients = Vec::with_capacity(alloc, limits::CLIENTS as usize)?;
         for _ in 0..limits::CLIENTS {
-            clients.push(Vec::new(alloc))?;
+            clients.push(Items::new(alloc))?;
         }
         Ok(Script {
             clients,
@@ -91,14 +92,14 @@ impl Script {
     }
 
     /// The items of each client, by its number. It takes no memory.
-    pub fn clients(self) -> Vec<Vec<Item>>
+    pub fn clients(self) -> Vec<Items>
         ensures { map (λ items. map seen items.items) result.items ≡ self.clients }
     {
         self.clients
     }
 
     /// The items of each client, and the join lines. It takes no memory.
-    pub fn into_parts(self) -> (Vec<Vec<Item>>, Vec<Join>)
+    pub fn into_parts(self) -> (Vec<Items>, Vec<Join>)
         ensures clients { map (λ items. map seen items.items) result.0.items ≡ self.clients }
         ensures joins { result.1.items ≡ self.joins }
     {

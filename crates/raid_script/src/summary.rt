@@ -7,7 +7,8 @@ ghost use Rattle.raid_script.specs.Summary.{sweep_line, written_line, summary_te
 
 use crate::sums::{count_items, count_written, sum_all};
 use blk_disk::Failed;
-use eng_world::{Item, Reply};
+use eng_world::Reply;
+use item_list::Items;
 use put_line::Line;
 use raid_bay::Sink;
 use sector_store::Store;
@@ -47,7 +48,7 @@ fn set_written(line: &mut Line, written: u128, read: usize, sum: u128)
 /// It puts one line a call, and takes no memory. Failed, only where the sink's count of faults
 /// rose, has put a front of the text.
 pub fn put_summary<K: Sink>(
-    clients: &[Vec<Item>],
+    clients: &[Items],
     replies: &[Vec<Reply>],
     sectors: &Store,
     out: &mut K,

@@ -7,6 +7,7 @@ ghost use Rattle.raid_script.specs.Summary.{op_writes, item_writes, row_writes, 
 use crate::replies::item_sectors;
 use blk_plain::{Op, Patch, Patches};
 use eng_world::{Item, Reply};
+use item_list::Items;
 use sector_store::Store;
 
 fn patches_in_use(patches: &Patches) -> &[Patch]
@@ -58,19 +59,20 @@ fn item_writes(item: &Item) -> u64
 }
 
 // How many sectors a client's items write.
-fn row_writes(items: &[Item]) -> u128
-    ensures value { result ≡ row_writes items.now }
-    ensures small { result ≤ 34359738360 * length items.now }
+fn row_writes(items: &Items) -> u128
+    ensures value { result ≡ row_writes items.now.items }
+    ensures small { result ≤ 34359738360 * length items.now.items }
+    ensures few { length items.now.items ≤ 18446744073709551615 }
 {
     let mut total: u128 = 0;
-    for item in items {
-        total += u128::from(item_writes(item));
+    for at in 0..items.len() {
+        total += u128::from(item_writes(&items.get(at)));
     }
     total
 }
 
 /// How many items there are.
-pub fn count_items(clients: &[Vec<Item>]) -> u128
+pub fn count_items(clients: &[Items]) -> u128
     requires { length clients.now ≤ 16 }
     ensures { result ≡ sum_by (λ row. length row.items) clients.now }
 {
@@ -82,13 +84,13 @@ pub fn count_items(clients: &[Vec<Item>]) -> u128
 }
 
 /// How many sectors all items write.
-pub fn count_written(clients: &[Vec<Item>]) -> u128
+pub fn count_written(clients: &[Items]) -> u128
     requires { length clients.now ≤ 16 }
     ensures { result ≡ sum_by (λ row. row_writes row.items) clients.now }
 {
     let mut total: u128 = 0;
     for row in clients {
-        total += row_writes(row.as_slice());
+        total += row_writes(row);
     }
     total
 }
@@ -138,19 +140,19 @@ fn sum_data(reply: Reply, sectors: &Store, from: usize, count: u32) -> u128
 }
 
 // The sum of what a client was replied, whose sectors are those from this one on; and how many these are.
-fn sum_row(items: &[Item], replies: &[Reply], sectors: &Store, from: usize) -> (u128, usize)
-    requires answered { length replies.now ≡ length items.now }
-    requires enough { 512 * from + 512 * row_sectors items.now ≤ length sectors.now }
-    ensures sum { result.0 ≡ row_sum items.now replies.now (drop (512 * from) sectors.now) }
-    ensures passed { result.1 ≡ row_sectors items.now }
+fn sum_row(items: &Items, replies: &[Reply], sectors: &Store, from: usize) -> (u128, usize)
+    requires answered { length replies.now ≡ length items.now.items }
+    requires enough { 512 * from + 512 * row_sectors items.now.items ≤ length sectors.now }
+    ensures sum { result.0 ≡ row_sum items.now.items replies.now (drop (512 * from) sectors.now) }
+    ensures passed { result.1 ≡ row_sectors items.now.items }
     ensures small { result.0 ≤ 130560 * result.1 }
 {
     // A call of the store makes known that its numbers are small.
     let _count = sectors.len();
     let mut sum: u128 = 0;
     let mut at = 0;
-    for (i, item) in items.iter().enumerate() {
-        let count = item_sectors(item);
+    for i in 0..items.len() {
+        let count = item_sectors(&items.get(i));
         sum += sum_data(replies[i], sectors, from + at, count);
         at += count as usize;
     }
@@ -158,7 +160,7 @@ fn sum_row(items: &[Item], replies: &[Reply], sectors: &Store, from: usize) -> (
 }
 
 /// The sum of all bytes behind `data`, and how many sectors all items read.
-pub fn sum_all(clients: &[Vec<Item>], replies: &[Vec<Reply>], sectors: &Store) -> (u128, usize)
+pub fn sum_all(clients: &[Items], replies: &[Vec<Reply>], sectors: &Store) -> (u128, usize)
     requires { StandFor clients.now replies.now sectors.now }
     ensures sum { result.0 ≡ all_sum clients.now replies.now sectors.now }
     ensures read { result.1 ≡ sum_by (λ row. row_sectors row.items) clients.now }
@@ -168,9 +170,8 @@ pub fn sum_all(clients: &[Vec<Item>], replies: &[Vec<Reply>], sectors: &Store) -
     let mut sum: u128 = 0;
     let mut at = 0;
     for client in 0..clients.len() {
-        let items = clients[client].as_slice();
         let told = replies[client].as_slice();
-        let row = sum_row(items, told, sectors, at);
+        let row = sum_row(&clients[client], told, sectors, at);
         sum += row.0;
         at += row.1;
     }

@@ -34,14 +34,21 @@ fn says(
     Ok(())
 }
 
+// the sentence of words that aren't a command
+fn unformed(alloc: Global) -> Result<String, Fail> {
+    Ok(format!(in alloc;
+        "raidctl: the words can't be taken apart: an option twice or without its value, a word too many, one that isn't UTF-8, or no CONF\n{HELP}"
+    )?)
+}
+
+// the sentence of words with an option that there isn't
+fn no_option(alloc: Global, option: &str) -> Result<String, Fail> {
+    Ok(format!(in alloc; "raidctl: {option}: there is no such option\n{HELP}")?)
+}
+
 #[test]
 fn each_refused_word_is_named(rt: HostRuntime) -> Result<(), Fail> {
-    let alloc = rt.alloc();
-    let unformed = format!(in alloc;
-        "raidctl: the words can't be taken apart: an option twice or without its value, a word too many, one that isn't UTF-8, or no CONF\n{HELP}"
-    )?;
-    let rows: [(&[&str], u8, &str); 13] = [
-        (&["CONF", "-f"], 0, unformed.as_str()),
+    const ROWS: &[(&[&str], u8, &str)] = &[
         (
             &["CONF"],
             1,
@@ -103,187 +110,200 @@ fn each_refused_word_is_named(rt: HostRuntime) -> Result<(), Fail> {
             "raidctl: --sim lifo: the queue is fifo, sstf or scan\n",
         ),
     ];
-    for (words, case, sentence) in rows {
+    let alloc = rt.alloc();
+    let formless = unformed(alloc)?;
+    says(
+        &rt,
+        alloc,
+        &["CONF", "-f"],
+        &Status::Usage(0),
+        formless.as_str(),
+    )?;
+    for row in ROWS {
+        let (words, case, sentence) = *row;
         says(&rt, alloc, words, &Status::Usage(case), sentence)?;
     }
     Ok(())
 }
 
+// These words have an option that there isn't, and which it is.
+const UNKNOWN: &[(&[&str], &str)] = &[
+    (&["-v", "-i", "CONF"], "-v"),
+    (&["CONF", "-B"], "-B"),
+    (&["CONF", "--copyback", "-S"], "--copyback"),
+    (&["CONF", "--ops=3", "--ioo=S"], "--ioo=S"),
+    (&["CONF", "--i", "S"], "--i"),
+    (&["CONF", "-f", "-d1"], "-d1"),
+    (&["CONF", "--resume", "--limits", "3"], "--limits"),
+    (&["CONF", "--io", "S", "--maps"], "--maps"),
+];
+
+// These are refused for another cause.
+const FORMLESS: &[&[&str]] = &[
+    &[],
+    &["--io", "S", "--graphs", "G", "--trace", "-w", "4"],
+    &["--sweep", "1", "--clients", "2", "--ops", "3"],
+    &["-s", "-i", "-p", "-P", "-G", "-f", "d0", "-g", "d1"],
+    &["-I", "7", "-F", "d2", "-R", "d3"],
+    &["--scan", "--sim", "fifo"],
+    &["--resume", "--limit", "3"],
+    &["-m", "--io", "S", "--map"],
+    &["CONF", "--", "-S"],
+    &["CONF", "-", "-sS"],
+];
+
 #[test]
 fn an_option_that_there_isnt_is_named(rt: HostRuntime) -> Result<(), Fail> {
     let alloc = rt.alloc();
-    let unformed = format!(in alloc;
-        "raidctl: the words can't be taken apart: an option twice or without its value, a word too many, one that isn't UTF-8, or no CONF\n{HELP}"
-    )?;
-    let rows: [(&[&str], &str); 18] = [
-        (&["-v", "-i", "CONF"], "-v"),
-        (&["CONF", "-B"], "-B"),
-        (&["CONF", "--copyback", "-S"], "--copyback"),
-        (&["CONF", "--ops=3", "--ioo=S"], "--ioo=S"),
-        (&["CONF", "--i", "S"], "--i"),
-        (&["CONF", "-f", "-d1"], "-d1"),
-        (&["CONF", "--resume", "--limits", "3"], "--limits"),
-        (&["CONF", "--io", "S", "--maps"], "--maps"),
-        (&[], ""),
-        (&["--io", "S", "--graphs", "G", "--trace", "-w", "4"], ""),
-        (&["--sweep", "1", "--clients", "2", "--ops", "3"], ""),
-        (&["-s", "-i", "-p", "-P", "-G", "-f", "d0", "-g", "d1"], ""),
-        (&["-I", "7", "-F", "d2", "-R", "d3"], ""),
-        (&["--scan", "--sim", "fifo"], ""),
-        (&["--resume", "--limit", "3"], ""),
-        (&["-m", "--io", "S", "--map"], ""),
-        (&["CONF", "--", "-S"], ""),
-        (&["CONF", "-", "-sS"], ""),
-    ];
-    for (words, option) in rows {
-        let named = format!(in alloc; "raidctl: {option}: there is no such option\n{HELP}")?;
-        let sentence = if option.is_empty() {
-            unformed.as_str()
-        } else {
-            named.as_str()
-        };
-        says(&rt, alloc, words, &Status::Usage(0), sentence)?;
+    for row in UNKNOWN {
+        let (words, option) = *row;
+        let sentence = no_option(alloc, option)?;
+        says(&rt, alloc, words, &Status::Usage(0), sentence.as_str())?;
+    }
+    let sentence = unformed(alloc)?;
+    for words in FORMLESS {
+        says(&rt, alloc, *words, &Status::Usage(0), sentence.as_str())?;
     }
     Ok(())
 }
 
-// the statuses of a call that has a configuration, a script and a file of graphs
-fn rows(alloc: Global) -> Result<Vec<(Status, &'static str)>, Fail> {
-    Ok(vec![in alloc;
-        (Status::Ok, ""),
-        (
-            Status::Conf(3, 8),
-            "raidctl: CONF, line 3: the level isn't 0, 1, 4, 5, C, T or D\n"
-        ),
-        (
-            Status::Script(2, 5),
-            "raidctl: S, line 2: the array has no such column\n"
-        ),
-        (
-            Status::Script(0, 8),
-            "raidctl: S: the trace might have more than 1048576 events: fewer items, or no --trace\n"
-        ),
-        (
-            Status::GraphText(7, 6),
-            "raidctl: G, line 7: the text ends within a graph\n"
-        ),
-        (Status::BayFault, "raidctl: d1: Permission denied\n"),
-        (
-            Status::NoFile(Name::new(alloc, "x\ny")?),
-            "raidctl: x?y: no such file; names are relative to the working directory, not to CONF\n"
-        ),
-        (Status::SinkFault, "raidctl: d1: Permission denied\n"),
-        (
-            Status::Lost {
-                first: 1,
-                second: 2,
-                stripe: 9
-            },
-            "raidctl: the array is lost: stripe 9 lacks the units of columns 1 and 2; see docs/ADMIN.md, 'A lost array'\n"
-        ),
-        (
-            Status::Lost {
-                first: 1,
-                second: 1,
-                stripe: 9
-            },
-            "raidctl: the array is lost: stripe 9 lacks the unit of column 1; see docs/ADMIN.md, 'A lost array'\n"
-        ),
-        (
-            Status::Label {
-                column: 3,
-                code: 1,
-                found: 0,
-                wanted: 0
-            },
-            "raidctl: column 3 has no label: -I SERIAL writes the first ones of an array, -R COMP that of a new disk\n"
-        ),
-        (
-            Status::Label {
-                column: 3,
-                code: 2,
-                found: 8,
-                wanted: 7
-            },
-            "raidctl: the label of column 3 has serial number 8 where 7 is wanted\n"
-        ),
-        (
-            Status::Label {
-                column: 3,
-                code: 3,
-                found: 1,
-                wanted: 3
-            },
-            "raidctl: the disk at column 3 is that of column 1\n"
-        ),
-        (
-            Status::Label {
-                column: 3,
-                code: 4,
-                found: 4,
-                wanted: 5
-            },
-            "raidctl: the label of column 3 is of an array of another shape: it has 4 where 5 is wanted\n"
-        ),
-        (
-            Status::Label {
-                column: 3,
-                code: 5,
-                found: 2,
-                wanted: 1
-            },
-            "raidctl: the label of column 3 has version 2 where 1 is wanted\n"
-        ),
-        (
-            Status::Label {
-                column: 0,
-                code: 6,
-                found: 4294901761,
-                wanted: 4294901760
-            },
-            "raidctl: the newest label has counter 4294901761, and labels are written up to 4294901760\n"
-        ),
-        (
-            Status::Small {
-                column: 1,
-                has: 117,
-                needs: 128
-            },
-            "raidctl: the disk of column 1 has 117 sectors, and 128 are needed\n"
-        ),
-        (
-            Status::NotInSync(3),
-            "raidctl: stripes that aren't in sync: 3; -P rewrites their check units from the data\n"
-        ),
-        (
-            Status::NoSpare,
-            "raidctl: no free spare (each is used, failed or small: see -s); -f fails the column alone, -R rebuilds it on its own disk\n"
-        ),
-        (
-            Status::NoRebuild,
-            "raidctl: no column is being rebuilt (see -s): there is nothing to resume; -F or -R begins a rebuild\n"
-        ),
-        (
-            Status::Rebuilding(2),
-            "raidctl: column 2 is being rebuilt: --resume goes on with it, before another can be begun\n"
-        ),
-        (
-            Status::LongText(Name::new(alloc, "big")?),
-            "raidctl: big: longer than 16777216 bytes\n"
-        ),
-        (
-            Status::Memory,
-            "raidctl: not enough memory; nothing was written\n"
-        ),
-    ]?)
+// a call that has a configuration, a script and a file of graphs ended so, which is told by this sentence
+fn told(rt: &impl Abort, alloc: Global, status: Status, sentence: &str) -> Result<(), Fail> {
+    const WORDS: &[&str] = &["CONF", "--io", "S", "--graphs", "G", "--trace"];
+    says(rt, alloc, WORDS, &status, sentence)
 }
 
 #[test]
-fn each_status_has_a_sentence(rt: HostRuntime) -> Result<(), Fail> {
+fn each_fault_of_a_text_has_a_sentence(rt: HostRuntime) -> Result<(), Fail> {
     let alloc = rt.alloc();
-    let words = ["CONF", "--io", "S", "--graphs", "G", "--trace"];
-    for (status, sentence) in rows(alloc)? {
-        says(&rt, alloc, &words, &status, sentence)?;
+    let level = "raidctl: CONF, line 3: the level isn't 0, 1, 4, 5, C, T or D\n";
+    told(&rt, alloc, Status::Conf(3, 8), level)?;
+    let column = "raidctl: S, line 2: the array has no such column\n";
+    told(&rt, alloc, Status::Script(2, 5), column)?;
+    let trace =
+        "raidctl: S: the trace might have more than 1048576 events: fewer items, or no --trace\n";
+    told(&rt, alloc, Status::Script(0, 8), trace)?;
+    let end = "raidctl: G, line 7: the text ends within a graph\n";
+    told(&rt, alloc, Status::GraphText(7, 6), end)?;
+    let missing =
+        "raidctl: x?y: no such file; names are relative to the working directory, not to CONF\n";
+    told(
+        &rt,
+        alloc,
+        Status::NoFile(Name::new(alloc, "x\ny")?),
+        missing,
+    )?;
+    let long = "raidctl: big: longer than 16777216 bytes\n";
+    told(&rt, alloc, Status::LongText(Name::new(alloc, "big")?), long)
+}
+
+// column 1 and this one have lost the array by stripe 9
+fn lost(second: u32) -> Status {
+    Status::Lost {
+        first: 1,
+        second,
+        stripe: 9,
+    }
+}
+
+#[test]
+fn each_state_of_an_array_has_a_sentence(rt: HostRuntime) -> Result<(), Fail> {
+    let alloc = rt.alloc();
+    let two =
+        "raidctl: the array is lost: stripe 9 lacks the units of columns 1 and 2; see docs/ADMIN.md, 'A lost array'\n";
+    told(&rt, alloc, lost(2), two)?;
+    let one =
+        "raidctl: the array is lost: stripe 9 lacks the unit of column 1; see docs/ADMIN.md, 'A lost array'\n";
+    told(&rt, alloc, lost(1), one)?;
+    let small = Status::Small {
+        column: 1,
+        has: 117,
+        needs: 128,
+    };
+    let sectors = "raidctl: the disk of column 1 has 117 sectors, and 128 are needed\n";
+    told(&rt, alloc, small, sectors)?;
+    let parity =
+        "raidctl: stripes that aren't in sync: 3; -P rewrites their check units from the data\n";
+    told(&rt, alloc, Status::NotInSync(3), parity)?;
+    let spare =
+        "raidctl: no free spare (each is used, failed or small: see -s); -f fails the column alone, -R rebuilds it on its own disk\n";
+    told(&rt, alloc, Status::NoSpare, spare)?;
+    let none =
+        "raidctl: no column is being rebuilt (see -s): there is nothing to resume; -F or -R begins a rebuild\n";
+    told(&rt, alloc, Status::NoRebuild, none)?;
+    let other =
+        "raidctl: column 2 is being rebuilt: --resume goes on with it, before another can be begun\n";
+    told(&rt, alloc, Status::Rebuilding(2), other)
+}
+
+#[test]
+fn each_fault_of_the_machine_has_a_sentence(rt: HostRuntime) -> Result<(), Fail> {
+    let alloc = rt.alloc();
+    let denied = "raidctl: d1: Permission denied\n";
+    told(&rt, alloc, Status::Ok, "")?;
+    told(&rt, alloc, Status::BayFault, denied)?;
+    told(&rt, alloc, Status::SinkFault, denied)?;
+    let memory = "raidctl: not enough memory; nothing was written\n";
+    told(&rt, alloc, Status::Memory, memory)
+}
+
+// a label's column, code, what was found and what is wanted; and the sentence
+const LABELS: &[(u32, u8, u32, u32, &str)] = &[
+    (
+        3,
+        1,
+        0,
+        0,
+        "raidctl: column 3 has no label: -I SERIAL writes the first ones of an array, -R COMP that of a new disk\n",
+    ),
+    (
+        3,
+        2,
+        8,
+        7,
+        "raidctl: the label of column 3 has serial number 8 where 7 is wanted\n",
+    ),
+    (
+        3,
+        3,
+        1,
+        3,
+        "raidctl: the disk at column 3 is that of column 1\n",
+    ),
+    (
+        3,
+        4,
+        4,
+        5,
+        "raidctl: the label of column 3 is of an array of another shape: it has 4 where 5 is wanted\n",
+    ),
+    (
+        3,
+        5,
+        2,
+        1,
+        "raidctl: the label of column 3 has version 2 where 1 is wanted\n",
+    ),
+    (
+        0,
+        6,
+        4294901761,
+        4294901760,
+        "raidctl: the newest label has counter 4294901761, and labels are written up to 4294901760\n",
+    ),
+];
+
+#[test]
+fn each_fault_of_a_label_has_a_sentence(rt: HostRuntime) -> Result<(), Fail> {
+    for row in LABELS {
+        let (column, code, found, wanted, sentence) = *row;
+        let status = Status::Label {
+            column,
+            code,
+            found,
+            wanted,
+        };
+        told(&rt, rt.alloc(), status, sentence)?;
     }
     Ok(())
 }
@@ -291,7 +311,7 @@ fn each_status_has_a_sentence(rt: HostRuntime) -> Result<(), Fail> {
 #[test]
 fn each_code_of_a_script_has_words(rt: HostRuntime) -> Result<(), Fail> {
     let alloc = rt.alloc();
-    let rows = [
+    const ROWS: &[(u8, &str)] = &[
         (9, "two spans of the item share a block"),
         (
             10,
@@ -304,7 +324,8 @@ fn each_code_of_a_script_has_words(rt: HostRuntime) -> Result<(), Fail> {
         (12, "the two graphs are too large together"),
         (13, "more than 64 joins"),
     ];
-    for (code, words) in rows {
+    for row in ROWS {
+        let (code, words) = *row;
         let sentence = format!(in alloc; "raidctl: S, line 6: {words}\n")?;
         says(
             &rt,

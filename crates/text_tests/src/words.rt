@@ -34,7 +34,7 @@ fn see(rt: &impl Abort, alloc: Global, rows: &[(&[&str], u8)]) -> Result<(), Fai
 
 #[test]
 fn words_that_are_refused(rt: HostRuntime) -> Result<(), Fail> {
-    let rows: [(&[&str], u8); 16] = [
+    const ROWS: &[(&[&str], u8)] = &[
         (&[], 0),
         (&["--io", "S"], 0),
         (&["CONF", "--copyback"], 0),
@@ -52,12 +52,12 @@ fn words_that_are_refused(rt: HostRuntime) -> Result<(), Fail> {
         (&["CONF", "--io", "S", "-w", "two"], 3),
         (&["CONF", "--sweep", "1", "--clients", "0", "--ops", "0"], 3),
     ];
-    see(&rt, rt.alloc(), &rows)
+    see(&rt, rt.alloc(), ROWS)
 }
 
 #[test]
 fn rebuilds_that_are_refused(rt: HostRuntime) -> Result<(), Fail> {
-    let rows: [(&[&str], u8); 6] = [
+    const ROWS: &[(&[&str], u8)] = &[
         (&["CONF", "-F", "d0", "-R", "d0"], 1),
         (&["CONF", "-R", "d0", "-f", "d0"], 1),
         (&["CONF", "-F", "d0", "--trace"], 2),
@@ -65,12 +65,12 @@ fn rebuilds_that_are_refused(rt: HostRuntime) -> Result<(), Fail> {
         (&["CONF", "-R", "d0", "--ops", "1"], 2),
         (&["CONF", "-R", "d0", "-w", "17"], 3),
     ];
-    see(&rt, rt.alloc(), &rows)
+    see(&rt, rt.alloc(), ROWS)
 }
 
 #[test]
 fn letters_that_are_refused(rt: HostRuntime) -> Result<(), Fail> {
-    let rows: [(&[&str], u8); 16] = [
+    const ROWS: &[(&[&str], u8)] = &[
         (&["CONF", "-s", "-s"], 0),
         (&["CONF", "-f"], 0),
         (&["CONF", "-s", "-p"], 1),
@@ -88,7 +88,7 @@ fn letters_that_are_refused(rt: HostRuntime) -> Result<(), Fail> {
         (&["CONF", "--resume", "--limit", "0"], 3),
         (&["CONF", "-F", "d0", "--limit", "4294967296"], 3),
     ];
-    see(&rt, rt.alloc(), &rows)
+    see(&rt, rt.alloc(), ROWS)
 }
 
 fn command<'a>(alloc: Global, words: &'a [Name]) -> Result<Command<'a>, Fail> {
@@ -117,7 +117,7 @@ fn letter(action: Action<'_>) -> (char, &str, u32) {
 
 #[test]
 fn letters_that_are_commands(rt: HostRuntime) -> Result<(), Fail> {
-    let table: [(&[&str], (char, &str, u32)); 9] = [
+    const TABLE: &[(&[&str], (char, &str, u32))] = &[
         (&["C", "-s"], ('s', "", 0)),
         (&["-m", "C"], ('m', "", 0)),
         (&["C", "-i"], ('i', "", 0)),
@@ -128,7 +128,8 @@ fn letters_that_are_commands(rt: HostRuntime) -> Result<(), Fail> {
         (&["-g", "s0", "C"], ('g', "s0", 0)),
         (&["C", "-I", "4294967295"], ('I', "", 4_294_967_295)),
     ];
-    for (words, wanted) in table {
+    for row in TABLE {
+        let (words, wanted) = *row;
         let words = names(rt.alloc(), words)?;
         let command = command(rt.alloc(), words.as_slice())?;
         same(&rt, command.conf, "C");
@@ -260,13 +261,14 @@ fn words_that_are_commands(rt: HostRuntime) -> Result<(), Fail> {
 // What goes with a map: the array has to have labels, which are judged where they are written alone.
 #[test]
 fn maps_want_labels(rt: HostRuntime) -> Result<(), Fail> {
-    let rows: [(&[&str], (bool, bool, bool)); 4] = [
+    const ROWS: &[(&[&str], (bool, bool, bool))] = &[
         (&["C", "--io", "S", "--map"], (true, true, true)),
         (&["C", "--io", "S"], (false, false, true)),
         (&["C", "--resume", "--map"], (true, true, true)),
         (&["C", "-m"], (true, true, false)),
     ];
-    for (words, wanted) in rows {
+    for row in ROWS {
+        let (words, wanted) = *row;
         let names = names(rt.alloc(), words)?;
         let profile = command(rt.alloc(), names.as_slice())?.action.profile();
         let found = (profile.map, profile.labels, profile.writes);

@@ -61,6 +61,9 @@ impl Client {
         requires { length self.now.replies < length self.now.items }
         ensures { item_at self.now ≡ Some result.now }
     {
-        &self.items[self.replies.len()]
+        match &self.item {
+            Some(item) => item,
+            None => unreachable!(),
+        }
     }
 }

@@ -5,15 +5,16 @@ ghost use Rattle.eng_log.specs.Given.{items_at};
 ghost use Rattle.eng_clients.specs.Replied.{told_of};
 ghost use Rattle.eng_clients.specs.Fresh.{new_desk};
 
-use crate::client::Client;
+use crate::client::{Client, item_in};
 use crate::memory::Memory;
 use crate::stage::Stage;
 use blk_plain::limits;
 use buf_pool::Lease;
 use eng_cols::{Loss, Spot};
 use eng_one::Run;
-use eng_world::{Item, Reply};
+use eng_world::Reply;
 use graph_mean::{Graph, Task};
+use item_list::Items;
 use lay_core::StripeMap;
 use std::alloc::Global;
 use std::marker::Model;
@@ -45,7 +46,7 @@ fn no_spots(alloc: Global) -> Result<Vec<Option<Spot>>, Memory>
 pub struct ClientRoom {
     most: u32,
     // No items, for a client that isn't given any.
-    none: Vec<Item>,
+    none: Items,
     replies: Vec<Reply>,
     client: Client,
 }
@@ -66,7 +67,7 @@ impl Model for ClientRoom {
 }
 
 // The items of the client of this number leave, if it has any, and none are left in their place.
-fn take_items(given: &mut [Vec<Item>], client: u32, none: Vec<Item>) -> Vec<Item>
+fn take_items(given: &mut [Items], client: u32, none: Items) -> Items
     requires { none.items ≡ [] }
     ensures items { result.items ≡ items_at given.old client }
     ensures others { (k : ℕ) → k ≢ client → items_at given.new k ≡ items_at given.old k }
@@ -86,14 +87,14 @@ impl ClientRoom {
     {
         Ok(ClientRoom {
             most,
-            none: Vec::new(alloc),
+            none: Items::new(alloc),
             replies: Vec::with_capacity(alloc, most as usize)?,
             client: Client::open(alloc)?,
         })
     }
 
     /// The client of this number, with its items of those that are given, if it has any.
-    pub fn bring(self, given: &mut [Vec<Item>], number: u32) -> Client
+    pub fn bring(self, given: &mut [Items], number: u32) -> Client
         requires { length (items_at given.old number) ≤ self }
         ensures client { result ≡ new_desk (items_at given.old number) }
         ensures others { (k : ℕ) → k ≢ number → items_at given.new k ≡ items_at given.old k }
@@ -105,6 +106,7 @@ impl ClientRoom {
             ..
         } = self;
         client.items = take_items(given, number, none);
+        client.item = item_in(&client.items, 0);
         client.replies = replies;
         client
     }
@@ -122,7 +124,8 @@ impl Client {
         let missing = Vec::with_capacity(alloc, limits::TASK_STRIPES as usize)?;
         let spots = no_spots(alloc)?;
         Ok(Client {
-            items: Vec::new(alloc),
+            items: Items::new(alloc),
+            item: None,
             replies: Vec::new(alloc),
             stage: Stage::Nothing,
             run,
@@ -138,7 +141,7 @@ impl Client {
     }
 
     /// Its items, and a reply for each that has one; once the array is lost, every other is replied so.
-    pub fn close(self, lost: Option<Loss>) -> (Vec<Item>, Vec<Reply>)
+    pub fn close(self, lost: Option<Loss>) -> (Items, Vec<Reply>)
         ensures items { result.0.items ≡ self.items }
         ensures replies { result.1.items ≡ told_of lost self.items self.replies }
     {

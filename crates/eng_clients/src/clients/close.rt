@@ -4,7 +4,8 @@ ghost use Rattle.eng_clients.specs.Replied.{AreClosed};
 
 use crate::clients::Clients;
 use eng_cols::Loss;
-use eng_world::{Item, Reply};
+use eng_world::Reply;
+use item_list::Items;
 
 impl Clients {
     /// The first so many clients: their items, and their replies once the array is lost by this, if it is. The lists have
@@ -13,9 +14,9 @@ impl Clients {
         self,
         count: u32,
         lost: Option<Loss>,
-        items: Vec<Vec<Item>>,
+        items: Vec<Items>,
         replies: Vec<Vec<Reply>>,
-    ) -> (Vec<Vec<Item>>, Vec<Vec<Reply>>)
+    ) -> (Vec<Items>, Vec<Vec<Reply>>)
         requires count { count ≤ length self }
         requires items { (items.items ≡ []) × (count ≤ vec_capacity items) }
         requires replies { (replies.items ≡ []) × (count ≤ vec_capacity replies) }

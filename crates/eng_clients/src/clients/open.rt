@@ -9,9 +9,9 @@ use crate::client::{Client, ClientRoom};
 use crate::clients::Clients;
 use crate::memory::Memory;
 use blk_plain::limits;
-use eng_log::items_of;
+use eng_log::count_of;
 use eng_one::with_bit;
-use eng_world::Item;
+use item_list::Items;
 use std::alloc::Global;
 use std::marker::Model;
 
@@ -49,7 +49,7 @@ fn with_client(busy: u64, number: u32, client: &Client) -> u64
 }
 
 // The client of this number, in the room that was taken for it.
-fn bring_one(rooms: &mut [Option<ClientRoom>], given: &mut [Vec<Item>], number: u32) -> Client
+fn bring_one(rooms: &mut [Option<ClientRoom>], given: &mut [Items], number: u32) -> Client
     requires { (most : ℕ) × (slice_index_or rooms.old number None ≡ Some most)
         × (length (items_at given.old number) ≤ most) }
     ensures client { result ≡ new_desk (items_at given.old number) }
@@ -64,21 +64,21 @@ fn bring_one(rooms: &mut [Option<ClientRoom>], given: &mut [Vec<Item>], number: 
 
 impl ClientRooms {
     /// The room that any of these items take. The only error is want of memory.
-    pub fn open(alloc: Global, clients: &[Vec<Item>]) -> Result<ClientRooms, Memory>
+    pub fn open(alloc: Global, clients: &[Items]) -> Result<ClientRooms, Memory>
         requires { (c : ℕ) → length (items_at clients.now c) ≤ 65536 }
         ensures { IfOk result (AreRoomsFor clients.now) }
     {
         let mut rooms = Vec::with_capacity(alloc, CLIENTS as usize)?;
         let list = Vec::with_capacity(alloc, CLIENTS as usize)?;
         for client in 0..CLIENTS {
-            let count = items_of(clients, client).len() as u32;
+            let count = count_of(clients, client) as u32;
             rooms.push_reserved(Some(ClientRoom::open(alloc, count)?));
         }
         Ok(ClientRooms { rooms, list })
     }
 
     /// All clients, with these items. It takes no memory.
-    pub fn bring(self, given: Vec<Vec<Item>>) -> Clients
+    pub fn bring(self, given: Vec<Items>) -> Clients
         requires { AreRoomsFor given.items self }
         ensures count { length result ≡ 17 }
         ensures each { (c : ℕ) → c < 17 → desk_at result c ≡ new_desk (items_at given.items c) }

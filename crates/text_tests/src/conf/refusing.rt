@@ -239,7 +239,7 @@ const WHOLE: &[u8] =
 
 // Each prefix of it, by its length: the first and the last length, and why they are not read. A break of a line at the
 // text's end begins no further line.
-const CUTS: [(usize, usize, (u32, u8)); 26] = [
+const CUTS: &[(usize, usize, (u32, u8))] = &[
     // nothing: the first section is missing
     (0, 0, (1, 3)),
     // `S` to `START `: not a line that begins a section, or a section without a name
@@ -306,7 +306,8 @@ fn see_cuts(rt: &impl Abort, alloc: Global, first: usize, last: usize, at: (u32,
 #[test]
 fn a_text_cut_short_is_refused_where_it_ends(rt: HostRuntime) {
     let mut next = 0;
-    for (first, last, at) in CUTS {
+    for row in CUTS {
+        let (first, last, at) = *row;
         assert!(rt; first == next && last <= WHOLE.len());
         see_cuts(&rt, rt.alloc(), first, last, at);
         next = last + 1;

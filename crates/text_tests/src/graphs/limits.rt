@@ -30,7 +30,9 @@ fn ends(
 
 // A graph may have 2048 of these lines, and no more.
 fn see_most(rt: &impl Abort, alloc: Global, word: &str, rest: &str) -> Result<(), AllocError> {
-    for (count, at) in [(2_048, (0, 0)), (2_049, (2_050, 5))] {
+    const MOST: &[(u32, (u32, u8))] = &[(2_048, (0, 0)), (2_049, (2_050, 5))];
+    for row in MOST {
+        let (count, at) = *row;
         same_at(rt, word, ends(rt, alloc, word, rest, count)?, at);
     }
     Ok(())
@@ -47,11 +49,13 @@ fn see_past(rt: &impl Abort, alloc: Global, word: &str, rest: &str) -> Result<()
 #[test]
 fn the_2049th_buffer_node_or_return_is_code_5(rt: HostRuntime) -> Result<(), Fail> {
     let alloc = rt.alloc();
-    for (word, rest) in [
+    const LINES: &[(&str, &str)] = &[
         ("buffer", "stripe 0 from 0 count 1"),
         ("node", "commit"),
         ("return", "0"),
-    ] {
+    ];
+    for row in LINES {
+        let (word, rest) = *row;
         see_most(&rt, alloc, word, rest)?;
         see_past(&rt, alloc, word, rest)?;
     }
@@ -87,8 +91,8 @@ fn sums(
 
 #[test]
 fn the_16385th_source_or_antecedent_is_code_5(rt: HostRuntime) -> Result<(), Fail> {
-    for (counts, rest, want) in [
-        ([16_384].as_slice(), "", (0, 0)),
+    const ROWS: &[(&[u32], &str, (u32, u8))] = &[
+        (&[16_384], "", (0, 0)),
         (&[16_385], "", (2, 5)),
         (&[100_000], "", (2, 5)),
         (&[16_385], " x", (2, 2)),
@@ -99,7 +103,9 @@ fn the_16385th_source_or_antecedent_is_code_5(rt: HostRuntime) -> Result<(), Fai
         (&[10_000, 6_384], "", (0, 0)),
         (&[10_000, 6_384], " after 0", (3, 5)),
         (&[10_000, 6_385], "", (3, 5)),
-    ] {
+    ];
+    for row in ROWS {
+        let (counts, rest, want) = *row;
         let is = sums(&rt, rt.alloc(), counts, rest)?;
         same_at(&rt, (counts, rest), is, want);
     }
@@ -135,7 +141,9 @@ fn see_65th(
 fn the_65th_graph_is_code_5(rt: HostRuntime) -> Result<(), Fail> {
     let text = empty_graphs(rt.alloc())?;
     same(&rt, refusal(&rt, rt.alloc(), text.as_bytes()), (0, 0));
-    for (more, code) in [("g64", 5), ("g0", 4), ("g64 g", 1), ("G", 1)] {
+    const ROWS: &[(&str, u8)] = &[("g64", 5), ("g0", 4), ("g64 g", 1), ("G", 1)];
+    for row in ROWS {
+        let (more, code) = *row;
         see_65th(&rt, rt.alloc(), text.as_str(), more, code)?;
     }
     Ok(())

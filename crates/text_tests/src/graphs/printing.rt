@@ -79,11 +79,13 @@ fn reprint(
 #[test]
 fn what_is_printed_is_read_and_printed_the_same(rt: HostRuntime) -> Result<(), Fail> {
     let alloc = rt.alloc();
-    for (text, name, want) in [
-        (LARGE, b"large".as_slice(), LARGE),
+    const ROWS: &[(&[u8], &[u8], &[u8])] = &[
+        (LARGE, b"large", LARGE),
         (LOOSE, b"z-0_9", EACH),
         (EACH, b"z-0_9", EACH),
-    ] {
+    ];
+    for row in ROWS {
+        let (text, name, want) = *row;
         let book = read(&rt, alloc, text);
         same(&rt, book.count(), 1);
         let mut printed = Vec::new(alloc);

@@ -275,11 +275,13 @@ fn a_number_that_isnt_the_next_is_code_3(rt: HostRuntime) -> Result<(), Fail> {
 
 #[test]
 fn lines_out_of_order_are_code_1(rt: HostRuntime) -> Result<(), Fail> {
-    for (first, second) in [
+    const LINES: &[(&str, &str)] = &[
         ("node 0 commit", "buffer x"),
         ("return 0 0", "buffer 0 stripe 0 from 0 count 1"),
         ("return 0 0", "node x"),
-    ] {
+    ];
+    for row in LINES {
+        let (first, second) = *row;
         let parts = [
             b"graph g\n".as_slice(),
             first.as_bytes(),
@@ -350,17 +352,21 @@ fn cut(rt: &impl Abort, alloc: Global, lines: usize, bytes: usize) -> (u32, u8) 
 
 fn see_last_cut(rt: &impl Abort, alloc: Global) {
     same(rt, behind(LARGE, 11), LARGE.len());
-    for (bytes, at) in [(1, (0, 0)), (2, (11, 1)), (4, (11, 6))] {
+    const CUTS: &[(usize, (u32, u8))] = &[(1, (0, 0)), (2, (11, 1)), (4, (11, 6))];
+    for row in CUTS {
+        let (bytes, at) = *row;
         same_at(rt, bytes, cut(rt, alloc, 11, bytes), at);
     }
 }
 
 // Two short texts end within a graph.
 fn see_short(rt: &impl Abort, alloc: Global) {
-    for (text, at) in [
-        (b"graph g\n\n# more\n".as_slice(), (4, 6)),
+    const TEXTS: &[(&[u8], (u32, u8))] = &[
+        (b"graph g\n\n# more\n", (4, 6)),
         (b"graph g\nbuffer 0 stripe 0 fr", (2, 1)),
-    ] {
+    ];
+    for row in TEXTS {
+        let (text, at) = *row;
         same_at(rt, text, refusal(rt, alloc, text), at);
     }
 }

@@ -2,6 +2,7 @@
 use crate::judging::{same, same_at};
 use blk_plain::{Op, Pattern, Span};
 use eng_world::Item;
+use item_list::Items;
 use raid_script::generate;
 use rand_core::SeedableRng;
 use rand_core::utils::NextWord;
@@ -29,9 +30,13 @@ fn write(first: u64, count: u32, byte: u8) -> Item {
     }
 }
 
-fn see(rt: &impl Abort, clients: &[Vec<Item>], client: usize, items: &[Item]) {
+fn see(rt: &impl Abort, clients: &[Items], client: usize, items: &[Item]) {
     assert!(rt; client < clients.len());
-    same_at(rt, client, clients[client].as_slice(), items);
+    let own = &clients[client];
+    assert!(rt; own.len() == items.len());
+    for at in 0..items.len() {
+        same_at(rt, at, own.get(at), items[at]);
+    }
 }
 
 fn drawn(
@@ -41,7 +46,7 @@ fn drawn(
     clients: u32,
     ops: u32,
     blocks: u64,
-) -> Vec<Vec<Item>> {
+) -> Vec<Items> {
     assert!(rt; 0 < clients && clients <= 16 && ops <= 2_048 && 0 < blocks);
     generate(alloc, seed, clients, ops, blocks)
         .expect(rt, "memory")
@@ -57,7 +62,7 @@ fn drawn(
 #[test]
 fn words_are_those_of_the_published_algorithm(rt: HostRuntime) {
     let mut words = Lcg64Xsh32::seed_from_u64(1);
-    for word in [
+    const WORDS: &[u32] = &[
         866_585_574,
         2_109_535_214,
         3_403_630_417,
@@ -67,7 +72,9 @@ fn words_are_those_of_the_published_algorithm(rt: HostRuntime) {
         3_719_081_784,
         441_867_712,
         3_688_506_836,
-    ] {
+    ];
+    for row in WORDS {
+        let word = *row;
         same(&rt, words.next_word(), word);
     }
 }

@@ -8,6 +8,7 @@ use blk_disk::Failed;
 use blk_plain::{Op, OpId, Pattern, Span};
 use eng_world::{Item, Reply, Traced};
 use graph_mean::Refusal;
+use item_list::Items;
 use raid_bay::{MemSink, Memory};
 use raid_script::{
     put_history, put_replies, put_summary, put_trace, run_length, shortest_string, stored_run,
@@ -57,7 +58,7 @@ fn put_taken(out: &mut MemSink) -> Result<(), Failed> {
 
 // Prints the replies to two clients' items, and with `all` a history, a trace and the summary.
 fn put(
-    clients: &[Vec<Item>],
+    clients: &[Items],
     replies: &[Vec<Reply>],
     sectors: &Store,
     all: bool,
@@ -87,7 +88,10 @@ fn print(
     requires second { length second.1.now ≡ length second.0.now }
     requires enough { 512 * (row_sectors first.0.now + row_sectors second.0.now) ≤ length sectors.now }
 {
-    let clients = [first.0.to_vec(alloc)?, second.0.to_vec(alloc)?];
+    let clients = [
+        Items::from_slice(alloc, first.0)?,
+        Items::from_slice(alloc, second.0)?,
+    ];
     let replies = [first.1.to_vec(alloc)?, second.1.to_vec(alloc)?];
     Ok(put(&clients, &replies, sectors, all, out))
 }
@@ -143,46 +147,51 @@ fn prints_the_history_without_client_16(rt: HostRuntime) -> Result<(), Fail> {
     Ok(())
 }
 
-fn events() -> [Traced; 12] {
-    [
-        Traced::Fill {
-            column: 2,
-            device: 5,
-            count: 64,
-        },
-        Traced::Resume {
-            column: 3,
-            count: 7,
-        },
-        Traced::Spread { column: 1 },
-        Traced::Begin { id: id(0, 3) },
-        Traced::Take { id: id(0, 3) },
-        Traced::Fire {
-            id: id(0, 3),
-            node: 12,
-        },
-        Traced::Begin { id: id(16, 0) },
-        Traced::Good {
-            id: id(0, 3),
-            node: 12,
-        },
-        Traced::Bad {
-            id: id(0, 3),
-            node: 7,
-        },
-        Traced::Skip {
-            id: id(16, 0),
-            node: 2047,
-        },
-        Traced::Back { id: id(0, 3) },
-        Traced::Fail { column: 4 },
-    ]
-}
+const FIRST: OpId = OpId {
+    client: 0,
+    index: 3,
+};
+
+const OWN: OpId = OpId {
+    client: 16,
+    index: 0,
+};
+
+const EVENTS: &[Traced] = &[
+    Traced::Fill {
+        column: 2,
+        device: 5,
+        count: 64,
+    },
+    Traced::Resume {
+        column: 3,
+        count: 7,
+    },
+    Traced::Spread { column: 1 },
+    Traced::Begin { id: FIRST },
+    Traced::Take { id: FIRST },
+    Traced::Fire {
+        id: FIRST,
+        node: 12,
+    },
+    Traced::Begin { id: OWN },
+    Traced::Good {
+        id: FIRST,
+        node: 12,
+    },
+    Traced::Bad { id: FIRST, node: 7 },
+    Traced::Skip {
+        id: OWN,
+        node: 2047,
+    },
+    Traced::Back { id: FIRST },
+    Traced::Fail { column: 4 },
+];
 
 #[test]
 fn prints_each_kind_of_event(rt: HostRuntime) -> Result<(), Fail> {
     let mut out = roomy_sink(rt.alloc())?;
-    put_trace(&events(), &mut out)?;
+    put_trace(EVENTS, &mut out)?;
     let text =
         "fill 2 5 64\nresume 3 7\nspread 1\nbegin 0.3\ntake 0.3\nfire 0.3 12\nbegin 16.0\ngood 0.3 12\n\
         bad 0.3 7\nskip 16.0 2047\nback 0.3\nfail 4\n";
@@ -190,43 +199,41 @@ fn prints_each_kind_of_event(rt: HostRuntime) -> Result<(), Fail> {
     Ok(())
 }
 
-fn causes() -> [(Refusal, &'static str); 14] {
-    [
-        (Refusal::Large, "G14"),
-        (Refusal::Index { what: 2, place: 3 }, "G1 2 3"),
-        (Refusal::Order { node: 4 }, "G2 4"),
-        (Refusal::Commits { count: 0 }, "G3 0"),
-        (Refusal::Ends { count: 1, node: 9 }, "G4 1 9"),
-        (
-            Refusal::Assigned {
-                buffer: 5,
-                times: 2,
-            },
-            "G5 5 2",
-        ),
-        (Refusal::Unordered { node: 6, buffer: 1 }, "G6 6 1"),
-        (Refusal::LateRead { node: 7 }, "G7 7"),
-        (Refusal::EarlyWrite { node: 8 }, "G8 8"),
-        (Refusal::Missing { node: 10 }, "G9 10"),
-        (
-            Refusal::Twice {
-                first: 3,
-                second: 11,
-            },
-            "G10 3 11",
-        ),
-        (Refusal::Mixed { what: 1, place: 12 }, "G11 1 12"),
-        (
-            Refusal::WrongValue {
-                stripe: 15,
-                unit: 2,
-                offset: 4294967295,
-            },
-            "G12 15 2 4294967295",
-        ),
-        (Refusal::WrongReturn { block: 13 }, "G13 13"),
-    ]
-}
+const CAUSES: &[(Refusal, &str)] = &[
+    (Refusal::Large, "G14"),
+    (Refusal::Index { what: 2, place: 3 }, "G1 2 3"),
+    (Refusal::Order { node: 4 }, "G2 4"),
+    (Refusal::Commits { count: 0 }, "G3 0"),
+    (Refusal::Ends { count: 1, node: 9 }, "G4 1 9"),
+    (
+        Refusal::Assigned {
+            buffer: 5,
+            times: 2,
+        },
+        "G5 5 2",
+    ),
+    (Refusal::Unordered { node: 6, buffer: 1 }, "G6 6 1"),
+    (Refusal::LateRead { node: 7 }, "G7 7"),
+    (Refusal::EarlyWrite { node: 8 }, "G8 8"),
+    (Refusal::Missing { node: 10 }, "G9 10"),
+    (
+        Refusal::Twice {
+            first: 3,
+            second: 11,
+        },
+        "G10 3 11",
+    ),
+    (Refusal::Mixed { what: 1, place: 12 }, "G11 1 12"),
+    (
+        Refusal::WrongValue {
+            stripe: 15,
+            unit: 2,
+            offset: 4294967295,
+        },
+        "G12 15 2 4294967295",
+    ),
+    (Refusal::WrongReturn { block: 13 }, "G13 13"),
+];
 
 fn see_words(rt: &impl Abort, alloc: Global, reply: Reply, words: &str) -> Result<(), Fail> {
     let line = joined(alloc, &[b"reply 0.0 ", words.as_bytes(), b"\n"])?;
@@ -234,7 +241,7 @@ fn see_words(rt: &impl Abort, alloc: Global, reply: Reply, words: &str) -> Resul
 }
 
 fn see_causes(rt: &impl Abort, alloc: Global) -> Result<(), Fail> {
-    for (cause, words) in &causes() {
+    for (cause, words) in CAUSES {
         let words = format!(in alloc; "refused {words}")?;
         see_words(rt, alloc, Reply::Refused(*cause), words.as_str())?;
     }
@@ -244,7 +251,7 @@ fn see_causes(rt: &impl Abort, alloc: Global) -> Result<(), Fail> {
 #[test]
 fn prints_each_kind_of_reply(rt: HostRuntime) -> Result<(), Fail> {
     see_causes(&rt, rt.alloc())?;
-    let others = [
+    const OTHERS: &[(Reply, &str)] = &[
         (Reply::Done, "done"),
         (Reply::Okay, "ok"),
         (Reply::Undone { device: 16 }, "undone 16"),
@@ -252,7 +259,7 @@ fn prints_each_kind_of_reply(rt: HostRuntime) -> Result<(), Fail> {
         (Reply::Long, "refused R2"),
         (Reply::Lost, "lost"),
     ];
-    for (reply, words) in &others {
+    for (reply, words) in OTHERS {
         see_words(&rt, rt.alloc(), *reply, *words)?;
     }
     Ok(())

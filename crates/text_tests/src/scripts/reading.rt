@@ -4,6 +4,7 @@ use crate::judging::{holds, same, same_at};
 use blk_plain::{Op, Patch, Patches, Pattern, Span};
 use eng_world::Item;
 use graph_text::{Book, read_graphs};
+use item_list::Items;
 use raid_script::{Join, Memory, ScriptFault, generate, read_script};
 use std::alloc::Global;
 use std::process::Abort;
@@ -38,13 +39,17 @@ fn write(first: u64, count: u32, pattern: Pattern, graph: Option<u32>) -> Item {
     }
 }
 
-fn see(rt: &impl Abort, clients: &[Vec<Item>], client: usize, items: &[Item]) {
+fn see(rt: &impl Abort, clients: &[Items], client: usize, items: &[Item]) {
     assert!(rt; client < clients.len());
-    same_at(rt, client, clients[client].as_slice(), items);
+    let own = &clients[client];
+    assert!(rt; own.len() == items.len());
+    for at in 0..items.len() {
+        same_at(rt, at, own.get(at), items[at]);
+    }
 }
 
 // The items of each client in a short text.
-fn items(rt: &impl Abort, alloc: Global, text: &[u8], book: &Book, columns: u32) -> Vec<Vec<Item>> {
+fn items(rt: &impl Abort, alloc: Global, text: &[u8], book: &Book, columns: u32) -> Vec<Items> {
     assert!(rt; text.len() < 1_000);
     read_script(alloc, text, book, columns)
         .expect(rt, "a script")
@@ -114,14 +119,15 @@ fn see_patches(rt: &impl Abort, patches: &Patches, wanted: &[Patch]) {
 // A client's one item writes these spans.
 fn see_spans(
     rt: &impl Abort,
-    clients: &[Vec<Item>],
+    clients: &[Items],
     client: usize,
     graph: Option<u32>,
     wanted: &[Patch],
 ) {
     assert!(rt; client < clients.len());
-    assert!(rt; clients[client].len() == 1);
-    match written(&clients[client][0]) {
+    let own = &clients[client];
+    assert!(rt; own.len() == 1);
+    match written(&own.get(0)) {
         Some((patches, by)) => {
             same(rt, by, graph);
             see_patches(rt, &patches, wanted);

@@ -13,4 +13,4 @@ returns-in-None g c =
 pub returns-in-Some : goal.returns-in-Some
 returns-in-Some g c =
     let there = slice_get_read c.args.clients.now (length c.args.clients.now) c.args.client c.in-Some.items.now refl c.in-Some.ensures.lookup.3.0 c.in-Some.ensures.lookup.1 in
-    c.row_leases.ensures ∙ ap (row_leases (g.L.Layout.shape c.args.layout.now) c.args.graphs.now) (c.as_slice.ensures.value ∙ ap items_in (sym there))
+    c.row_leases.ensures ∙ ap (row_leases (g.L.Layout.shape c.args.layout.now) c.args.graphs.now) (ap items_in (sym there))

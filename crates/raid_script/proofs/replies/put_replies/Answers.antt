@@ -8,7 +8,7 @@ use Rattle.raid_script.proofs.replies.put_replies.Goals as goal
 pub put_row-requires-clause-enough : goal.put_row-requires-clause-enough
 put_row-requires-clause-enough g c =
     let k : c.loop-client.client < length c.args.clients.now = omega (arith, c.loop-client-test.true, c.min-client-end.ensures) in
-    let within = before_within c.args.clients.now c.loop-client.client c.index-clients-client.result _ k c.index-clients-client.is c.as_slice-items.ensures.value in
+    let within = before_within c.args.clients.now c.loop-client.client c.index-clients-client.result _ k c.index-clients-client.is refl in
     let place = c.loop-client.invariant.place in
     let enough = c.requires.enough in
     omega (arith, within, place, enough)
@@ -22,7 +22,7 @@ returns-in_err-at-clause-output g c = λ told.
     let h : i < n = omega (arith, c.loop-client-test.true, c.min-client-end.ensures) in
     let k : i < length c.args.clients.now = omega (arith, h) in
     let j : i < length c.args.replies.now = omega (arith, h, c.requires.clients_answered) in
-    let is = client_is c.args.clients.now c.args.replies.now c.args.sectors.now (drop (512 * c.loop-client.at) c.args.sectors.now) i c.index-clients-client.result c.index-replies-client.result _ _ (512 * c.loop-client.at) k j c.index-clients-client.is c.index-replies-client.is c.as_slice-items.ensures.value c.as_slice-told.ensures.value (ap (λ (m : ℕ). 512 * m) c.loop-client.invariant.place) refl in
+    let is = client_is c.args.clients.now c.args.replies.now c.args.sectors.now (drop (512 * c.loop-client.at) c.args.sectors.now) i c.index-clients-client.result c.index-replies-client.result _ _ (512 * c.loop-client.at) k j c.index-clients-client.is c.index-replies-client.is refl c.as_slice-told.ensures.value (ap (λ (m : ℕ). 512 * m) c.loop-client.invariant.place) refl in
     rw p.1 (c.loop-client.invariant.rest told false _
     (puts_off _ _ _ _ _ (place_more f i n h ∙ ap (λ (t : List ℕ). t ++ from_place f (i + 1) n) is) (c.in_err-at.ensures.output told)))
 
@@ -34,8 +34,8 @@ loop-client-preserved g c =
     let h : i < n = omega (arith, c.loop-client-test.true, c.min-client-end.ensures) in
     let k : i < length c.args.clients.now = omega (arith, h) in
     let j : i < length c.args.replies.now = omega (arith, h, c.requires.clients_answered) in
-    let is = client_is c.args.clients.now c.args.replies.now c.args.sectors.now (drop (512 * c.loop-client.at) c.args.sectors.now) i c.index-clients-client.result c.index-replies-client.result _ _ (512 * c.loop-client.at) k j c.index-clients-client.is c.index-replies-client.is c.as_slice-items.ensures.value c.as_slice-told.ensures.value (ap (λ (m : ℕ). 512 * m) c.loop-client.invariant.place) refl in
-    let more = before_more c.args.clients.now i c.index-clients-client.result _ k c.index-clients-client.is c.as_slice-items.ensures.value in
+    let is = client_is c.args.clients.now c.args.replies.now c.args.sectors.now (drop (512 * c.loop-client.at) c.args.sectors.now) i c.index-clients-client.result c.index-replies-client.result _ _ (512 * c.loop-client.at) k j c.index-clients-client.is c.index-replies-client.is refl c.as_slice-told.ensures.value (ap (λ (m : ℕ). 512 * m) c.loop-client.invariant.place) refl in
+    let more = before_more c.args.clients.now i c.index-clients-client.result _ k c.index-clients-client.is refl in
     record {
       rest = λ told b new puts. c.loop-client.invariant.rest told b new
           (puts_on b _ _ new _ _ _ (place_more f i n h ∙ ap (λ (t : List ℕ). t ++ from_place f (i + 1) n) is) (c.in_ok-at.ensures.output told) puts);

@@ -7,7 +7,7 @@ use Rattle.raid_script.proofs.replies.put_row.Given as goal
 -- whatever comes of the items that are left comes of all of them
 abbrev pub invariant-loop-i : goal.invariant-loop-i
 invariant-loop-i g l = record {
-  rest : g.K.Sink.tells → (b : Bool) (new : List ℕ) → Puts b (g.K.Sink.output l.out) (from_place (place_text l.client l.items l.replies (drop (512 * l.from) l.sectors)) l.i (length l.items)) new → Puts b (g.K.Sink.output l.fn.out) (row_text l.client l.items l.replies (drop (512 * l.from) l.sectors)) new;
+  rest : g.K.Sink.tells → (b : Bool) (new : List ℕ) → Puts b (g.K.Sink.output l.out) (from_place (place_text l.client l.items.items l.replies (drop (512 * l.from) l.sectors)) l.i (length l.items.items)) new → Puts b (g.K.Sink.output l.fn.out) (row_text l.client l.items.items l.replies (drop (512 * l.from) l.sectors)) new;
   later : g.K.Sink.faults l.fn.out ≤ g.K.Sink.faults l.out;
-  place : l.at ≡ row_sectors (take l.i l.items);
+  place : l.at ≡ row_sectors (take l.i l.items.items);
 }

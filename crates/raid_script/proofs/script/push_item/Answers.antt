@@ -1,8 +1,7 @@
 use Rattle.std.proofs.Common.{◌≡◌, ◌∙◌, List, [], ◌∷◌, ◌++◌, map, get_or, set, sym, ap}
-use Rattle.std.specs.Prelude.{Vec}
-use Rattle.std.specs.declared.alloc.Global.{Global}
 use Rattle.std.proofs.lemmas.List.{map_push, map-set, get_or-map}
 use Rattle.eng_world.specs.declared.item.Item.{Item}
+use Rattle.item_list.specs.ItemList.{ItemList}
 use Rattle.raid_script.specs.Asked.{Asked, seen}
 use Rattle.raid_script.proofs.script.push_item.Goals as goal
 
@@ -12,7 +11,7 @@ returns c =
     let k = c.args.client in
     let old = c.index_mut.result.now in
     let new = c.push.new.self in
-    let f = λ (row : Vec Item Global). map seen row.items in
+    let f = λ (row : ItemList). map seen row.items in
     let at : old ≡ get_or rows k old = c.index_mut.ensures.value in
     let one : f new ≡ f old ++ seen c.args.item ∷ [] = ap (λ (xs : List Item). map seen xs) c.in_ok-push.ensures.items ∙ map_push seen old.items c.args.item in
     let row : get_or (map f rows) k [] ≡ f old = get_or-map f rows k old [] c.requires ∙ ap f (sym at) in

@@ -7,7 +7,7 @@ use Rattle.raid_script.proofs.sums.sum_all.Goals as goal
 
 pub sum_row-row-requires-clause-enough : goal.sum_row-row-requires-clause-enough
 sum_row-row-requires-clause-enough c =
-    let within = before_within c.args.clients.now c.loop-client.client c.index-clients-client.result _ c.loop-client-test.true c.index-clients-client.is c.as_slice-items.ensures.value in
+    let within = before_within c.args.clients.now c.loop-client.client c.index-clients-client.result _ c.loop-client-test.true c.index-clients-client.is refl in
     let place = c.loop-client.invariant.place in
     let enough = c.requires.enough in
     omega (arith, within, place, enough)
@@ -19,8 +19,8 @@ loop-client-preserved c =
     let i = c.loop-client.client in
     let k : i < n = c.loop-client-test.true in
     let j : i < length c.args.replies.now = omega (arith, k, c.requires.clients_answered) in
-    let is = client_sum_is c.args.clients.now c.args.replies.now c.args.sectors.now (drop (512 * c.loop-client.at) c.args.sectors.now) i c.index-clients-client.result c.index-replies-client.result _ _ (512 * c.loop-client.at) k j c.index-clients-client.is c.index-replies-client.is c.as_slice-items.ensures.value c.as_slice-told.ensures.value (ap (λ (m : ℕ). 512 * m) c.loop-client.invariant.place) refl in
-    let more = before_more c.args.clients.now i c.index-clients-client.result _ k c.index-clients-client.is c.as_slice-items.ensures.value in
+    let is = client_sum_is c.args.clients.now c.args.replies.now c.args.sectors.now (drop (512 * c.loop-client.at) c.args.sectors.now) i c.index-clients-client.result c.index-replies-client.result _ _ (512 * c.loop-client.at) k j c.index-clients-client.is c.index-replies-client.is refl c.as_slice-told.ensures.value (ap (λ (m : ℕ). 512 * m) c.loop-client.invariant.place) refl in
+    let more = before_more c.args.clients.now i c.index-clients-client.result _ k c.index-clients-client.is refl in
     record {
       whole = omega (arith, c.loop-client.invariant.whole, sum_more f i n k, is, c.sum_row-row.ensures.sum);
       place = omega (arith, more, c.loop-client.invariant.place, c.sum_row-row.ensures.passed);

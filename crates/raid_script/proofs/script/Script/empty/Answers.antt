@@ -12,7 +12,7 @@ loop-init c = rw c.in_ok-clients.ensures.items (sym (by_first_none []))
 pub loop-preserved : goal.loop-preserved
 unfolding asked_by
 loop-preserved c =
-    let none : map seen c.new.result.items ≡ asked_by [] c.loop.counter = ap (λ (xs : _). map {A = Item} seen xs) c.new.ensures.items in
+    let none : map seen c.new.result.items ≡ asked_by [] c.loop.counter = ap (λ (xs : _). map {A = Item} seen xs) c.new.ensures in
     rw (c.in_ok-push.ensures.items, map_push (λ items. map seen items.items) c.loop.clients.items c.new.result, c.loop.invariant, none) (sym (by_first_more c.loop.counter []))
 
 abbrev script_with : List (List Asked) → List Join → Scripted

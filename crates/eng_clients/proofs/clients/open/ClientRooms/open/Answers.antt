@@ -11,5 +11,5 @@ loop-client-preserved c =
       count = ap length c.push_reserved.ensures.items ∙ (length_push c.loop-client.rooms.items _ ∙ ap (λ (m : ℕ). m + 1) inv.count);
       room = let e = c.push_reserved.ensures.capacity in let r = inv.room in omega (arith, e, r);
       each = subst (λ (l : List (Option ℕ)). (k : ℕ) → k < c.loop-client.client + 1 → get_or l k None ≡ Some (length (items_at c.args.clients.now k))) (sym c.push_reserved.ensures.items)
-          (more-rooms c.loop-client.rooms.items (λ k. length (items_at c.args.clients.now k)) c.loop-client.client _ inv.count inv.each (c.in_ok-open.ensures ∙ ap length c.items_of.ensures));
+          (more-rooms c.loop-client.rooms.items (λ k. length (items_at c.args.clients.now k)) c.loop-client.client _ inv.count inv.each (c.in_ok-open.ensures ∙ c.count_of-count.ensures));
     }
