@@ -1,8 +1,7 @@
 -- A core that comes of an opening hands back what was handed in.
 use Rattle.std.proofs.Common.{◌≡◌, ◌<◌, ◌≤◌, inl, inr, ℕ, zero, suc, List, [], ◌∷◌, length, map, Option, Some, None, refl, sym, ◌∙◌, ap, subst, arith}
-use Rattle.std.specs.Prelude.{Vec, slice_get, slice_index_or}
+use Rattle.std.specs.Prelude.{slice_get, slice_index_or}
 use Rattle.std.specs.Option.{option_map_or}
-use Rattle.std.specs.declared.alloc.Global.{Global}
 use Rattle.std.proofs.lemmas.Bool.{cases_lt}
 use Rattle.std.proofs.lemmas.List.{length-map}
 use Rattle.std.proofs.lemmas.Option.{slice_get_past}
@@ -10,8 +9,8 @@ use Rattle.blk_disk.specs.Devices.{device_at, sector_of, RisesOn, StaysIf, Chang
 use Rattle.blk_disk.specs.Disk.{Rose}
 use Rattle.blk_disk.specs.declared.disk.Disk.{Ghosts as DiskGhosts}
 use Rattle.lay_core.specs.declared.layout.Layout.{Ghosts as LayoutGhosts}
-use Rattle.eng_world.specs.declared.item.Item.{Item}
 use Rattle.eng_world.specs.declared.item.Traced.{Traced}
+use Rattle.item_list.specs.ItemList.{ItemList}
 use Rattle.eng_log.specs.Given.{items_in, items_at}
 use Rattle.eng_clients.specs.Desk.{Desk}
 use Rattle.eng_parts.specs.Brought.{brought}
@@ -112,7 +111,7 @@ module _ {L D : Type 0} (lay : LayoutGhosts L) (disk : DiskGhosts D) (setup : Se
       few : (k : ℕ) → k < last.spare → k < 16
       few k below = let n : last.spare ≡ length setup.clients.items = same.spare ∙ o.spare in let f = o.laid.few in omega (arith, n, f, below)
 
-      items-past : (given : List (Vec Item Global)) (k : ℕ) → length given ≤ k → items_at given k ≡ []
+      items-past : (given : List ItemList) (k : ℕ) → length given ≤ k → items_at given k ≡ []
       items-past given k past = ap items_in (slice_get_past given k past)
 
   pub handed-back : HandsBack disk setup closed

@@ -38,10 +38,7 @@ pub mod Causing
 pub mod ChainBlames
 pub mod OutAt
 pub mod Falling
-pub mod SmallSetups
-pub mod ShortTraces
 pub mod DevicesOn
 pub mod ComingBack
 pub mod CountedEvents
-pub mod SmallRebuilds
 mod Going

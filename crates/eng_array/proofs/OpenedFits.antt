@@ -1,14 +1,13 @@
 -- A rebuild fits an opened core where it fits its setup.
 use Rattle.std.proofs.Common.{◌≡◌, ℕ, ◌<◌, ◌≤◌, ◌+◌, List, [], length, sym, ap, subst, ◌∙◌, arith, Bool, true}
-use Rattle.std.specs.Prelude.{slice_index_or, if◌then◌else◌, Vec}
-use Rattle.std.specs.declared.alloc.Global.{Global}
+use Rattle.std.specs.Prelude.{slice_index_or, if◌then◌else◌}
 use Rattle.std.proofs.lemmas.List.{length-replicate}
 use Rattle.blk_disk.specs.declared.disk.Disk.{Ghosts as DiskGhosts}
 use Rattle.lay_core.specs.Layout.{Shape}
 use Rattle.lay_core.specs.declared.layout.Layout.{Ghosts as LayoutGhosts}
 use Rattle.graph_mean.specs.Graph.{Held}
 use Rattle.eng_cols.specs.Cols.{ColumnState, Columns}
-use Rattle.eng_world.specs.declared.item.Item.{Item}
+use Rattle.item_list.specs.ItemList.{ItemList}
 use Rattle.eng_rest.specs.Left.{below, alive}
 use Rattle.eng_rest.proofs.Summing.{below-le}
 use Rattle.eng_log.specs.declared.region.Region.{Region}
@@ -27,7 +26,7 @@ module _ {L D : Type 0} (lay : LayoutGhosts L) (disk : DiskGhosts D) (setup : Se
   abbrev y : Shape
   y = lay.shape setup.layout
 
-  abbrev given : List (Vec Item Global)
+  abbrev given : List ItemList
   given = setup.clients.items
 
   abbrev columns : List ColumnState

@@ -1,8 +1,7 @@
 -- An opened core is steady.
 use Rattle.std.proofs.Common.{◌≡◌, ℕ, ◌<◌, ◌≤◌, ◌+◌, List, [], length, subst, sym, ap, ◌∙◌, arith, Bool, true, Option, Some, None}
-use Rattle.std.specs.Prelude.{slice_get, if◌then◌else◌, Vec}
+use Rattle.std.specs.Prelude.{slice_get, if◌then◌else◌}
 use Rattle.std.proofs.lemmas.Option.{slice_get_within}
-use Rattle.std.specs.declared.alloc.Global.{Global}
 use Rattle.blk_plain.specs.declared.op.Op.{Op}
 use Rattle.blk_disk.specs.declared.disk.Disk.{Ghosts as DiskGhosts}
 use Rattle.lay_core.specs.Layout.{Shape}
@@ -13,6 +12,7 @@ use Rattle.eng_world.specs.declared.item.Item.{Item}
 use Rattle.eng_world.specs.declared.item.Item.TheVariants as item
 use Rattle.eng_world.specs.World.{World}
 use Rattle.eng_world.specs.Step.{IsOpening}
+use Rattle.item_list.specs.ItemList.{ItemList}
 use Rattle.eng_rest.specs.Left.{below, alive}
 use Rattle.eng_rest.proofs.Summing.{below-le}
 use Rattle.eng_parts.specs.declared.setup.Setup.{Setup}
@@ -54,7 +54,7 @@ module _ {L D : Type 0} (lay : LayoutGhosts L) (disk : DiskGhosts D) (setup : Se
   abbrev graphs : List Held
   graphs = core.graphs.items
 
-  abbrev given : List (Vec Item Global)
+  abbrev given : List ItemList
   given = setup.clients.items
 
   abbrev columns : List ColumnState

@@ -3,10 +3,10 @@ use Rattle.std.proofs.Common.{◌≡◌, ℕ, Option, Some, None}
 use Rattle.std.specs.Prelude.{MatchOption}
 use Rattle.blk_disk.specs.declared.disk.Disk.{Ghosts as DiskGhosts}
 use Rattle.lay_core.specs.declared.layout.Layout.{Ghosts as LayoutGhosts}
-use Rattle.eng_world.specs.declared.item.Event.{Event}
 use Rattle.eng_state.specs.declared.array.Array.{Array}
 use Rattle.eng_state.specs.Serves.{Stands}
 use Rattle.eng_array.specs.Steady.{IsSteady}
+use Rattle.eng_choice.specs.declared.chosen.Chosen.{Chosen}
 use Rattle.eng_choice.specs.Picked.{IsPicked, IsStuck}
 use Rattle.eng_choice.proofs.Picking.{can-moved, sound-moved, shows-moved}
 use Rattle.eng_array.proofs.Reached.{run-stands}
@@ -42,6 +42,6 @@ module _ {L D : Type 0} (lay : LayoutGhosts L) (disk : DiskGhosts D) (core : Arr
   }
 
   -- where no event can be done, none can be whichever client is tried first
-  pub choice-moved : (next : ℕ) (o : Option Event) → MatchOption o (IsStuck lay (record core { next = next })) (IsPicked lay (record core { next = next })) → MatchOption o (IsStuck lay core) (IsPicked lay (record core { next = next }))
+  pub choice-moved : (next : ℕ) (o : Option Chosen) → MatchOption o (IsStuck lay (record core { next = next })) (λ x. IsPicked lay (record core { next = next }) x.event) → MatchOption o (IsStuck lay core) (λ x. IsPicked lay (record core { next = next }) x.event)
   choice-moved next None stuck = λ e can. stuck e (can-moved lay disk core next e can)
-  choice-moved next (Some event) picked = picked
+  choice-moved next (Some x) picked = picked

@@ -1,7 +1,6 @@
 -- Whether a log has room for all that may come: of a core that opens, and of one that begins a rebuild.
-use Rattle.std.specs.Prelude.{◌≡◌, ◌⊎◌, ◌≤◌, ◌+◌, ◌*◌, ℕ, List, [], length, true, Option, Some, None, Vec, slice_get, slice_index_or, Contains}
+use Rattle.std.specs.Prelude.{◌≡◌, ◌⊎◌, ◌≤◌, ◌+◌, ◌*◌, ℕ, List, [], length, true, Option, Some, None, slice_get, slice_index_or, Contains}
 use Rattle.std.specs.List.Sorted.{IsStrictlyIncreasing}
-use Rattle.std.specs.declared.alloc.Global.{Global}
 use Rattle.lay_core.specs.Layout.{Shape}
 use Rattle.lay_core.specs.declared.layout.Layout.{Ghosts as LayoutGhosts}
 use Rattle.graph_mean.specs.Graph.{Held}
@@ -9,6 +8,7 @@ use Rattle.eng_cols.specs.Cols.{ColumnState}
 use Rattle.eng_world.specs.Serving.{IsLeft}
 use Rattle.eng_world.specs.declared.item.Item.{Item}
 use Rattle.eng_world.specs.declared.item.Item.TheVariants as item
+use Rattle.item_list.specs.ItemList.{ItemList}
 use Rattle.eng_rest.specs.Left.{below, alive}
 use Rattle.eng_parts.specs.declared.setup.Setup.{Setup}
 use Rattle.eng_state.specs.declared.array.Array.{Array}
@@ -32,7 +32,7 @@ abbrev pub row_events : Shape → List Held → ℕ → List Item → ℕ
 row_events y graphs n items = below (λ i. item_events n (most_in y graphs (slice_get items i))) (length items)
 
 -- those of all items, and the failure of each column that isn't dead
-abbrev pub opening_events : Shape → List Held → List ColumnState → List (Vec Item Global) → ℕ
+abbrev pub opening_events : Shape → List Held → List ColumnState → List ItemList → ℕ
 opening_events y graphs columns given = below (λ c. row_events y graphs (alive columns) (items_at given c)) 16 + alive columns
 
 -- the trace, if it is kept, has room for them
@@ -70,7 +70,7 @@ abbrev pub counted_events : Shape → List Held → ℕ → List Item → ℕ
 counted_events y graphs devices items = below (λ i. (2 * most_in y graphs (slice_get items i) + 4) * (1 + devices)) (length items)
 
 -- those of all items
-abbrev pub trace_sum : Shape → List Held → ℕ → List (Vec Item Global) → ℕ
+abbrev pub trace_sum : Shape → List Held → ℕ → List ItemList → ℕ
 trace_sum y graphs devices given = below (λ c. counted_events y graphs devices (items_at given c)) 16
 
 -- those of so many rebuilds

@@ -8,5 +8,4 @@ pub mod Fitting
 pub mod Tickets
 pub mod Blamed
 pub mod HandedBack
-pub mod Small
 pub mod Starts

@@ -244,11 +244,6 @@ module _ {L D : Type 0} (lay : LayoutGhosts L) (disk : DiskGhosts D) where
     pub after : After opening core
     pub shared : Shared core ts
 
-  -- exactly one event but the end of a job, and the job of a node that it fired
-  abbrev pub Acts : Array L D → Array L D → Option (Job D) → Type 0
-  Acts old new None = (e : Traced) × IsPlain e × Happens e old new × KeepsJobs old new
-  Acts old new (Some j) = (e : Traced) × IsFiringOf e j.client j.node × Happens e old new × Lends j old new
-
 -- One step of a turn: nothing, or exactly one event. A job that leaves becomes the pass's ticket, and the one that comes home is the pass's own.
 pub data Turned {L D : Type 0} (lay : LayoutGhosts L) (disk : DiskGhosts D) (old : Array L D) (t : Option (Job D)) (new : Array L D) (u : Option (Job D)) : Type 0 where
   nothing : new ≡ old → u ≡ t → Turned lay disk old t new u

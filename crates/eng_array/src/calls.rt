@@ -4,7 +4,7 @@ ghost use Rattle.graph_mean.specs.Graph.{kind_at};
 ghost use Rattle.eng_cols.specs.Cols.{Dead};
 ghost use Rattle.eng_world.specs.declared.item.Traced.TheVariants as event;
 ghost use Rattle.eng_log.specs.Log.{noted};
-ghost use Rattle.eng_state.specs.Can.{CanFire, CanSkip};
+ghost use Rattle.eng_state.specs.Can.{place_now, CanFire, CanSkip};
 ghost use Rattle.eng_state.specs.Beginning.{CanBegin};
 ghost use Rattle.eng_state.specs.Moves.{id_of};
 ghost use Rattle.eng_clients.specs.Desk.{desk_at, spot_at};
@@ -19,6 +19,7 @@ ghost use Rattle.eng_array.specs.Tickets.{IsEndOf, Happens, KeepsJobs, Lends, Ge
 
 use blk_disk::Disk;
 use blk_plain::Outcome;
+use eng_cols::Spot;
 use eng_events::goes_home;
 use eng_fails::{fail, is_dead};
 use eng_job::Job;
@@ -50,11 +51,35 @@ impl<L: Layout, D: Disk> Core<L, D> {
             (event.Fire (id_of self.old.array.clients client) node) self.old.array self.new.array }
         ensures lends { Lends L.Layout D.Disk result self.old.array self.new.array }
     {
-        fire(&mut self.array, client, node)
+        let at = self.array.place_of(client, node);
+        self.fire_at(client, node, at)
+    }
+
+    /// Fires a node that is ready, as [`Core::fire`] does, whose unit stands there, as who chose it was told.
+    #[inline(always)]
+    pub fn fire_at(&mut self, client: u32, node: u32, at: Option<Spot>) -> Job<D>
+        requires steady { IsSteady L.Layout D.Disk self.old.array }
+        requires can { CanFire L.Layout self.old.array client node }
+        requires at { at ≡ place_now L.Layout self.old.array client node }
+        ensures out { IsOut D.Disk L.Layout self.new.array result }
+        ensures job { (result.client ≡ client) × (result.node ≡ node) }
+        ensures step { Follows L.Layout D.Disk self.old.array
+            (event.Fire (id_of self.old.array.clients client) node) self.new.array }
+        ensures steady { IsSteady L.Layout D.Disk self.new.array }
+        ensures trace { self.new.array.log
+            ≡ noted self.old.array.log (event.Fire (id_of self.old.array.clients client) node) }
+        ensures stays { (job : Job D) → IsOut D.Disk L.Layout self.old.array job
+            → IsOut D.Disk L.Layout self.new.array job }
+        ensures happens { Happens L.Layout D.Disk
+            (event.Fire (id_of self.old.array.clients client) node) self.old.array self.new.array }
+        ensures lends { Lends L.Layout D.Disk result self.old.array self.new.array }
+    {
+        fire(&mut self.array, client, node, at)
     }
 
     /// A job that was out comes home, performed with this outcome: what left with it is put back, and its node ends, bad
     /// also where it is a write whose device has failed since it was fired. Once the array is lost the end does no more.
+    #[inline(always)]
     pub fn finish(&mut self, job: Job<D>, outcome: Outcome)
         requires steady { IsSteady L.Layout D.Disk self.old.array }
         requires back { CameBack D.Disk L.Layout self.old.array job outcome }

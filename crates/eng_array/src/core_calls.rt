@@ -1,11 +1,11 @@
 //! What an engine tells of itself, and which event is next.
-ghost use Rattle.std.specs.Prelude.{◌≡◌, ◌↔◌, None, IsTrue, MatchOption, IfSome, length};
+ghost use Rattle.std.specs.Prelude.{◌≡◌, ◌↔◌, None, IsTrue, MatchOption, IfSome, length, option_map};
 ghost use Rattle.eng_world.specs.World.{World};
 ghost use Rattle.eng_clients.specs.Desk.{desk_at};
 ghost use Rattle.eng_rest.specs.Left.{below};
 ghost use Rattle.eng_state.specs.Doing.{CanDo};
 ghost use Rattle.eng_state.specs.Out.{IsOut};
-ghost use Rattle.eng_choice.specs.Picked.{next_after, IsPicked, IsResting, IsStuck};
+ghost use Rattle.eng_choice.specs.Picked.{next_after, IsPicked, IsResting, IsStuck, StandsThere};
 ghost use Rattle.eng_state.specs.Shows.{Shows};
 ghost use Rattle.eng_array.specs.Steady.{IsSteady};
 ghost use Rattle.eng_array.specs.Tickets.{Quiet};
@@ -13,7 +13,7 @@ ghost use Rattle.eng_array.specs.Tickets.{Quiet};
 use crate::calls::Core;
 use blk_disk::Disk;
 use blk_plain::limits;
-use eng_choice::{can, pick, rest};
+use eng_choice::{Chosen, can, pick, rest};
 use eng_job::Job;
 use eng_world::Event;
 use lay_core::Layout;
@@ -48,21 +48,53 @@ impl<L: Layout, D: Disk> Core<L, D> {
         ensures quiet { Quiet L.Layout D.Disk self.old.array self.new.array }
         ensures none { result ≡ None → self.new.array ≡ self.old.array }
     {
+        match self.choose() {
+            Some(chosen) => Some(chosen.event),
+            None => None,
+        }
+    }
+
+    // The same, with where the unit of the event's node stands.
+    fn choose(&mut self) -> Option<Chosen>
+        requires { IsSteady L.Layout D.Disk self.old.array }
+        ensures event { MatchOption result (IsStuck L.Layout self.old.array)
+            (λ c. IsPicked L.Layout self.old.array c.event) }
+        ensures can { IfSome result (λ c. CanDo L.Layout self.new.array c.event) }
+        ensures at { IfSome result (StandsThere L.Layout self.new.array) }
+        ensures next { self.new.array ≡ record self.old.array
+            { next = next_after self.old.array.next (option_map (λ c. c.event) result) } }
+        ensures steady { IsSteady L.Layout D.Disk self.new.array }
+        ensures shows { (w : World) → Shows D.Disk self.old.array w
+            → Shows D.Disk self.new.array w }
+        ensures stays { (job : Job D) → IsOut D.Disk L.Layout self.old.array job
+            → IsOut D.Disk L.Layout self.new.array job }
+        ensures quiet { Quiet L.Layout D.Disk self.old.array self.new.array }
+        ensures none { result ≡ None → self.new.array ≡ self.old.array }
+    {
         match self.array.lost {
             Some(_) => None,
             None => pick(&mut self.array),
         }
     }
 
-    /// Chooses the event that is done next as [`Core::pick`] does, but that the clients are tried from this one on. Where
-    /// there is none it is tried from the same client as before.
-    pub fn pick_from(&mut self, client: u32) -> Option<Event>
+    /// The client that is tried first.
+    pub fn next(&self) -> u32
+        ensures { result ≡ self.now.array.next }
+    {
+        self.array.next
+    }
+
+    /// Chooses as [`Core::pick`] does, but that the clients are tried from this one on, and tells where the unit of the
+    /// node stands that is to be fired: so it need not be looked for again. Where there is none it is tried from the same
+    /// client as before.
+    pub fn choose_from(&mut self, client: u32) -> Option<Chosen>
         requires { IsSteady L.Layout D.Disk self.old.array }
         ensures event { MatchOption result (IsStuck L.Layout self.old.array)
-            (IsPicked L.Layout (record self.old.array { next = client })) }
-        ensures can { IfSome result (CanDo L.Layout self.new.array) }
-        ensures next { self.new.array
-            ≡ record self.old.array { next = next_after self.old.array.next result } }
+            (λ c. IsPicked L.Layout (record self.old.array { next = client }) c.event) }
+        ensures can { IfSome result (λ c. CanDo L.Layout self.new.array c.event) }
+        ensures at { IfSome result (StandsThere L.Layout self.new.array) }
+        ensures next { self.new.array ≡ record self.old.array
+            { next = next_after self.old.array.next (option_map (λ c. c.event) result) } }
         ensures steady { IsSteady L.Layout D.Disk self.new.array }
         ensures shows { (w : World) → Shows D.Disk self.old.array w
             → Shows D.Disk self.new.array w }
@@ -73,11 +105,11 @@ impl<L: Layout, D: Disk> Core<L, D> {
     {
         let before = self.array.next;
         self.array.next = client;
-        let event = self.pick();
-        if event.is_none() {
+        let chosen = self.choose();
+        if chosen.is_none() {
             self.array.next = before;
         }
-        event
+        chosen
     }
 
     /// Whether each item has a reply, or the array is lost, and no job is out.

@@ -11,7 +11,7 @@ mod start;
 mod tickets;
 
 pub use calls::Core;
-pub use eng_choice::what_is_possible_can_be_done;
+pub use eng_choice::{Chosen, what_is_possible_can_be_done};
 pub use eng_cols::{Column, Loss, Spot};
 pub use eng_job::{Job, Lists, Outcome};
 pub use eng_log::{Region, Regions};
@@ -27,6 +27,3 @@ pub use tickets::{
     chains_are_runs, failed_devices_are_blamed, looks_are_quiet, what_is_out_has_one_place,
     what_was_handed_in_comes_back,
 };
-
-#[cfg(test)]
-mod tests;

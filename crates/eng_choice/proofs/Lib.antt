@@ -1,4 +1,5 @@
 pub mod FreeStripes
+mod FreeCounts
 pub mod FreeSpans
 pub mod Resting
 pub mod Picking

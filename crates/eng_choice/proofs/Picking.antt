@@ -6,6 +6,7 @@ use Rattle.std.proofs.lemmas.List.{get_or_past}
 use Rattle.std.proofs.lemmas.Option.{slice_get_past}
 use Rattle.blk_disk.specs.declared.disk.Disk.{Ghosts as DiskGhosts}
 use Rattle.lay_core.specs.declared.layout.Layout.{Ghosts as LayoutGhosts}
+use Rattle.eng_cols.specs.declared.spot.Spot.{Spot}
 use Rattle.eng_world.specs.declared.item.Event.{Event}
 use Rattle.eng_world.specs.declared.item.Event.TheVariants as may
 use Rattle.eng_clients.specs.declared.stage.Stage.TheVariants.{Nothing, Waits, Runs}
@@ -19,7 +20,8 @@ use Rattle.eng_state.specs.Beginning.{CanBegin}
 use Rattle.eng_state.specs.Serves.{Stands, CanTake, CanBack}
 use Rattle.eng_state.specs.Doing.{CanDo}
 use Rattle.eng_clients.specs.Busy.{IsQuiet}
-use Rattle.eng_choice.specs.Picked.{client_of, rank, ring_at, CanNoNode, IsFirstNode, CanNothing, CanNothingAmong, IsFirstOf, IsFirstAmong, IsPicked, IsStuck}
+use Rattle.eng_choice.specs.declared.chosen.Chosen.{Chosen}
+use Rattle.eng_choice.specs.Picked.{client_of, rank, ring_at, half_from, half_to, CanNoNode, IsFirstNode, CanNothing, CanNothingAmong, IsFirstOf, IsFirstAmong, IsPicked, place_in, IsStuck}
 use Rattle.eng_one.specs.Control.{Control, IsReadyIn, NoneReady, IsLeastReady}
 
 -- what a test that says no says no to
@@ -128,9 +130,9 @@ module _ {L D : Type 0} (lay : LayoutGhosts L) (disk : DiskGhosts D) (core : Arr
   ]
 
   -- the client's first, by its nodes
-  pub first-of : (c : ℕ) → (CanBegin core c → ⊥) → (CanTake lay core c → ⊥) → (CanBack lay core c → ⊥) → (o : Option Event) → MatchOption o (CanNoNode lay core c) (IsFirstNode lay core c) → MatchOption o (CanNothing lay core c) (IsFirstOf lay core c)
+  pub first-of : (c : ℕ) → (CanBegin core c → ⊥) → (CanTake lay core c → ⊥) → (CanBack lay core c → ⊥) → (o : Option Chosen) → MatchOption o (CanNoNode lay core c) (λ x. IsFirstNode lay core c x.event) → MatchOption o (CanNothing lay core c) (λ x. IsFirstOf lay core c x.event)
   first-of c begin take back None h = nothing-of c begin take back h
-  first-of c begin take back (Some e) h = first-node c e begin take back h
+  first-of c begin take back (Some x) h = first-node c x.event begin take back h
 
   -- ## The first among some clients
 
@@ -142,45 +144,72 @@ module _ {L D : Type 0} (lay : LayoutGhosts L) (disk : DiskGhosts D) (core : Arr
   pub among-more : (from at c : ℕ) → CanNothingAmong lay core from at → ((k : ℕ) → at ≤ k → k < c → IsQuiet (desk_at core.clients k)) → CanNothingAmong lay core from c
   among-more from at c before quiet k least most = elim (cases_lt k at) [ inl low ↦ before k least low | inr high ↦ quiet-nothing k (quiet k high most) ]
 
-  pub among-one : (from c : ℕ) → CanNothingAmong lay core from c → (o : Option Event) → is_some o ≡ false → MatchOption o (CanNothing lay core c) (IsFirstOf lay core c) → CanNothingAmong lay core from (c + 1)
+  pub among-one : (from c : ℕ) → CanNothingAmong lay core from c → (o : Option Chosen) → is_some o ≡ false → MatchOption o (CanNothing lay core c) (λ x. IsFirstOf lay core c x.event) → CanNothingAmong lay core from (c + 1)
   among-one from c before None none h k least most = elim (cases_lt k c) [ inl low ↦ before k least low | inr high ↦ subst (CanNothing lay core) (let e : c ≡ k = omega (arith, high, most) in e) h ]
-  among-one from c before (Some e) none h k least most = let z : true ≡ false = none in absurd (let u : ⊥ = cc in u)
+  among-one from c before (Some x) none h k least most = let z : true ≡ false = none in absurd (let u : ⊥ = cc in u)
 
-  pub among-here : (from to c : ℕ) → from ≤ c → c < to → CanNothingAmong lay core from c → (o : Option Event) → is_some o ≡ true → MatchOption o (CanNothing lay core c) (IsFirstOf lay core c) → MatchOption o (CanNothingAmong lay core from to) (IsFirstAmong lay core from to)
+  pub among-here : (from to c : ℕ) → from ≤ c → c < to → CanNothingAmong lay core from c → (o : Option Chosen) → is_some o ≡ true → MatchOption o (CanNothing lay core c) (λ x. IsFirstOf lay core c x.event) → MatchOption o (CanNothingAmong lay core from to) (λ x. IsFirstAmong lay core from to x.event)
   among-here from to c least most before None some h = let z : false ≡ true = some in absurd (let u : ⊥ = cc in u)
-  among-here from to c least most before (Some e) some h = record { client = c; least = least; most = most; event = h; before = before }
+  among-here from to c least most before (Some x) some h = record { client = c; least = least; most = most; event = h; before = before }
 
   -- ## The first in the ring
 
   -- a client from where the ring begins on
-  pub picked-on : (next : ℕ) → next ≡ core.next % 17 → (o : Option Event) → is_some o ≡ true → MatchOption o (CanNothingAmong lay core next 17) (IsFirstAmong lay core next 17) → MatchOption o (IsStuck lay core) (IsPicked lay core)
+  pub picked-on : (next : ℕ) → next ≡ core.next % 17 → (o : Option Chosen) → is_some o ≡ true → MatchOption o (CanNothingAmong lay core next 17) (λ x. IsFirstAmong lay core next 17 x.event) → MatchOption o (IsStuck lay core) (λ x. IsPicked lay core x.event)
   picked-on next is None some h = let z : false ≡ true = some in absurd (let u : ⊥ = cc in u)
-  picked-on next is (Some e) some h = record {
+  picked-on next is (Some x) some h = record {
     turn = h.client - next;
     within = omega (arith, h.most);
-    event = subst (λ (c : ℕ). IsFirstOf lay core c e) (let at : h.client ≡ ring_at core.next (h.client - next) = omega (arith, is, h.least, h.most) in at) h.event;
+    event = subst (λ (c : ℕ). IsFirstOf lay core c x.event) (let at : h.client ≡ ring_at core.next (h.client - next) = omega (arith, is, h.least, h.most) in at) h.event;
     before = λ i lt. subst (CanNothing lay core) (let at : next + i ≡ ring_at core.next i = omega (arith, is, h.most, lt) in at) (h.before (next + i) (omega arith) (omega (arith, h.least, lt)));
   }
 
-  nothing-on : (o : Option Event) (next : ℕ) → is_some o ≡ false → MatchOption o (CanNothingAmong lay core next 17) (IsFirstAmong lay core next 17) → CanNothingAmong lay core next 17
-  nothing-on None next none h = h
-  nothing-on (Some e) next none h = let z : true ≡ false = none in absurd (let u : ⊥ = cc in u)
+  pub nothing-in : (from to : ℕ) (o : Option Chosen) → is_some o ≡ false → MatchOption o (CanNothingAmong lay core from to) (λ x. IsFirstAmong lay core from to x.event) → CanNothingAmong lay core from to
+  nothing-in from to None none h = h
+  nothing-in from to (Some x) none h = let z : true ≡ false = none in absurd (let u : ⊥ = cc in u)
 
   -- or one before it
-  pub picked-back : IsSound lay disk core → (next : ℕ) → next ≡ core.next % 17 → (first : Option Event) → is_some first ≡ false → MatchOption first (CanNothingAmong lay core next 17) (IsFirstAmong lay core next 17) → (o : Option Event) → MatchOption o (CanNothingAmong lay core 0 next) (IsFirstAmong lay core 0 next) → MatchOption o (IsStuck lay core) (IsPicked lay core)
-  picked-back sound next is first none a None h = ring-stuck sound (λ i lt. elim (cases_lt (next + i) 17) [
-    | inl low ↦ subst (CanNothing lay core) (let at : next + i ≡ ring_at core.next i = omega (arith, is, low) in at) (nothing-on first next none a (next + i) (omega arith) low)
+  pub picked-back : IsSound lay disk core → (next : ℕ) → next ≡ core.next % 17 → CanNothingAmong lay core next 17 → (o : Option Chosen) → MatchOption o (CanNothingAmong lay core 0 next) (λ x. IsFirstAmong lay core 0 next x.event) → MatchOption o (IsStuck lay core) (λ x. IsPicked lay core x.event)
+  picked-back sound next is behind None h = ring-stuck sound (λ i lt. elim (cases_lt (next + i) 17) [
+    | inl low ↦ subst (CanNothing lay core) (let at : next + i ≡ ring_at core.next i = omega (arith, is, low) in at) (behind (next + i) (omega arith) low)
     | inr high ↦ subst (CanNothing lay core) (let at : next + i - 17 ≡ ring_at core.next i = omega (arith, is, high, lt) in at) (h (next + i - 17) (omega arith) (omega (arith, high, lt, is)))
   ])
-  picked-back sound next is first none a (Some e) h = record {
+  picked-back sound next is behind (Some x) h = record {
     turn = h.client + 17 - next;
     within = omega (arith, h.most, is);
-    event = subst (λ (c : ℕ). IsFirstOf lay core c e) (let at : h.client ≡ ring_at core.next (h.client + 17 - next) = omega (arith, is, h.most) in at) h.event;
+    event = subst (λ (c : ℕ). IsFirstOf lay core c x.event) (let at : h.client ≡ ring_at core.next (h.client + 17 - next) = omega (arith, is, h.most) in at) h.event;
     before = λ i lt. elim (cases_lt (next + i) 17) [
-      | inl low ↦ subst (CanNothing lay core) (let at : next + i ≡ ring_at core.next i = omega (arith, is, low) in at) (nothing-on first next none a (next + i) (omega arith) low)
+      | inl low ↦ subst (CanNothing lay core) (let at : next + i ≡ ring_at core.next i = omega (arith, is, low) in at) (behind (next + i) (omega arith) low)
       | inr high ↦ subst (CanNothing lay core) (let at : next + i - 17 ≡ ring_at core.next i = omega (arith, is, high, lt, h.most) in at) (h.before (next + i - 17) (omega arith) (omega (arith, high, lt)))
     ];
   }
+
+  -- ## One half of the ring after the other
+
+  abbrev pub InHalf : ℕ → Option Chosen → ℕ → Type 0
+  InHalf next o half = MatchOption o (CanNothingAmong lay core (half_from next half) (half_to next half)) (λ x. IsFirstAmong lay core (half_from next half) (half_to next half) x.event)
+
+  pub in-half : (from to next half : ℕ) → from ≡ half_from next half → to ≡ half_to next half → (o : Option Chosen) → MatchOption o (CanNothingAmong lay core from to) (λ x. IsFirstAmong lay core from to x.event) → InHalf next o half
+  in-half from to next half f t o h =
+      subst (λ (k : ℕ). MatchOption o (CanNothingAmong lay core (half_from next half) k) (λ x. IsFirstAmong lay core (half_from next half) k x.event)) t
+      (subst (λ (k : ℕ). MatchOption o (CanNothingAmong lay core k to) (λ x. IsFirstAmong lay core k to x.event)) f h)
+
+  -- where none of the other half can anything, the first of this one is the first of all
+  pub picked-half : IsSound lay disk core → (next half : ℕ) → next ≡ core.next % 17 → half < 2 → (1 ≤ half → CanNothingAmong lay core next 17) → (o : Option Chosen) → is_some o ≡ true → InHalf next o half → MatchOption o (IsStuck lay core) (λ x. IsPicked lay core x.event)
+  picked-half sound next half is two behind o some h = elim (cases_lt half 1) [
+    | inl low ↦ picked-on next is o some (subst (InHalf next o) (let e : half ≡ 0 = omega (arith, low) in e) h)
+    | inr high ↦ picked-back sound next is (behind high) o (subst (InHalf next o) (let e : half ≡ 1 = omega (arith, high, two) in e) h)
+  ]
+
+  -- what is known behind a half in which none can anything
+  pub behind-half : (next half : ℕ) → (1 ≤ half → CanNothingAmong lay core next 17) → CanNothingAmong lay core (half_from next half) (half_to next half) → CanNothingAmong lay core next 17
+  behind-half next half behind h = elim (cases_lt half 1) [
+    | inl low ↦ subst (InHalf next None) (let e : half ≡ 0 = omega (arith, low) in e) h
+    | inr high ↦ behind high
+  ]
+
+  pub before-half : (next half : ℕ) → half < 2 → 1 ≤ half → CanNothingAmong lay core (half_from next half) (half_to next half) → CanNothingAmong lay core 0 next
+  before-half next half two one h = subst (InHalf next None) (let e : half ≡ 1 = omega (arith, one, two) in e) h
 
   -- ## The ring moves on
 
@@ -194,6 +223,13 @@ module _ {L D : Type 0} (lay : LayoutGhosts L) (disk : DiskGhosts D) (core : Arr
   can-moved next (may.Fire c n) h = record { not_lost = h.not_lost; runs = h.runs; ready = h.ready; placed = h.placed; device_home = h.device_home; buffers_home = h.buffers_home; few = h.few }
   can-moved next (may.Skip c n) h = record { not_lost = h.not_lost; runs = h.runs; ready = h.ready; after = h.after; unit = h.unit; buf = h.buf; write = h.write; nowhere = h.nowhere }
   can-moved next (may.Back c) h = record { not_lost = h.not_lost; runs = h.runs; undone = h.undone }
+
+  pub place-moved : (next : ℕ) (e : Event) (at : Option Spot) → at ≡ place_in lay core e → at ≡ place_in lay (moved next) e
+  place-moved next (may.Begin c) at h = h
+  place-moved next (may.Take c) at h = h
+  place-moved next (may.Fire c n) at h = h
+  place-moved next (may.Skip c n) at h = h
+  place-moved next (may.Back c) at h = h
 
   pub sound-moved : (next : ℕ) → IsSound lay disk core → IsSound lay disk (moved next)
   sound-moved next s = record {

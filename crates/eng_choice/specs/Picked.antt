@@ -1,6 +1,7 @@
 -- Which of the events that can be done is chosen, and when all is done.
-use Rattle.std.specs.Prelude.{◌≡◌, ◌<◌, ◌≤◌, ◌+◌, ◌%◌, ◌⊎◌, ℕ, length, Option, Some, None}
+use Rattle.std.specs.Prelude.{◌≡◌, ◌<◌, ◌≤◌, ◌+◌, ◌%◌, ◌==◌, ◌⊎◌, if◌then◌else◌, ℕ, length, Option, Some, None}
 use Rattle.lay_core.specs.declared.layout.Layout.{Ghosts as LayoutGhosts}
+use Rattle.eng_cols.specs.declared.spot.Spot.{Spot}
 use Rattle.eng_world.specs.declared.item.Event.{Event}
 use Rattle.eng_world.specs.declared.item.Event.TheVariants as may
 use Rattle.eng_state.specs.declared.array.Array.{Array}
@@ -8,8 +9,9 @@ use Rattle.eng_one.specs.Control.{NoneReady, IsLeastReady}
 use Rattle.eng_clients.specs.declared.stage.Stage.TheVariants.{Runs}
 use Rattle.eng_clients.specs.Desk.{desk_at}
 use Rattle.eng_state.specs.Sound.{IsOutOf}
-use Rattle.eng_state.specs.Can.{CanFire, CanSkip}
+use Rattle.eng_state.specs.Can.{place_now, CanFire, CanSkip}
 use Rattle.eng_state.specs.Doing.{CanDo}
+use Rattle.eng_choice.specs.declared.chosen.Chosen.{Chosen}
 
 -- whose event it is
 abbrev pub client_of : Event → ℕ
@@ -30,6 +32,13 @@ rank (may.Skip c n) = 3 + n
 -- the clients stand in a ring of 17, tried from this one on
 abbrev pub ring_at : ℕ → ℕ → ℕ
 ring_at next turn = (next + turn) % 17
+
+-- those from its start on are one half of it, those before it the other: from which client on, and up to which
+abbrev pub half_from : ℕ → ℕ → ℕ
+half_from next half = if half == 0 then next else 0
+
+abbrev pub half_to : ℕ → ℕ → ℕ
+half_to next half = if half == 0 then 17 else next
 
 -- from which client on they are tried after this choice
 abbrev pub next_after : ℕ → Option Event → ℕ
@@ -85,6 +94,18 @@ module _ {L D : Type 0} (lay : LayoutGhosts L) where
     pub within : turn < 17
     pub event : IsFirstOf core (ring_at core.next turn) e
     pub before : (i : ℕ) → i < turn → CanNothing core (ring_at core.next i)
+
+  -- where the unit of its node stands now, or its target; None where it has no node
+  abbrev pub place_in : Array L D → Event → Option Spot
+  place_in core (may.Begin c) = None
+  place_in core (may.Take c) = None
+  place_in core (may.Fire c n) = place_now lay core c n
+  place_in core (may.Skip c n) = place_now lay core c n
+  place_in core (may.Back c) = None
+
+  -- and there is said to stand
+  abbrev pub StandsThere : Array L D → Chosen → Type 0
+  StandsThere core chosen = chosen.at ≡ place_in core chosen.event
 
   -- no event can be done
   abbrev pub IsStuck : Array L D → Type 0

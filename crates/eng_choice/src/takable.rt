@@ -10,7 +10,7 @@ ghost use Rattle.eng_plan.specs.Asked.{IsInside, stripes_by, lease_for};
 ghost use Rattle.eng_state.specs.Serves.{Serves, Stands, CanTake};
 ghost use Rattle.eng_state.specs.Sound.{IsSound};
 ghost use Rattle.eng_state.specs.Doing.{AreFree};
-ghost use Rattle.eng_choice.specs.Free.{AreFreeOf};
+ghost use Rattle.eng_choice.specs.Free.{AreFreeOf, IsFreeCount};
 
 use blk_disk::Disk;
 use blk_plain::{Op, Patches, Span};
@@ -71,6 +71,28 @@ fn numbers_from(first: u32) -> [u32; 16]
     numbers
 }
 
+// How many stripes the span touches, where no other holds one of them, unless both read.
+fn free_span<L: Layout, D: Disk>(
+    array: &Array<L, D>,
+    client: u32,
+    span: Span,
+    mode: Mode,
+) -> Option<u32>
+    requires some { 1 ≤ span.count }
+    requires inside { PassesEnd (L.shape array.now.layout) span → ⊥ }
+    requires few { stripe_count (L.shape array.now.layout) span ≤ 16 }
+    ensures { IsFreeCount result
+        (AreFreeOf array.now.locks client mode (HasBlock (L.shape array.now.layout) (is_in span)))
+        (stripe_count (L.shape array.now.layout) span) }
+{
+    let stripes = stripes_of(&array.layout, span);
+    let numbers = numbers_from(stripes.first);
+    let free = array
+        .locks
+        .can_take(client, &numbers[..stripes.count as usize], mode);
+    if free { Some(stripes.count) } else { None }
+}
+
 // Whether no other holds a stripe of the span, unless both read.
 fn is_span_free<L: Layout, D: Disk>(
     array: &Array<L, D>,
@@ -84,11 +106,7 @@ fn is_span_free<L: Layout, D: Disk>(
     ensures { IsTrue result ↔ AreFreeOf array.now.locks client mode
         (HasBlock (L.shape array.now.layout) (is_in span)) }
 {
-    let stripes = stripes_of(&array.layout, span);
-    let numbers = numbers_from(stripes.first);
-    array
-        .locks
-        .can_take(client, &numbers[..stripes.count as usize], mode)
+    free_span(array, client, span, mode).is_some()
 }
 
 // Whether no other holds the stripe.
@@ -126,14 +144,41 @@ fn are_free<L: Layout, D: Disk>(array: &Array<L, D>, client: u32, op: &Op) -> bo
     }
 }
 
-// Whether its buffers are free.
-fn fits<L: Layout, D: Disk>(array: &Array<L, D>, op: &Op, file: Option<u32>) -> bool
+// How many stripes the operation touches, where no other holds one of them, unless both read.
+fn free_stripes<L: Layout, D: Disk>(array: &Array<L, D>, client: u32, op: &Op) -> Option<u32>
+    requires { IsInside (L.shape array.now.layout) op.now }
+    ensures { IsFreeCount result (AreFree L.Layout array.now client op.now)
+        (stripes_by (L.shape array.now.layout) op.now) }
+{
+    if are_free(array, client, op) {
+        Some(count_stripes(&array.layout, op))
+    } else {
+        None
+    }
+}
+
+// The same. Those of one span are looked for once.
+fn free_count<L: Layout, D: Disk>(array: &Array<L, D>, client: u32, op: &Op) -> Option<u32>
+    requires { IsInside (L.shape array.now.layout) op.now }
+    ensures { IsFreeCount result (AreFree L.Layout array.now client op.now)
+        (stripes_by (L.shape array.now.layout) op.now) }
+{
+    match op {
+        Op::Write { span, .. } => free_span(array, client, *span, Mode::Exclude),
+        Op::Read { span } => free_span(array, client, *span, Mode::Share),
+        Op::Writes { .. } | Op::Rebuild { .. } | Op::Sync { .. } => free_stripes(array, client, op),
+    }
+}
+
+// Whether its buffers are free, where it touches so many stripes.
+fn fits<L: Layout, D: Disk>(array: &Array<L, D>, op: &Op, stripes: u32, file: Option<u32>) -> bool
     requires inside { IsInside (L.shape array.now.layout) op.now }
+    requires stripes { stripes ≡ stripes_by (L.shape array.now.layout) op.now }
+    requires few { stripes ≤ 16 }
     requires there { (n : ℕ) → file ≡ Some n → n < length array.now.graphs.items }
     ensures { IsTrue result ↔ (lease_for (L.shape array.now.layout) array.now.graphs.items op.now
         file ≤ length array.now.pool.free) }
 {
-    let stripes = count_stripes(&array.layout, op);
     lease_size(&array.layout, stripes, span_count(op), file, &array.graphs) <= array.pool.free()
 }
 
@@ -150,7 +195,10 @@ fn can_take_op<L: Layout, D: Disk>(
         (desk_at array.now.clients client) op.now file }
     ensures { IsTrue result ↔ CanTake L.Layout array.now client }
 {
-    are_free(array, client, op) && fits(array, op, file)
+    match free_count(array, client, op) {
+        Some(stripes) => fits(array, op, stripes, file),
+        None => false,
+    }
 }
 
 // Whether the client's operation can be taken, where it waits.

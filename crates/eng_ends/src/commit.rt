@@ -26,6 +26,7 @@ fn enter<L: Layout, D: Disk>(array: &mut Array<L, D>, id: OpId)
 }
 
 // The commit ends good: the operation enters the history.
+#[inline(always)]
 pub(crate) fn commit_ends<L: Layout, D: Disk>(
     array: &mut Array<L, D>,
     client: u32,

@@ -40,6 +40,7 @@ fn call_buf<L: Layout, D: Disk>(array: &Array<L, D>, client: u32, node: u32) -> 
 }
 
 // A good read ends, whether or not the array is lost.
+#[inline(always)]
 fn read_ends<L: Layout, D: Disk>(array: &mut Array<L, D>, client: u32, node: u32, coming: Coming<D>)
     requires sound { IsSound L.Layout D.Disk array.old }
     requires place { HasRoom array.old.log }
@@ -61,6 +62,7 @@ fn read_ends<L: Layout, D: Disk>(array: &mut Array<L, D>, client: u32, node: u32
 }
 
 // A good write ends, whose device hasn't failed since, whether or not the array is lost.
+#[inline(always)]
 fn write_ends<L: Layout, D: Disk>(
     array: &mut Array<L, D>,
     client: u32,
@@ -87,6 +89,7 @@ fn write_ends<L: Layout, D: Disk>(
 }
 
 /// A job that came back with a good read ends, whether or not the array is lost.
+#[inline(always)]
 pub fn read_returns<L: Layout, D: Disk>(array: &mut Array<L, D>, job: Job<D>)
     requires sound { IsSound L.Layout D.Disk array.old }
     requires place { HasRoom array.old.log }
@@ -118,6 +121,7 @@ pub fn read_returns<L: Layout, D: Disk>(array: &mut Array<L, D>, job: Job<D>)
 }
 
 /// A job that came back with a good write ends, whose device hasn't failed since, whether or not the array is lost.
+#[inline(always)]
 pub fn write_returns<L: Layout, D: Disk>(array: &mut Array<L, D>, job: Job<D>)
     requires sound { IsSound L.Layout D.Disk array.old }
     requires place { HasRoom array.old.log }

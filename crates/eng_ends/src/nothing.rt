@@ -36,6 +36,7 @@ fn node_out<L: Layout, D: Disk>(array: &Array<L, D>, client: u32, node: u32) -> 
 }
 
 // The terminator of this operation ends good.
+#[inline(always)]
 fn operation_ends<L: Layout, D: Disk>(
     array: &mut Array<L, D>,
     client: u32,
@@ -70,6 +71,7 @@ fn operation_ends<L: Layout, D: Disk>(
 }
 
 // The terminator of the operation that a client runs ends good.
+#[inline(always)]
 fn terminator_ends<L: Layout, D: Disk>(
     array: &mut Array<L, D>,
     client: u32,
@@ -106,6 +108,7 @@ fn terminator_ends<L: Layout, D: Disk>(
 
 /// A job without work ends: a commit, by which its operation enters the history, or a terminator, by which its
 /// item is replied.
+#[inline(always)]
 pub fn nothing_returns<L: Layout, D: Disk>(array: &mut Array<L, D>, job: Job<D>)
     requires sound { IsSound L.Layout D.Disk array.old }
     requires place { HasRoom array.old.log }

@@ -54,6 +54,7 @@ fn sum_buf<L: Layout, D: Disk>(array: &Array<L, D>, client: u32, node: u32) -> u
 }
 
 // The sources, the target and the list of an exclusive-or come home, and its node has ended good.
+#[inline(always)]
 fn sum_home<L: Layout, D: Disk>(
     array: &mut Array<L, D>,
     client: u32,
@@ -76,6 +77,7 @@ fn sum_home<L: Layout, D: Disk>(
     array.plain_home(client, node, sources, Outcome::Good);
 }
 
+#[inline(always)]
 fn sum_ends<L: Layout, D: Disk>(
     array: &mut Array<L, D>,
     client: u32,
@@ -99,6 +101,7 @@ fn sum_ends<L: Layout, D: Disk>(
 }
 
 /// A job that came back with an exclusive-or ends, whether or not the array is lost.
+#[inline(always)]
 pub fn sum_returns<L: Layout, D: Disk>(array: &mut Array<L, D>, job: Job<D>)
     requires sound { IsSound L.Layout D.Disk array.old }
     requires place { HasRoom array.old.log }

@@ -1,7 +1,6 @@
 -- The items of all clients as a core opens, and the regions that lie ready for them.
 use Rattle.std.proofs.Common.{◌≡◌, ℕ, ◌<◌, ◌≤◌, List, [], length, ap, ◌∙◌, arith, inl, inr, Option, Some}
-use Rattle.std.specs.Prelude.{slice_get, slice_index_or, Vec}
-use Rattle.std.specs.declared.alloc.Global.{Global}
+use Rattle.std.specs.Prelude.{slice_get, slice_index_or}
 use Rattle.std.proofs.lemmas.Bool.{cases_lt}
 use Rattle.std.proofs.lemmas.Option.{slice_get_within}
 use Rattle.blk_plain.specs.declared.op.Span.{Span}
@@ -10,6 +9,7 @@ use Rattle.blk_disk.specs.declared.disk.Disk.{Ghosts as DiskGhosts}
 use Rattle.lay_core.specs.declared.layout.Layout.{Ghosts as LayoutGhosts}
 use Rattle.eng_world.specs.declared.item.Item.{Item}
 use Rattle.eng_world.specs.declared.item.Item.TheVariants as item
+use Rattle.item_list.specs.ItemList.{ItemList}
 use Rattle.eng_log.specs.declared.region.Region.{Region}
 use Rattle.eng_parts.specs.declared.setup.Setup.{Setup}
 use Rattle.eng_state.specs.declared.array.Array.{Array}
@@ -23,7 +23,7 @@ use Rattle.eng_events.proofs.OpeningDesks.{item-of}
 use Rattle.eng_clients.specs.Fresh.{new_desk}
 use Rattle.eng_log.proofs.FewItems.{none-past}
 
-module _ (given : List (Vec Item Global)) (own : ℕ) (h : Handout) (laid : IsLaidOut given own h) where
+module _ (given : List ItemList) (own : ℕ) (h : Handout) (laid : IsLaidOut given own h) where
   -- a client has a region for each item
   room-each : (c : ℕ) → c < 17 → length (items_at given c) ≤ length (slice_index_or h.regions c [])
   room-each c lt = elim (cases_lt c 16) [

@@ -1,7 +1,6 @@
 -- A core that is opened is sound, and shows worlds that runs begin with.
 use Rattle.std.proofs.Common.{◌≡◌, ℕ, zero, suc, ◌<◌, ◌+◌, ◌*◌, List, [], ◌∷◌, length, replicate, map, drop, get_or, subst, sym, ap, ◌∙◌, arith, inl, inr, refl, Bool, true, false, Option, Some, None}
-use Rattle.std.specs.Prelude.{slice_get, Vec}
-use Rattle.std.specs.declared.alloc.Global.{Global}
+use Rattle.std.specs.Prelude.{slice_get}
 use Rattle.std.proofs.lemmas.Bool.{cases_lt, false≢true}
 use Rattle.std.proofs.lemmas.List.{get_or_past, get_or-replicate, get_or-take, get_or-drop, length-replicate, length-map}
 use Rattle.std.proofs.lemmas.Option.{slice_get-map, get_or_from_slice_get}
@@ -24,6 +23,7 @@ use Rattle.eng_world.specs.declared.item.Reply.{Reply}
 use Rattle.eng_world.specs.declared.item.Reply.TheVariants as reply
 use Rattle.eng_world.specs.World.{World, Nothing as Idles}
 use Rattle.eng_world.specs.Step.{IsOpening}
+use Rattle.item_list.specs.ItemList.{ItemList}
 use Rattle.eng_parts.specs.declared.setup.Setup.{Setup}
 use Rattle.eng_clients.specs.declared.stage.Stage.{Stage}
 use Rattle.eng_clients.specs.declared.stage.Stage.TheVariants.{Nothing}
@@ -256,14 +256,14 @@ module _ {L D : Type 0} (lay : LayoutGhosts L) (disk : DiskGhosts D) (setup : Se
 -- ## A core that is put together in room that was taken for it
 
 -- the columns that are set are the setup's
-pub columns-set : {D : Type 0} (y : Shape) (n : ℕ) (given : List (Vec Item Global)) (graphs : List Held) (trace : Bool) (room ready : CoreRoom D) (columns : List Column) → IsRoomFor y n given graphs trace room → ready ≡ record room { cols = record room.cols { states = states_of y columns } } → ready.cols ≡ record { states = states_of y columns; stripes = y.stripes }
+pub columns-set : {D : Type 0} (y : Shape) (n : ℕ) (given : List ItemList) (graphs : List Held) (trace : Bool) (room ready : CoreRoom D) (columns : List Column) → IsRoomFor y n given graphs trace room → ready ≡ record room { cols = record room.cols { states = states_of y columns } } → ready.cols ≡ record { states = states_of y columns; stripes = y.stripes }
 columns-set {D} y n given graphs trace room ready columns room-for set = ap (λ (r : CoreRoom D). r.cols) set ∙ ap (λ (v : Columns). record v { states = states_of y columns }) room-for.cols
 
 -- columns are as many as the layout's, and so are the stripes
 pub set-fit : (y : Shape) (columns : List Column) (v : Columns) → v ≡ record { states = states_of y columns; stripes = y.stripes } → length columns ≡ y.columns → IsFor y v
 set-fit y columns v is count = record { columns = ap (λ (a : Columns). length a.states) is ∙ (length-map columns (state_set y.stripes (filled_in y columns)) ∙ count); stripes = ap (λ (a : Columns). a.stripes) is }
 
-pub room-fit : {D : Type 0} (y : Shape) (n : ℕ) (given : List (Vec Item Global)) (graphs : List Held) (trace : Bool) (room : CoreRoom D) → IsRoomFor y n given graphs trace room → IsFor y room.cols
+pub room-fit : {D : Type 0} (y : Shape) (n : ℕ) (given : List ItemList) (graphs : List Held) (trace : Bool) (room : CoreRoom D) → IsRoomFor y n given graphs trace room → IsFor y room.cols
 room-fit y n given graphs trace room room-for = record { columns = ap (λ (a : Columns). length a.states) room-for.cols ∙ length-replicate y.columns Dead; stripes = ap (λ (a : Columns). a.stripes) room-for.cols }
 
 module _ {L D : Type 0} (lay : LayoutGhosts L) (disk : DiskGhosts D) (setup : Setup L D) (room ready : CoreRoom D) (core : Array L D) (room-for : IsRoomFor (lay.shape setup.layout) (length setup.devices.items) setup.clients.items setup.graphs.items setup.trace room)

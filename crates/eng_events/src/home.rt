@@ -57,6 +57,7 @@ fn comes_back_bad<L: Layout, D: Disk>(array: &Array<L, D>, job: &Job<D>, outcome
 }
 
 // A job without work that came back: it ends, or only comes home where the array is lost.
+#[inline(always)]
 fn nothing_goes_home<L: Layout, D: Disk>(array: &mut Array<L, D>, job: Job<D>)
     requires sound { IsSound L.Layout D.Disk array.old }
     requires place { HasRoom array.old.log }
@@ -84,6 +85,7 @@ fn nothing_goes_home<L: Layout, D: Disk>(array: &mut Array<L, D>, job: Job<D>)
 }
 
 // A job that came back ends good, or comes home so where the array is lost.
+#[inline(always)]
 fn good_returns<L: Layout, D: Disk>(array: &mut Array<L, D>, job: Job<D>)
     requires sound { IsSound L.Layout D.Disk array.old }
     requires place { HasRoom array.old.log }
@@ -113,6 +115,7 @@ fn good_returns<L: Layout, D: Disk>(array: &mut Array<L, D>, job: Job<D>)
 }
 
 /// A job that came back ends, good or bad, or comes home so where the array is lost.
+#[inline(always)]
 pub fn goes_home<L: Layout, D: Disk>(array: &mut Array<L, D>, job: Job<D>, outcome: Outcome)
     requires sound { IsSound L.Layout D.Disk array.old }
     requires place { HasRoom array.old.log }

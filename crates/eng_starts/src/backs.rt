@@ -22,15 +22,16 @@ use eng_world::{Item, Reply, Traced};
 use lay_core::Layout;
 
 // The operation is planned anew, under the same locks and on the same buffers.
-fn plan_anew<L: Layout, D: Disk>(array: &mut Array<L, D>, client: u32, op: Op)
+fn plan_anew<L: Layout, D: Disk>(array: &mut Array<L, D>, client: u32, op: &Op)
     requires sound { IsSound L.Layout D.Disk array.old }
     requires stands { Stands L.Layout array.old }
     requires can { CanBack L.Layout array.old client }
     requires serves { Serves array.old.graphs.items (L.shape array.old.layout)
-        (desk_at array.old.clients client) op None }
+        (desk_at array.old.clients client) op.now None }
     requires place { array.old.log.keeps ≡ true
         → length array.old.log.trace < array.old.log.trace_room }
-    ensures { Replaced L.Layout array.old client op (event.Back (id_of array.old.clients client))
+    ensures { Replaced L.Layout array.old client op.now
+        (event.Back (id_of array.old.clients client))
         array.new }
 {
     let id = array.id(client);
@@ -64,15 +65,16 @@ fn give_up<L: Layout, D: Disk>(array: &mut Array<L, D>, client: u32, device: u32
 }
 
 // What becomes of the core as the client's operation, which is this, goes back.
-fn back_op<L: Layout, D: Disk>(array: &mut Array<L, D>, client: u32, op: Op, file: Option<u32>)
+fn back_op<L: Layout, D: Disk>(array: &mut Array<L, D>, client: u32, op: &Op, file: Option<u32>)
     requires sound { IsSound L.Layout D.Disk array.old }
     requires stands { Stands L.Layout array.old }
     requires can { CanBack L.Layout array.old client }
     requires serves { Serves array.old.graphs.items (L.shape array.old.layout)
-        (desk_at array.old.clients client) op file }
+        (desk_at array.old.clients client) op.now file }
     requires place { array.old.log.keeps ≡ true
         → length array.old.log.trace < array.old.log.trace_room }
-    ensures { BackAs L.Layout array.old client op file (event.Back (id_of array.old.clients client))
+    ensures { BackAs L.Layout array.old client op.now file
+        (event.Back (id_of array.old.clients client))
         array.new }
 {
     match file {
@@ -99,8 +101,9 @@ fn back_item<L: Layout, D: Disk>(array: &mut Array<L, D>, client: u32)
     };
     match item {
         Item::Run { op, graph } => {
-            let (op, graph) = (*op, *graph);
-            back_op(array, client, op, graph);
+            let graph = *graph;
+            let op = *op;
+            back_op(array, client, &op, graph);
         }
         Item::Fail { .. } => unreachable!(),
     }

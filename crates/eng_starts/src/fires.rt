@@ -33,10 +33,17 @@ fn mark_out<L: Layout, D: Disk>(array: &mut Array<L, D>, client: u32, node: u32,
     array.clients.fire(client, node, at, &array.graphs);
 }
 
-fn fire_node<L: Layout, D: Disk>(array: &mut Array<L, D>, client: u32, node: u32) -> Job<D>
+#[inline(always)]
+fn fire_node<L: Layout, D: Disk>(
+    array: &mut Array<L, D>,
+    client: u32,
+    node: u32,
+    at: Option<Spot>,
+) -> Job<D>
     requires sound { IsSound L.Layout D.Disk array.old }
     requires place { HasRoom array.old.log }
     requires can { CanFire L.Layout array.old client node }
+    requires at { at ≡ place_now L.Layout array.old client node }
     ensures fired { Fired L.Layout array.old client node array.new }
     ensures work { IsWork D.Disk (L.shape array.old.layout) array.new.devices array.new.pool
         (desk_at array.old.clients client).run.graph (desk_at array.old.clients client).lease
@@ -47,7 +54,6 @@ fn fire_node<L: Layout, D: Disk>(array: &mut Array<L, D>, client: u32, node: u32
     ensures room { 2048 ≤ vec_capacity result.sources }
     ensures job { (result.client ≡ client) × (result.node ≡ node) }
 {
-    let at = array.place_of(client, node);
     let id = array.id(client);
     let Packed { work, sources } = pack(array, client, node, at);
     mark_out(array, client, node, at);
@@ -60,11 +66,18 @@ fn fire_node<L: Layout, D: Disk>(array: &mut Array<L, D>, client: u32, node: u32
     }
 }
 
-/// Fires a node that is ready. Its device and its buffers leave with the job.
-pub fn fire<L: Layout, D: Disk>(array: &mut Array<L, D>, client: u32, node: u32) -> Job<D>
+/// Fires a node that is ready, whose unit stands there. Its device and its buffers leave with the job.
+#[inline(always)]
+pub fn fire<L: Layout, D: Disk>(
+    array: &mut Array<L, D>,
+    client: u32,
+    node: u32,
+    at: Option<Spot>,
+) -> Job<D>
     requires sound { IsSound L.Layout D.Disk array.old }
     requires place { HasRoom array.old.log }
     requires can { CanFire L.Layout array.old client node }
+    requires at { at ≡ place_now L.Layout array.old client node }
     ensures out { IsOut D.Disk L.Layout array.new result }
     ensures job { (result.client ≡ client) × (result.node ≡ node) }
     ensures step { Follows L.Layout D.Disk array.old
@@ -76,5 +89,5 @@ pub fn fire<L: Layout, D: Disk>(array: &mut Array<L, D>, client: u32, node: u32)
         → IsOut D.Disk L.Layout array.new job }
     ensures fired { Fired L.Layout array.old client node array.new }
 {
-    fire_node(array, client, node)
+    fire_node(array, client, node, at)
 }

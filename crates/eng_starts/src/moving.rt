@@ -43,6 +43,7 @@ fn device_leaves<L: Layout, D: Disk>(array: &mut Array<L, D>, device: u32) -> D
     array.devices.leave(device)
 }
 
+#[inline(always)]
 fn call_leaves<L: Layout, D: Disk>(
     array: &mut Array<L, D>,
     client: u32,
@@ -89,6 +90,7 @@ fn list_leaves<L: Layout, D: Disk>(array: &mut Array<L, D>) -> Vec<Source>
 }
 
 // What a node works on leaves.
+#[inline(always)]
 pub(crate) fn pack<L: Layout, D: Disk>(
     array: &mut Array<L, D>,
     client: u32,
@@ -185,6 +187,7 @@ fn sources_leave<L: Layout, D: Disk>(
 }
 
 // The target and the sources of an exclusive-or leave.
+#[inline(always)]
 fn sum_leaves<L: Layout, D: Disk>(
     array: &mut Array<L, D>,
     client: u32,

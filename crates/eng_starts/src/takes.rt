@@ -37,15 +37,15 @@ use stripe_lock::Mode;
 pub(crate) fn plan<L: Layout, D: Disk>(
     array: &mut Array<L, D>,
     client: u32,
-    op: Op,
+    op: &Op,
     file: Option<u32>,
 ) -> Result<(), Refusal>
     requires client { client < length array.old.clients }
     requires fit { IsFor (L.shape array.old.layout) array.old.cols }
-    requires op { IsInside (L.shape array.old.layout) op }
+    requires op { IsInside (L.shape array.old.layout) op.now }
     requires kept { NotLost (L.shape array.old.layout) array.old.cols.states }
     requires file { (n : ℕ) → file ≡ Some n → n < length array.old.graphs.items }
-    ensures planned { PlannedFor L.Layout array.old client op file array.new }
+    ensures planned { PlannedFor L.Layout array.old client op.now file array.new }
     ensures passes { OnOk result
         (CanRun array.old.graphs.items (desk_at array.new.clients client)) }
     ensures refused { IfErr result (λ cause.
@@ -90,7 +90,8 @@ fn lend<L: Layout, D: Disk>(array: &mut Array<L, D>, client: u32, count: u32)
         ≡ record array.old {
           pool = array.new.pool;
           clients = slice_set array.old.clients client
-              (with_lease (desk_at array.old.clients client) (desk_at array.new.clients client).lease);
+              (with_lease (desk_at array.old.clients client)
+              (desk_at array.new.clients client).lease);
         } }
 {
     array.clients.hold(client, count, &mut array.pool);
@@ -111,22 +112,23 @@ pub(crate) fn start<L: Layout, D: Disk>(array: &mut Array<L, D>, client: u32)
 }
 
 // Its buffers of new data are filled.
-pub(crate) fn fill_buffers<L: Layout, D: Disk>(array: &mut Array<L, D>, client: u32, op: Op)
+pub(crate) fn fill_buffers<L: Layout, D: Disk>(array: &mut Array<L, D>, client: u32, op: &Op)
     requires client { client < length array.old.clients }
     requires there { (n : ℕ) → (desk_at array.old.clients client).file ≡ Some n
         → n < length array.old.graphs.items }
     requires buffers { HasBuffers
         (graph_of array.old.graphs.items (desk_at array.old.clients client)) array.old.pool
         (desk_at array.old.clients client).lease }
-    requires few { span_count op ≤ 8 }
-    ensures filled { Filled (L.shape array.old.layout) (desk_at array.old.clients client).map.stripes
-        (graph_of array.old.graphs.items (desk_at array.old.clients client)) op
+    requires few { span_count op.now ≤ 8 }
+    ensures filled { Filled (L.shape array.old.layout)
+        (desk_at array.old.clients client).map.stripes
+        (graph_of array.old.graphs.items (desk_at array.old.clients client)) op.now
         (desk_at array.old.clients client).lease array.old.pool array.new.pool }
     ensures rest { array.new ≡ record array.old { pool = array.new.pool } }
 {
     array
         .clients
-        .fill(client, &array.layout, &op, &array.graphs, &mut array.pool);
+        .fill(client, &array.layout, op, &array.graphs, &mut array.pool);
 }
 
 // How many buffers its operation, which is planned, leases.
@@ -143,24 +145,24 @@ fn size<L: Layout, D: Disk>(array: &Array<L, D>, client: u32, op: &Op, file: Opt
 }
 
 // The planned operation takes its stripes and buffers, and its run begins.
-fn settle<L: Layout, D: Disk>(array: &mut Array<L, D>, client: u32, op: Op, file: Option<u32>)
+fn settle<L: Layout, D: Disk>(array: &mut Array<L, D>, client: u32, op: &Op, file: Option<u32>)
     requires client { client < length array.old.clients }
     requires owner { client < owners_of array.old.locks }
     requires unit { array.old.pool.unit ≡ 512 * (L.shape array.old.layout).unit_sectors }
     requires none { HoldsNothing array.old.locks client }
-    requires inside { IsInside (L.shape array.old.layout) op }
+    requires inside { IsInside (L.shape array.old.layout) op.now }
     requires there { (n : ℕ) → file ≡ Some n → n < length array.old.graphs.items }
     requires planned { IsPlanned (L.shape array.old.layout) array.old.graphs.items
-        array.old.cols.states op file (desk_at array.old.clients client) }
+        array.old.cols.states op.now file (desk_at array.old.clients client) }
     requires runs { CanRun array.old.graphs.items (desk_at array.old.clients client) }
     requires is_free { Conflict array.old.locks client
-        (desk_at array.old.clients client).map.stripes (mode_by op) → ⊥ }
+        (desk_at array.old.clients client).map.stripes (mode_by op.now) → ⊥ }
     requires buffers { AreThere array.old.pool
-        (lease_for (L.shape array.old.layout) array.old.graphs.items op file) }
-    ensures { Settled L.Layout array.old client op file array.new }
+        (lease_for (L.shape array.old.layout) array.old.graphs.items op.now file) }
+    ensures { Settled L.Layout array.old client op.now file array.new }
 {
     lock(array, client, mode_by(op));
-    let count = size(array, client, &op, file);
+    let count = size(array, client, op, file);
     lend(array, client, count);
     start(array, client);
     fill_buffers(array, client, op);
@@ -170,7 +172,7 @@ fn settle<L: Layout, D: Disk>(array: &mut Array<L, D>, client: u32, op: Op, file
 fn take_planned<L: Layout, D: Disk>(
     array: &mut Array<L, D>,
     client: u32,
-    op: Op,
+    op: &Op,
     file: Option<u32>,
     id: OpId,
 )
@@ -178,18 +180,18 @@ fn take_planned<L: Layout, D: Disk>(
     requires owner { client < owners_of array.old.locks }
     requires unit { array.old.pool.unit ≡ 512 * (L.shape array.old.layout).unit_sectors }
     requires none { HoldsNothing array.old.locks client }
-    requires inside { IsInside (L.shape array.old.layout) op }
+    requires inside { IsInside (L.shape array.old.layout) op.now }
     requires there { (n : ℕ) → file ≡ Some n → n < length array.old.graphs.items }
     requires planned { IsPlanned (L.shape array.old.layout) array.old.graphs.items
-        array.old.cols.states op file (desk_at array.old.clients client) }
+        array.old.cols.states op.now file (desk_at array.old.clients client) }
     requires runs { CanRun array.old.graphs.items (desk_at array.old.clients client) }
     requires is_free { Conflict array.old.locks client
-        (desk_at array.old.clients client).map.stripes (mode_by op) → ⊥ }
+        (desk_at array.old.clients client).map.stripes (mode_by op.now) → ⊥ }
     requires buffers { AreThere array.old.pool
-        (lease_for (L.shape array.old.layout) array.old.graphs.items op file) }
+        (lease_for (L.shape array.old.layout) array.old.graphs.items op.now file) }
     requires place { array.old.log.keeps ≡ true
         → length array.old.log.trace < array.old.log.trace_room }
-    ensures { (mid : Array L D) × Settled L.Layout array.old client op file mid
+    ensures { (mid : Array L D) × Settled L.Layout array.old client op.now file mid
         × (array.new ≡ record mid { log = noted mid.log (event.Take id) }) }
 {
     settle(array, client, op, file);
@@ -214,13 +216,13 @@ fn refuse<L: Layout, D: Disk>(array: &mut Array<L, D>, client: u32, cause: Refus
 }
 
 // What becomes of the core as the client's operation, which is this, is taken.
-fn take_op<L: Layout, D: Disk>(array: &mut Array<L, D>, client: u32, op: Op, file: Option<u32>)
+fn take_op<L: Layout, D: Disk>(array: &mut Array<L, D>, client: u32, op: &Op, file: Option<u32>)
     requires sound { IsSound L.Layout D.Disk array.old }
     requires stands { Stands L.Layout array.old }
     requires can { CanTake L.Layout array.old client }
     requires there { HasThere L.Layout array.old client }
     requires serves { Serves array.old.graphs.items (L.shape array.old.layout)
-        (desk_at array.old.clients client) op file }
+        (desk_at array.old.clients client) op.now file }
     requires place { array.old.log.keeps ≡ true
         → length array.old.log.trace < array.old.log.trace_room }
     ensures { IsTaken L.Layout array.old client (event.Take (id_of array.old.clients client))
@@ -249,8 +251,10 @@ fn take_item<L: Layout, D: Disk>(array: &mut Array<L, D>, client: u32)
     };
     match item {
         Item::Run { op, graph } => {
-            let (op, graph) = (*op, *graph);
-            take_op(array, client, op, graph);
+            // The item lies in the core, which changes; so its operation is copied, once.
+            let graph = *graph;
+            let op = *op;
+            take_op(array, client, &op, graph);
         }
         Item::Fail { .. } => unreachable!(),
     }

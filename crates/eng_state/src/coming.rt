@@ -66,6 +66,7 @@ impl<L: Layout, D: Disk> Array<L, D> {
     }
 
     /// The device, the buffer and the list of a call come home, and its node has ended with this outcome.
+    #[inline(always)]
     pub fn call_home(
         &mut self,
         client: u32,

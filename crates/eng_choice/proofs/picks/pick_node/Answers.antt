@@ -37,16 +37,16 @@ can_fire_at-requires-clause-ripe g c =
 pub loop-node-init : goal.loop-node-init
 loop-node-init g c = λ k lt. absurd (omega (arith, lt))
 
-pub returns-then-can_skip_at : goal.returns-then-can_skip_at
-returns-then-can_skip_at g c = record {
+pub returns-then-can_skip_at-clause-event : goal.returns-then-can_skip_at-clause-event
+returns-then-can_skip_at-clause-event g c = record {
   node = c.in-Some.node;
   event = inl refl;
   can = c.can_skip_at.ensures.0 c.if-can_skip_at.true;
   before = before-ready (desk_at c.args.array.now.clients c.args.client).run c.loop-node.from c.in-Some.node (λ n h. h.ready) (λ n h. h.ready) (subst (λ (o : Option ℕ). MatchOption o (NoneReadyOf c.args.array.now c.args.client c.loop-node.from) (IsLeastReadyOf c.args.array.now c.args.client c.loop-node.from)) c.in-Some.is c.ready_from.ensures).1 c.loop-node.invariant;
 }
 
-pub returns-then-can_fire_at : goal.returns-then-can_fire_at
-returns-then-can_fire_at g c = record {
+pub returns-then-can_fire_at-clause-event : goal.returns-then-can_fire_at-clause-event
+returns-then-can_fire_at-clause-event g c = record {
   node = c.in-Some.node;
   event = inr refl;
   can = c.can_fire_at.ensures.0 c.if-can_fire_at.true;
@@ -65,14 +65,14 @@ loop-node-preserved g c = below_more _ c.in-Some.node
       refuted c.can_fire_at.result _ c.can_fire_at.ensures c.if-can_fire_at.false,
     )
 
-pub returns : goal.returns
-returns g c = λ n. (
+pub returns-clause-event : goal.returns-clause-event
+returns-clause-event g c = λ n. (
   λ h. (none-ready {CanS = CanSkip g.L.Layout c.args.array.now c.args.client} {CanF = CanFire g.L.Layout c.args.array.now c.args.client} (desk_at c.args.array.now.clients c.args.client).run c.loop-node.from (λ m s. s.ready) (λ m s. s.ready) (subst (λ (o : Option ℕ). MatchOption o (NoneReadyOf c.args.array.now c.args.client c.loop-node.from) (IsLeastReadyOf c.args.array.now c.args.client c.loop-node.from)) c.in_default.is c.ready_from.ensures h.runs) c.loop-node.invariant n).0 h,
   λ h. (none-ready {CanS = CanSkip g.L.Layout c.args.array.now c.args.client} {CanF = CanFire g.L.Layout c.args.array.now c.args.client} (desk_at c.args.array.now.clients c.args.client).run c.loop-node.from (λ m s. s.ready) (λ m s. s.ready) (subst (λ (o : Option ℕ). MatchOption o (NoneReadyOf c.args.array.now c.args.client c.loop-node.from) (IsLeastReadyOf c.args.array.now c.args.client c.loop-node.from)) c.in_default.is c.ready_from.ensures h.runs) c.loop-node.invariant n).1 h,
 )
 
-pub returns-then-is_some : goal.returns-then-is_some
-returns-then-is_some g c = λ n. (
+pub returns-then-is_some-clause-event : goal.returns-then-is_some-clause-event
+returns-then-is_some-clause-event g c = λ n. (
   λ h. false≢true (sym (c.is_some.ensures ∙ ap is_some h.not_lost) ∙ c.if-is_some.true),
   λ h. false≢true (sym (c.is_some.ensures ∙ ap is_some h.not_lost) ∙ c.if-is_some.true),
 )

@@ -17,4 +17,4 @@ returns-clause-work g c =
     let at : Option Spot = place_now g.L.Layout core c.args.client c.args.node in
     subst (λ (s : Array g.row.L.Denot g.row.D.Denot). IsWork g.D.Disk y s.devices s.pool d.run.graph d.lease at kind named c.pack-work.result.work c.pack-work.result.sources.items) (sym c.note.ensures)
     (subst (λ (s : Array g.row.L.Denot g.row.D.Denot). IsWork g.D.Disk y s.devices s.pool d.run.graph d.lease at kind named c.pack-work.result.work c.pack-work.result.sources.items) (sym c.mark_out.ensures)
-    (subst (λ (o : Option Spot). IsWork g.D.Disk y c.pack-work.new.array.devices c.pack-work.new.array.pool d.run.graph d.lease o kind named c.pack-work.result.work c.pack-work.result.sources.items) c.place_of-at.ensures c.pack-work.ensures.work))
+    (subst (λ (o : Option Spot). IsWork g.D.Disk y c.pack-work.new.array.devices c.pack-work.new.array.pool d.run.graph d.lease o kind named c.pack-work.result.work c.pack-work.result.sources.items) c.requires.at c.pack-work.ensures.work))

@@ -18,12 +18,12 @@ use Rattle.eng_starts.proofs.takes.settle.Goals as goal
 pub lock-requires-clause-few : goal.lock-requires-clause-few
 lock-requires-clause-few g c =
     let old = c.args.array.now in
-    settling.planned-few (g.L.Layout.shape old.layout) (g.met.L.Layout.is_layout old.layout) old.graphs.items old.cols.states c.args.op c.args.file (desk_at old.clients c.args.client) c.requires.inside c.requires.planned c.requires.runs
+    settling.planned-few (g.L.Layout.shape old.layout) (g.met.L.Layout.is_layout old.layout) old.graphs.items old.cols.states c.args.op.now c.args.file (desk_at old.clients c.args.client) c.requires.inside c.requires.planned c.requires.runs
 
 pub size-count-requires-clause-few : goal.size-count-requires-clause-few
 size-count-requires-clause-few g c =
     let old : Array g.row.L.Denot g.row.D.Denot = c.args.array.now in
-    let few = settling.planned-few (g.L.Layout.shape old.layout) (g.met.L.Layout.is_layout old.layout) old.graphs.items old.cols.states c.args.op c.args.file (desk_at old.clients c.args.client) c.requires.inside c.requires.planned c.requires.runs in
+    let few = settling.planned-few (g.L.Layout.shape old.layout) (g.met.L.Layout.is_layout old.layout) old.graphs.items old.cols.states c.args.op.now c.args.file (desk_at old.clients c.args.client) c.requires.inside c.requires.planned c.requires.runs in
     let same : c.lock.new.array.clients ≡ old.clients = ap (λ (s : Array g.row.L.Denot g.row.D.Denot). s.clients) c.lock.ensures.rest in
     subst (λ (l : List Desk). length (desk_at l c.args.client).map.stripes ≤ 16) (sym same) few
 
@@ -31,7 +31,7 @@ pub start-requires-clause-can : goal.start-requires-clause-can
 start-requires-clause-can g c =
     let old : Array g.row.L.Denot g.row.D.Denot = c.args.array.now in
     let s2 : Array g.row.L.Denot g.row.D.Denot = c.lend.new.array in
-    let can = settling.planned-can (g.L.Layout.shape old.layout) (g.met.L.Layout.is_layout old.layout) old.graphs.items old.cols.states c.args.op c.args.file (desk_at old.clients c.args.client) c.requires.inside c.requires.planned c.requires.runs in
+    let can = settling.planned-can (g.L.Layout.shape old.layout) (g.met.L.Layout.is_layout old.layout) old.graphs.items old.cols.states c.args.op.now c.args.file (desk_at old.clients c.args.client) c.requires.inside c.requires.planned c.requires.runs in
     let desk = settling.desk-2 old c.lock.new.array s2 c.args.client c.requires.client c.lock.ensures.rest c.lend.ensures.now in
     let graphs = settling.graphs-2 old c.lock.new.array s2 c.args.client c.requires.client c.lock.ensures.rest c.lend.ensures.now in
     subst (λ (e : Desk). CanStart (graph_of s2.graphs.items e)) (sym desk)
@@ -51,12 +51,12 @@ fill_buffers-requires-clause-buffers g c =
     let graphs = settling.graphs-3 old s1 s2 c.args.client c.requires.client c.lock.ensures.rest c.lend.ensures.now s3 c.start.ensures in
     let pool = settling.pool-3 old s1 s2 c.args.client c.requires.client c.lock.ensures.rest c.lend.ensures.now s3 c.start.ensures in
     let pool-1 = settling.pool-1 old s1 s2 c.args.client c.requires.client c.lock.ensures.rest c.lend.ensures.now in
-    let bufs = settling.planned-bufs y law old.graphs.items old.cols.states c.args.op c.args.file d c.requires.inside c.requires.planned c.requires.runs spans-few in
-    let long = settling.planned-long y law old.graphs.items old.cols.states c.args.op c.args.file d c.requires.inside c.requires.planned c.requires.runs in
-    let count : c.size-count.result ≡ lease_for y old.graphs.items c.args.op c.args.file =
+    let bufs = settling.planned-bufs y law old.graphs.items old.cols.states c.args.op.now c.args.file d c.requires.inside c.requires.planned c.requires.runs spans-few in
+    let long = settling.planned-long y law old.graphs.items old.cols.states c.args.op.now c.args.file d c.requires.inside c.requires.planned c.requires.runs in
+    let count : c.size-count.result ≡ lease_for y old.graphs.items c.args.op.now c.args.file =
     c.size-count.ensures
-    ∙ (ap (λ (s : Array g.row.L.Denot g.row.D.Denot). lease_by (g.L.Layout.shape s.layout) s.graphs.items (length (desk_at s.clients c.args.client).map.stripes) (span_count c.args.op) c.args.file) c.lock.ensures.rest
-    ∙ ap (λ (n : ℕ). lease_by y old.graphs.items n (span_count c.args.op) c.args.file) (op-count y (g.met.L.Layout.is_layout old.layout) c.args.op d.map c.requires.planned.split)) in
+    ∙ (ap (λ (s : Array g.row.L.Denot g.row.D.Denot). lease_by (g.L.Layout.shape s.layout) s.graphs.items (length (desk_at s.clients c.args.client).map.stripes) (span_count c.args.op.now) c.args.file) c.lock.ensures.rest
+    ∙ ap (λ (n : ℕ). lease_by y old.graphs.items n (span_count c.args.op.now) c.args.file) (op-count y (g.met.L.Layout.is_layout old.layout) c.args.op.now d.map c.requires.planned.split)) in
     let unit : s2.pool.unit ≡ 512 * y.unit_sectors = c.lend.ensures.leased.unit ∙ (ap (λ (p : held.PoolView). p.unit) pool-1 ∙ c.requires.unit) in
     let here : HasBuffers (graph_of old.graphs.items d) s2.pool l = record {
       lease = c.lend.ensures.leased.is_lease;
@@ -82,23 +82,23 @@ returns g c =
     let graphs = settling.graphs-3 old s1 s2 c.args.client c.requires.client c.lock.ensures.rest c.lend.ensures.now s3 c.start.ensures in
     let pool = settling.pool-3 old s1 s2 c.args.client c.requires.client c.lock.ensures.rest c.lend.ensures.now s3 c.start.ensures in
     let pool-1 = settling.pool-1 old s1 s2 c.args.client c.requires.client c.lock.ensures.rest c.lend.ensures.now in
-    let count : c.size-count.result ≡ lease_for y old.graphs.items c.args.op c.args.file =
+    let count : c.size-count.result ≡ lease_for y old.graphs.items c.args.op.now c.args.file =
     c.size-count.ensures
-    ∙ (ap (λ (s : Array g.row.L.Denot g.row.D.Denot). lease_by (g.L.Layout.shape s.layout) s.graphs.items (length (desk_at s.clients c.args.client).map.stripes) (span_count c.args.op) c.args.file) c.lock.ensures.rest
-    ∙ ap (λ (n : ℕ). lease_by y old.graphs.items n (span_count c.args.op) c.args.file) (op-count y (g.met.L.Layout.is_layout old.layout) c.args.op d.map c.requires.planned.split)) in
+    ∙ (ap (λ (s : Array g.row.L.Denot g.row.D.Denot). lease_by (g.L.Layout.shape s.layout) s.graphs.items (length (desk_at s.clients c.args.client).map.stripes) (span_count c.args.op.now) c.args.file) c.lock.ensures.rest
+    ∙ ap (λ (n : ℕ). lease_by y old.graphs.items n (span_count c.args.op.now) c.args.file) (op-count y (g.met.L.Layout.is_layout old.layout) c.args.op.now d.map c.requires.planned.split)) in
     let layout : s3.layout ≡ old.layout = ap (λ (a : Array g.row.L.Denot g.row.D.Denot). a.layout) c.start.ensures ∙ (ap (λ (a : Array g.row.L.Denot g.row.D.Denot). a.layout) c.lend.ensures.now ∙ ap (λ (a : Array g.row.L.Denot g.row.D.Denot). a.layout) c.lock.ensures.rest) in
     let locks = settling.locks-4 old s1 s2 c.args.client c.requires.client c.lock.ensures.rest c.lend.ensures.now s3 c.start.ensures s4 c.fill_buffers.ensures.rest in
     record {
       lease = l;
       mid = s2.pool;
-      locks = subst (λ (t : table.Table). table.Acquires old.locks c.args.client d.map.stripes (mode_by c.args.op) t) (sym locks) (subst (λ (m : Mode). table.Acquires old.locks c.args.client d.map.stripes m s1.locks) c.mode_by.ensures c.lock.ensures.taken);
+      locks = subst (λ (t : table.Table). table.Acquires old.locks c.args.client d.map.stripes (mode_by c.args.op.now) t) (sym locks) (subst (λ (m : Mode). table.Acquires old.locks c.args.client d.map.stripes m s1.locks) c.mode_by.ensures c.lock.ensures.taken);
       leases = subst (λ (n : ℕ). held.Leases old.pool n l s2.pool) count (subst (λ (p : held.PoolView). held.Leases p c.size-count.result l s2.pool) pool-1 c.lend.ensures.leased);
       apart = subst (λ (p : held.PoolView). held.StandsApart p l s2.pool) pool-1 c.lend.ensures.apart;
       filled =
-          subst (λ (p : held.PoolView). Filled y d.map.stripes (graph_of old.graphs.items d) c.args.op l p s4.pool) pool
-          (subst (λ (gs : List Held). Filled y d.map.stripes (graph_of gs d) c.args.op l s3.pool s4.pool) graphs
-          (subst (λ (e : Desk). Filled y e.map.stripes (graph_of s3.graphs.items e) c.args.op e.lease s3.pool s4.pool) desk
-          (subst (λ (t : g.row.L.Denot). Filled (g.L.Layout.shape t) (desk_at s3.clients c.args.client).map.stripes (graph_of s3.graphs.items (desk_at s3.clients c.args.client)) c.args.op (desk_at s3.clients c.args.client).lease s3.pool s4.pool) layout c.fill_buffers.ensures.filled)));
+          subst (λ (p : held.PoolView). Filled y d.map.stripes (graph_of old.graphs.items d) c.args.op.now l p s4.pool) pool
+          (subst (λ (gs : List Held). Filled y d.map.stripes (graph_of gs d) c.args.op.now l s3.pool s4.pool) graphs
+          (subst (λ (e : Desk). Filled y e.map.stripes (graph_of s3.graphs.items e) c.args.op.now e.lease s3.pool s4.pool) desk
+          (subst (λ (t : g.row.L.Denot). Filled (g.L.Layout.shape t) (desk_at s3.clients c.args.client).map.stripes (graph_of s3.graphs.items (desk_at s3.clients c.args.client)) c.args.op.now (desk_at s3.clients c.args.client).lease s3.pool s4.pool) layout c.fill_buffers.ensures.filled)));
       now = settling.now-4 old s1 s2 c.args.client c.requires.client c.lock.ensures.rest c.lend.ensures.now s3 c.start.ensures s4 c.fill_buffers.ensures.rest;
     }
 
@@ -107,9 +107,9 @@ lend-requires-clause-there g c =
     let old : Array g.row.L.Denot g.row.D.Denot = c.args.array.now in
     let y = g.L.Layout.shape old.layout in
     let d = desk_at old.clients c.args.client in
-    let count : c.size-count.result ≡ lease_for y old.graphs.items c.args.op c.args.file =
+    let count : c.size-count.result ≡ lease_for y old.graphs.items c.args.op.now c.args.file =
     c.size-count.ensures
-    ∙ (ap (λ (s : Array g.row.L.Denot g.row.D.Denot). lease_by (g.L.Layout.shape s.layout) s.graphs.items (length (desk_at s.clients c.args.client).map.stripes) (span_count c.args.op) c.args.file) c.lock.ensures.rest
-    ∙ ap (λ (n : ℕ). lease_by y old.graphs.items n (span_count c.args.op) c.args.file) (op-count y (g.met.L.Layout.is_layout old.layout) c.args.op d.map c.requires.planned.split)) in
+    ∙ (ap (λ (s : Array g.row.L.Denot g.row.D.Denot). lease_by (g.L.Layout.shape s.layout) s.graphs.items (length (desk_at s.clients c.args.client).map.stripes) (span_count c.args.op.now) c.args.file) c.lock.ensures.rest
+    ∙ ap (λ (n : ℕ). lease_by y old.graphs.items n (span_count c.args.op.now) c.args.file) (op-count y (g.met.L.Layout.is_layout old.layout) c.args.op.now d.map c.requires.planned.split)) in
     subst (λ (p : held.PoolView). AreThere p c.size-count.result) (sym (ap (λ (s : Array g.row.L.Denot g.row.D.Denot). s.pool) c.lock.ensures.rest))
     (subst (λ (n : ℕ). AreThere old.pool n) (sym count) c.requires.buffers)

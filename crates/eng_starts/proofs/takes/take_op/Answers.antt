@@ -18,27 +18,27 @@ use Rattle.eng_starts.proofs.takes.take_op.Goals as goal
 pub take_planned-requires-clause-is_free : goal.take_planned-requires-clause-is_free
 take_planned-requires-clause-is_free g c =
     let old : Array g.row.L.Denot g.row.D.Denot = c.args.array.now in
-    no-conflict g.L.Layout old c.plan.new.array c.args.client c.args.op c.args.file (waits-below g.L.Layout g.D.Disk old c.args.client c.requires.sound c.requires.can) c.plan.ensures.planned c.requires.sound.layout c.requires.can c.requires.serves
+    no-conflict g.L.Layout old c.plan.new.array c.args.client c.args.op.now c.args.file (waits-below g.L.Layout g.D.Disk old c.args.client c.requires.sound c.requires.can) c.plan.ensures.planned c.requires.sound.layout c.requires.can c.requires.serves
 
 pub take_planned-requires-clause-buffers : goal.take_planned-requires-clause-buffers
 take_planned-requires-clause-buffers g c =
-    subst (λ (s : Array g.row.L.Denot g.row.D.Denot). AreThere s.pool (lease_for (g.L.Layout.shape s.layout) s.graphs.items c.args.op c.args.file)) (sym c.plan.ensures.planned.now)
-    (c.requires.there c.args.op c.args.file c.requires.serves.item)
+    subst (λ (s : Array g.row.L.Denot g.row.D.Denot). AreThere s.pool (lease_for (g.L.Layout.shape s.layout) s.graphs.items c.args.op.now c.args.file)) (sym c.plan.ensures.planned.now)
+    (c.requires.there c.args.op.now c.args.file c.requires.serves.item)
 
 pub refuse-requires-clause-item : goal.refuse-requires-clause-item
 refuse-requires-clause-item g c =
     let old : Array g.row.L.Denot g.row.D.Denot = c.args.array.now in
-    unreplied g.L.Layout old c.plan.new.array c.args.client c.args.op c.args.file (waits-below g.L.Layout g.D.Disk old c.args.client c.requires.sound c.requires.can) c.plan.ensures.planned (item-below (desk_at old.clients c.args.client) (item.Run c.args.op c.args.file) c.requires.serves.item)
+    unreplied g.L.Layout old c.plan.new.array c.args.client c.args.op.now c.args.file (waits-below g.L.Layout g.D.Disk old c.args.client c.requires.sound c.requires.can) c.plan.ensures.planned (item-below (desk_at old.clients c.args.client) (item.Run c.args.op.now c.args.file) c.requires.serves.item)
 
 pub returns-in-Ok : goal.returns-in-Ok
 returns-in-Ok g c =
     let old : Array g.row.L.Denot g.row.D.Denot = c.args.array.now in
     let e = subst (λ (i : OpId). c.take_planned.new.array ≡ record c.take_planned.ensures.0 { log = noted c.take_planned.ensures.0.log (event.Take i) }) c.id-id.ensures c.take_planned.ensures.2 in
     record {
-      op = c.args.op;
+      op = c.args.op.now;
       file = c.args.file;
       serves = c.requires.serves;
-      became = inl (taken-of g.L.Layout old c.plan.new.array c.args.client c.args.op c.args.file (waits-below g.L.Layout g.D.Disk old c.args.client c.requires.sound c.requires.can) c.plan.ensures.planned c.take_planned.ensures.0 c.take_planned.new.array (event.Take (id_of old.clients c.args.client)) c.in-Ok.ensures.passes c.take_planned.ensures.1 e);
+      became = inl (taken-of g.L.Layout old c.plan.new.array c.args.client c.args.op.now c.args.file (waits-below g.L.Layout g.D.Disk old c.args.client c.requires.sound c.requires.can) c.plan.ensures.planned c.take_planned.ensures.0 c.take_planned.new.array (event.Take (id_of old.clients c.args.client)) c.in-Ok.ensures.passes c.take_planned.ensures.1 e);
     }
 
 pub returns-in-Err : goal.returns-in-Err
@@ -47,8 +47,8 @@ returns-in-Err g c =
     let mid : Array g.row.L.Denot g.row.D.Denot = c.plan.new.array in
     let e = subst (λ (i : OpId). c.refuse.new.array ≡ record mid { clients = slice_set mid.clients c.args.client (with_reply (desk_at mid.clients c.args.client) (reply.Refused c.in-Err.cause)); log = noted mid.log (event.Take i) }) c.id-id.ensures c.refuse.ensures in
     record {
-      op = c.args.op;
+      op = c.args.op.now;
       file = c.args.file;
       serves = c.requires.serves;
-      became = inr (c.in-Err.cause, refused-of g.L.Layout old mid c.args.client c.args.op c.args.file (waits-below g.L.Layout g.D.Disk old c.args.client c.requires.sound c.requires.can) c.plan.ensures.planned c.refuse.new.array (event.Take (id_of old.clients c.args.client)) c.in-Err.cause (reply.Refused c.in-Err.cause) c.in-Err.ensures.refused e);
+      became = inr (c.in-Err.cause, refused-of g.L.Layout old mid c.args.client c.args.op.now c.args.file (waits-below g.L.Layout g.D.Disk old c.args.client c.requires.sound c.requires.can) c.plan.ensures.planned c.refuse.new.array (event.Take (id_of old.clients c.args.client)) c.in-Err.cause (reply.Refused c.in-Err.cause) c.in-Err.ensures.refused e);
     }

@@ -1,4 +1,0 @@
-use Rattle.eng_array.proofs.tests.driving.begin_beside.Goals as goal
-
-pub returns-clause-back : goal.returns-clause-back
-returns-clause-back g c = let b = c.requires.back in (b.0, c.begin.ensures.stays b.0 b.1, b.2)

@@ -1,6 +1,0 @@
-use Rattle.eng_array.specs.Steady.{IsSteady}
-use Rattle.eng_array.proofs.tests.driving.serve.Given as goal
-
--- the core stays steady
-abbrev pub invariant-loop : goal.invariant-loop
-invariant-loop g l = IsSteady g.L.Layout g.D.Disk l.core.array

@@ -1,8 +1,0 @@
-use Rattle.std.proofs.Common.{take}
-use Rattle.std.specs.Prelude.{All}
-use Rattle.eng_array.specs.Small.{IsSlim}
-use Rattle.eng_array.proofs.tests.opening.are_slim.Given as goal
-
--- the graphs so far are slim
-abbrev pub invariant-loop-graph : goal.invariant-loop-graph
-invariant-loop-graph l = All IsSlim (take l.graph-index l.graphs)

@@ -1,6 +1,0 @@
-use Rattle.eng_array.specs.Steady.{IsSteady}
-use Rattle.eng_array.proofs.tests.orders.fires.Given as goal
-
--- the core stays steady
-abbrev pub invariant-loop-node : goal.invariant-loop-node
-invariant-loop-node g l = IsSteady g.L.Layout g.D.Disk l.core.array
