@@ -1,7 +1,6 @@
 -- The array of three columns of which two fail may be run over.
 use Rattle.std.proofs.Common.{◌≡◌, ◌<◌, ◌≤◌, ◌+◌, ◌*◌, ℕ, zero, suc, List, [], ◌∷◌, length, refl, sym, ◌∙◌, ap, subst, arith, inl, inr, Option, Some, None, true, false, All}
-use Rattle.std.specs.Prelude.{Vec, slice_get, slice_index_or, count_by}
-use Rattle.std.specs.declared.alloc.Global.{Global}
+use Rattle.std.specs.Prelude.{slice_get, slice_index_or, count_by}
 use Rattle.std.proofs.lemmas.List.Elements.{All-nil, All-push}
 use Rattle.blk_disk.specs.declared.disk.Disk.{Ghosts as DiskGhosts}
 use Rattle.lay_core.specs.Layout.{Shape}
@@ -16,6 +15,7 @@ use Rattle.eng_cols.specs.Lost.{NotLost}
 use Rattle.eng_world.specs.declared.item.Item.{Item}
 use Rattle.eng_world.specs.declared.item.Item.TheVariants as item
 use Rattle.eng_world.specs.Step.{MayBeAsked}
+use Rattle.item_list.specs.ItemList.{ItemList}
 use Rattle.eng_rest.specs.Left.{below}
 use Rattle.eng_parts.specs.declared.setup.Setup.{Setup}
 use Rattle.eng_log.specs.Given.{items_at}
@@ -68,7 +68,7 @@ fails-asked y graphs zero i many is = some-asked y graphs 0 i many (omega arith)
 fails-asked y graphs (suc zero) i many is = some-asked y graphs 1 i many (omega arith) is
 fails-asked y graphs (suc (suc n)) i many is = let z : None ≡ Some i = is in absurd (let u : ⊥ = cc in u)
 
-module _ (v : Vec Item Global) (is_fails : v.items ≡ fails) where
+module _ (v : ItemList) (is_fails : v.items ≡ fails) where
   given-asked : (y : Shape) (graphs c n : ℕ) (i : Item) → y.columns ≡ 3 → slice_get (items_at (v ∷ []) c) n ≡ Some i → MayAsk y graphs i
   given-asked y graphs zero n i many is = fails-asked y graphs n i many (subst (λ (l : List Item). slice_get l n ≡ Some i) is_fails is)
   given-asked y graphs (suc c) n i many is = let z : None ≡ Some i = is in absurd (let u : ⊥ = cc in u)
@@ -111,7 +111,7 @@ module _ {L D : Type 0} (lay : LayoutGhosts L) (disk : DiskGhosts D) where
   device-there first second third one two three (suc (suc zero)) lt = (third, refl, three)
   device-there first second third one two three (suc (suc (suc device))) lt = absurd (omega (arith, lt))
 
-  module _ (setup : Setup L D) (first second third : D) (v : Vec Item Global) (shape : lay.shape setup.layout ≡ left_symmetric 3 1 64) (columns : setup.columns.items ≡ set.Live 0 ∷ set.Live 1 ∷ set.Live 2 ∷ []) (devices : setup.devices.items ≡ Some first ∷ Some second ∷ Some third ∷ []) (one : 128 ≤ disk.size first) (two : 128 ≤ disk.size second) (third_large : 128 ≤ disk.size third) (is_fails : v.items ≡ fails) (clients : setup.clients.items ≡ v ∷ []) (graphs : setup.graphs.items ≡ []) where
+  module _ (setup : Setup L D) (first second third : D) (v : ItemList) (shape : lay.shape setup.layout ≡ left_symmetric 3 1 64) (columns : setup.columns.items ≡ set.Live 0 ∷ set.Live 1 ∷ set.Live 2 ∷ []) (devices : setup.devices.items ≡ Some first ∷ Some second ∷ Some third ∷ []) (one : 128 ≤ disk.size first) (two : 128 ≤ disk.size second) (third_large : 128 ≤ disk.size third) (is_fails : v.items ≡ fails) (clients : setup.clients.items ≡ v ∷ []) (graphs : setup.graphs.items ≡ []) where
     states : states_of (lay.shape setup.layout) setup.columns.items ≡ three
     states = ap (λ (l : List Column). states_of (lay.shape setup.layout) l) columns
 
@@ -136,11 +136,11 @@ module _ {L D : Type 0} (lay : LayoutGhosts L) (disk : DiskGhosts D) where
             subst (λ (y : Shape). 64 + y.rows * y.unit_sectors ≤ disk.size x.0) (sym shape) x.2,
           );
       one_column = λ c k device a b. sym (live c device a).1 ∙ (live k device b).1;
-      asked = λ c n i is. given-asked v is_fails (lay.shape setup.layout) (length setup.graphs.items) c n i many (subst (λ (l : List (Vec Item Global)). slice_get (items_at l c) n ≡ Some i) clients is);
+      asked = λ c n i is. given-asked v is_fails (lay.shape setup.layout) (length setup.graphs.items) c n i many (subst (λ (l : List ItemList). slice_get (items_at l c) n ≡ Some i) clients is);
       fit = λ n. subst (λ (l : List Held). length (slice_index_or l n no_graph).drawn.bufs ≤ 2048) (sym graphs) (omega arith);
     }
 
-module _ {L D : Type 0} (lay : LayoutGhosts L) (disk : DiskGhosts D) (l : Labelled L D) (first second third : D) (v : Vec Item Global) (shown : List Column) where
+module _ {L D : Type 0} (lay : LayoutGhosts L) (disk : DiskGhosts D) (l : Labelled L D) (first second third : D) (v : ItemList) (shown : List Column) where
   -- the judge was shown these columns
   pub three-can-run : lay.shape l.setup.layout ≡ left_symmetric 3 1 64 → l.setup.columns.items ≡ set.Live 0 ∷ set.Live 1 ∷ set.Live 2 ∷ [] → l.setup.devices.items ≡ Some first ∷ Some second ∷ Some third ∷ []
       → 128 ≤ disk.size first → 128 ≤ disk.size second → 128 ≤ disk.size third → v.items ≡ fails → l.setup.clients.items ≡ v ∷ [] → l.setup.graphs.items ≡ [] → l.setup.trace ≡ false
@@ -152,9 +152,9 @@ module _ {L D : Type 0} (lay : LayoutGhosts L) (disk : DiskGhosts D) (l : Labell
       record {
         setup = may;
         few = record {
-          clients = let e = ap (λ (k : List (Vec Item Global)). length k) clients in omega (arith, e);
-          items = subst (λ (k : List (Vec Item Global)). items_before k 16 ≤ 65536) (sym clients) (few-items v is_fails);
-          sectors = subst (λ (k : List (Vec Item Global)). sectors_before k 16 ≤ 262144) (sym clients) (few-sectors v is_fails);
+          clients = let e = ap (λ (k : List ItemList). length k) clients in omega (arith, e);
+          items = subst (λ (k : List ItemList). items_before k 16 ≤ 65536) (sym clients) (few-items v is_fails);
+          sectors = subst (λ (k : List ItemList). sectors_before k 16 ≤ 262144) (sym clients) (few-sectors v is_fails);
           devices = let e : length l.setup.devices.items ≡ 3 = ap (λ (k : List (Option D)). length k) devices in omega (arith, e);
         };
         trace = λ on. let z : false ≡ true = sym trace ∙ on in absurd (let u : ⊥ = cc in u);

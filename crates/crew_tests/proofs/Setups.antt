@@ -1,7 +1,6 @@
 -- The setups of the tests may be served.
 use Rattle.std.proofs.Common.{◌≡◌, ◌⊎◌, ◌<◌, ◌≤◌, ◌+◌, ◌*◌, ◌^◌, ℕ, zero, suc, List, [], ◌∷◌, length, All, Bool, true, false, Option, Some, None, refl, sym, ◌∙◌, ap, subst, arith, inl, inr}
-use Rattle.std.specs.Prelude.{Vec, slice_get, slice_index_or, count_by}
-use Rattle.std.specs.declared.alloc.Global.{Global}
+use Rattle.std.specs.Prelude.{slice_get, slice_index_or, count_by}
 use Rattle.std.proofs.lemmas.Option.{slice_get_within, get_or_from_slice_get}
 use Rattle.blk_plain.specs.declared.op.Op.{Op}
 use Rattle.blk_plain.specs.declared.op.Op.TheVariants as op
@@ -16,6 +15,7 @@ use Rattle.eng_cols.specs.Cols.{ColumnState, Live, Dead, Filling, Spread, HasDev
 use Rattle.eng_world.specs.declared.item.Item.{Item}
 use Rattle.eng_world.specs.declared.item.Item.TheVariants as item
 use Rattle.eng_world.specs.Step.{MayBeAsked}
+use Rattle.item_list.specs.ItemList.{ItemList}
 use Rattle.eng_parts.specs.declared.setup.Setup.{Setup}
 use Rattle.eng_log.specs.Given.{items_in, items_at}
 use Rattle.eng_plan.specs.Asked.{no_graph}
@@ -46,7 +46,7 @@ asked-item y graphs (item.Run o None) s = let a = asked-op y o s in (a.0, a.1, t
 asked-item y graphs (item.Run o (Some graph)) s = absurd s
 asked-item y graphs (item.Fail column) s = absurd s
 
-asked-in : (y : Shape) (graphs : ℕ) (o : Option (Vec Item Global)) → ((v : Vec Item Global) → o ≡ Some v → AreSmall v) → (n : ℕ) (i : Item) → slice_get (items_in o) n ≡ Some i → IsAsked y i × MayBeAsked y i × NamesGraph graphs i
+asked-in : (y : Shape) (graphs : ℕ) (o : Option ItemList) → ((v : ItemList) → o ≡ Some v → AreSmall v) → (n : ℕ) (i : Item) → slice_get (items_in o) n ≡ Some i → IsAsked y i × MayBeAsked y i × NamesGraph graphs i
 asked-in y graphs None h n i is = let z : None ≡ Some i = is in absurd (let u : ⊥ = cc in u)
 asked-in y graphs (Some v) h n i is = asked-item y graphs i (small-at IsSmall v.items n i (h v refl).1 is)
 
@@ -241,7 +241,7 @@ module _ {L D : Type 0} (lay : LayoutGhosts L) (disk : DiskGhosts D) (setup : Se
         by (inr h) = let z : Filling d h.0 ≡ Dead = dead-at c (Filling d h.0) h.1 in absurd (let u : ⊥ = cc in u)
 
     no-item : {A : Type 0} (c n : ℕ) (i : Item) → slice_get (items_at setup.clients.items c) n ≡ Some i → A
-    no-item c n i is = let z : None ≡ Some i = sym (ap (λ (l : List (Vec Item Global)). slice_get (items_at l c) n) clients) ∙ is in absurd (let u : ⊥ = cc in u)
+    no-item c n i is = let z : None ≡ Some i = sym (ap (λ (l : List ItemList). slice_get (items_at l c) n) clients) ∙ is in absurd (let u : ⊥ = cc in u)
 
     none-fits : (n : ℕ) → length (slice_index_or setup.graphs.items n no_graph).drawn.bufs ≤ 2048
     none-fits n = subst (λ (l : List Held). length (slice_index_or l n no_graph).drawn.bufs ≤ 2048) (sym graphs) (omega arith)
@@ -259,9 +259,9 @@ module _ {L D : Type 0} (lay : LayoutGhosts L) (disk : DiskGhosts D) (setup : Se
         fit = none-fits;
       };
       few = record {
-        clients = let e = ap (λ (l : List (Vec Item Global)). length l) clients in omega (arith, e);
-        items = subst (λ (l : List (Vec Item Global)). items_before l 16 ≤ 65536) (sym clients) (items-few [] (λ k d lt. absurd (omega (arith, lt))));
-        sectors = subst (λ (l : List (Vec Item Global)). sectors_before l 16 ≤ 262144) (sym clients) (sectors-few [] (λ k d lt. absurd (omega (arith, lt))));
+        clients = let e = ap (λ (l : List ItemList). length l) clients in omega (arith, e);
+        items = subst (λ (l : List ItemList). items_before l 16 ≤ 65536) (sym clients) (items-few [] (λ k d lt. absurd (omega (arith, lt))));
+        sectors = subst (λ (l : List ItemList). sectors_before l 16 ≤ 262144) (sym clients) (sectors-few [] (λ k d lt. absurd (omega (arith, lt))));
         devices = two-devices;
       };
       trace = λ on. untraced on;

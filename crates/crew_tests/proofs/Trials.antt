@@ -1,7 +1,6 @@
 -- The opening of the tests may be made.
 use Rattle.std.proofs.Common.{◌≡◌, ◌<◌, ◌≤◌, ◌+◌, ◌*◌, ℕ, zero, suc, List, [], ◌∷◌, length, refl, sym, ◌∙◌, ap, subst, arith, inl, inr, Option, Some, None, All}
-use Rattle.std.specs.Prelude.{Vec, slice_get, slice_index_or, count_by}
-use Rattle.std.specs.declared.alloc.Global.{Global}
+use Rattle.std.specs.Prelude.{slice_get, slice_index_or, count_by}
 use Rattle.std.proofs.lemmas.Option.{get_or_from_slice_get, slice_get_within}
 use Rattle.blk_plain.specs.declared.op.Op.{Op}
 use Rattle.blk_plain.specs.declared.op.Op.TheVariants as op
@@ -16,6 +15,7 @@ use Rattle.eng_cols.specs.Cols.{ColumnState, Live, Filling, Spread, HasDevice, i
 use Rattle.eng_world.specs.declared.item.Item.{Item}
 use Rattle.eng_world.specs.declared.item.Item.TheVariants as item
 use Rattle.eng_world.specs.Step.{MayBeAsked}
+use Rattle.item_list.specs.ItemList.{ItemList}
 use Rattle.eng_rest.specs.Left.{below}
 use Rattle.eng_parts.specs.declared.setup.Setup.{Setup}
 use Rattle.eng_state.specs.Beginning.{IsAsked}
@@ -63,11 +63,11 @@ few-sectors : (o : Option Item) → ((i : Item) → o ≡ Some i → IsSmall i) 
 few-sectors None h = omega arith
 few-sectors (Some i) h = few-in-item i (h i refl)
 
-small-in : (o : Option (Vec Item Global)) → ((v : Vec Item Global) → o ≡ Some v → AreSmall v) → (length (items_in o) ≤ 4096) × All IsSmall (items_in o)
+small-in : (o : Option ItemList) → ((v : ItemList) → o ≡ Some v → AreSmall v) → (length (items_in o) ≤ 4096) × All IsSmall (items_in o)
 small-in None h = (omega arith, λ k d lt. absurd (omega (arith, lt)))
 small-in (Some v) h = h v refl
 
-module _ (given : List (Vec Item Global)) (small : All AreSmall given) where
+module _ (given : List ItemList) (small : All AreSmall given) where
   given-small : (c : ℕ) → (length (items_at given c) ≤ 4096) × All IsSmall (items_at given c)
   given-small c = small-in (slice_get given c) (λ v is. small-at AreSmall given c v small is)
 

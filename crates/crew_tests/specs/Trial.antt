@@ -1,12 +1,12 @@
 -- What tests ask of clients: small writes and reads; and what they know of a core that is to be served.
-use Rattle.std.specs.Prelude.{◌≤◌, length, Some, None, Vec, All}
-use Rattle.std.specs.declared.alloc.Global.{Global}
+use Rattle.std.specs.Prelude.{◌≤◌, length, Some, None, All}
 use Rattle.blk_plain.specs.declared.op.Op.{Op}
 use Rattle.blk_plain.specs.declared.op.Op.TheVariants as op
 use Rattle.blk_disk.specs.declared.disk.Disk.{Ghosts as DiskGhosts}
 use Rattle.lay_core.specs.declared.layout.Layout.{Ghosts as LayoutGhosts}
 use Rattle.eng_world.specs.declared.item.Item.{Item}
 use Rattle.eng_world.specs.declared.item.Item.TheVariants as item
+use Rattle.item_list.specs.ItemList.{ItemList}
 use Rattle.eng_plan.specs.Asked.{HasBlocks}
 use Rattle.eng_state.specs.declared.array.Array.{Array}
 use Rattle.eng_events.specs.Opened.{NoneOut}
@@ -27,7 +27,7 @@ IsSmall (item.Run op (Some graph)) = ⊥
 IsSmall (item.Fail column) = ⊥
 
 -- a client's items
-abbrev pub AreSmall : Vec Item Global → Type 0
+abbrev pub AreSmall : ItemList → Type 0
 AreSmall items = (length items.items ≤ 4096) × All IsSmall items.items
 
 module _ {L D : Type 0} (lay : LayoutGhosts L) (disk : DiskGhosts D) where

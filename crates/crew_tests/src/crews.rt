@@ -7,8 +7,9 @@ use crate::arrays::{device, read, write};
 use crate::judging::{same, same_at};
 use blk_disk::{Disk, Gate, GateDisk, MemDisk, SECTOR};
 use blk_plain::OpId;
-use eng_array::{Closed, Column, Core, Item, Reply};
+use eng_array::{Closed, Column, Core, Reply};
 use eng_crew::{drain, run_crew};
+use item_list::Items;
 use lay_core::Layout;
 use lay_plain::Raid5;
 use raid_progress::Silent;
@@ -27,22 +28,25 @@ use slow::SlowDisk;
 const LIVE: [Column; 2] = [Column::Live { device: 0 }, Column::Live { device: 1 }];
 
 // Items that fill four blocks from this one on, each with its own number and one, and read them.
-fn items(alloc: Global, first: u8) -> Result<Vec<Item>, AllocError>
+fn items(alloc: Global, first: u8) -> Result<Items, AllocError>
     requires { first ≤ 60 }
     ensures { IfOk result AreSmall }
 {
     let block = u64::from(first);
-    Ok(vec![in alloc;
-        write(block, first + 1),
-        write(block + 1, first + 2),
-        write(block + 2, first + 3),
-        write(block + 3, first + 4),
-        read(block, 4),
-    ]?)
+    Items::from_slice(
+        alloc,
+        &[
+            write(block, first + 1),
+            write(block + 1, first + 2),
+            write(block + 2, first + 3),
+            write(block + 3, first + 4),
+            read(block, 4),
+        ],
+    )
 }
 
 // So many clients with items of four blocks each, one behind the other.
-fn clients(alloc: Global, count: u8) -> Result<Vec<Vec<Item>>, AllocError>
+fn clients(alloc: Global, count: u8) -> Result<Vec<Items>, AllocError>
     requires { count ≤ 16 }
     ensures { IfOk result (λ clients. (length clients.items ≡ count) × All AreSmall clients.items) }
 {
@@ -181,7 +185,7 @@ fn two_workers_perform_at_the_same_time(rt: HostRuntime) -> Result<(), Fail> {
     let gate = Gate::new(alloc)?;
     let first = GateDisk::new(device(alloc, 0, &[])?, gate.clone()?, 0, 64);
     let second = GateDisk::new(device(alloc, 0, &[])?, gate, 1, 64);
-    let clients = vec![in alloc; vec![in alloc; write(0, 1)]?]?;
+    let clients = vec![in alloc; Items::from_slice(alloc, &[write(0, 1)])?]?;
     let core = opened(alloc, first, second, clients)?;
     let closed = served(&rt, alloc, core, 2)?;
     let id = OpId {
@@ -211,7 +215,7 @@ fn a_worker_that_finds_nothing_looks_again(rt: HostRuntime) -> Result<(), Fail> 
     let gate = Gate::new(alloc)?;
     let first = GateDisk::new(device(alloc, 0, &[])?, gate.clone()?, 0, 64);
     let second = GateDisk::new(device(alloc, 0, &[])?, gate, 1, 64);
-    let clients = vec![in alloc; vec![in alloc; read(1, 1), write(0, 1)]?]?;
+    let clients = vec![in alloc; Items::from_slice(alloc, &[read(1, 1), write(0, 1)])?]?;
     let core = opened(alloc, SlowDisk::new(first), SlowDisk::new(second), clients)?;
     let closed = served(&rt, alloc, core, 2)?;
     same(&rt, closed.replies.len(), 1);

@@ -7,7 +7,8 @@ ghost use Rattle.top_labelled.specs.Given.{CanRunLabelled};
 use crate::arrays::{device, read, write};
 use crate::judging::{holds, same};
 use blk_disk::{Disk, MemDisk, SECTOR};
-use eng_array::{Column, Item, Loss, Reply};
+use eng_array::{Column, Loss, Reply};
+use item_list::Items;
 use lay_core::Layout;
 use lay_plain::Raid5;
 use raid_progress::Silent;
@@ -24,14 +25,14 @@ mod ready;
 use ready::{losing, ready, replacing};
 
 // One client that fills block 0 with ones, and reads it and the next.
-fn clients(alloc: Global) -> Result<Vec<Vec<Item>>, AllocError>
+fn clients(alloc: Global) -> Result<Vec<Items>, AllocError>
     ensures { IfOk result (λ clients. (length clients.items ≡ 1) × All AreSmall clients.items) }
 {
-    let items = vec![in alloc; write(0, 1), read(0, 2)]?;
+    let items = Items::from_slice(alloc, &[write(0, 1), read(0, 2)])?;
     Ok(vec![in alloc; items]?)
 }
 
-fn nobody(alloc: Global) -> Vec<Vec<Item>>
+fn nobody(alloc: Global) -> Vec<Items>
     ensures { (length result.items ≡ 0) × All AreSmall result.items }
 {
     Vec::new(alloc)
@@ -58,6 +59,24 @@ fn has_label(rt: &impl Abort, device: Option<&Option<MemDisk>>, counter: u8, cle
     holds(rt, has(device, 61, seat));
 }
 
+// An array over two devices, each with its byte of stripe 0 and the calls of it that fail. It has one client, or none, and
+// its labels have this clean field.
+fn array_of(
+    alloc: Global,
+    first: (u8, &[u32]),
+    second: (u8, &[u32]),
+    busy: bool,
+    clean: u32,
+) -> Result<Labelled<Raid5, MemDisk>, Fail>
+    requires { clean ≤ 1 }
+    ensures { IfOk result (CanRunLabelled ⟦<Raid5 as Layout>⟧ ⟦<MemDisk as Disk>⟧) }
+{
+    let first = device(alloc, first.0, first.1)?;
+    let second = device(alloc, second.0, second.1)?;
+    let asked = if busy { clients(alloc)? } else { nobody(alloc) };
+    ready(alloc, first, second, asked, clean)
+}
+
 // What the run told, and the devices.
 fn ran<R: Threads + Wait + Sync>(
     rt: &R,
@@ -81,9 +100,7 @@ fn ran<R: Threads + Wait + Sync>(
 fn a_clean_array_is_served_and_closed(rt: HostRuntime) -> Result<(), Fail> {
     let alloc = rt.alloc();
     for workers in [0, 2] {
-        let first = device(alloc, 9, &[])?;
-        let second = device(alloc, 9, &[])?;
-        let labelled = ready(alloc, first, second, clients(alloc)?, 1)?;
+        let labelled = array_of(alloc, (9, &[]), (9, &[]), true, 1)?;
         let (service, devices) = ran(&rt, alloc, labelled, workers)?;
         same(&rt, service.lost, None);
         for replies in service.replies.iter() {
@@ -108,9 +125,7 @@ fn a_clean_array_is_served_and_closed(rt: HostRuntime) -> Result<(), Fail> {
 fn a_dirty_array_is_swept(rt: HostRuntime) -> Result<(), Fail> {
     let alloc = rt.alloc();
     for (clean, check) in [(0, 9), (1, 0)] {
-        let first = device(alloc, 9, &[])?;
-        let second = device(alloc, 0, &[])?;
-        let labelled = ready(alloc, first, second, nobody(alloc), clean)?;
+        let labelled = array_of(alloc, (9, &[]), (0, &[]), false, clean)?;
         let (_service, devices) = ran(&rt, alloc, labelled, 0)?;
         has_label(&rt, devices.first(), 7, 1, 0);
         holds(&rt, has(devices.first(), SECTOR * 64, 9));
@@ -124,18 +139,17 @@ fn a_dirty_array_is_swept(rt: HostRuntime) -> Result<(), Fail> {
 #[test]
 fn a_device_that_fails_is_out_of_the_labels(rt: HostRuntime) -> Result<(), Fail> {
     let alloc = rt.alloc();
-    for (call, counter, busy) in [
+    const CALLS: &[(u32, u8, bool)] = &[
         (0, 7, true),
         (1, 8, true),
         (2, 7, true),
         (2, 7, false),
         (3, 8, false),
         (4, 8, false),
-    ] {
-        let first = device(alloc, 9, &[])?;
-        let second = device(alloc, 9, &[call])?;
-        let asked = if busy { clients(alloc)? } else { nobody(alloc) };
-        let labelled = ready(alloc, first, second, asked, 1)?;
+    ];
+    for row in CALLS {
+        let (call, counter, busy) = *row;
+        let labelled = array_of(alloc, (9, &[]), (9, &[call]), busy, 1)?;
         let (service, devices) = ran(&rt, alloc, labelled, 0)?;
         has_label(&rt, devices.first(), counter, 1, 255);
         same(&rt, service.lost, None);
@@ -153,9 +167,7 @@ fn a_device_that_fails_is_out_of_the_labels(rt: HostRuntime) -> Result<(), Fail>
 fn a_lost_array_is_served_no_more(rt: HostRuntime) -> Result<(), Fail> {
     let alloc = rt.alloc();
     for call in [0, 1, 2] {
-        let first = device(alloc, 9, &[call])?;
-        let second = device(alloc, 9, &[call])?;
-        let labelled = ready(alloc, first, second, clients(alloc)?, 1)?;
+        let labelled = array_of(alloc, (9, &[call]), (9, &[call]), true, 1)?;
         match run_labelled(&rt, alloc, labelled, 0, &Silent) {
             Ok((outcome, _devices)) => match outcome {
                 Outcome::Lost(ending) => {

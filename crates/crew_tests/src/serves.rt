@@ -6,7 +6,8 @@ ghost use Rattle.crew_tests.specs.Trial.{AreSmall};
 use crate::arrays::{device, read, write};
 use crate::judging::same;
 use blk_disk::{MemDisk, SECTOR};
-use eng_array::{Closed, Column, Item, Loss, Reply};
+use eng_array::{Closed, Column, Loss, Reply};
+use item_list::Items;
 use lay_plain::Raid5;
 use raid_progress::Silent;
 use std::alloc::{AllocError, Global};
@@ -20,11 +21,11 @@ mod rebuilt;
 use ready::{lost, ready};
 
 // Two clients: each fills a block, the one block 0 and the other block 2, and reads it and the next.
-fn clients(alloc: Global) -> Result<Vec<Vec<Item>>, AllocError>
+fn clients(alloc: Global) -> Result<Vec<Items>, AllocError>
     ensures { IfOk result (λ clients. (length clients.items ≡ 2) × All AreSmall clients.items) }
 {
-    let first = vec![in alloc; write(0, 1), read(0, 2)]?;
-    let second = vec![in alloc; write(2, 3), read(2, 2)]?;
+    let first = Items::from_slice(alloc, &[write(0, 1), read(0, 2)])?;
+    let second = Items::from_slice(alloc, &[write(2, 3), read(2, 2)])?;
     Ok(vec![in alloc; first, second]?)
 }
 

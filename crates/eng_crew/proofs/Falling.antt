@@ -1,25 +1,19 @@
 -- Less is left after each event of the crew.
-use Rattle.std.proofs.Common.{◌≤◌, ℕ, Option, Some, None, arith}
+use Rattle.std.proofs.Common.{◌≤◌, ℕ, arith}
 use Rattle.blk_disk.specs.declared.disk.Disk.{Ghosts as DiskGhosts}
 use Rattle.lay_core.specs.declared.layout.Layout.{Ghosts as LayoutGhosts}
-use Rattle.eng_job.specs.declared.job.Job.{Job}
 use Rattle.eng_world.specs.declared.item.Traced.{Traced}
 use Rattle.eng_rest.specs.Left.{IsOwn}
 use Rattle.eng_state.specs.declared.array.Array.{Array}
 use Rattle.eng_array.specs.Progress.{left_of, Falls}
 use Rattle.eng_array.specs.Steady.{IsSteady}
-use Rattle.eng_array.specs.Tickets.{Happens, IsEndOf, Quiet, Acts}
+use Rattle.eng_array.specs.Tickets.{Happens, IsEndOf}
 use Rattle.eng_array.proofs.Lefts.{follows-falls}
-use Rattle.eng_array.proofs.Quietly.{quiet-happens}
-use Rattle.eng_crew.specs.Laws.{plain_own, firing_own, end_own}
+use Rattle.eng_crew.specs.Laws.{end_own}
 
 module _ {L D : Type 0} (lay : LayoutGhosts L) (disk : DiskGhosts D) where
-  happens-falls : (e : Traced) (v w : Array L D) → IsOwn e → IsSteady lay disk v → Happens lay disk e v w → Falls v w
+  pub happens-falls : (e : Traced) (v w : Array L D) → IsOwn e → IsSteady lay disk v → Happens lay disk e v w → Falls v w
   happens-falls e v w own steady h = follows-falls lay disk v w e own steady h.sound h.leads
-
-  pub acts-falls : (v m w : Array L D) (u : Option (Job D)) → IsSteady lay disk v → Quiet lay disk v m → Acts lay disk m w u → Falls v w
-  acts-falls v m w None steady q a = happens-falls a.0 v w (plain_own a.0 a.1) steady (quiet-happens lay disk v w m q a.0 a.2)
-  acts-falls v m w (Some j) steady q a = happens-falls a.0 v w (firing_own a.0 j.client j.node a.1) steady (quiet-happens lay disk v w m q a.0 a.2)
 
   pub end-left : (v w : Array L D) (e : Traced) (c n : ℕ) → IsEndOf e c n → IsSteady lay disk v → Happens lay disk e v w → left_of w ≤ left_of v
   end-left v w e c n is steady does = let less = happens-falls e v w (end_own e c n is) steady does in omega arith

@@ -19,9 +19,8 @@ use Rattle.eng_clients.specs.Desk.{desk_at}
 use Rattle.eng_events.specs.Opened.{NoneOut}
 use Rattle.eng_state.specs.Out.{IsOut}
 use Rattle.eng_array.specs.Steady.{IsSteady}
-use Rattle.eng_array.specs.Tickets.{AllOf, IsEndOf, is_of, out_by, out_at, IsHeld, KeepsJobs, Lends, GetsBack, Happens, Quiet, Acts, Shared, Turned, nothing, plain, fired, ended}
+use Rattle.eng_array.specs.Tickets.{AllOf, IsEndOf, is_of, out_by, out_at, IsHeld, KeepsJobs, Lends, GetsBack, Happens, Shared, Turned, nothing, plain, fired, ended}
 use Rattle.eng_array.proofs.OutNodes.{node-here}
-use Rattle.eng_array.proofs.Quietly.{quiet-happens, quiet-keeps, quiet-lends}
 use Rattle.eng_turn.specs.Turn.{KeepsFit}
 use Rattle.eng_crew.specs.Laws.{between, all_there, all_without, all_with, later_later, later_step, FitsIn, Steps, TurnsTo}
 
@@ -116,13 +115,6 @@ module _ {L D : Type 0} (lay : LayoutGhosts L) (disk : DiskGhosts D) where
   turned-steady v w t u (fired j e p q r d k) s = d.sound
   turned-steady v w t u (ended j e p q r d k) s = d.sound
 
-  -- the job with which a step leaves is out
-  pub turned-out : (v w : Array L D) (j : Job D) (u : Option (Job D)) → Turned lay disk v None w u → u ≡ Some j → IsOut disk lay w j
-  turned-out v w j u (nothing e q) is = let z : None ≡ Some j = sym q ∙ is in cc
-  turned-out v w j u (plain e p q d k) is = let z : None ≡ Some j = sym q ∙ is in cc
-  turned-out v w j u (fired i e p q r d k) is = let z : Some i ≡ Some j = sym r ∙ is in let same : i ≡ j = cc in subst (λ (x : Job D). IsOut disk lay w x) same k.is_out
-  turned-out v w j u (ended i e p q r d k) is = let z : None ≡ Some j = sym r ∙ is in cc
-
   -- ## Turns of several steps
 
   steps-on : (a b c : Core L D) (t s u : Option (Job D)) (ms ns : List (Core L D × Option (Job D))) → Steps lay disk a t ms b s → Steps lay disk b s ns c u → Steps lay disk a t (ms ++ (b, s) ∷ ns) c u
@@ -142,12 +134,6 @@ module _ {L D : Type 0} (lay : LayoutGhosts L) (disk : DiskGhosts D) where
   -- all that `leave` owes follows from the turn
   pub turns-keep : (o v w : Core L D) (t u : Option (Job D)) → TurnsTo lay disk v t w u → KeepsFit (FitsIn lay disk) o v t w u
   turns-keep o v w t u turn = steps-keep o v w t u turn.0 turn.1
-
-  -- ## A look and an event
-
-  pub acts-turned : (v m w : Array L D) (u : Option (Job D)) → Quiet lay disk v m → Acts lay disk m w u → Turned lay disk v None w u
-  acts-turned v m w None q a = plain a.0 a.1 refl (quiet-happens lay disk v w m q a.0 a.2) (quiet-keeps lay disk v w m q a.3)
-  acts-turned v m w (Some j) q a = fired j a.0 a.1 refl refl (quiet-happens lay disk v w m q a.0 a.2) (quiet-lends lay disk v w m q j a.3)
 
   -- ## A job comes home
 

@@ -1,3 +1,4 @@
+mod Made
 pub mod Falling
 pub mod Few
 pub mod Following

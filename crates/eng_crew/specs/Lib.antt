@@ -1,4 +1,5 @@
 pub mod Drained
 pub mod Idle
 pub mod Laws
+pub mod Made
 pub mod Places

@@ -1,16 +1,17 @@
 //! The drain: it serves the core alone, on this thread, waits for nobody and takes no memory.
-ghost use Rattle.std.specs.Prelude.{◌≡◌, ◌≤◌, true, false, [], ◌∷◌, None};
+ghost use Rattle.std.specs.Prelude.{◌≡◌, true, false};
 ghost use Rattle.eng_events.specs.Opened.{NoneOut};
 ghost use Rattle.eng_choice.specs.Picked.{IsResting};
-ghost use Rattle.eng_array.specs.Progress.{left_of, Falls};
+ghost use Rattle.eng_array.specs.Progress.{Falls};
 ghost use Rattle.eng_array.specs.Steady.{IsSteady};
-ghost use Rattle.eng_array.specs.Tickets.{After, Shared};
+ghost use Rattle.eng_array.specs.Tickets.{After};
 ghost use Rattle.eng_crew.specs.Drained.{Drained};
 ghost use Rattle.eng_crew.specs.Idle.{IsIdle};
 
-use crate::turns::{Found, LOOK, go_on};
+use crate::making::make;
+use crate::turns::LOOK;
 use blk_disk::Disk;
-use eng_array::{Core, Job};
+use eng_array::{Chosen, Core};
 use lay_core::Layout;
 use raid_progress::Progress;
 
@@ -48,24 +49,10 @@ fn drain_one<L: Layout, D: Disk>(core: &mut Core<L, D>) -> bool
     ensures falls { result ≡ true → Falls core.old.array core.new.array }
     ensures idle { result ≡ false → IsIdle L.Layout core.new.array }
 {
-    let (found, ticket) = go_on(core, None);
-    finish_now(core, ticket);
-    match found {
-        Found::Event => true,
-        Found::Nothing => false,
-        Found::Rest => false,
-    }
-}
-
-// The job, if there is one, is performed and comes home.
-fn finish_now<L: Layout, D: Disk>(core: &mut Core<L, D>, ticket: Option<Job<D>>)
-    requires { Shared L.Layout D.Disk core.old.array (ticket ∷ []) }
-    ensures shared { Shared L.Layout D.Disk core.new.array (None ∷ []) }
-    ensures after { After L.Layout D.Disk core.old.array core.new.array }
-    ensures left { left_of core.new.array ≤ left_of core.old.array }
-    ensures none { ticket ≡ None → core.new.array ≡ core.old.array }
-{
-    let Some(mut job) = ticket else { return };
-    let outcome = job.perform();
-    core.finish(job, outcome);
+    let next = core.next();
+    let Some(Chosen { event, at }) = core.choose_from(next) else {
+        return false
+    };
+    make(core, event, at);
+    true
 }

@@ -12,12 +12,22 @@ use eng_turn::{Pass, Turn};
 use lay_core::Layout;
 use std::sync::Wait;
 
-// A worker that is alone does the work of so many events in the turn itself: nobody waits for the core.
-const ALONE: u32 = 16;
+// A worker that is the only one does the work of so many events in the turn itself: nobody waits for the core.
+const SINGLE: u32 = 16;
+
+// One that has had the core to itself for long does that of so many: while devices are quick the others sleep.
+const ALONE: u32 = 4;
 
 // How much work is to be done in the turn.
-fn within<L: Layout + Drop, D: Disk + Drop>(turn: &Turn<CrewRule<L, D>>) -> u32 {
-    if turn.is_single() { ALONE } else { 0 }
+fn within<L: Layout + Drop, D: Disk + Drop>(turn: &Turn<CrewRule<L, D>>, pace: &mut Pace) -> u32 {
+    let alone = pace.is_alone(turn.turns());
+    if turn.is_single() {
+        SINGLE
+    } else if alone {
+        ALONE
+    } else {
+        0
+    }
 }
 
 /// A turn of a pass that has this job, if it has one: that is performed first, beside the others, and comes home in the
@@ -43,7 +53,7 @@ pub(crate) fn turn_by<L: Layout + Drop, D: Disk + Drop, W: Wait>(
         ((turned.1 ≡ None) × HasIdleMark L.Layout D.Disk (opening_of turn.now) pass.new)) }
 {
     match job {
-        None => turn_without(rt, turn, pass, last),
+        None => turn_without(rt, turn, pass, last, pace),
         Some(job) => turn_with(rt, turn, pass, job, last, pace),
     }
 }
@@ -54,6 +64,7 @@ fn turn_without<L: Layout + Drop, D: Disk + Drop, W: Wait>(
     turn: &Turn<CrewRule<L, D>>,
     pass: &mut Pass<CrewRule<L, D>>,
     last: u32,
+    pace: &mut Pace,
 ) -> Option<(Found, Option<Job<D>>)>
     requires mine { IsOf pass.old turn.now × IsOutside pass.old }
     requires ticket { ticket_of pass.old ≡ None }
@@ -68,7 +79,7 @@ fn turn_without<L: Layout + Drop, D: Disk + Drop, W: Wait>(
         return None;
     }
     let mut core = turn.enter(rt, pass);
-    let (found, ticket) = go_far(&mut *core, last, within(turn));
+    let (found, ticket) = go_far(&mut *core, last, within(turn, pace));
     turn.leave(pass, core, &ticket);
     Some((found, ticket))
 }
@@ -100,7 +111,7 @@ fn turn_with<L: Layout + Drop, D: Disk + Drop, W: Wait>(
         turn.leave(pass, core, &None);
         return None;
     }
-    let (found, ticket) = go_far(&mut *core, last, within(turn));
+    let (found, ticket) = go_far(&mut *core, last, within(turn, pace));
     turn.leave(pass, core, &ticket);
     Some((found, ticket))
 }

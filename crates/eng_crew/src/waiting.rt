@@ -22,12 +22,18 @@ const QUICK: u64 = 5;
 // A worker steps back once it found the core taken so many times more often than free.
 const CROWD: u32 = 6;
 
-/// How a worker sleeps, and how often it found others at the core.
+// A worker has the core to itself once nobody else had a turn between so many of its own in a row.
+const KEPT: u32 = 32;
+
+/// How a worker sleeps, how often it found others at the core, and for how long it found none.
 #[derive(Drop)]
 pub(crate) struct Pace {
     idle: Parker,
     lull: u32,
     crowd: u32,
+    // How many turns of all there were by its last one, and how many of its own came one behind the other.
+    turns: u64,
+    kept: u32,
 }
 
 impl Pace {
@@ -36,6 +42,8 @@ impl Pace {
             idle: Parker::new(),
             lull: SHORTEST,
             crowd: 0,
+            turns: 0,
+            kept: 0,
         }
     }
 
@@ -57,6 +65,19 @@ impl Pace {
         self.crowd = 0;
         self.lull = LONGEST;
         true
+    }
+
+    /// It is at the core after so many turns of all: whether it has had the core to itself for long.
+    pub(crate) fn is_alone(&mut self, turns: u64) -> bool {
+        let next = turns == self.turns.wrapping_add(1);
+        self.turns = turns;
+        self.kept = if next { self.kept.saturating_add(1) } else { 0 };
+        self.kept >= KEPT
+    }
+
+    /// It had a turn in which nothing was done.
+    pub(crate) fn looked(&mut self) {
+        self.turns = self.turns.wrapping_add(1);
     }
 
     // Sleeps once. Nobody needs to wake the thread. Whether the others were quick meanwhile, by how many turns they had.

@@ -53,6 +53,7 @@ pub fn work<L: Layout + Drop, D: Disk + Drop, W: Wait, P: Progress>(
         turns = turns.wrapping_add(1);
         if turns % LOOK == 0 {
             progress.tell(look(rt, turn, pass, &held), all);
+            pace.looked();
             // Nobody's items wait for all of another's.
             last = last.wrapping_add(1);
         }

@@ -4,7 +4,8 @@ ghost use Rattle.crew_tests.specs.Trial.{AreSmall, IsServable};
 
 use crate::arrays::pair;
 use blk_disk::Disk;
-use eng_array::{Column, Core, CoreRoom, Item, Setup};
+use eng_array::{Column, Core, CoreRoom, Setup};
+use item_list::Items;
 use lay_core::Layout;
 use lay_plain::Raid5;
 use std::alloc::Global;
@@ -16,7 +17,7 @@ pub fn opened<D: Disk + Drop>(
     alloc: Global,
     first: D,
     second: D,
-    clients: Vec<Vec<Item>>,
+    clients: Vec<Items>,
 ) -> Result<Core<Raid5, D>, Fail>
     requires first { 128 ≤ D.size first }
     requires second { 128 ≤ D.size second }

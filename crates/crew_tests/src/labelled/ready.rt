@@ -8,6 +8,7 @@ ghost use Rattle.top_labelled.specs.Given.{CanRunLabelled};
 use crate::arrays::{judged, pair};
 use blk_disk::{Disk, MemDisk};
 use eng_array::{Column, Item, Setup, Start};
+use item_list::Items;
 use lay_core::Layout;
 use lay_plain::Raid5;
 use raid_label::Label;
@@ -66,7 +67,7 @@ fn two_columns(
     alloc: Global,
     first: MemDisk,
     second: MemDisk,
-    clients: Vec<Vec<Item>>,
+    clients: Vec<Items>,
     clean: u32,
     start: Option<Start>,
     failed: bool,
@@ -115,7 +116,7 @@ pub fn ready(
     alloc: Global,
     first: MemDisk,
     second: MemDisk,
-    clients: Vec<Vec<Item>>,
+    clients: Vec<Items>,
     clean: u32,
 ) -> Result<Labelled<Raid5, MemDisk>, Fail>
     requires first { 128 ≤ ⟦<MemDisk as Disk>⟧.size first }
@@ -181,7 +182,8 @@ pub fn losing(
     let Ok(room) = Room::open(alloc, 1024) else {
         return Err(Fail::from("no memory"));
     };
-    let items = vec![in alloc; Item::Fail { column: 0 }, Item::Fail { column: 1 }]?;
+    let fails = [Item::Fail { column: 0 }, Item::Fail { column: 1 }];
+    let items = Items::from_slice(alloc, &fails)?;
     let clients = vec![in alloc; items]?;
     let setup = Setup {
         layout,

@@ -5,7 +5,8 @@ ghost use Rattle.crew_tests.specs.Ready.{IsDegraded, IsPaused, IsReadyToServe};
 
 use crate::arrays::{judged, pair};
 use blk_disk::{Disk, MemDisk};
-use eng_array::{Column, Item, Setup};
+use eng_array::{Column, Setup};
+use item_list::Items;
 use lay_core::Layout;
 use lay_plain::Raid5;
 use std::alloc::Global;
@@ -16,7 +17,7 @@ pub fn ready(
     alloc: Global,
     first: MemDisk,
     second: MemDisk,
-    clients: Vec<Vec<Item>>,
+    clients: Vec<Items>,
 ) -> Result<Setup<Raid5, MemDisk>, Fail>
     requires first { 128 ≤ ⟦<MemDisk as Disk>⟧.size first }
     requires second { 128 ≤ ⟦<MemDisk as Disk>⟧.size second }
@@ -44,7 +45,7 @@ pub fn degraded(
     alloc: Global,
     first: MemDisk,
     second: MemDisk,
-    clients: Vec<Vec<Item>>,
+    clients: Vec<Items>,
 ) -> Result<Setup<Raid5, MemDisk>, Fail>
     requires first { 128 ≤ ⟦<MemDisk as Disk>⟧.size first }
     requires second { 128 ≤ ⟦<MemDisk as Disk>⟧.size second }
@@ -73,7 +74,7 @@ pub fn paused(
     alloc: Global,
     first: MemDisk,
     second: MemDisk,
-    clients: Vec<Vec<Item>>,
+    clients: Vec<Items>,
     done: u32,
 ) -> Result<Setup<Raid5, MemDisk>, Fail>
     requires first { 128 ≤ ⟦<MemDisk as Disk>⟧.size first }
