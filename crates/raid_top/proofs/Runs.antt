@@ -1,12 +1,11 @@
 -- What came of clients is what was to come of those that were admitted.
-use Rattle.std.specs.Prelude.{◌≡◌, ◌≤◌, ℕ, Bool, List, length, map, All, Contains, Option, Some, None, Vec}
-use Rattle.std.specs.declared.alloc.Global.{Global}
+use Rattle.std.specs.Prelude.{◌≡◌, ◌≤◌, ℕ, Bool, List, length, map, All, Contains, Option, Some, None}
 use Rattle.std.proofs.Common.{refl, sym, ap, subst, ◌∙◌}
 use Rattle.std.proofs.lemmas.List.{length-map}
 use Rattle.std.proofs.lemmas.List.Elements.{All-contains}
 use Rattle.blk_disk.specs.declared.disk.Disk.{Ghosts}
 use Rattle.eng_array.specs.declared.start.Start.{Start}
-use Rattle.eng_world.specs.declared.item.Item.{Item as AnyItem}
+use Rattle.item_list.specs.ItemList.{ItemList}
 use Rattle.raid_conf.specs.declared.conf.Conf.{Conf}
 use Rattle.raid_label.specs.declared.label.Label.{Label}
 use Rattle.raid_script.specs.Asked.{AreFew, Asked as Item, IsAsked, Other}
@@ -67,7 +66,7 @@ module _ {D : Type 0} (g : Ghosts D) (k : Asked) (o : Opened) (start : Option St
 lengths-mapped : {X Z : Type 0} (f : X → Z) (xs zs : List X) → map f xs ≡ map f zs → length xs ≡ length zs
 lengths-mapped f xs zs e = sym (length-map xs f) ∙ (ap length e ∙ length-map zs f)
 
-pub few_asked : (k : Asked) (blocks : ℕ) (given : List (Vec AnyItem Global)) → IsWithinLimits k → AreFew (drawn_by k.command.action blocks) → asked_of given ≡ clients_by k.command.action k.clients blocks → length given ≤ 16
+pub few_asked : (k : Asked) (blocks : ℕ) (given : List ItemList) → IsWithinLimits k → AreFew (drawn_by k.command.action blocks) → asked_of given ≡ clients_by k.command.action k.clients blocks → length given ≤ 16
 few_asked k blocks given within drawn is = (few-have-room given (subst (λ rows. AreFew rows) (sym is) (either_few k.command.action k.clients blocks within.few drawn))).clients
 
 -- ## A run over an array with labels

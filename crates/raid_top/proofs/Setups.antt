@@ -1,7 +1,6 @@
 -- What was admitted may be served.
-use Rattle.std.specs.Prelude.{◌≡◌, ◌+◌, ◌*◌, ◌<◌, ◌≤◌, ◌&&◌, ℕ, zero, suc, Bool, true, false, List, [], ◌∷◌, ◌++◌, length, map, All, Vec, Option, Some, None, Ok, nat_lt, count_by, slice_get}
+use Rattle.std.specs.Prelude.{◌≡◌, ◌+◌, ◌*◌, ◌<◌, ◌≤◌, ◌&&◌, ℕ, zero, suc, Bool, true, false, List, [], ◌∷◌, ◌++◌, length, map, All, Option, Some, None, Ok, nat_lt, count_by, slice_get}
 use Rattle.std.specs.Option.{ForSome}
-use Rattle.std.specs.declared.alloc.Global.{Global}
 use Rattle.std.proofs.Common.{arith, refl, sym, ap, subst, inl, inr, ◌∙◌}
 use Rattle.std.proofs.lemmas.Bool.{cases_lt, lt-ltb}
 use Rattle.std.proofs.lemmas.Option.{slice_get_within, get_or_from_slice_get}
@@ -25,6 +24,7 @@ use Rattle.eng_parts.specs.declared.setup.Setup.{Setup}
 use Rattle.eng_world.specs.declared.item.Item.{Item}
 use Rattle.eng_world.specs.declared.item.Item.TheVariants as item
 use Rattle.eng_world.specs.Step.{MayBeAsked}
+use Rattle.item_list.specs.ItemList.{ItemList}
 use Rattle.raid_script.specs.Asked.{AreFew, IsAsked, seen}
 use Rattle.top_bound.specs.Bound.{rebuilds_sum, trace_sum}
 use Rattle.top_bound.specs.Laws.{IsSmall, asked_of}
@@ -90,13 +90,13 @@ map_at f [] n x e = cc e
 map_at f (y ∷ xs) zero x e = ap (λ o. Some o) (ap f (cc e))
 map_at f (y ∷ xs) (suc n) x e = map_at f xs n x e
 
-item_is : (columns graphs : ℕ) (given : List (Vec Item Global)) (c n : ℕ) (i : Item) → All (All (IsAsked columns graphs)) (asked_of given) → slice_get (items_at given c) n ≡ Some i → IsAsked columns graphs (seen i)
+item_is : (columns graphs : ℕ) (given : List ItemList) (c n : ℕ) (i : Item) → All (All (IsAsked columns graphs)) (asked_of given) → slice_get (items_at given c) n ≡ Some i → IsAsked columns graphs (seen i)
 item_is columns graphs given c n i all at = of (slice_get given c) refl at
   where
-    of : (o : Option (Vec Item Global)) → slice_get given c ≡ o → slice_get (items_in o) n ≡ Some i → IsAsked columns graphs (seen i)
+    of : (o : Option ItemList) → slice_get given c ≡ o → slice_get (items_in o) n ≡ Some i → IsAsked columns graphs (seen i)
     of None e h = cc h
     of (Some v) e h =
-        let row = all_at (All (IsAsked columns graphs)) (asked_of given) c (map seen v.items) all (map_at (λ (w : Vec Item Global). map seen w.items) given c v e) in
+        let row = all_at (All (IsAsked columns graphs)) (asked_of given) c (map seen v.items) all (map_at (λ (w : ItemList). map seen w.items) given c v e) in
         all_at (IsAsked columns graphs) (map seen v.items) n (seen i) row (map_at seen v.items n i h)
 
 length-mapped : {X Z : Type 0} (f : X → Z) (xs : List X) → length (map f xs) ≡ length xs

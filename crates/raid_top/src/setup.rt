@@ -7,9 +7,9 @@ ghost use Rattle.top_duty.specs.Views.{drawn_by, items_seen, views_of};
 
 use eng_array::{Setup, Start};
 use eng_cols::{Cols, Column};
-use eng_world::Item;
 use graph_mean::Graph;
 use graph_text::Book;
+use item_list::Items;
 use raid_conf::AnyLayout;
 use raid_label::Label;
 use raid_recon::Room;
@@ -54,7 +54,7 @@ fn graphs_of(book: Book, joined: Vec<Graph>) -> Option<Vec<Graph>>
 pub(crate) fn work_of<D>(
     action: Action<'_>,
     book: Book,
-    clients: Vec<Vec<Item>>,
+    clients: Vec<Items>,
     ready: Ready,
     devices: Vec<Option<D>>,
 ) -> Result<Work<D>, Unserved<D>>

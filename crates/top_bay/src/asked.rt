@@ -12,8 +12,8 @@ ghost use Rattle.top_bay.specs.Views.{IsWithinLimits, asked_seen};
 use crate::component::open_component;
 use crate::devices::take_all;
 use crate::opening::{open_book, open_conf, open_script};
-use eng_world::Item;
 use graph_text::Book;
+use item_list::Items;
 use raid_bay::Bay;
 use raid_conf::Conf;
 use raid_script::Join;
@@ -34,7 +34,7 @@ pub struct Asked<'a> {
     /// The graphs of the file; none where no file is named.
     pub book: Book,
     /// The items of each client of the script; no clients where no script is named.
-    pub clients: Vec<Vec<Item>>,
+    pub clients: Vec<Items>,
     /// The join lines of the script. The item of line j of them names the graph whose number is that
     /// of the book's graphs, and j more.
     pub joins: Vec<Join>,

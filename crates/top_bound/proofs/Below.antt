@@ -1,9 +1,9 @@
 -- Sums over the numbers below another, as sums over lists.
 use Rattle.std.proofs.Common.{◌≡◌, ◌∙◌, ℕ, zero, suc, ◌+◌, List, [], ◌∷◌, length, take, refl, sym, ap, arith}
-use Rattle.std.specs.Prelude.{Option, Some, None, slice_get, sum_by, Vec}
-use Rattle.std.specs.declared.alloc.Global.{Global}
+use Rattle.std.specs.Prelude.{Option, Some, None, slice_get, sum_by}
 use Rattle.std.proofs.lemmas.List.Sums.{sum_by-cons}
 use Rattle.eng_world.specs.declared.item.Item.{Item}
+use Rattle.item_list.specs.ItemList.{ItemList}
 use Rattle.eng_rest.specs.Left.{below}
 use Rattle.eng_log.specs.Given.{items_in, items_at}
 
@@ -44,8 +44,8 @@ below-all {X} f (x ∷ xs) =
     below-front (λ i. f (slice_get (x ∷ xs) i)) (length xs) ∙ (ap (λ k. f (Some x) + k) (below-all f xs) ∙ sym (sum_by-cons (λ (y : X). f (Some y)) x xs))
 
 -- what the first clients have together
-pub below-clients : (f : List Item → ℕ) → f [] ≡ 0 → (given : List (Vec Item Global)) (c : ℕ) → below (λ k. f (items_at given k)) c ≡ sum_by (λ (row : Vec Item Global). f row.items) (take c given)
-below-clients f none given c = below-get (λ (row : Option (Vec Item Global)). f (items_in row)) none given c
+pub below-clients : (f : List Item → ℕ) → f [] ≡ 0 → (given : List ItemList) (c : ℕ) → below (λ k. f (items_at given k)) c ≡ sum_by (λ (row : ItemList). f row.items) (take c given)
+below-clients f none given c = below-get (λ (row : Option ItemList). f (items_in row)) none given c
 
 -- the same terms
 pub below-same : (f g : ℕ → ℕ) (n : ℕ) → ((i : ℕ) → f i ≡ g i) → below f n ≡ below g n

@@ -1,7 +1,6 @@
 -- The sum by which a trace is judged, and the one that a core counts.
 use Rattle.std.proofs.Common.{◌≡◌, ◌∙◌, ℕ, suc, ◌+◌, ◌*◌, ◌≤◌, Bool, true, false, inl, inr, List, [], ◌∷◌, length, map, take, refl, sym, ap, subst, arith}
-use Rattle.std.specs.Prelude.{if◌then◌else◌, nat_le, Option, Some, None, Vec, slice_get, slice_index_or, sum_by, option_map, All}
-use Rattle.std.specs.declared.alloc.Global.{Global}
+use Rattle.std.specs.Prelude.{if◌then◌else◌, nat_le, Option, Some, None, slice_get, slice_index_or, sum_by, option_map, All}
 use Rattle.std.proofs.lemmas.Bool.{cases_lt}
 use Rattle.std.proofs.lemmas.List.{take_all, get_or_past}
 use Rattle.std.proofs.lemmas.List.Sums.{sum_by-cons}
@@ -14,6 +13,7 @@ use Rattle.lay_core.specs.declared.layout.Layout.{Ghosts as LayoutGhosts}
 use Rattle.graph_mean.specs.Graph.{Held, View}
 use Rattle.eng_world.specs.declared.item.Item.{Item}
 use Rattle.eng_world.specs.declared.item.Item.TheVariants.{Run, Fail}
+use Rattle.item_list.specs.ItemList.{ItemList}
 use Rattle.eng_parts.specs.declared.setup.Setup.{Setup}
 use Rattle.eng_plan.specs.Asked.{no_graph}
 use Rattle.eng_array.specs.Fitting as core
@@ -100,15 +100,15 @@ module _ (y : Shape) (views : List View) (graphs : List Held) (devices columns :
   none : core.counted_events y graphs devices [] ≡ 0
   none = below-zero (λ i. (2 * core.most_in y graphs (slice_get [] i) + 4) * (1 + devices))
 
-pub traced-alike : (y : Shape) (views : List View) (graphs : List Held) (devices columns : ℕ) (given : List (Vec Item Global)) → AreScriptAndGraphs columns views graphs given
+pub traced-alike : (y : Shape) (views : List View) (graphs : List Held) (devices columns : ℕ) (given : List ItemList) → AreScriptAndGraphs columns views graphs given
     → trace_sum y views devices (asked_of given) ≡ core.trace_sum y graphs devices given
 unfolding trace_sum
 traced-alike y views graphs devices columns given is =
-    let row : Vec Item Global → List Asked = λ items. map seen items.items in
+    let row : ItemList → List Asked = λ items. map seen items.items in
     let all : take 16 given ≡ given = take_all 16 given is.clients in
-    let counted : core.trace_sum y graphs devices given ≡ sum_by (λ (items : Vec Item Global). core.counted_events y graphs devices items.items) given =
+    let counted : core.trace_sum y graphs devices given ≡ sum_by (λ (items : ItemList). core.counted_events y graphs devices items.items) given =
     below-clients (core.counted_events y graphs devices) (none y views graphs devices columns is.graphs_are) given 16
-    ∙ ap (λ (rows : List (Vec Item Global)). sum_by (λ (items : Vec Item Global). core.counted_events y graphs devices items.items) rows) all in
+    ∙ ap (λ (rows : List ItemList). sum_by (λ (items : ItemList). core.counted_events y graphs devices items.items) rows) all in
     sum-map (row_sum y views devices) row given
     ∙ (sum-where (All (IsAsked columns (length views))) row (λ items. row_sum y views devices (row items)) (λ items. core.counted_events y graphs devices items.items) given is.asked
     (λ items asked. row-alike y views graphs devices columns is.graphs_are items.items asked)

@@ -1,7 +1,6 @@
 -- A script within its limits is one that a core has room for, and graphs that were read fit its pool.
 use Rattle.std.proofs.Common.{◌≡◌, ◌∙◌, ℕ, ◌+◌, ◌<◌, ◌≤◌, inl, inr, List, [], ◌∷◌, length, map, take, get_or, refl, sym, ap, subst, arith}
-use Rattle.std.specs.Prelude.{All, ◌++◌, Bool, true, false, if◌then◌else◌, nat_le, Option, Some, None, Vec, slice_get, slice_index_or, sum_by, option_map}
-use Rattle.std.specs.declared.alloc.Global.{Global}
+use Rattle.std.specs.Prelude.{All, ◌++◌, Bool, true, false, if◌then◌else◌, nat_le, Option, Some, None, slice_get, slice_index_or, sum_by, option_map}
 use Rattle.std.proofs.lemmas.Bool.{cases_lt}
 use Rattle.std.proofs.lemmas.List.{take_all, get_or-map, get_or_past, length-map}
 use Rattle.std.proofs.lemmas.List.Elements.{All-append, All-map}
@@ -14,6 +13,7 @@ use Rattle.graph_text.specs.Format.{Named}
 use Rattle.graph_text.specs.FormatForm.{AreGraphs}
 use Rattle.eng_world.specs.declared.item.Item.{Item}
 use Rattle.eng_world.specs.declared.item.Item.TheVariants.{Run, Fail}
+use Rattle.item_list.specs.ItemList.{ItemList}
 use Rattle.eng_plan.specs.Asked.{no_graph}
 use Rattle.eng_log.specs.Given.{items_at}
 use Rattle.eng_log.specs.Laid as laid
@@ -63,38 +63,38 @@ item-printed (Run (Sync stripe) file) = refl
 item-printed (Fail column) = refl
 
 -- the sectors of the clients before this one, client by client and item by item
-laid-is : (given : List (Vec Item Global)) (c : ℕ) → laid.sectors_before given c ≡ sum_by (λ (row : Vec Item Global). sum_by laid.item_sectors row.items) (take c given)
+laid-is : (given : List ItemList) (c : ℕ) → laid.sectors_before given c ≡ sum_by (λ (row : ItemList). sum_by laid.item_sectors row.items) (take c given)
 laid-is given c =
     below-same (laid.row_sectors given) (λ k. sum_by laid.item_sectors (items_at given k)) c (λ k. below-all laid.sectors_in (items_at given k))
     ∙ below-clients (λ items. sum_by laid.item_sectors items) refl given c
 
-pub sectors-alike : (given : List (Vec Item Global)) (c : ℕ) → replies.sectors_before given c ≡ laid.sectors_before given c
+pub sectors-alike : (given : List ItemList) (c : ℕ) → replies.sectors_before given c ≡ laid.sectors_before given c
 sectors-alike given c =
-    sum-same (λ (row : Vec Item Global). replies.row_sectors row.items) (λ (row : Vec Item Global). sum_by laid.item_sectors row.items) (take c given)
+    sum-same (λ (row : ItemList). replies.row_sectors row.items) (λ (row : ItemList). sum_by laid.item_sectors row.items) (take c given)
     (λ row. sum-same replies.item_sectors laid.item_sectors row.items item-printed)
     ∙ sym (laid-is given c)
 
 -- ## Limits
 
-counted : (given : List (Vec Item Global)) → sum_by (λ items. length items) (asked_of given) ≡ sum_by (λ (row : Vec Item Global). length row.items) given
+counted : (given : List ItemList) → sum_by (λ items. length items) (asked_of given) ≡ sum_by (λ (row : ItemList). length row.items) given
 counted given =
-    sum-map (λ (items : List Asked). length items) (λ (row : Vec Item Global). map seen row.items) given
-    ∙ sum-same (λ (row : Vec Item Global). length (map seen row.items)) (λ (row : Vec Item Global). length row.items) given (λ row. length-map row.items seen)
+    sum-map (λ (items : List Asked). length items) (λ (row : ItemList). map seen row.items) given
+    ∙ sum-same (λ (row : ItemList). length (map seen row.items)) (λ (row : ItemList). length row.items) given (λ row. length-map row.items seen)
 
-read-in-all : (given : List (Vec Item Global)) → sum_by (λ items. sum_by read_sectors items) (asked_of given) ≡ sum_by (λ (row : Vec Item Global). sum_by laid.item_sectors row.items) given
+read-in-all : (given : List ItemList) → sum_by (λ items. sum_by read_sectors items) (asked_of given) ≡ sum_by (λ (row : ItemList). sum_by laid.item_sectors row.items) given
 read-in-all given =
-    sum-map (λ (items : List Asked). sum_by read_sectors items) (λ (row : Vec Item Global). map seen row.items) given
-    ∙ sum-same (λ (row : Vec Item Global). sum_by read_sectors (map seen row.items)) (λ (row : Vec Item Global). sum_by laid.item_sectors row.items) given
+    sum-map (λ (items : List Asked). sum_by read_sectors items) (λ (row : ItemList). map seen row.items) given
+    ∙ sum-same (λ (row : ItemList). sum_by read_sectors (map seen row.items)) (λ (row : ItemList). sum_by laid.item_sectors row.items) given
     (λ row. sum-map read_sectors seen row.items ∙ sum-same (λ i. read_sectors (seen i)) laid.item_sectors row.items item-read)
 
-pub few-have-room : (given : List (Vec Item Global)) → AreFew (asked_of given) → HasRoomFor given
+pub few-have-room : (given : List ItemList) → AreFew (asked_of given) → HasRoomFor given
 few-have-room given few =
-    let clients : length given ≤ 16 = subst (λ (n : ℕ). n ≤ 16) (length-map given (λ (row : Vec Item Global). map seen row.items)) few.clients in
+    let clients : length given ≤ 16 = subst (λ (n : ℕ). n ≤ 16) (length-map given (λ (row : ItemList). map seen row.items)) few.clients in
     let all : take 16 given ≡ given = take_all 16 given clients in
-    let items : laid.items_before given 16 ≡ sum_by (λ (row : Vec Item Global). length row.items) given =
-    below-clients (λ items. length items) refl given 16 ∙ ap (λ (rows : List (Vec Item Global)). sum_by (λ (row : Vec Item Global). length row.items) rows) all in
-    let sectors : laid.sectors_before given 16 ≡ sum_by (λ (row : Vec Item Global). sum_by laid.item_sectors row.items) given =
-    laid-is given 16 ∙ ap (λ (rows : List (Vec Item Global)). sum_by (λ (row : Vec Item Global). sum_by laid.item_sectors row.items) rows) all in
+    let items : laid.items_before given 16 ≡ sum_by (λ (row : ItemList). length row.items) given =
+    below-clients (λ items. length items) refl given 16 ∙ ap (λ (rows : List ItemList). sum_by (λ (row : ItemList). length row.items) rows) all in
+    let sectors : laid.sectors_before given 16 ≡ sum_by (λ (row : ItemList). sum_by laid.item_sectors row.items) given =
+    laid-is given 16 ∙ ap (λ (rows : List ItemList). sum_by (λ (row : ItemList). sum_by laid.item_sectors row.items) rows) all in
     record {
       clients = clients;
       items = subst (λ (n : ℕ). n ≤ 65536) (counted given ∙ sym items) few.items;

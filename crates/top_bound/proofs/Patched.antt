@@ -1,9 +1,8 @@
 -- What a script's write of several spans is to a core.
 use Rattle.std.proofs.Common.{◌≡◌, ◌∙◌, ℕ, ◌+◌, ◌<◌, ◌≤◌, inl, inr, Bool, true, false, List, [], ◌∷◌, length, map, get_or, if◌then◌else◌, refl, sym, ap, subst, arith}
-use Rattle.std.specs.Prelude.{Option, Vec, IsTrue, ◌↔◌, nat_le, nat_lt, All, Any}
+use Rattle.std.specs.Prelude.{Option, IsTrue, ◌↔◌, nat_le, nat_lt, All, Any}
 use Rattle.std.specs.List.{list_any}
 use Rattle.std.specs.Option.{ForSome}
-use Rattle.std.specs.declared.alloc.Global.{Global}
 use Rattle.std.proofs.lemmas.Bool.{cases_Bool, leb-true, lt-ltb, ltb-true}
 use Rattle.std.proofs.lemmas.List.{get_or-map, length-map}
 use Rattle.std.proofs.lemmas.List.Elements.{All-map}
@@ -15,6 +14,7 @@ use Rattle.blk_plain.specs.declared.op.Span.{Span}
 use Rattle.blk_plain.specs.Plain.{AreSound, is_in, used_of, spans_of}
 use Rattle.eng_plan.specs.Asked.{HasBlocks}
 use Rattle.eng_world.specs.declared.item.Item.{Item}
+use Rattle.item_list.specs.ItemList.{ItemList}
 use Rattle.raid_script.specs.Asked.{Asked, AskedPatch, ArePatches, IsAsked, Other, WritesAll, seen, seen_op, seen_patch, seen_patches}
 use Rattle.top_bound.specs.Bound.{MayBeAsked}
 use Rattle.top_bound.specs.Laws.{asked_of}
@@ -82,9 +82,9 @@ each-asked items k i all lt is =
     subst MayBeAsked (get_or-map seen items k i (seen i) lt ∙ ap seen is) (all k (seen i) (omega (arith, n, lt)))
 
 -- of rows of such items
-pub rows-asked : (columns graphs : ℕ) (clients : List (Vec Item Global)) → All (All (IsAsked columns graphs)) (asked_of clients) → All (λ (row : Vec Item Global). All MayBeAsked (map seen row.items)) clients
+pub rows-asked : (columns graphs : ℕ) (clients : List ItemList) → All (All (IsAsked columns graphs)) (asked_of clients) → All (λ (row : ItemList). All MayBeAsked (map seen row.items)) clients
 rows-asked columns graphs clients all k d lt =
-    let f : Vec Item Global → List Asked = λ row. map seen row.items in
+    let f : ItemList → List Asked = λ row. map seen row.items in
     let n = length-map clients f in
     let row : All (IsAsked columns graphs) (map seen (get_or clients k d).items) = subst (All (IsAsked columns graphs)) (get_or-map f clients k d (f d) lt) (all k (f d) (omega (arith, n, lt))) in
     λ i e l. (columns, graphs, row i e l)

@@ -1,11 +1,10 @@
 -- That what a trace is judged to have room for has room in a core's trace.
-use Rattle.std.specs.Prelude.{◌≡◌, ◌≤◌, ◌+◌, ℕ, List, length, map, All, Vec}
-use Rattle.std.specs.declared.alloc.Global.{Global}
+use Rattle.std.specs.Prelude.{◌≡◌, ◌≤◌, ◌+◌, ℕ, List, length, map, All}
 use Rattle.lay_core.specs.Layout.{Shape}
 use Rattle.lay_core.specs.declared.layout.Layout.{Ghosts as LayoutGhosts}
 use Rattle.graph_mean.specs.Graph.{Held, View}
 use Rattle.eng_cols.specs.Cols.{ColumnState}
-use Rattle.eng_world.specs.declared.item.Item.{Item}
+use Rattle.item_list.specs.ItemList.{ItemList}
 use Rattle.eng_parts.specs.declared.setup.Setup.{Setup}
 use Rattle.eng_array.specs.Fitting as core
 use Rattle.raid_script.specs.Asked.{IsAsked}
@@ -13,14 +12,14 @@ use Rattle.top_bound.specs.Bound.{rebuilds_sum, trace_sum}
 use Rattle.top_bound.specs.Laws.{asked_of}
 
 -- the items are a script's, of at most 16 clients, for so many columns, and these are its graphs
-pub record AreScriptAndGraphs (columns : ℕ) (views : List View) (graphs : List Held) (given : List (Vec Item Global)) : Type 0 where
+pub record AreScriptAndGraphs (columns : ℕ) (views : List View) (graphs : List Held) (given : List ItemList) : Type 0 where
   pub clients : length given ≤ 16
   pub asked : All (All (IsAsked columns (length views))) (asked_of given)
   pub graphs_are : map (λ g. g.drawn) graphs ≡ views
 
 -- the sum by which a trace is judged is the one that a core counts
 abbrev pub TraceIsCountedAlike : Type 0
-TraceIsCountedAlike = (y : Shape) (views : List View) (graphs : List Held) (devices columns : ℕ) (given : List (Vec Item Global)) → AreScriptAndGraphs columns views graphs given
+TraceIsCountedAlike = (y : Shape) (views : List View) (graphs : List Held) (devices columns : ℕ) (given : List ItemList) → AreScriptAndGraphs columns views graphs given
     → trace_sum y views devices (asked_of given) ≡ core.trace_sum y graphs devices given
 
 -- a setup of such items and graphs, over at least as many devices as columns, has room in its trace for what is judged to fit

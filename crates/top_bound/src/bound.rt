@@ -10,6 +10,7 @@ use blk_plain::{Op, Patches, Span, limits};
 use eng_world::Item;
 use graph_mean::Graph;
 use graph_text::Book;
+use item_list::Items;
 use lay_core::{Layout, blocks, count_all, some_passes_end};
 
 // The most events of items that a trace has room for.
@@ -155,17 +156,19 @@ fn row_sum<L: Layout>(
     book: &Book,
     joined: &[Graph],
     devices: u32,
-    items: &[Item],
+    items: &Items,
 ) -> u128
     requires devices { devices ≤ 40 }
-    requires asked { All MayBeAsked (map seen items.now) }
+    requires asked { All MayBeAsked (map seen items.now.items) }
     ensures value { result ≡ row_sum (L.shape layout.now) (graphs_in book.now joined.now) devices
-        (map seen items.now) }
-    ensures small { result ≤ 70368744177664 * length items.now }
+        (map seen items.now.items) }
+    ensures small { result ≤ 70368744177664 * length items.now.items }
+    ensures few { length items.now.items ≤ 18446744073709551615 }
 {
     let mut total: u128 = 0;
-    for item in items {
-        total += u128::from(item_bound(devices, item_nodes(layout, book, joined, item)));
+    for at in 0..items.len() {
+        let nodes = item_nodes(layout, book, joined, &items.get(at));
+        total += u128::from(item_bound(devices, nodes));
     }
     total
 }
@@ -176,7 +179,7 @@ fn trace_sum<L: Layout>(
     book: &Book,
     joined: &[Graph],
     devices: u32,
-    clients: &[Vec<Item>],
+    clients: &[Items],
 ) -> u128
     requires few { length clients.now ≤ 17 }
     requires devices { devices ≤ 40 }
@@ -187,7 +190,7 @@ fn trace_sum<L: Layout>(
 {
     let mut total: u128 = 0;
     for items in clients {
-        total += row_sum(layout, book, joined, devices, items.as_slice());
+        total += row_sum(layout, book, joined, devices, items);
     }
     total
 }
@@ -215,7 +218,7 @@ pub fn trace_fits<L: Layout>(
     book: &Book,
     joined: &[Graph],
     devices: u32,
-    clients: &[Vec<Item>],
+    clients: &[Items],
     rebuilds: u32,
 ) -> bool
     requires few { length clients.now ≤ 17 }

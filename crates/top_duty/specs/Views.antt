@@ -1,6 +1,5 @@
 -- What is seen of what is to be done, without where it lies in memory.
-use Rattle.std.specs.Prelude.{◌≡◌, ◌⊎◌, ◌≤◌, ◌*◌, ◌&&◌, ◌++◌, ℕ, List, [], true, false, length, map, All, Vec, Option, Some, None, is_none, Ok, Err, Result}
-use Rattle.std.specs.declared.alloc.Global.{Global}
+use Rattle.std.specs.Prelude.{◌≡◌, ◌⊎◌, ◌≤◌, ◌*◌, ◌&&◌, ◌++◌, ℕ, List, [], true, false, length, map, All, Option, Some, None, is_none, Ok, Err, Result}
 use Rattle.blk_disk.specs.declared.disk.Disk.{Ghosts}
 use Rattle.lay_core.specs.Layout.{Shape, blocks_in}
 use Rattle.graph_mean.specs.Graph.{Held, View}
@@ -9,7 +8,7 @@ use Rattle.eng_array.specs.declared.start.Start.{Start}
 use Rattle.eng_cols.specs.Cols.{Columns, ColumnState, IsFor}
 use Rattle.eng_cols.specs.declared.column.Column.{Column}
 use Rattle.eng_cols.specs.Lost.{IsLost, NotLost}
-use Rattle.eng_world.specs.declared.item.Item.{Item as AnyItem}
+use Rattle.item_list.specs.ItemList.{ItemList}
 use Rattle.raid_conf.specs.declared.layouts.AnyLayout.{AnyLayout}
 use Rattle.raid_conf.specs.Layouts.{shape_in, shape_of}
 use Rattle.raid_script.specs.Asked.{Asked as Item, AreFew, IsAsked, seen}
@@ -36,7 +35,7 @@ use Rattle.top_duty.specs.Opening.{AreTableRows, kind_of, opened_by, status_of}
 use Rattle.top_duty.specs.Start.{has_failed, other_filling, rebuilds, start_in}
 
 -- what items of clients ask for
-abbrev pub items_seen : List (Vec AnyItem Global) → List (List Item)
+abbrev pub items_seen : List ItemList → List (List Item)
 items_seen clients = map (λ items. map seen items.items) clients
 
 -- the items that are drawn for so many blocks, where the action draws any
@@ -78,7 +77,7 @@ pub record IsReady (k : Asked) (sizes : List ℕ) (fronts : List Front) (o : Ope
   pub may : MayBeDone (admitted_with k o start joined)
 
 -- Its layout, the items that are drawn, and room for its columns and for the units of a stripe are made.
-pub record IsMade (k : Asked) (o : Opened) (layout : AnyLayout) (given : List (Vec AnyItem Global)) (cols : Columns) (bytes : ℕ) : Type 0 where
+pub record IsMade (k : Asked) (o : Opened) (layout : AnyLayout) (given : List ItemList) (cols : Columns) (bytes : ℕ) : Type 0 where
   pub shape : shape_in layout ≡ shape_of k.conf o.rows
   pub drawn : items_seen given ≡ drawn_by k.command.action (blocks_in (shape_of k.conf o.rows))
   pub asked : (columns graphs : ℕ) → All (All (IsAsked columns graphs)) (items_seen given)

@@ -6,14 +6,14 @@ ghost use Rattle.top_words.specs.Views.{action_seen};
 ghost use Rattle.top_duty.specs.Duty.{clients_by, drawn_or};
 ghost use Rattle.top_duty.specs.Views.{drawn_by, items_seen};
 
-use eng_world::Item;
+use item_list::Items;
 use raid_script::generate;
 use std::alloc::Global;
 use top_status::Status;
 use top_words::{Action, Drawing};
 
 // The items that are drawn for so many blocks; none where none are to be drawn.
-fn draw_by(alloc: Global, drawn: Option<Drawing>, blocks: u64) -> Result<Vec<Vec<Item>>, Status>
+fn draw_by(alloc: Global, drawn: Option<Drawing>, blocks: u64) -> Result<Vec<Items>, Status>
     requires range { IsDrawable drawn }
     requires blocks { 0 < blocks }
     requires most { blocks ≤ 2 ^ 32 }
@@ -35,7 +35,7 @@ fn draw_by(alloc: Global, drawn: Option<Drawing>, blocks: u64) -> Result<Vec<Vec
 }
 
 /// The items that are drawn for so many blocks; none where the action draws none.
-pub(crate) fn draw(alloc: Global, action: Action<'_>, blocks: u64) -> Result<Vec<Vec<Item>>, Status>
+pub(crate) fn draw(alloc: Global, action: Action<'_>, blocks: u64) -> Result<Vec<Items>, Status>
     requires range { AreNumbersInRange (action_seen action) }
     requires blocks { 0 < blocks }
     requires most { blocks ≤ 2 ^ 32 }
@@ -51,7 +51,7 @@ pub(crate) fn draw(alloc: Global, action: Action<'_>, blocks: u64) -> Result<Vec
 
 /// Of the items of the script and those that are drawn those that the action runs.
 #[tactic(auto, unfolding(crate::specs::Duty::clients_by))]
-pub fn choose(action: Action<'_>, scripted: Vec<Vec<Item>>, drawn: Vec<Vec<Item>>) -> Vec<Vec<Item>>
+pub fn choose(action: Action<'_>, scripted: Vec<Items>, drawn: Vec<Items>) -> Vec<Items>
     ensures { (blocks : ℕ) → items_seen drawn.items ≡ drawn_by (action_seen action.entry) blocks →
         items_seen result.items
         ≡ clients_by (action_seen action.entry) (items_seen scripted.items) blocks }

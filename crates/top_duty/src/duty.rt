@@ -1,8 +1,8 @@
 //! What is to be done.
 use eng_array::Start;
 use eng_cols::Cols;
-use eng_world::Item;
 use graph_mean::Graph;
+use item_list::Items;
 use raid_conf::AnyLayout;
 use raid_recon::Room;
 use top_open::Opened;
@@ -15,7 +15,7 @@ pub struct Ready {
     /// The layout over so many rows.
     pub layout: AnyLayout,
     /// The items that are drawn, of a sweep; else none.
-    pub drawn: Vec<Vec<Item>>,
+    pub drawn: Vec<Items>,
     /// The graphs that are joined for the join lines of the script, in their order.
     pub joined: Vec<Graph>,
     /// Room for the columns, by which it is judged whether they make the array lost.

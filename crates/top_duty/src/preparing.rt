@@ -25,8 +25,8 @@ use crate::refusing::join_unless_refused;
 use crate::start::{has_failed, start_in};
 use eng_array::Start;
 use eng_cols::{Cols, Column};
-use eng_world::Item;
 use graph_mean::Graph;
+use item_list::Items;
 use lay_core::{Layout, blocks};
 use raid_conf::AnyLayout;
 use raid_recon::Room;
@@ -40,7 +40,7 @@ use top_words::Kind;
 /// What an array needs beside its columns.
 struct Parts {
     layout: AnyLayout,
-    drawn: Vec<Vec<Item>>,
+    drawn: Vec<Items>,
     joined: Vec<Graph>,
     judge: Cols,
     room: Room,

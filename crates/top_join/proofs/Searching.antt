@@ -1,8 +1,7 @@
 -- The search for the item that names a graph, item after item and client after client.
 use Rattle.std.proofs.Common.{◌≡◌, ℕ, ◌+◌, ◌<◌, ◌≤◌, Bool, true, false, List, [], drop, get_or, length, map, refl, sym, ap}
-use Rattle.std.specs.Prelude.{IfSome, Some, None, Vec, nat_eq, nat_le, option_map, if◌then◌else◌}
+use Rattle.std.specs.Prelude.{IfSome, Some, None, nat_eq, nat_le, option_map, if◌then◌else◌}
 use Rattle.std.specs.Bool.{then_some}
-use Rattle.std.specs.declared.alloc.Global.{Global}
 use Rattle.std.proofs.lemmas.Bool.{le-leb}
 use Rattle.std.proofs.lemmas.List.{drop_more}
 use Rattle.blk_plain.specs.declared.op.Span.{Span}
@@ -10,6 +9,7 @@ use Rattle.blk_plain.specs.declared.op.Patches.{Patches}
 use Rattle.blk_plain.specs.declared.op.Op.TheVariants as op
 use Rattle.blk_plain.specs.Plain.{spans_of, used_of}
 use Rattle.eng_world.specs.declared.item.Item.{Item}
+use Rattle.item_list.specs.ItemList.{ItemList}
 use Rattle.raid_script.specs.Asked.{AskedPatch, Other, WritesAll, seen, seen_op, seen_patches}
 use Rattle.top_bound.proofs.Patched.{spans-seen}
 use Rattle.top_join.specs.Joining.{spans_by, spans_in, spans_in_row}
@@ -39,10 +39,10 @@ pub row-none : (n : ℕ) → spans_in_row n [] ≡ None
 unfolding spans_in_row
 row-none n = refl
 
-pub rows-step : (n : ℕ) (rows : List (Vec Item Global)) (i : ℕ) (d : Vec Item Global) → i < length rows
-    → spans_in n (map (λ (row : Vec Item Global). map seen row.items) (drop i rows)) ≡ option_or (spans_in_row n (map seen (get_or rows i d).items)) (spans_in n (map (λ (row : Vec Item Global). map seen row.items) (drop (i + 1) rows)))
+pub rows-step : (n : ℕ) (rows : List ItemList) (i : ℕ) (d : ItemList) → i < length rows
+    → spans_in n (map (λ (row : ItemList). map seen row.items) (drop i rows)) ≡ option_or (spans_in_row n (map seen (get_or rows i d).items)) (spans_in n (map (λ (row : ItemList). map seen row.items) (drop (i + 1) rows)))
 unfolding spans_in
-rows-step n rows i d l = ap (λ (xs : List (Vec Item Global)). spans_in n (map (λ (row : Vec Item Global). map seen row.items) xs)) (drop_more rows i d l)
+rows-step n rows i d l = ap (λ (xs : List ItemList). spans_in n (map (λ (row : ItemList). map seen row.items) xs)) (drop_more rows i d l)
 
 pub rows-none : (n : ℕ) → spans_in n [] ≡ None
 unfolding spans_in

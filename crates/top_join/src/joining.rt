@@ -12,10 +12,10 @@ use crate::fault::JoinFault;
 use crate::spans::{is_before, may_join, stripe_count};
 use crate::written::patches_in;
 use blk_plain::{Patches, limits};
-use eng_world::Item;
 use graph_mean::Graph;
 use graph_merge::{MergeFault, merge};
 use graph_text::Book;
+use item_list::Items;
 use lay_core::Layout;
 use raid_script::Join;
 use std::alloc::Global;
@@ -75,7 +75,7 @@ fn join_one<L: Layout>(
     alloc: Global,
     layout: &L,
     book: &Book,
-    clients: &[Vec<Item>],
+    clients: &[Items],
     join: Join,
     graph: u32,
 ) -> Result<Graph, JoinFault>
@@ -115,7 +115,7 @@ pub fn join_all<L: Layout>(
     alloc: Global,
     layout: &L,
     book: &Book,
-    clients: &[Vec<Item>],
+    clients: &[Items],
     joins: &[Join],
 ) -> Result<Vec<Graph>, JoinFault>
     requires few { length joins.now ≤ 64 }

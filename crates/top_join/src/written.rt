@@ -7,6 +7,7 @@ ghost use Rattle.top_join.specs.Joining.{spans_by, spans_in, spans_in_row};
 
 use blk_plain::{Op, Patches};
 use eng_world::Item;
+use item_list::Items;
 
 // The patches of a write that names a graph, if it is the one of this number.
 fn patches_if(patches: &Patches, named: Option<u32>, graph: u32) -> Option<Patches>
@@ -38,14 +39,14 @@ fn patches_by(item: &Item, graph: u32) -> Option<Patches>
     }
 }
 
-fn patches_in_row(items: &[Item], graph: u32) -> Option<Patches>
-    requires { All MayBeAsked (map seen items.now) }
-    ensures spans { option_map spans_of result ≡ spans_in_row graph (map seen items.now) }
+fn patches_in_row(items: &Items, graph: u32) -> Option<Patches>
+    requires { All MayBeAsked (map seen items.now.items) }
+    ensures spans { option_map spans_of result ≡ spans_in_row graph (map seen items.now.items) }
     ensures sound { IfSome result AreSound }
     ensures some { IfSome result (λ p. All (λ s. 1 ≤ s.count) (spans_of p)) }
 {
-    for item in items {
-        if let Some(patches) = patches_by(item, graph) {
+    for at in 0..items.len() {
+        if let Some(patches) = patches_by(&items.get(at), graph) {
             return Some(patches);
         }
     }
@@ -53,7 +54,7 @@ fn patches_in_row(items: &[Item], graph: u32) -> Option<Patches>
 }
 
 /// What the first item writes that does it by the graph of this number, if there is one.
-pub(crate) fn patches_in(clients: &[Vec<Item>], graph: u32) -> Option<Patches>
+pub(crate) fn patches_in(clients: &[Items], graph: u32) -> Option<Patches>
     requires { All (λ items. All MayBeAsked (map seen items.items)) clients.now }
     ensures spans { option_map spans_of result
         ≡ spans_in graph (map (λ items. map seen items.items) clients.now) }
@@ -61,7 +62,7 @@ pub(crate) fn patches_in(clients: &[Vec<Item>], graph: u32) -> Option<Patches>
     ensures some { IfSome result (λ p. All (λ s. 1 ≤ s.count) (spans_of p)) }
 {
     for items in clients {
-        if let Some(patches) = patches_in_row(items.as_slice(), graph) {
+        if let Some(patches) = patches_in_row(items, graph) {
             return Some(patches);
         }
     }

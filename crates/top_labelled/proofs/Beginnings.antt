@@ -1,7 +1,6 @@
 -- What is asked of an array as it is begun, and what is said of it then.
 use Rattle.std.proofs.Common.{◌≡◌, ◌∙◌, ℕ, List, length, get_or, Bool, true, false, Option, sym, ap, subst}
-use Rattle.std.specs.Prelude.{All, Vec, slice_get}
-use Rattle.std.specs.declared.alloc.Global.{Global}
+use Rattle.std.specs.Prelude.{All, slice_get}
 use Rattle.std.proofs.lemmas.List.{length-replicate}
 use Rattle.std.proofs.lemmas.Option.{slice_get-get_or}
 use Rattle.blk_disk.specs.declared.disk.Disk.{Ghosts as DiskGhosts}
@@ -19,6 +18,7 @@ use Rattle.eng_plan.specs.Asked.{HasBlocks}
 use Rattle.eng_state.specs.Beginning.{IsAsked}
 use Rattle.eng_world.specs.declared.item.Item.{Item}
 use Rattle.eng_world.specs.declared.item.Item.TheVariants as item
+use Rattle.item_list.specs.ItemList.{ItemList}
 use Rattle.raid_map.specs.Asking.{HasSpans, IsSpanned, file_of}
 use Rattle.raid_map.specs.Reading.{Grows}
 use Rattle.raid_map.specs.Regions.{Marks as Map, regions_in}
@@ -50,7 +50,7 @@ is-spanned y (item.Run o graph) h = has-spans o h
 is-spanned y (item.Fail column) h = tt
 
 -- the spans of all items have blocks
-pub all-spanned : {L D : Type 0} (lay : LayoutGhosts L) (disk : DiskGhosts D) (setup : Setup L D) → IsSetup lay disk setup → All (λ (v : Vec Item Global). All IsSpanned v.items) setup.clients.items
+pub all-spanned : {L D : Type 0} (lay : LayoutGhosts L) (disk : DiskGhosts D) (setup : Setup L D) → IsSetup lay disk setup → All (λ (v : ItemList). All IsSpanned v.items) setup.clients.items
 all-spanned lay disk setup given c none within n other below =
     let items = get_or setup.clients.items c none in
     let asked = get_or items.items n other in

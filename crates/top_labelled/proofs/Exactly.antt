@@ -1,7 +1,5 @@
 -- What is marked before clients are served is what a run over their items may write, and nothing else.
 use Rattle.std.proofs.Common.{◌≡◌, ◌≢◌, ◌⊎◌, inl, inr, ℕ, zero, suc, ◌<◌, ◌≤◌, List, [], length, true, false, Option, Some, None, replicate, slice_get, refl, sym, ◌∙◌, ap, arith}
-use Rattle.std.specs.Prelude.{Vec}
-use Rattle.std.specs.declared.alloc.Global.{Global}
 use Rattle.std.proofs.lemmas.Option.{slice_get_within}
 use Rattle.blk_plain.specs.declared.op.Op.{Op}
 use Rattle.graph_mean.specs.Graph.{Held}
@@ -13,6 +11,7 @@ use Rattle.eng_state.specs.Steps.{graphs_of}
 use Rattle.eng_world.specs.declared.item.Item.{Item}
 use Rattle.eng_world.specs.declared.item.Item.TheVariants as item
 use Rattle.eng_world.specs.World.{World}
+use Rattle.item_list.specs.ItemList.{ItemList}
 use Rattle.raid_map.specs.Asking.{MayWriteBy, MayWriteIn, ScriptMayWrite, file_of}
 use Rattle.raid_map.specs.Mapped.{MayWrite}
 use Rattle.raid_map.specs.Reading.{Grows}
@@ -42,7 +41,7 @@ writes-from held op graph (inl other) = inl other
 writes-from held op None (inr h) = absurd (quiet-library h.0 h.1 true h.2 h.3)
 writes-from held op (Some n) (inr write) = inr write
 
-module _ (y : Shape) (held : List Held) (clients : List (Vec Item Global)) (now : World) (few : length clients ≤ 16) (items : (c : ℕ) → c ≢ 16 → (now.clients c).items ≡ items_at clients c) (s : ℕ) where
+module _ (y : Shape) (held : List Held) (clients : List ItemList) (now : World) (few : length clients ≤ 16) (items : (c : ℕ) → c ≢ 16 → (now.clients c).items ≡ items_at clients c) (s : ℕ) where
   asked-of : ScriptMayWrite y (file_of held) clients s → IsAskedOf y (graphs_of held) now s
   asked-of (c, own, is, more) = by more.1 more.2 more.3
     where
@@ -72,12 +71,12 @@ module _ (y : Shape) (held : List Held) (clients : List (Vec Item Global)) (now 
       at : slice_get (items_at clients a.client) a.number ≡ Some (item.Run a.op a.graph)
       at = ap (λ (l : List Item). slice_get l a.number) (sym (items a.client a.own)) ∙ a.is
 
-      by : (o : Option (Vec Item Global)) → slice_get clients a.client ≡ o → ScriptMayWrite y (file_of held) clients s
-      by None is = absurd (none-get a.number (item.Run a.op a.graph) (sym (ap (λ (o : Option (Vec Item Global)). slice_get (items_in o) a.number) is) ∙ at))
-      by (Some own) is = (a.client, own, is, (a.number, item.Run a.op a.graph, sym (ap (λ (o : Option (Vec Item Global)). slice_get (items_in o) a.number) is) ∙ at, (writes-from held a.op a.graph a.writes, (a.reach, a.concerns))))
+      by : (o : Option ItemList) → slice_get clients a.client ≡ o → ScriptMayWrite y (file_of held) clients s
+      by None is = absurd (none-get a.number (item.Run a.op a.graph) (sym (ap (λ (o : Option ItemList). slice_get (items_in o) a.number) is) ∙ at))
+      by (Some own) is = (a.client, own, is, (a.number, item.Run a.op a.graph, sym (ap (λ (o : Option ItemList). slice_get (items_in o) a.number) is) ∙ at, (writes-from held a.op a.graph a.writes, (a.reach, a.concerns))))
 
 -- the marks of a map are those
-pub exactly : (y : Shape) (held : List Held) (clients : List (Vec Item Global)) (now : World) → length clients ≤ 16 → ((c : ℕ) → c ≢ 16 → (now.clients c).items ≡ items_at clients c) → (columns : List Column) (how : Option Start) (serial : ℕ) (union marks : Map)
+pub exactly : (y : Shape) (held : List Held) (clients : List ItemList) (now : World) → length clients ≤ 16 → ((c : ℕ) → c ≢ 16 → (now.clients c).items ≡ items_at clients c) → (columns : List Column) (how : Option Start) (serial : ℕ) (union marks : Map)
     → Grows (unmarked y.stripes serial) union → MarksAsked y (file_of held) clients columns how union (unmarked y.stripes serial) marks → MarksExactly y (graphs_of held) now columns how union marks
 exactly y held clients now few items columns how serial union marks grows m = record {
   stripes = m.stripes ∙ sym grows.stripes;

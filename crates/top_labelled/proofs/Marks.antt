@@ -1,17 +1,16 @@
 -- What maps are marked before clients are served.
 use Rattle.std.proofs.Common.{◌≡◌, ◌∙◌, ◌⊎◌, ℕ, ◌+◌, ◌/◌, ◌<◌, ◌≤◌, Bool, true, false, List, length, Option, None, refl, sym, ap, subst, inl, inr, arith}
-use Rattle.std.specs.Prelude.{◌&&◌, ◌||◌, MatchBool, Vec, nat_lt, slice_index, if◌then◌else◌}
-use Rattle.std.specs.declared.alloc.Global.{Global}
+use Rattle.std.specs.Prelude.{◌&&◌, ◌||◌, MatchBool, nat_lt, slice_index, if◌then◌else◌}
 use Rattle.std.proofs.lemmas.Bool.{cases_lt, lt-ltb}
 use Rattle.std.proofs.lemmas.List.{get_or_past}
 use Rattle.graph_mean.specs.Graph.{View}
 use Rattle.lay_core.specs.Layout.{Shape}
+use Rattle.item_list.specs.ItemList.{ItemList}
 use Rattle.eng_array.specs.declared.start.Start.{Start}
 use Rattle.eng_cols.specs.declared.column.Column.{Column}
 use Rattle.eng_cols.specs.Stripes.{are_spread, count_below, is_stripe_by, is_stripe_of, spreads, states_of}
 use Rattle.eng_cols.proofs.Counting.{count-more, count-same, stripe-same}
 use Rattle.eng_cols.proofs.Fewer.{states-spread}
-use Rattle.eng_world.specs.declared.item.Item.{Item}
 use Rattle.raid_map.specs.Asking.{MarksAlso, ScriptMayWrite}
 use Rattle.raid_map.specs.Regions.{Adds, IsBytesOf, IsMapOf, Marks as Map, bit_at, is_marked, region_of, regions_in}
 use Rattle.raid_map.proofs.Spans.{also-none, also-same, also-then}
@@ -197,7 +196,7 @@ from-all y columns c done most n old new same end m = also-same (FromBelow (is_s
 pub asks-none : (y : Shape) (columns : List Column) (old : Map) → MarksAlso (RebuildMayWrite y columns None) old old
 asks-none y columns old = also-none (RebuildMayWrite y columns None) old (λ s within h. h)
 
-pub marks-asked : (y : Shape) (file : ℕ → View) (clients : List (Vec Item Global)) (columns : List Column) (how : Option Start) (union old one two new : Map) → MarksOf union old one → MarksAlso (ScriptMayWrite y file clients) one two → MarksAlso (RebuildMayWrite y columns how) two new
+pub marks-asked : (y : Shape) (file : ℕ → View) (clients : List ItemList) (columns : List Column) (how : Option Start) (union old one two new : Map) → MarksOf union old one → MarksAlso (ScriptMayWrite y file clients) one two → MarksAlso (RebuildMayWrite y columns how) two new
     → MarksAsked y file clients columns how union old new
 marks-asked y file clients columns how union old one two new first second third = record {
   stripes = both.stripes_same ∙ first.stripes;

@@ -1,6 +1,5 @@
 -- What the maps of an array are marked before clients are served.
-use Rattle.std.specs.Prelude.{◌≡◌, ◌≢◌, ◌⊎◌, ◌↔◌, ◌+◌, ◌<◌, ◌≤◌, ℕ, List, length, true, Option, Some, None, Vec, slice_get}
-use Rattle.std.specs.declared.alloc.Global.{Global}
+use Rattle.std.specs.Prelude.{◌≡◌, ◌≢◌, ◌⊎◌, ◌↔◌, ◌+◌, ◌<◌, ◌≤◌, ℕ, List, length, true, Option, Some, None, slice_get}
 use Rattle.graph_mean.specs.Graph.{View}
 use Rattle.lay_core.specs.Layout.{Shape}
 use Rattle.eng_array.specs.Starts.{column_of, most_of}
@@ -11,10 +10,10 @@ use Rattle.eng_cols.specs.declared.column.Column.TheVariants as column
 use Rattle.eng_cols.specs.Cols.{ColumnState}
 use Rattle.eng_cols.specs.Stripes.{count_below, is_stripe_of, states_of}
 use Rattle.blk_plain.specs.declared.op.Op.{Op}
-use Rattle.eng_world.specs.declared.item.Item.{Item}
 use Rattle.eng_world.specs.declared.item.Item.TheVariants as item
 use Rattle.eng_world.specs.Planning.{Graphs, InReach, Concerns}
 use Rattle.eng_world.specs.World.{World}
+use Rattle.item_list.specs.ItemList.{ItemList}
 use Rattle.raid_map.specs.Asking.{ScriptMayWrite}
 use Rattle.raid_map.specs.Mapped.{MayWrite}
 use Rattle.raid_map.specs.Regions.{Marks as Map, is_marked, region_of}
@@ -70,7 +69,7 @@ pub record MarksExactly (y : Shape) (graphs : Graphs) (w : World) (columns : Lis
       ⊎ ((s : ℕ) × (s < y.stripes) × (IsAskedOf y graphs w s ⊎ RebuildMayWrite y columns how s) × (region_of y.stripes s ≡ r)))
 
 -- Marked are the regions that the union marks, those in which the items of clients may write, and those of the stripes that are to be rebuilt; and no others, where nothing was marked before.
-pub record MarksAsked (y : Shape) (file : ℕ → View) (clients : List (Vec Item Global)) (columns : List Column) (how : Option Start) (union old new : Map) : Type 0 where
+pub record MarksAsked (y : Shape) (file : ℕ → View) (clients : List ItemList) (columns : List Column) (how : Option Start) (union old new : Map) : Type 0 where
   pub stripes : new.stripes ≡ old.stripes
   pub serial : new.serial ≡ old.serial
   pub marks : (r : ℕ) → (is_marked new.marks r ≡ true) ↔ ((is_marked old.marks r ≡ true) ⊎ ((is_marked union.marks r ≡ true)

@@ -9,9 +9,10 @@ ghost use Rattle.top_labelled.specs.Begun.{IsColumnWithin};
 ghost use Rattle.top_labelled.specs.Marked.{MarksAsked, MarksOf, RebuildMayWrite, StripesFrom, done_on};
 
 use blk_disk::SECTOR;
-use eng_array::{Column, Item, Start};
+use eng_array::{Column, Start};
 use eng_cols::is_stripe_of;
 use graph_mean::Graph;
+use item_list::Items;
 use lay_core::Layout;
 use raid_map::{Map, mark_script};
 use top_acts::Maps;
@@ -104,7 +105,7 @@ pub(crate) fn mark_asked<L: Layout>(
     keeps: bool,
     layout: &L,
     graphs: &[Graph],
-    clients: &[Vec<Item>],
+    clients: &[Items],
     columns: &[Column],
     start: Option<Start>,
     maps: &mut Maps,

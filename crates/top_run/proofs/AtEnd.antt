@@ -1,7 +1,6 @@
 -- How the columns end, and the loss.
 use Rattle.std.proofs.Common.{◌≡◌, inl, inr, ℕ, ◌≤◌, List, map, Bool, true, Option, Some, None, option_map, slice_get, refl, sym, ◌∙◌, ap, subst, arith}
-use Rattle.std.specs.Prelude.{Contains, Vec, slice_index}
-use Rattle.std.specs.declared.alloc.Global.{Global}
+use Rattle.std.specs.Prelude.{Contains, slice_index}
 use Rattle.std.proofs.lemmas.Bool.{cases_eq}
 use Rattle.std.proofs.lemmas.Option.{slice_get-map, slice_get_within, get_or_from_slice_get}
 use Rattle.blk_plain.specs.declared.op.Op.TheVariants as op
@@ -16,6 +15,7 @@ use Rattle.eng_world.specs.declared.item.Item.{Item}
 use Rattle.eng_world.specs.declared.item.Item.TheVariants as item
 use Rattle.eng_world.specs.World.{World}
 use Rattle.eng_world.specs.Rebuilding.{OneRebuilds}
+use Rattle.item_list.specs.ItemList.{ItemList}
 use Rattle.eng_cols.specs.Stripes.{states_of}
 use Rattle.eng_events.specs.Opened.{IsSetup}
 use Rattle.eng_parts.specs.declared.setup.Setup.{Setup}
@@ -76,13 +76,13 @@ module _ {L D : Type 0} (lay : LayoutGhosts L) (disk : DiskGhosts D) (setup : Se
     | inr ne ↦ absurd (by (slice_get setup.clients.items id.client) refl (ap (λ (l : List Item). slice_get l id.index) (sym (s.rests.items id.client ne)) ∙ at))
   ]
     where
-      by : (o : Option (Vec Item Global)) → slice_get setup.clients.items id.client ≡ o → slice_get (items_at setup.clients.items id.client) id.index ≡ Some (item.Run (op.Rebuild st) graph) → ⊥
-      by None is there = let z : None ≡ Some (item.Run (op.Rebuild st) graph) = ap (λ (o : Option (Vec Item Global)). slice_get (items_in o) id.index) (sym is) ∙ there in let u : ⊥ = cc in u
+      by : (o : Option ItemList) → slice_get setup.clients.items id.client ≡ o → slice_get (items_at setup.clients.items id.client) id.index ≡ Some (item.Run (op.Rebuild st) graph) → ⊥
+      by None is there = let z : None ≡ Some (item.Run (op.Rebuild st) graph) = ap (λ (o : Option ItemList). slice_get (items_in o) id.index) (sym is) ∙ there in let u : ⊥ = cc in u
       by (Some row) is there =
-          let here : slice_get row.items id.index ≡ Some (item.Run (op.Rebuild st) graph) = ap (λ (o : Option (Vec Item Global)). slice_get (items_in o) id.index) (sym is) ∙ there in
+          let here : slice_get row.items id.index ≡ Some (item.Run (op.Rebuild st) graph) = ap (λ (o : Option ItemList). slice_get (items_in o) id.index) (sym is) ∙ there in
           asks (map seen row.items)
-          (at-place (map (λ (items : Vec Item Global). map seen items.items) setup.clients.items) id.client (map seen row.items)
-          (slice_get-map (λ (items : Vec Item Global). map seen items.items) setup.clients.items id.client ∙ ap (option_map (λ (items : Vec Item Global). map seen items.items)) is))
+          (at-place (map (λ (items : ItemList). map seen items.items) setup.clients.items) id.client (map seen row.items)
+          (slice_get-map (λ (items : ItemList). map seen items.items) setup.clients.items id.client ∙ ap (option_map (λ (items : ItemList). map seen items.items)) is))
           (at-place (map seen row.items) id.index Other (slice_get-map seen row.items id.index ∙ ap (option_map seen) here))
 
   pub columns-end : ColumnsEnd disk (work_of lay setup how) setup.devices.items v back s.now

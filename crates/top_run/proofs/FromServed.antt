@@ -15,6 +15,7 @@ use Rattle.eng_world.specs.declared.item.Item.TheVariants as item
 use Rattle.eng_world.specs.declared.item.Reply.{Reply}
 use Rattle.eng_world.specs.declared.item.Reply.TheVariants as reply
 use Rattle.eng_world.specs.declared.item.Traced.{Traced}
+use Rattle.item_list.specs.ItemList.{ItemList}
 use Rattle.eng_rest.specs.Left.{below}
 use Rattle.eng_log.specs.declared.region.Region.{Region}
 use Rattle.eng_parts.specs.declared.setup.Setup.{Setup}
@@ -39,24 +40,24 @@ use Rattle.top_run.specs.Ran.{AreGraphsOf, trace_of, told_byte, Opens, Rests, Te
 -- ## Clients
 
 abbrev Clients : Type 0
-Clients = List (Vec Item Global)
+Clients = List ItemList
 
 -- what a client asks, among all
-asked-at : (given : Clients) (c : ℕ) → map seen (items_at given c) ≡ slice_index_or (map (λ (items : Vec Item Global). map seen items.items) given) c []
+asked-at : (given : Clients) (c : ℕ) → map seen (items_at given c) ≡ slice_index_or (map (λ (items : ItemList). map seen items.items) given) c []
 asked-at [] c = refl
 asked-at (items ∷ given) zero = refl
 asked-at (items ∷ given) (suc c) = asked-at given c
 
 -- clients with the same items ask the same
-asked-same : (a b : Clients) → length a ≡ length b → ((c : ℕ) → items_at a c ≡ items_at b c) → map (λ (items : Vec Item Global). map seen items.items) a ≡ map (λ (items : Vec Item Global). map seen items.items) b
+asked-same : (a b : Clients) → length a ≡ length b → ((c : ℕ) → items_at a c ≡ items_at b c) → map (λ (items : ItemList). map seen items.items) a ≡ map (λ (items : ItemList). map seen items.items) b
 asked-same [] [] count same = refl
 asked-same [] (y ∷ b) count same = absurd (omega (arith, count))
 asked-same (x ∷ a) [] count same = absurd (omega (arith, count))
 asked-same (x ∷ a) (y ∷ b) count same =
     let rest = asked-same a b (omega (arith, count)) (λ c. same (suc c)) in
-    ap (λ l. map seen l ∷ map (λ (items : Vec Item Global). map seen items.items) a) (same zero) ∙ ap (λ l. map seen y.items ∷ l) rest
+    ap (λ l. map seen l ∷ map (λ (items : ItemList). map seen items.items) a) (same zero) ∙ ap (λ l. map seen y.items ∷ l) rest
 
-items-alike : (o : Option (Vec Item Global)) → told.items_in o ≡ items_in o
+items-alike : (o : Option ItemList) → told.items_in o ≡ items_in o
 items-alike None = refl
 items-alike (Some items) = refl
 
@@ -207,12 +208,12 @@ module _ {L D : Type 0} (lay : LayoutGhosts L) (disk : DiskGhosts D) (setup : Se
   items-told c other = told-items c ∙ sym (s.rests.items c other)
 
   -- there is a sector for each block that is read, and none else
-  sectors-from : length service.sectors ≡ 512 * sum_by (λ (row : Vec Item Global). told.row_sectors row.items) service.clients
+  sectors-from : length service.sectors ≡ 512 * sum_by (λ (row : ItemList). told.row_sectors row.items) service.clients
   sectors-from =
       let count = s.tells.clients in
       let all : take 16 closed.clients.items ≡ closed.clients.items = take_all 16 closed.clients.items (omega (arith, few, count)) in
       let alike : told.sectors_before closed.clients.items 16 ≡ laid.sectors_before setup.clients.items 16 = sectors-alike closed.clients.items 16 ∙ before-same closed.clients.items setup.clients.items s.tells.items 16 in
-      let whole : told.sectors_before closed.clients.items 16 ≡ sum_by (λ (row : Vec Item Global). told.row_sectors row.items) closed.clients.items = ap (λ (l : List (Vec Item Global)). sum_by (λ (row : Vec Item Global). told.row_sectors row.items) l) all in
+      let whole : told.sectors_before closed.clients.items 16 ≡ sum_by (λ (row : ItemList). told.row_sectors row.items) closed.clients.items = ap (λ (l : List ItemList). sum_by (λ (row : ItemList). told.row_sectors row.items) l) all in
       s.hands.all ∙ ap (λ (n : ℕ). 512 * n) (sym alike ∙ whole)
 
   -- each item has its reply, and each block that is read its sector

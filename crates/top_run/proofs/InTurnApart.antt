@@ -1,7 +1,6 @@
 -- In a run of clients that are apart each operation is done.
 use Rattle.std.proofs.Common.{◌≡◌, ◌∙◌, inl, inr, ap, sym, refl, subst, ℕ, ◌/◌, ◌≤◌, List, map, true, Option, Some, None, option_map, arith}
-use Rattle.std.specs.Prelude.{Vec, slice_get}
-use Rattle.std.specs.declared.alloc.Global.{Global}
+use Rattle.std.specs.Prelude.{slice_get}
 use Rattle.std.proofs.lemmas.Option.{slice_get-map, slice_get_within, slice_get_cases, get_or_from_slice_get}
 use Rattle.blk_plain.specs.declared.op.Op.{Op}
 use Rattle.blk_plain.specs.declared.op.Op.TheVariants.{Write, Writes, Read, Rebuild, Sync}
@@ -15,6 +14,7 @@ use Rattle.eng_world.specs.World.{op_of}
 use Rattle.eng_world.specs.Planning.{touches}
 use Rattle.eng_world.specs.Legal.{ReplyOf}
 use Rattle.eng_world.specs.Causes.{ItemAt}
+use Rattle.item_list.specs.ItemList.{ItemList}
 use Rattle.eng_cols.specs.Stripes.{states_of}
 use Rattle.raid_script.specs.Asked.{seen}
 use Rattle.raid_script.specs.Drawn.{AreApart, IsOwn}
@@ -45,13 +45,13 @@ module _ {D : Type 0} (g : Ghosts D) (a : Work) (taken : List (Option D)) (s : S
 
   -- ## Items
 
-  row-at : (c : ℕ) (row : Vec Item Global) → slice_get s.clients c ≡ Some row → slice_get a.clients c ≡ Some (map seen row.items)
+  row-at : (c : ℕ) (row : ItemList) → slice_get s.clients c ≡ Some row → slice_get a.clients c ≡ Some (map seen row.items)
   row-at c row h = ap (λ l. slice_get l c) (sym r.tells.asked) ∙ (slice_get-map row_asks s.clients c ∙ ap (option_map row_asks) h)
 
   pub own-item : (c i : ℕ) (x : Item) → slice_get (items_at s.clients c) i ≡ Some x → IsOwn wide blocks c (seen x)
   own-item c i x h = go (slice_get s.clients c) refl h
     where
-      go : (o : Option (Vec Item Global)) → slice_get s.clients c ≡ o → slice_get (items_in o) i ≡ Some x → IsOwn wide blocks c (seen x)
+      go : (o : Option ItemList) → slice_get s.clients c ≡ o → slice_get (items_in o) i ≡ Some x → IsOwn wide blocks c (seen x)
       go None is e = let z : None ≡ Some x = e in absurd (let u : ⊥ = cc in u)
       go (Some row) is e =
           let at : slice_get (map seen row.items) i ≡ Some (seen x) = slice_get-map seen row.items i ∙ ap (option_map seen) e in

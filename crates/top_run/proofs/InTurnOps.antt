@@ -1,7 +1,6 @@
 -- The operations that items ask, client after client.
 use Rattle.std.proofs.Common.{◌≡◌, ◌∙◌, ap, ap₂, sym, refl, inl, inr, ℕ, zero, suc, ◌+◌, ◌≤◌, List, [], ◌∷◌, ◌++◌, length, map, take, Option, Some, None, arith}
-use Rattle.std.specs.Prelude.{Vec, slice_get, slice_index_or, sum_by, flat_map}
-use Rattle.std.specs.declared.alloc.Global.{Global}
+use Rattle.std.specs.Prelude.{slice_get, slice_index_or, sum_by, flat_map}
 use Rattle.std.proofs.lemmas.List.{append-nil, length-append, length-map, map-append, take_all}
 use Rattle.std.proofs.lemmas.List.Concat.{flat_map-append}
 use Rattle.std.proofs.lemmas.List.Sums.{sum_by-cons, sum_by-append}
@@ -10,6 +9,7 @@ use Rattle.blk_plain.specs.declared.op.Op.{Op}
 use Rattle.eng_world.specs.declared.item.Item.{Item}
 use Rattle.eng_world.specs.declared.item.Item.TheVariants as item
 use Rattle.eng_world.specs.World.{op_of}
+use Rattle.item_list.specs.ItemList.{ItemList}
 use Rattle.raid_script.specs.Asked.{Asked, seen, seen_op}
 use Rattle.raid_script.specs.Replies.{op_sectors, item_sectors, row_sectors, items_in, items_at}
 use Rattle.raid_script.specs.Summary.{op_writes, item_writes, row_writes}
@@ -81,23 +81,23 @@ ops-read (item.Fail column ∷ items) = let e = sum_by-cons item_sectors (item.F
 -- ## Of all clients
 
 abbrev pub Clients : Type 0
-Clients = List (Vec Item Global)
+Clients = List ItemList
 
 abbrev pub own_of : Clients → ℕ → List Op
 own_of clients c = ops_in (items_at clients c)
 
-abbrev pub row_ops : Vec Item Global → List Op
+abbrev pub row_ops : ItemList → List Op
 row_ops row = ops_in row.items
 
 abbrev pub turn_of : Clients → List Op
 turn_of clients = flat_map row_ops clients
 
-abbrev pub row_asks : Vec Item Global → List Asked
+abbrev pub row_asks : ItemList → List Asked
 row_asks row = map seen row.items
 
 -- each item of every client is an operation by the library's graph
 abbrev pub AllRun : Clients → Type 0
-AllRun clients = (c : ℕ) (row : Vec Item Global) → slice_get clients c ≡ Some row → EachRuns row.items
+AllRun clients = (c : ℕ) (row : ItemList) → slice_get clients c ≡ Some row → EachRuns row.items
 
 take-next : {A : Type 0} (xs : List A) (n : ℕ) (x : A) → slice_get xs n ≡ Some x → take (suc n) xs ≡ take n xs ++ x ∷ []
 take-next [] n x h = let z : None ≡ Some x = h in absurd (let u : ⊥ = cc in u)
@@ -111,7 +111,7 @@ first-in-turn clients (suc n) within = elim (slice_get_cases clients n).1 [
   | inl there ↦
       let row = there.0 in
       ap (λ (l : List Op). l ++ own_of clients n) (first-in-turn clients n (omega (arith, within)))
-      ∙ (ap (λ (o : Option (Vec Item Global)). turn_of (take n clients) ++ ops_in (items_in o)) there.2
+      ∙ (ap (λ (o : Option ItemList). turn_of (take n clients) ++ ops_in (items_in o)) there.2
       ∙ (ap (λ (l : List Op). turn_of (take n clients) ++ l) (sym (append-nil (ops_in row.items)))
       ∙ (sym (flat_map-append row_ops (take n clients) (row ∷ []))
       ∙ ap turn_of (sym (take-next clients n row there.2)))))
@@ -122,7 +122,7 @@ pub all-in-turn : (clients : Clients) → in_turn (own_of clients) (length clien
 all-in-turn clients = first-in-turn clients (length clients) (omega arith) ∙ ap turn_of (take_all (length clients) clients (omega arith))
 
 pub none-behind : (clients : Clients) (c : ℕ) → length clients ≤ c → own_of clients c ≡ []
-none-behind clients c past = ap (λ (o : Option (Vec Item Global)). ops_in (items_in o)) (slice_get_past clients c past)
+none-behind clients c past = ap (λ (o : Option ItemList). ops_in (items_in o)) (slice_get_past clients c past)
 
 -- they are what is asked
 pub turn-asks : (clients : Clients) → AllRun clients → map asks (turn_of clients) ≡ one_after_another (map row_asks clients)
@@ -150,7 +150,7 @@ turn-many (row ∷ clients) all =
     let here = ops-many row.items (all zero row refl) in
     let rest = turn-many clients (λ c r h. all (suc c) r h) in
     let one = length-append (ops_in row.items) (turn_of clients) in
-    let two = sum_by-cons (λ (row : Vec Item Global). length row.items) row clients in
+    let two = sum_by-cons (λ (row : ItemList). length row.items) row clients in
     omega (arith, here, rest, one, two)
 
 pub turn-writes : (clients : Clients) → sum_by op_writes (turn_of clients) ≡ sum_by (λ row. row_writes row.items) clients
@@ -159,7 +159,7 @@ turn-writes (row ∷ clients) =
     let here = ops-write row.items in
     let rest = turn-writes clients in
     let one = sum_by-append op_writes (ops_in row.items) (turn_of clients) in
-    let two = sum_by-cons (λ (row : Vec Item Global). row_writes row.items) row clients in
+    let two = sum_by-cons (λ (row : ItemList). row_writes row.items) row clients in
     omega (arith, here, rest, one, two)
 
 pub turn-reads : (clients : Clients) → sum_by op_sectors (turn_of clients) ≡ sum_by (λ row. row_sectors row.items) clients
@@ -168,7 +168,7 @@ turn-reads (row ∷ clients) =
     let here = ops-read row.items in
     let rest = turn-reads clients in
     let one = sum_by-append op_sectors (ops_in row.items) (turn_of clients) in
-    let two = sum_by-cons (λ (row : Vec Item Global). row_sectors row.items) row clients in
+    let two = sum_by-cons (λ (row : ItemList). row_sectors row.items) row clients in
     omega (arith, here, rest, one, two)
 
 -- what a client asks, among all

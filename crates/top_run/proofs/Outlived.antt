@@ -1,7 +1,6 @@
 -- A run that the array outlives isn't lost, and in one that isn't lost each item has the reply that it ought to.
 use Rattle.std.proofs.Common.{◌≡◌, ◌≢◌, ◌⊎◌, inl, inr, ℕ, zero, suc, ◌<◌, ◌≤◌, List, [], ◌∷◌, length, map, Bool, true, false, Option, Some, None, option_map, slice_get, slice_set, refl, sym, ◌∙◌, ap, subst, arith}
-use Rattle.std.specs.Prelude.{Contains, Vec, count_by, if◌then◌else◌}
-use Rattle.std.specs.declared.alloc.Global.{Global}
+use Rattle.std.specs.Prelude.{Contains, count_by, if◌then◌else◌}
 use Rattle.std.proofs.lemmas.Bool.{cases_lt}
 use Rattle.std.proofs.lemmas.List.{length-set}
 use Rattle.std.proofs.lemmas.Option.{slice_get-map, slice_get_past, slice_get_within, get_or_from_slice_get}
@@ -21,6 +20,7 @@ use Rattle.eng_cols.specs.Stripes.{filled_in, spreads, states_of}
 use Rattle.eng_cols.proofs.Lists.{get_set_other, get_set_same}
 use Rattle.eng_cols.proofs.Losing.{lost-excludes}
 use Rattle.eng_world.specs.declared.item.Item.{Item as AnyItem}
+use Rattle.item_list.specs.ItemList.{ItemList}
 use Rattle.eng_world.specs.declared.item.Item.TheVariants as item
 use Rattle.eng_world.specs.declared.item.Reply.{Reply}
 use Rattle.eng_world.specs.declared.item.Reply.TheVariants as reply
@@ -161,17 +161,17 @@ module _ {D : Type 0} (g : Ghosts D) (a : Work) (taken back : List (Option D)) (
       at : slice_get (items_at s.clients w.id.client) w.id.index ≡ Some (item.Fail c)
       at = ap (λ (l : List AnyItem). slice_get l w.id.index) (ran.tells.items w.id.client other) ∙ w.asked
 
-      by : (o : Option (Vec AnyItem Global)) → slice_get s.clients w.id.client ≡ o → HasFail a c
-      by None is = let z : None ≡ Some (item.Fail c) = ap (λ (o : Option (Vec AnyItem Global)). slice_get (items_in o) w.id.index) (sym is) ∙ at in absurd (let u : ⊥ = cc in u)
+      by : (o : Option ItemList) → slice_get s.clients w.id.client ≡ o → HasFail a c
+      by None is = let z : None ≡ Some (item.Fail c) = ap (λ (o : Option ItemList). slice_get (items_in o) w.id.index) (sym is) ∙ at in absurd (let u : ⊥ = cc in u)
       by (Some row) is =
-          let here : slice_get row.items w.id.index ≡ Some (item.Fail c) = ap (λ (o : Option (Vec AnyItem Global)). slice_get (items_in o) w.id.index) (sym is) ∙ at in
+          let here : slice_get row.items w.id.index ≡ Some (item.Fail c) = ap (λ (o : Option ItemList). slice_get (items_in o) w.id.index) (sym is) ∙ at in
           record {
             row = map seen row.items;
             client =
                 at-place a.clients w.id.client (map seen row.items)
                 (ap (λ l. slice_get l w.id.client) (sym ran.tells.asked)
-                ∙ (slice_get-map (λ (items : Vec AnyItem Global). map seen items.items) s.clients w.id.client
-                ∙ ap (option_map (λ (items : Vec AnyItem Global). map seen items.items)) is));
+                ∙ (slice_get-map (λ (items : ItemList). map seen items.items) s.clients w.id.client
+                ∙ ap (option_map (λ (items : ItemList). map seen items.items)) is));
             fails = at-place (map seen row.items) w.id.index (Fails c) (slice_get-map seen row.items w.id.index ∙ ap (option_map seen) here);
           }
 
@@ -405,7 +405,7 @@ module _ {D : Type 0} (g : Ghosts D) (a : Work) (taken back : List (Option D)) (
     told-client : (id : OpId) (asked : AnyItem) → slice_get (items_at s.clients id.client) id.index ≡ Some asked → id.client ≢ 16
     told-client id asked is last =
         let few = ran.tells.few in
-        let none = ap (λ (o : Option (Vec AnyItem Global)). slice_get (items_in o) id.index) (slice_get_past s.clients id.client (omega (arith, few, last))) in
+        let none = ap (λ (o : Option ItemList). slice_get (items_in o) id.index) (slice_get_past s.clients id.client (omega (arith, few, last))) in
         let z : None ≡ Some asked = sym none ∙ is in
         let u : ⊥ = cc in u
 

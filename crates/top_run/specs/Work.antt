@@ -6,7 +6,7 @@ use Rattle.lay_core.specs.Layout.{Shape}
 use Rattle.graph_mean.specs.Graph.{View}
 use Rattle.eng_cols.specs.declared.column.Column.{Column}
 use Rattle.eng_cols.specs.declared.spot.Loss.{Loss}
-use Rattle.eng_world.specs.declared.item.Item.{Item as AnyItem}
+use Rattle.item_list.specs.ItemList.{ItemList}
 use Rattle.eng_world.specs.declared.item.Reply.{Reply}
 use Rattle.eng_world.specs.declared.item.Traced.{Traced}
 use Rattle.eng_array.specs.declared.start.Start.{Start}
@@ -29,7 +29,7 @@ pub record Ending : Type 0 where
 
 -- What a run tells: of each client its items and their replies, the sectors of those that are data, the history, the trace where it is kept, what became of a rebuild, if one was asked for, and how it ended.
 pub record Service : Type 0 where
-  pub clients : List (Vec AnyItem Global)
+  pub clients : List ItemList
   pub replies : List (Vec Reply Global)
   pub sectors : List ℕ
   pub history : List OpId

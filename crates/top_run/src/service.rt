@@ -1,6 +1,7 @@
 //! What is told of a run.
 use blk_plain::OpId;
-use eng_array::{Column, Item, Loss, Reply, Traced};
+use eng_array::{Column, Loss, Reply, Traced};
+use item_list::Items;
 use sector_store::Store;
 
 /// What became of the rebuild of a column.
@@ -30,7 +31,7 @@ pub enum Told {
 /// what the array was lost, if it was.
 #[derive(Drop)]
 pub struct Service {
-    pub clients: Vec<Vec<Item>>,
+    pub clients: Vec<Items>,
     pub replies: Vec<Vec<Reply>>,
     pub sectors: Store,
     pub history: Vec<OpId>,

@@ -1,7 +1,5 @@
 -- A core from its opening over a setup to its close at rest, and the run of worlds that lies between.
 use Rattle.std.proofs.Common.{◌≡◌, ◌≢◌, ◌++◌, ◌+◌, inl, inr, ℕ, zero, suc, ◌≤◌, List, [], ◌∷◌, length, Option, Some, None, false, refl, sym, ◌∙◌, ap, subst, arith}
-use Rattle.std.specs.Prelude.{Vec}
-use Rattle.std.specs.declared.alloc.Global.{Global}
 use Rattle.std.proofs.lemmas.Bool.{cases_lt}
 use Rattle.std.proofs.lemmas.Option.{slice_get_past}
 use Rattle.std.proofs.lemmas.List.{append-nil, get_or_past}
@@ -16,6 +14,7 @@ use Rattle.eng_world.specs.World.{World}
 use Rattle.eng_world.specs.Planning.{Graphs, Promises}
 use Rattle.eng_world.specs.Rebuilding.{GoesOntoBy, IsFrontOn, OneRebuilds, Rebuilds, SpreadAlike}
 use Rattle.eng_world.specs.Step.{IsOpening, EventsLead}
+use Rattle.item_list.specs.ItemList.{ItemList}
 use Rattle.eng_rest.specs.Left.{IsOwn}
 use Rattle.eng_parts.specs.declared.setup.Setup.{Setup}
 use Rattle.eng_parts.specs.declared.setup.Closed.{Closed}
@@ -72,7 +71,7 @@ all-own (x ∷ events) all e (zero, within, is) = subst IsOwn is all.0
 all-own (x ∷ events) all e (suc n, within, is) = all-own events all.1 e (n, omega (arith, within), is)
 
 -- what is handed in past the last client
-pub no-items : (given : List (Vec Item Global)) (c : ℕ) → length given ≤ c → items_at given c ≡ []
+pub no-items : (given : List ItemList) (c : ℕ) → length given ≤ c → items_at given c ≡ []
 no-items given c past = ap items_in (slice_get_past given c past)
 
 module _ {L D : Type 0} (lay : LayoutGhosts L) (disk : DiskGhosts D) where

@@ -19,6 +19,7 @@ use Rattle.eng_cols.proofs.Fewer.{states-die as apart-die}
 use Rattle.eng_cols.specs.Cols.{ColumnState, Live, Dead, Filling, Spread, AtMostOne, HasDevice, state_set, is_set_filling, is_set_spread}
 use Rattle.eng_cols.specs.Deaths.{Dies}
 use Rattle.eng_world.specs.declared.item.Item.{Item}
+use Rattle.item_list.specs.ItemList.{ItemList}
 use Rattle.eng_rest.specs.Left.{alive, is_alive}
 use Rattle.eng_rest.proofs.Summing.{below-le}
 use Rattle.eng_parts.specs.declared.core_room.CoreRoom.{CoreRoom}
@@ -94,7 +95,7 @@ events-less n m k le = let a : n * (2 * m + 1) ≤ k * (2 * m + 1) = mul-le-mul 
 pub row-less : (y : Shape) (graphs : List Held) (n k : ℕ) (items : List Item) → n ≤ k → row_events y graphs n items ≤ row_events y graphs k items
 row-less y graphs n k items le = below-le (λ i. item_events k (most_in y graphs (slice_get items i))) (λ i. item_events n (most_in y graphs (slice_get items i))) (length items) (λ i l. events-less n (most_in y graphs (slice_get items i)) k le)
 
-opening-less : (y : Shape) (graphs : List Held) (old new : List ColumnState) (given : List (Vec Item Global)) → alive new ≤ alive old → opening_events y graphs new given ≤ opening_events y graphs old given
+opening-less : (y : Shape) (graphs : List Held) (old new : List ColumnState) (given : List ItemList) → alive new ≤ alive old → opening_events y graphs new given ≤ opening_events y graphs old given
 opening-less y graphs old new given le =
     let a = below-le (λ c. row_events y graphs (alive old) (items_at given c)) (λ c. row_events y graphs (alive new) (items_at given c)) 16 (λ c l. row-less y graphs (alive new) (alive old) (items_at given c) le) in
     omega (arith, a, le)

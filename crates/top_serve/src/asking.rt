@@ -3,12 +3,13 @@ ghost use Rattle.std.specs.Prelude.{◌≡◌, ◌<◌, length};
 ghost use Rattle.top_serve.specs.Setups.{MayStart};
 
 use blk_disk::Disk;
-use eng_array::{Item, Setup, Start};
+use eng_array::{Setup, Start};
 use eng_cols::Column;
+use item_list::Items;
 use lay_core::Layout;
 use raid_recon::rebuild_count;
 
-fn items_of(clients: &[Vec<Item>]) -> u64 {
+fn items_of(clients: &[Items]) -> u64 {
     let mut items: u64 = 0;
     for client in clients {
         items = items.saturating_add(client.len() as u64);

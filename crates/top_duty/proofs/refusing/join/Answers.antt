@@ -1,7 +1,6 @@
 use Rattle.std.proofs.Common.{◌≤◌, ◌+◌, List, length, map, Ok, subst, sym}
-use Rattle.std.specs.Prelude.{All, Vec}
-use Rattle.std.specs.declared.alloc.Global.{Global}
-use Rattle.eng_world.specs.declared.item.Item.{Item}
+use Rattle.std.specs.Prelude.{All}
+use Rattle.item_list.specs.ItemList.{ItemList}
 use Rattle.raid_script.specs.declared.join.Join.{Join}
 use Rattle.raid_script.specs.Asked.{IsJoinOf, seen}
 use Rattle.top_bay.specs.Views.{asked_seen}
@@ -20,7 +19,7 @@ join_all-requires-clause-joins g c = subst (λ (js : List Join). All (IsJoinOf (
 pub join_all-requires-clause-asked : goal.join_all-requires-clause-asked
 join_all-requires-clause-asked g c =
     let a = c.args.asked.now in
-    subst (λ (l : List (Vec Item Global)). All (λ (row : Vec Item Global). All MayBeAsked (map seen row.items)) l) (sym c.deref.ensures.value)
+    subst (λ (l : List ItemList). All (λ (row : ItemList). All MayBeAsked (map seen row.items)) l) (sym c.deref.ensures.value)
     (rows-asked a.conf.columns (length a.book + length a.joins.items) a.clients.items c.requires.asked)
 
 pub returns-in-Ok-clause-joined : goal.returns-in-Ok-clause-joined
@@ -28,5 +27,5 @@ returns-in-Ok-clause-joined g c =
     let y = g.L.Layout.shape c.args.layout.now in
     let k = asked_seen c.args.asked.now in
     let views = views_of c.in-Ok.joined.items in
-    subst (λ (rows : List (Vec Item Global)). AreJoined y k.book (map (λ (row : Vec Item Global). map seen row.items) rows) (length k.book) k.joins (Ok views)) c.deref.ensures.value
-    (subst (λ (js : List Join). AreJoined y k.book (map (λ (row : Vec Item Global). map seen row.items) c.deref.result.now) (length k.book) js (Ok views)) c.deref-2.ensures.value c.in-Ok.ensures.joined)
+    subst (λ (rows : List ItemList). AreJoined y k.book (map (λ (row : ItemList). map seen row.items) rows) (length k.book) k.joins (Ok views)) c.deref.ensures.value
+    (subst (λ (js : List Join). AreJoined y k.book (map (λ (row : ItemList). map seen row.items) c.deref.result.now) (length k.book) js (Ok views)) c.deref-2.ensures.value c.in-Ok.ensures.joined)

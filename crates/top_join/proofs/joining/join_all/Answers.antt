@@ -1,10 +1,8 @@
 use Rattle.std.proofs.Common.{◌≡◌, ◌∙◌, ℕ, ◌+◌, List, [], ◌∷◌, ◌++◌, drop, get_or, length, map, Ok, sym, ap, subst, arith}
-use Rattle.std.specs.Prelude.{Vec}
-use Rattle.std.specs.declared.alloc.Global.{Global}
 use Rattle.std.proofs.Math.ListN.{drop_of_length-le}
 use Rattle.std.proofs.lemmas.List.{drop_more, map_push}
-use Rattle.eng_world.specs.declared.item.Item.{Item}
 use Rattle.graph_mean.specs.Graph.{Held, View}
+use Rattle.item_list.specs.ItemList.{ItemList}
 use Rattle.raid_script.specs.declared.join.Join.{Join}
 use Rattle.raid_script.specs.Asked.{seen}
 use Rattle.top_join.specs.Answers.{RefusesOne}
@@ -18,7 +16,7 @@ no-join = record { line = 0; first = 0; second = 0 }
 pub loop-j-init : goal.loop-j-init
 loop-j-init g c =
     let y = g.L.Layout.shape c.args.layout.now in
-    let rows = map (λ (row : Vec Item Global). map seen row.items) c.args.clients.now in
+    let rows = map (λ (row : ItemList). map seen row.items) c.args.clients.now in
     let book = c.args.book.now in
     let joins = c.args.joins.now in
     let none : map (λ (v : Held). v.drawn) c.in_ok-joined.joined.items ≡ [] = ap (λ (vs : List Held). map (λ (v : Held). v.drawn) vs) c.in_ok-joined.ensures.items in
@@ -29,7 +27,7 @@ loop-j-init g c =
 pub returns-in-Err-clause-refused : goal.returns-in-Err-clause-refused
 returns-in-Err-clause-refused g c =
     let y = g.L.Layout.shape c.args.layout.now in
-    let rows = map (λ (row : Vec Item Global). map seen row.items) c.args.clients.now in
+    let rows = map (λ (row : ItemList). map seen row.items) c.args.clients.now in
     let book = c.args.book.now in
     let joins = c.args.joins.now in
     let j = c.loop-j.j in
@@ -42,7 +40,7 @@ returns-in-Err-clause-refused g c =
 pub loop-j-preserved : goal.loop-j-preserved
 loop-j-preserved g c =
     let y = g.L.Layout.shape c.args.layout.now in
-    let rows = map (λ (row : Vec Item Global). map seen row.items) c.args.clients.now in
+    let rows = map (λ (row : ItemList). map seen row.items) c.args.clients.now in
     let book = c.args.book.now in
     let joins = c.args.joins.now in
     let j = c.loop-j.j in
@@ -61,7 +59,7 @@ loop-j-preserved g c =
 pub returns-clause-joined : goal.returns-clause-joined
 returns-clause-joined g c =
     let y = g.L.Layout.shape c.args.layout.now in
-    let rows = map (λ (row : Vec Item Global). map seen row.items) c.args.clients.now in
+    let rows = map (λ (row : ItemList). map seen row.items) c.args.clients.now in
     let book = c.args.book.now in
     let views = map (λ (v : Held). v.drawn) c.loop-j.joined.items in
     all-gone y book rows (length book) c.args.joins.now views (length book + c.loop-j.j)

@@ -1,7 +1,5 @@
 use Rattle.std.proofs.Common.{◌≡◌, drop, map}
-use Rattle.std.specs.Prelude.{Vec}
-use Rattle.std.specs.declared.alloc.Global.{Global}
-use Rattle.eng_world.specs.declared.item.Item.{Item}
+use Rattle.item_list.specs.ItemList.{ItemList}
 use Rattle.raid_script.specs.Asked.{seen}
 use Rattle.top_join.specs.Joining.{spans_in}
 use Rattle.top_join.proofs.written.patches_in.Given as goal
@@ -9,5 +7,5 @@ use Rattle.top_join.proofs.written.patches_in.Given as goal
 -- the item is one of a client that is left, if there is one
 abbrev pub invariant-loop-items : goal.invariant-loop-items
 invariant-loop-items l =
-    spans_in l.graph (map (λ (row : Vec Item Global). map seen row.items) l.clients)
-    ≡ spans_in l.graph (map (λ (row : Vec Item Global). map seen row.items) (drop l.items-index l.clients))
+    spans_in l.graph (map (λ (row : ItemList). map seen row.items) l.clients)
+    ≡ spans_in l.graph (map (λ (row : ItemList). map seen row.items) (drop l.items-index l.clients))

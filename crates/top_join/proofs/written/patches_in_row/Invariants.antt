@@ -4,5 +4,5 @@ use Rattle.top_join.specs.Joining.{spans_in_row}
 use Rattle.top_join.proofs.written.patches_in_row.Given as goal
 
 -- the item is among those that are left, if there is one
-abbrev pub invariant-loop-item : goal.invariant-loop-item
-invariant-loop-item l = spans_in_row l.graph (map seen l.items) ≡ spans_in_row l.graph (map seen (drop l.item-index l.items))
+abbrev pub invariant-loop-at : goal.invariant-loop-at
+invariant-loop-at l = spans_in_row l.graph (map seen l.items.items) ≡ spans_in_row l.graph (map seen (drop l.at l.items.items))

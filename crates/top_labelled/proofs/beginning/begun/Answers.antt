@@ -1,10 +1,9 @@
 use Rattle.std.proofs.Common.{◌≡◌, ◌∙◌, ℕ, List, Bool, Option, length, refl, sym, ap, subst, arith}
-use Rattle.std.specs.Prelude.{All, Vec}
-use Rattle.std.specs.declared.alloc.Global.{Global}
+use Rattle.std.specs.Prelude.{All}
 use Rattle.graph_mean.specs.Graph.{Held}
 use Rattle.eng_cols.specs.declared.column.Column.{Column}
+use Rattle.item_list.specs.ItemList.{ItemList}
 use Rattle.eng_array.specs.declared.start.Start.{Start}
-use Rattle.eng_world.specs.declared.item.Item.{Item}
 use Rattle.raid_map.specs.Asking.{IsSpanned, file_of}
 use Rattle.raid_map.specs.Regions.{Marks as Map}
 use Rattle.top_close.specs.Stage.{DiesIn}
@@ -25,7 +24,7 @@ look_at_maps-requires-clause-can g c = can-act g.L.Layout g.D.Disk c.args.labell
 
 pub mark_asked-requires-clause-spans : goal.mark_asked-requires-clause-spans
 mark_asked-requires-clause-spans g c =
-    subst (λ (clients : List (Vec Item Global)). All (λ (v : Vec Item Global). All IsSpanned v.items) clients) (sym c.deref-4.ensures.value) (all-spanned g.L.Layout g.D.Disk c.args.labelled.setup c.requires.can.setup)
+    subst (λ (clients : List ItemList). All (λ (v : ItemList). All IsSpanned v.items) clients) (sym c.deref-4.ensures.value) (all-spanned g.L.Layout g.D.Disk c.args.labelled.setup c.requires.can.setup)
 
 pub opened-began-requires-clause-within : goal.opened-began-requires-clause-within
 opened-began-requires-clause-within g c =
@@ -75,6 +74,6 @@ returns g c =
     c.requires.maps.union c.requires.maps.marks (o.ensures.maps.0 ∙ c.mark_asked.ensures.rest.0) o.ensures.maps.1 refl refl refl refl device k.ensures.looks
     (λ is.
     subst (λ (cs : List Column). MarksAsked y (file_of l.setup.graphs.items) l.setup.clients.items cs l.start k.new.union c.args.maps.marks marks) c.deref-5.ensures.value
-    (subst (λ (clients : List (Vec Item Global)). MarksAsked y (file_of l.setup.graphs.items) clients c.deref-5.result.now l.start k.new.union c.args.maps.marks marks) c.deref-4.ensures.value
+    (subst (λ (clients : List ItemList). MarksAsked y (file_of l.setup.graphs.items) clients c.deref-5.result.now l.start k.new.union c.args.maps.marks marks) c.deref-4.ensures.value
     (subst (λ (graphs : List Held). MarksAsked y (file_of graphs) c.deref-4.result.now c.deref-5.result.now l.start k.new.union c.args.maps.marks marks) c.deref-3.ensures.value (c.mark_asked.ensures.marked (kept ∙ is)))))
     c.mark_asked.ensures.same.1 opens clears o.ensures.maps.2 o.ensures.can o.ensures.held o.ensures.judge (g.met.L.Layout.is_layout l.setup.layout)
