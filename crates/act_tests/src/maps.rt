@@ -14,12 +14,14 @@ use blk_plain::{Op, Span};
 use eng_cols::{Cols, Column};
 use eng_world::Item;
 use graph_mean::{Buf, Graph, Node};
+use item_list::Items;
 use lay_core::{Layout, StripeMap};
 use lay_plain::Raid5;
 use raid_map::{Map, MapRoom, mark_all, mark_script, read_maps, sweep_marked};
 use raid_progress::Silent;
 use raid_recon::{Room, SweepRoom, sweep_check};
 use std::alloc::Global;
+use std::process::Abort;
 use std::test::Fail;
 
 // The serial of the array.
@@ -162,11 +164,60 @@ fn stop_disk(alloc: Global) -> Result<Option<MemStop>, Fail> {
 }
 
 // The first three stripes are marked. Then stripe 0 is written twice on one device, stripe 1 on another and stripe 2
-// on the third, and the power stops, whichever of the four sectors is kept.
+// on the third.
+fn written(alloc: Global, layout: &Raid5) -> Result<Array<MemStop>, Fail> {
+    let disks = [stop_disk(alloc)?, stop_disk(alloc)?, stop_disk(alloc)?];
+    let mut array = array_of(alloc, disks)?;
+    mark_first(alloc, layout, &mut array, 3)?;
+    write(&mut array.devices[0], 64, 0xa5)?;
+    write(&mut array.devices[0], 64, 0xb6)?;
+    write(&mut array.devices[1], 65, 1)?;
+    write(&mut array.devices[2], 66, 1)?;
+    Ok(array)
+}
+
+// The power stops, and these of the four sectors are kept.
+fn stop(array: &mut Array<MemStop>, keep: [bool; 4]) -> Result<(), Fail> {
+    array.devices[0] = stopped(array.devices[0].take(), &keep[..2])?;
+    array.devices[1] = stopped(array.devices[1].take(), &keep[2..3])?;
+    array.devices[2] = stopped(array.devices[2].take(), &keep[3..])?;
+    Ok(())
+}
+
+// The array is opened, and so many stripes are marked, and so many check units rewritten.
+fn is_opened(
+    rt: &impl Abort,
+    alloc: Global,
+    array: &mut Array<MemStop>,
+    keep: [bool; 4],
+    marked: u32,
+    rewritten: u64,
+) -> Result<(), Fail> {
+    let layout = Raid5::new(3, 1, 6)?;
+    let found = opened(alloc, &layout, array)?;
+    let wanted = Found {
+        any: true,
+        marked,
+        rewritten,
+        unsound: 0,
+    };
+    same_at(rt, keep, found, wanted);
+    Ok(())
+}
+
+fn is_swept(rt: &impl Abort, alloc: Global, keep: [bool; 4]) -> Result<(), Fail> {
+    let layout = Raid5::new(3, 1, 6)?;
+    let mut array = written(alloc, &layout)?;
+    stop(&mut array, keep)?;
+    let rewritten = u64::from(keep[0] || keep[1]) + u64::from(keep[2]) + u64::from(keep[3]);
+    is_opened(rt, alloc, &mut array, keep, 3, rewritten)?;
+    mark_first(alloc, &layout, &mut array, 0)?;
+    is_opened(rt, alloc, &mut array, keep, 0, 0)
+}
+
+// Whichever of the four sectors is kept.
 #[test]
 fn what_a_stop_leaves_unsound_is_swept(rt: HostRuntime) -> Result<(), Fail> {
-    let alloc = rt.alloc();
-    let layout = Raid5::new(3, 1, 6)?;
     for kept in 0..16 {
         let keep = [
             kept % 2 == 1,
@@ -174,32 +225,7 @@ fn what_a_stop_leaves_unsound_is_swept(rt: HostRuntime) -> Result<(), Fail> {
             kept / 4 % 2 == 1,
             kept / 8 == 1,
         ];
-        let disks = [stop_disk(alloc)?, stop_disk(alloc)?, stop_disk(alloc)?];
-        let mut array = array_of(alloc, disks)?;
-        mark_first(alloc, &layout, &mut array, 3)?;
-        write(&mut array.devices[0], 64, 0xa5)?;
-        write(&mut array.devices[0], 64, 0xb6)?;
-        write(&mut array.devices[1], 65, 1)?;
-        write(&mut array.devices[2], 66, 1)?;
-        array.devices[0] = stopped(array.devices[0].take(), &keep[..2])?;
-        array.devices[1] = stopped(array.devices[1].take(), &keep[2..3])?;
-        array.devices[2] = stopped(array.devices[2].take(), &keep[3..])?;
-        let rewritten = u64::from(keep[0] || keep[1]) + u64::from(keep[2]) + u64::from(keep[3]);
-        let swept = Found {
-            any: true,
-            marked: 3,
-            rewritten,
-            unsound: 0,
-        };
-        same_at(&rt, kept, opened(alloc, &layout, &mut array)?, swept);
-        mark_first(alloc, &layout, &mut array, 0)?;
-        let clear = Found {
-            any: true,
-            marked: 0,
-            rewritten: 0,
-            unsound: 0,
-        };
-        same_at(&rt, kept, opened(alloc, &layout, &mut array)?, clear);
+        is_swept(&rt, rt.alloc(), keep)?;
     }
     Ok(())
 }
@@ -245,43 +271,50 @@ fn dead<D: Disk>(array: &Array<D>) -> [bool; 3] {
     dead
 }
 
-// Serial 1001 is 3 times 256 and 233. A map of another serial, or with a bit past the last region, counts for nothing.
+// The maps of three devices, whether the first fails its first call, whether there is a map then, and how many regions
+// are marked. Serial 1001 is 3 times 256 and 233. A map of another serial, or with a bit past the last region, counts for
+// nothing.
+type Maps = ([Option<(u8, u8)>; 3], bool, bool, u32);
+
+const ROWS: [Maps; 6] = [
+    ([None, None, None], false, false, 0),
+    ([Some((233, 0)), None, None], false, true, 0),
+    ([Some((233, 2)), None, Some((233, 34))], false, true, 2),
+    (
+        [Some((233, 1)), Some((233, 2)), Some((233, 4))],
+        true,
+        true,
+        2,
+    ),
+    ([Some((232, 63)), None, None], false, false, 0),
+    ([Some((233, 65)), None, Some((233, 63))], false, true, 6),
+];
+
+fn are_read(rt: &impl Abort, alloc: Global, row: Maps) -> Result<(), Fail> {
+    let (maps, fails, any, marked) = row;
+    let layout = Raid5::new(3, 1, 6)?;
+    let disks = [
+        disk(alloc, maps[0], fails)?,
+        disk(alloc, maps[1], false)?,
+        disk(alloc, maps[2], false)?,
+    ];
+    let mut array = array_of(alloc, disks)?;
+    let found = opened(alloc, &layout, &mut array)?;
+    let wanted = Found {
+        any,
+        marked,
+        rewritten: 0,
+        unsound: 0,
+    };
+    same_at(rt, maps, found, wanted);
+    same(rt, dead(&array), [fails, false, false]);
+    Ok(())
+}
+
 #[test]
 fn maps_are_read_of_the_devices_in_use(rt: HostRuntime) -> Result<(), Fail> {
-    let rows: [([Option<(u8, u8)>; 3], bool, bool, u32); 6] = [
-        ([None, None, None], false, false, 0),
-        ([Some((233, 0)), None, None], false, true, 0),
-        ([Some((233, 2)), None, Some((233, 34))], false, true, 2),
-        (
-            [Some((233, 1)), Some((233, 2)), Some((233, 4))],
-            true,
-            true,
-            2,
-        ),
-        ([Some((232, 63)), None, None], false, false, 0),
-        ([Some((233, 65)), None, Some((233, 63))], false, true, 6),
-    ];
-    let layout = Raid5::new(3, 1, 6)?;
-    for (maps, fails, any, marked) in rows {
-        let disks = [
-            disk(rt.alloc(), maps[0], fails)?,
-            disk(rt.alloc(), maps[1], false)?,
-            disk(rt.alloc(), maps[2], false)?,
-        ];
-        let mut array = array_of(rt.alloc(), disks)?;
-        let found = opened(rt.alloc(), &layout, &mut array)?;
-        same_at(
-            &rt,
-            maps,
-            found,
-            Found {
-                any,
-                marked,
-                rewritten: 0,
-                unsound: 0,
-            },
-        );
-        same(&rt, dead(&array), [fails, false, false]);
+    for row in ROWS {
+        are_read(&rt, rt.alloc(), row)?;
     }
     Ok(())
 }
@@ -334,7 +367,7 @@ fn marked_by(alloc: Global, item: Item) -> Result<[bool; 6], Fail> {
     if !is_spanned(&item) {
         return Err("no blocks".into());
     }
-    let mut items = Vec::new(alloc);
+    let mut items = Items::new(alloc);
     items.push(item)?;
     let mut clients = Vec::new(alloc);
     clients.push(items)?;
@@ -362,24 +395,40 @@ fn read(first: u64, count: u32, graph: Option<u32>) -> Item {
     }
 }
 
+// A script of the item alone marks the regions of these stripes.
+fn is_marked(rt: &impl Abort, alloc: Global, item: Item, marks: [u8; 6]) -> Result<(), Fail> {
+    let mut found = [0; 6];
+    let marked = marked_by(alloc, item)?;
+    for stripe in 0..6 {
+        found[stripe] = u8::from(marked[stripe]);
+    }
+    same_at(rt, item, found, marks);
+    Ok(())
+}
+
 // A stripe has two blocks. Graph 0 has no write, and graph 1 has one.
 #[test]
 fn what_an_item_may_write_is_marked(rt: HostRuntime) -> Result<(), Fail> {
-    let run = |op| Item::Run { op, graph: None };
-    let rows: [(Item, [u8; 6]); 9] = [
-        (read(3, 2, None), [0, 0, 0, 0, 0, 0]),
-        (read(3, 2, Some(0)), [0, 0, 0, 0, 0, 0]),
-        (read(3, 2, Some(1)), [0, 1, 1, 0, 0, 0]),
-        (read(11, 1, Some(1)), [0, 0, 0, 0, 0, 1]),
-        (read(11, 2, Some(1)), [0, 0, 0, 0, 0, 0]),
-        (run(Op::Sync { stripe: 5 }), [0, 0, 0, 0, 0, 1]),
-        (run(Op::Sync { stripe: 6 }), [0, 0, 0, 0, 0, 0]),
-        (run(Op::Rebuild { stripe: 0 }), [1, 0, 0, 0, 0, 0]),
-        (Item::Fail { column: 1 }, [0, 0, 0, 0, 0, 0]),
+    const READS: &[(u64, u32, Option<u32>, [u8; 6])] = &[
+        (3, 2, None, [0, 0, 0, 0, 0, 0]),
+        (3, 2, Some(0), [0, 0, 0, 0, 0, 0]),
+        (3, 2, Some(1), [0, 1, 1, 0, 0, 0]),
+        (11, 1, Some(1), [0, 0, 0, 0, 0, 1]),
+        (11, 2, Some(1), [0, 0, 0, 0, 0, 0]),
     ];
-    for (item, marks) in rows {
-        let marked = marked_by(rt.alloc(), item)?;
-        same_at(&rt, item, marked, marks.map(|mark| mark == 1));
+    let alloc = rt.alloc();
+    for row in READS {
+        let (first, count, graph, wanted) = *row;
+        is_marked(&rt, alloc, read(first, count, graph), wanted)?;
     }
-    Ok(())
+    let run = |op| Item::Run { op, graph: None };
+    is_marked(&rt, alloc, run(Op::Sync { stripe: 5 }), [0, 0, 0, 0, 0, 1])?;
+    is_marked(&rt, alloc, run(Op::Sync { stripe: 6 }), [0; 6])?;
+    is_marked(
+        &rt,
+        alloc,
+        run(Op::Rebuild { stripe: 0 }),
+        [1, 0, 0, 0, 0, 0],
+    )?;
+    is_marked(&rt, alloc, Item::Fail { column: 1 }, [0; 6])
 }

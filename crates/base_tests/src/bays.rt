@@ -82,20 +82,24 @@ fn lends_once(rt: &impl Abort, alloc: Global, bay: &mut MemBay<MemDisk>) -> Resu
 fn memory_gives_texts_and_lends_devices(rt: HostRuntime) -> Result<(), Fail> {
     let alloc = rt.alloc();
     let mut bay = small_bay(alloc)?;
-    for (name, limit, answer) in [
+    const TEXTS: &[(&str, usize, Result<bool, TextFault>)] = &[
         ("conf", 5, Ok(true)),
         ("conf", 4, Err(TextFault::TooLong)),
         ("d0", 5, Err(TextFault::Missing)),
         ("conf", 5, Err(TextFault::Fault)),
-    ] {
+    ];
+    for row in TEXTS {
+        let (name, limit, answer) = *row;
         gives(&rt, alloc, &mut bay, (name, limit), b"START", answer);
     }
-    for (name, answer) in [
+    const DISKS: &[(&str, Result<u64, TakeFault>)] = &[
         ("conf", Err(TakeFault::Missing)),
         ("d0", Err(TakeFault::Fault)),
         ("d0", Ok(2)),
         ("d0", Ok(2)),
-    ] {
+    ];
+    for row in DISKS {
+        let (name, answer) = *row;
         lends(&rt, alloc, &mut bay, name, answer);
     }
     lends_once(&rt, alloc, &mut bay)
@@ -104,13 +108,15 @@ fn memory_gives_texts_and_lends_devices(rt: HostRuntime) -> Result<(), Fail> {
 #[test]
 fn memory_appends_what_fits(rt: HostRuntime) -> Result<(), Fail> {
     let mut sink = MemSink::new(rt.alloc(), 6, vec![in rt.alloc(); 1]?)?;
-    for (piece, answer, held) in [
+    const PIECES: &[(&str, Result<(), Failed>, &str)] = &[
         ("abc", Ok(()), "abc"),
         ("d", Err(Failed), "abc"),
         ("de", Ok(()), "abcde"),
         ("fgh", Err(Failed), "abcdef"),
         ("", Ok(()), "abcdef"),
-    ] {
+    ];
+    for row in PIECES {
+        let (piece, answer, held) = *row;
         same_at(&rt, piece, sink.put(piece.as_bytes()), answer);
         same_at(&rt, piece, sink.bytes(), held.as_bytes());
     }
@@ -123,12 +129,14 @@ fn files_are_texts_and_devices(rt: HostRuntime) -> Result<(), Fail> {
     let mut bay = FileBay::new(rt.clone()?);
     fs::write(&rt, "a_text", "START array\n")?;
     fs::write(&rt, "a_device", vec![in alloc; 1u8; 1100]?.as_slice())?;
-    for (name, limit, answer) in [
+    const TEXTS: &[(&str, usize, Result<bool, TextFault>)] = &[
         ("a_text", 12, Ok(true)),
         ("a_text", 11, Err(TextFault::TooLong)),
         ("no_text", 12, Err(TextFault::Missing)),
         (".", 12, Err(TextFault::Fault)),
-    ] {
+    ];
+    for row in TEXTS {
+        let (name, limit, answer) = *row;
         gives(
             &rt,
             alloc,
@@ -138,12 +146,14 @@ fn files_are_texts_and_devices(rt: HostRuntime) -> Result<(), Fail> {
             answer,
         );
     }
-    for (name, answer) in [
+    const DISKS: &[(&str, Result<u64, TakeFault>)] = &[
         ("a_device", Ok(2)),
         ("a_device", Ok(2)),
         ("no_device", Err(TakeFault::Missing)),
         (".", Err(TakeFault::Fault)),
-    ] {
+    ];
+    for row in DISKS {
+        let (name, answer) = *row;
         lends(&rt, alloc, &mut bay, name, answer);
     }
     fs::remove_file(&rt, "a_text")?;

@@ -78,7 +78,7 @@ fn memory_fails_the_chosen_calls_and_keeps_the_first(rt: HostRuntime) -> Result<
     let bytes = vec![in rt.alloc(); 1; 4 * SECTOR]?;
     let fails = vec![in rt.alloc(); 1, 3, 4]?;
     let mut disk = MemDisk::new(rt.alloc(), bytes, fails, 5)?;
-    for (kind, first, count, byte, good, last) in [
+    const ROWS: &[(u8, u64, usize, u8, bool, u8)] = &[
         (WRITE, 1, 2, 0xa5, true, 0xa5),
         (WRITE, 0, 1, 0x5a, false, 0x5a),
         (READ, 2, 2, 0, true, 1),
@@ -86,7 +86,9 @@ fn memory_fails_the_chosen_calls_and_keeps_the_first(rt: HostRuntime) -> Result<
         (SETTLE, 0, 1, 0, false, 0),
         (READ, 2, 1, 0, true, 0xa5),
         (SETTLE, 0, 1, 0, true, 0),
-    ] {
+    ];
+    for row in ROWS {
+        let (kind, first, count, byte, good, last) = *row;
         makes(&rt, &mut disk, (kind, first, count, byte), (good, last));
     }
     hold(&rt, disk.bytes(), &[0xee, 0xa5, 0xa5, 1]);
@@ -109,13 +111,15 @@ fn a_file_keeps_what_is_written_and_its_remainder(rt: HostRuntime) -> Result<(),
     let file = OpenOptions::new().read(true).write(true).open(&rt, path)?;
     let mut disk = FileDisk::new(file)?;
     same(&rt, disk.sectors(), 4);
-    for (kind, first, count, byte, last) in [
+    const ROWS: &[(u8, u64, usize, u8, u8)] = &[
         (WRITE, 1, 2, 0xa5, 0xa5),
         (SETTLE, 0, 1, 0, 0),
         (READ, 0, 1, 0, 1),
         (READ, 1, 1, 0, 0xa5),
         (READ, 2, 2, 0, 1),
-    ] {
+    ];
+    for row in ROWS {
+        let (kind, first, count, byte, last) = *row;
         makes(&rt, &mut disk, (kind, first, count, byte), (true, last));
     }
     let bytes = fs::read(&rt, path)?;

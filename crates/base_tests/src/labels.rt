@@ -111,7 +111,7 @@ fn tells(rt: &impl Abort, at: usize, byte: u8, is_label: bool, version: u32) {
 
 #[test]
 fn a_sector_with_a_wrong_byte_holds_no_label(rt: HostRuntime) -> Result<(), Fail> {
-    for (at, byte, is_label, version) in [
+    const ROWS: &[(usize, u8, bool, u32)] = &[
         (0, 0x72, false, 1),
         (7, 0x30, false, 1),
         (8, 1, true, 1),
@@ -126,7 +126,9 @@ fn a_sector_with_a_wrong_byte_holds_no_label(rt: HostRuntime) -> Result<(), Fail
         (96, 1, false, 2),
         (100, 1, false, 2),
         (511, 1, false, 2),
-    ] {
+    ];
+    for row in ROWS {
+        let (at, byte, is_label, version) = *row;
         tells(&rt, at, byte, is_label, version);
     }
     Ok(())

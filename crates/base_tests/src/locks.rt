@@ -19,13 +19,15 @@ fn readers_share_and_a_writer_comes_after_both(rt: HostRuntime) -> Result<(), Fa
 
 #[test]
 fn two_modes_on_one_stripe_agree_only_to_share(rt: HostRuntime) -> Result<(), Fail> {
-    for (held, wanted, stripe, want) in [
+    const ROWS: &[(Mode, Mode, u32, bool)] = &[
         (Mode::Share, Mode::Share, 4, true),
         (Mode::Share, Mode::Exclude, 4, false),
         (Mode::Exclude, Mode::Share, 4, false),
         (Mode::Exclude, Mode::Exclude, 4, false),
         (Mode::Exclude, Mode::Exclude, 5, true),
-    ] {
+    ];
+    for row in ROWS {
+        let (held, wanted, stripe, want) = *row;
         let mut locks = Locks::open(rt.alloc(), 2)?;
         same(&rt, locks.take_all(0, &[3, 4], held), true);
         let taken = locks.take_all(1, &[stripe], wanted);

@@ -52,8 +52,8 @@ fn is_listed(rt: &impl Abort, alloc: Global, text: &[u8], want: &str) -> Result<
 
 #[test]
 fn lines_comments_and_words(rt: HostRuntime) -> Result<(), Fail> {
-    let cases = [
-        (b"".as_slice(), "0"),
+    const CASES: &[(&[u8], &str)] = &[
+        (b"", "0"),
         (b"\n", "1"),
         (b"a", "1:a 1"),
         (b"a\nb", "1:a 2:b 2"),
@@ -67,7 +67,8 @@ fn lines_comments_and_words(rt: HostRuntime) -> Result<(), Fail> {
         (b"\r\r\n\r", "1:? 2"),
         (b"a\x0bb\nc\x7f\nd\x80\n\x00\n", "1:? 2:? 3:? 4:? 4"),
     ];
-    for (text, want) in cases {
+    for row in CASES {
+        let (text, want) = *row;
         is_listed(&rt, rt.alloc(), text, want)?;
     }
     Ok(())
@@ -75,8 +76,8 @@ fn lines_comments_and_words(rt: HostRuntime) -> Result<(), Fail> {
 
 #[test]
 fn numbers_have_up_to_ten_digits(rt: HostRuntime) {
-    let cases = [
-        (b"0".as_slice(), Some(0)),
+    const CASES: &[(&[u8], Option<u32>)] = &[
+        (b"0", Some(0)),
         (b"0000000007", Some(7)),
         (b"00000000007", None),
         (b"4294967295", Some(4294967295)),
@@ -88,7 +89,8 @@ fn numbers_have_up_to_ten_digits(rt: HostRuntime) {
         (b"1a", None),
         (b"0x1", None),
     ];
-    for (word, want) in cases {
+    for row in CASES {
+        let (word, want) = *row;
         same(&rt, number(word), want);
     }
 }
@@ -108,8 +110,8 @@ fn is_read_as(rt: &impl Abort, digits: &[u8], want: Option<&[u8]>) {
 
 #[test]
 fn patterns_have_a_power_of_two_of_bytes(rt: HostRuntime) -> Result<(), Fail> {
-    let cases = [
-        (b"a5".as_slice(), Some(b"\xa5".as_slice())),
+    const CASES: &[(&[u8], Option<&[u8]>)] = &[
+        (b"a5", Some(b"\xa5")),
         (b"A5f0", Some(b"\xa5\xf0")),
         (b"00112233", Some(b"\x00\x11\x22\x33")),
         (
@@ -129,7 +131,8 @@ fn patterns_have_a_power_of_two_of_bytes(rt: HostRuntime) -> Result<(), Fail> {
         (b" 5", None),
         (b"0123456789abcdef01", None),
     ];
-    for (word, want) in cases {
+    for row in CASES {
+        let (word, want) = *row;
         is_read_as(&rt, word, want);
     }
     Ok(())

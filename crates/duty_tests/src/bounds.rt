@@ -9,6 +9,7 @@ use blk_disk::MemDisk;
 use blk_plain::{Op, Pattern, Span};
 use eng_world::Item;
 use graph_text::read_graphs;
+use item_list::Items;
 use lay_plain::Raid5;
 use std::alloc::Global;
 use std::process::Abort;
@@ -81,11 +82,11 @@ fn is_asked(item: Item) -> bool
 }
 
 // Whether a script may hold each of the items.
-fn are_asked(items: &[Item]) -> bool
-    ensures { IsTrue result → All MayBeAsked (map seen items.now) }
+fn are_asked(items: &Items) -> bool
+    ensures { IsTrue result → All MayBeAsked (map seen items.now.items) }
 {
-    for item in items {
-        if !is_asked(*item) {
+    for at in 0..items.len() {
+        if !is_asked(items.get(at)) {
             return false;
         }
     }
@@ -104,7 +105,7 @@ fn fits(
     let layout = Raid5::new(5, 32, 64).expect(rt, "a layout");
     let graphs = b"graph g\nnode 0 commit\nnode 1 terminate after 0\nend";
     let book = read_graphs(alloc, graphs).expect(rt, "a graph");
-    let mut row = items.to_vec(alloc)?;
+    let mut row = Items::from_slice(alloc, items)?;
     for _i in 0..many.0 {
         row.push(many.1)?;
     }
@@ -117,6 +118,19 @@ fn fits(
     Ok(trace_fits(&layout, &book, &[], 5, &[row], 0))
 }
 
+// So many failures and these items fit beside 2,818 writes of a block, or don't.
+fn is_answered(
+    rt: &impl Abort,
+    alloc: Global,
+    failures: u32,
+    items: &[Item],
+    answer: bool,
+) -> Result<(), Fail> {
+    let many = (2818, write(0, 1));
+    same(rt, fits(rt, alloc, many, failures, items)?, answer);
+    Ok(())
+}
+
 // A write of a block touches one stripe of four data units, so 9 * 3 + 2 = 29 nodes are counted, and
 // (2 * 29 + 4) * 6 = 372 events with five devices. 2,818 of them are 1,048,296, and leave 280. A
 // failure has 4 * 6 = 24, so has a read past the end; a sync (2 * 8 + 4) * 6 = 120; an item by the
@@ -124,21 +138,16 @@ fn fits(
 #[test]
 fn items_are_counted_by_their_graphs(rt: HostRuntime) -> Result<(), Fail> {
     let by_graph = [read(0, 129, Some(0)), read(8192, 1, Some(0))];
-    for (failures, items, answer) in [
-        (11, [].as_slice(), true),
-        (12, &[], false),
-        (1, &[SYNC, SYNC], true),
-        (2, &[SYNC, SYNC], false),
-        (7, &by_graph, true),
-        (8, &by_graph, false),
-        (10, &[read(8191, 2, None)], true),
-        (11, &[read(8191, 2, None)], false),
-        (0, &[read(8191, 1, None)], false),
-    ] {
-        let many = (2818, write(0, 1));
-        same(&rt, fits(&rt, rt.alloc(), many, failures, items)?, answer);
-    }
-    Ok(())
+    let alloc = rt.alloc();
+    is_answered(&rt, alloc, 11, &[], true)?;
+    is_answered(&rt, alloc, 12, &[], false)?;
+    is_answered(&rt, alloc, 1, &[SYNC, SYNC], true)?;
+    is_answered(&rt, alloc, 2, &[SYNC, SYNC], false)?;
+    is_answered(&rt, alloc, 7, &by_graph, true)?;
+    is_answered(&rt, alloc, 8, &by_graph, false)?;
+    is_answered(&rt, alloc, 10, &[read(8191, 2, None)], true)?;
+    is_answered(&rt, alloc, 11, &[read(8191, 2, None)], false)?;
+    is_answered(&rt, alloc, 0, &[read(8191, 1, None)], false)
 }
 
 // A span of 2,433 blocks touches 20 stripes, more than an operation may, and all of them count:

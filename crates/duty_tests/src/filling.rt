@@ -49,13 +49,15 @@ fn parity_label(column: u32, counter: u32, done: u32, clean: bool) -> [u8; SECTO
     sector
 }
 
-// The three columns; the disk of column 1 had its label one round before.
+// The three columns and the spare, by name, column and counter; the disk of column 1 had its label one round before.
+const OF_PARITY: &[(&str, u32, u32)] = &[("d0", 0, 5), ("d1", 1, 4), ("d2", 2, 5), ("s0", 1, 5)];
+
 fn parity_bay(alloc: Global, done: u32, clean: bool) -> Result<MemBay<MemDisk>, Fail> {
     let mut disks = Vec::new(alloc);
-    disks.push(disk_of(alloc, "d0", 128, &parity_label(0, 5, done, clean))?)?;
-    disks.push(disk_of(alloc, "d1", 128, &parity_label(1, 4, done, clean))?)?;
-    disks.push(disk_of(alloc, "d2", 128, &parity_label(2, 5, done, clean))?)?;
-    disks.push(disk_of(alloc, "s0", 128, &parity_label(1, 5, done, clean))?)?;
+    for (name, column, counter) in OF_PARITY {
+        let sector = parity_label(*column, *counter, done, clean);
+        disks.push(disk_of(alloc, *name, 128, &sector)?)?;
+    }
     bay_with(alloc, disks, PARITY, 1)
 }
 
@@ -182,13 +184,21 @@ fn mirror_label(column: u32, counter: u32, done: u32) -> [u8; SECTOR] {
     sector
 }
 
+// The four columns and the first spare, by name, column and counter.
+const OF_MIRRORS: &[(&str, u32, u32)] = &[
+    ("d0", 0, 4),
+    ("d1", 1, 5),
+    ("d2", 2, 5),
+    ("d3", 3, 5),
+    ("s0", 0, 5),
+];
+
 fn mirror_bay(alloc: Global, done: u32) -> Result<MemBay<MemDisk>, Fail> {
     let mut disks = Vec::new(alloc);
-    disks.push(disk_of(alloc, "d0", 128, &mirror_label(0, 4, done))?)?;
-    disks.push(disk_of(alloc, "d1", 128, &mirror_label(1, 5, done))?)?;
-    disks.push(disk_of(alloc, "d2", 128, &mirror_label(2, 5, done))?)?;
-    disks.push(disk_of(alloc, "d3", 128, &mirror_label(3, 5, done))?)?;
-    disks.push(disk_of(alloc, "s0", 128, &mirror_label(0, 5, done))?)?;
+    for (name, column, counter) in OF_MIRRORS {
+        let sector = mirror_label(*column, *counter, done);
+        disks.push(disk_of(alloc, *name, 128, &sector)?)?;
+    }
     disks.push(disk_of(alloc, "s1", 128, &[0; SECTOR])?)?;
     bay_with(alloc, disks, MIRRORS, 1)
 }

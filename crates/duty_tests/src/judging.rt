@@ -1,5 +1,6 @@
 //! What tests say of values. Each assertion stands here once, since an `assert_eq!` is several times
 //! as dear to prove as a call.
+use item_list::Items;
 use std::fmt::Debug;
 use std::process::Abort;
 
@@ -20,8 +21,8 @@ pub(crate) fn holds(rt: &impl Abort, so: bool) {
     assert!(rt; so);
 }
 
-/// How long the list of this number is, if it's there.
-pub(crate) fn len_at<T>(lists: &[Vec<T>], at: usize) -> Option<usize> {
+/// How many items the client of this number has, if it's there.
+pub(crate) fn len_at(lists: &[Items], at: usize) -> Option<usize> {
     match lists.get(at) {
         Some(list) => Some(list.len()),
         None => None,

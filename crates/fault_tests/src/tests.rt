@@ -84,6 +84,15 @@ fn text(alloc: Global, name: &str, text: &str) -> Result<(Name, Vec<u8>), Fail> 
     Ok((Name::new(alloc, name)?, text.as_bytes().to_vec(alloc)?))
 }
 
+// These texts, each with its name.
+fn text_list(alloc: Global, texts: &[(&str, &str)]) -> Result<Vec<(Name, Vec<u8>)>, Fail> {
+    let mut list = Vec::new(alloc);
+    for (name, words) in texts {
+        list.push(text(alloc, *name, *words)?)?;
+    }
+    Ok(list)
+}
+
 // A bay of these texts, and of components that hold this and of which one call fails.
 fn bay_of(
     alloc: Global,

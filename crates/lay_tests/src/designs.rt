@@ -39,26 +39,26 @@ fn has_objects(rt: &impl Abort, alloc: Global, design: &Design, numbers: &[u32])
 }
 
 // The projective plane of order 2.
-const FANO: [u32; 21] = [
+const FANO: &[u32] = &[
     0, 1, 2, 0, 3, 4, 0, 5, 6, 1, 3, 5, 1, 4, 6, 2, 3, 6, 2, 4, 5,
 ];
 
 #[test]
 fn the_fano_plane_is_a_design(rt: HostRuntime) {
-    let list = list_of(rt.alloc(), &FANO).expect(&rt, "memory");
+    let list = list_of(rt.alloc(), FANO).expect(&rt, "memory");
     let fano = Design::check(rt.alloc(), 7, 7, 3, 3, 1, list).expect(&rt, "a design");
     has(&rt, &fano, (7, 7, 3, 3, 1));
-    has_objects(&rt, rt.alloc(), &fano, &FANO);
+    has_objects(&rt, rt.alloc(), &fano, FANO);
 }
 
 #[test]
 fn a_base_tuple_is_moved_on(rt: HostRuntime) {
     let fano = Design::cyclic(rt.alloc(), 7, &[0, 1, 3]).expect(&rt, "a design");
     has(&rt, &fano, (7, 7, 3, 3, 1));
-    let table = [
+    const TABLE: &[u32] = &[
         0, 1, 3, 1, 2, 4, 2, 3, 5, 3, 4, 6, 4, 5, 0, 5, 6, 1, 6, 0, 2,
     ];
-    has_objects(&rt, rt.alloc(), &fano, &table);
+    has_objects(&rt, rt.alloc(), &fano, TABLE);
 }
 
 #[test]
@@ -71,10 +71,10 @@ fn a_base_tuple_of_squares_is_moved_on(rt: HostRuntime) {
 fn all_tuples_are_a_design(rt: HostRuntime) {
     let complete = Design::complete(rt.alloc(), 5, 3).expect(&rt, "a design");
     has(&rt, &complete, (10, 5, 3, 6, 3));
-    let table = [
+    const TABLE: &[u32] = &[
         0, 1, 2, 0, 1, 3, 0, 1, 4, 0, 2, 3, 0, 2, 4, 0, 3, 4, 1, 2, 3, 1, 2, 4, 1, 3, 4, 2, 3, 4,
     ];
-    has_objects(&rt, rt.alloc(), &complete, &table);
+    has_objects(&rt, rt.alloc(), &complete, TABLE);
 }
 
 #[test]
@@ -107,7 +107,7 @@ fn fault_of(alloc: Global, numbers: [u32; 5], tuples: &[u32]) -> Option<DesignFa
 #[test]
 fn counts_are_told_first(rt: HostRuntime) {
     let count = Some(DesignFault::Count);
-    let numbers = [
+    const NUMBERS: &[[u32; 5]] = &[
         [0, 2, 2, 1, 1],
         [1, 1, 2, 1, 1],
         [1, 33, 2, 1, 1],
@@ -118,7 +118,8 @@ fn counts_are_told_first(rt: HostRuntime) {
         [1, 2, 2, 2, 1],
         [1, 2, 2, 1, 2],
     ];
-    for five in numbers {
+    for row in NUMBERS {
+        let five = *row;
         same(&rt, fault_of(rt.alloc(), five, &[0, 1]), count);
     }
     same(&rt, fault_of(rt.alloc(), [1, 2, 2, 1, 1], &[0, 1]), None);
@@ -132,9 +133,9 @@ fn counts_are_told_first(rt: HostRuntime) {
 #[test]
 fn the_first_cause_is_told_with_its_least_place(rt: HostRuntime) {
     let plane = [7, 7, 3, 3, 1];
-    let table: [([u32; 21], DesignFault); 6] = [
+    const TABLE: &[(&[u32], DesignFault)] = &[
         (
-            [
+            &[
                 0, 0, 2, 0, 3, 7, 0, 5, 9, 1, 3, 5, 1, 4, 6, 2, 3, 6, 2, 4, 5,
             ],
             DesignFault::Element {
@@ -143,7 +144,7 @@ fn the_first_cause_is_told_with_its_least_place(rt: HostRuntime) {
             },
         ),
         (
-            [
+            &[
                 0, 1, 2, 0, 3, 4, 5, 0, 5, 1, 1, 5, 1, 4, 6, 2, 3, 6, 2, 4, 5,
             ],
             DesignFault::Repeat {
@@ -152,31 +153,32 @@ fn the_first_cause_is_told_with_its_least_place(rt: HostRuntime) {
             },
         ),
         (
-            [
+            &[
                 0, 1, 2, 0, 3, 4, 0, 5, 6, 1, 3, 5, 1, 4, 6, 2, 3, 6, 2, 4, 6,
             ],
             DesignFault::Degree { object: 5, has: 2 },
         ),
         (
-            [
+            &[
                 0, 1, 2, 0, 3, 4, 0, 5, 6, 0, 3, 5, 1, 4, 6, 2, 3, 6, 2, 4, 5,
             ],
             DesignFault::Degree { object: 0, has: 4 },
         ),
         (
-            [
+            &[
                 1, 2, 3, 0, 1, 4, 2, 3, 5, 3, 4, 6, 0, 4, 5, 1, 5, 6, 0, 2, 6,
             ],
             DesignFault::Pair { x: 0, y: 3, has: 0 },
         ),
         (
-            [
+            &[
                 0, 1, 2, 0, 1, 2, 0, 5, 6, 3, 4, 5, 1, 4, 6, 3, 2, 6, 3, 4, 5,
             ],
             DesignFault::Pair { x: 0, y: 1, has: 2 },
         ),
     ];
-    for (tuples, want) in table {
-        same(&rt, fault_of(rt.alloc(), plane, &tuples), Some(want));
+    for row in TABLE {
+        let (tuples, want) = *row;
+        same(&rt, fault_of(rt.alloc(), plane, tuples), Some(want));
     }
 }

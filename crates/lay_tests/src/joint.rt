@@ -72,6 +72,13 @@ fn splits<L: Layout>(
 }
 
 #[test]
+fn a_new_map_is_empty(rt: HostRuntime) -> Result<(), Fail> {
+    let map = StripeMap::with_room(rt.alloc())?;
+    same(&rt, is_empty(&map), true);
+    Ok(())
+}
+
+#[test]
 fn spans_of_two_stripes_are_two_parts(rt: HostRuntime) -> Result<(), Fail> {
     let layout = make(&rt, 3, 1, 64);
     let mut map = StripeMap::with_room(rt.alloc())?;

@@ -46,12 +46,14 @@ fn lie_on<L: Layout>(rt: &impl Abort, layout: &L, stripe: u32, columns: &[u32]) 
 #[test]
 fn check_units_go_left_and_data_units_follow_them(rt: HostRuntime) {
     let three = make(&rt, 3, 1, 4);
-    for (stripe, columns) in [
+    const ROWS: &[(u32, [u32; 3])] = &[
         (0, [0, 1, 2]),
         (1, [2, 0, 1]),
         (2, [1, 2, 0]),
         (3, [0, 1, 2]),
-    ] {
+    ];
+    for row in ROWS {
+        let (stripe, columns) = *row;
         lie_on(&rt, &three, stripe, &columns);
     }
 }
@@ -59,13 +61,15 @@ fn check_units_go_left_and_data_units_follow_them(rt: HostRuntime) {
 #[test]
 fn so_do_those_of_five_columns(rt: HostRuntime) {
     let five = make(&rt, 5, 128, 5);
-    for (stripe, columns) in [
+    const ROWS: &[(u32, [u32; 5])] = &[
         (0, [0, 1, 2, 3, 4]),
         (1, [4, 0, 1, 2, 3]),
         (2, [3, 4, 0, 1, 2]),
         (3, [2, 3, 4, 0, 1]),
         (4, [1, 2, 3, 4, 0]),
-    ] {
+    ];
+    for row in ROWS {
+        let (stripe, columns) = *row;
         lie_on(&rt, &five, stripe, &columns);
     }
 }
@@ -91,7 +95,7 @@ fn is_made(rt: &impl Abort, columns: u32, unit_sectors: u32, rows: u32, want: Op
 
 #[test]
 fn a_layout_is_made_of_numbers_in_range_alone(rt: HostRuntime) {
-    let table = [
+    const TABLE: &[(u32, u32, u32, Option<MakeFault>)] = &[
         (1, 0, 0, Some(MakeFault::Columns)),
         (33, 1, 1, Some(MakeFault::Columns)),
         (2, 0, 0, Some(MakeFault::Unit)),
@@ -101,7 +105,8 @@ fn a_layout_is_made_of_numbers_in_range_alone(rt: HostRuntime) {
         (2, 1, 1, None),
         (32, 128, 1_048_576, None),
     ];
-    for (columns, unit_sectors, rows, want) in table {
+    for row in TABLE {
+        let (columns, unit_sectors, rows, want) = *row;
         is_made(&rt, columns, unit_sectors, rows, want);
     }
 }
@@ -131,7 +136,7 @@ fn a_layout_has_the_numbers_that_it_is_made_of(rt: HostRuntime) {
 fn blocks_go_through_a_unit_then_a_stripe(rt: HostRuntime) {
     let layout = make(&rt, 3, 4, 5);
     same(&rt, blocks(&layout), 40);
-    let table = [
+    const TABLE: &[(u64, u32, u32, u32)] = &[
         (0, 0, 0, 0),
         (3, 0, 0, 3),
         (4, 0, 1, 0),
@@ -139,7 +144,8 @@ fn blocks_go_through_a_unit_then_a_stripe(rt: HostRuntime) {
         (13, 1, 1, 1),
         (39, 4, 1, 3),
     ];
-    for (block, stripe, unit, offset) in table {
+    for row in TABLE {
+        let (block, stripe, unit, offset) = *row;
         let want = Home {
             stripe,
             unit,
@@ -246,7 +252,7 @@ fn a_span_past_the_end_or_over_seventeen_stripes_is_refused(rt: HostRuntime) -> 
     // Two blocks a stripe, 80 in all.
     let layout = make(&rt, 3, 1, 40);
     let mut map = StripeMap::with_room(rt.alloc())?;
-    let table = [
+    const TABLE: &[(u64, u32, Option<SplitFault>)] = &[
         (0, 32, None),
         (1, 31, None),
         (79, 1, None),
@@ -259,7 +265,8 @@ fn a_span_past_the_end_or_over_seventeen_stripes_is_refused(rt: HostRuntime) -> 
         (80, 1, Some(SplitFault::OutOfRange)),
         (u64::MAX, u32::MAX, Some(SplitFault::OutOfRange)),
     ];
-    for (first, count, want) in table {
+    for row in TABLE {
+        let (first, count, want) = *row;
         if count > 0 {
             is_refused(&rt, &layout, &mut map, Span { first, count }, want);
         }

@@ -1,7 +1,7 @@
 -- Lists of bytes that differ.
-use Rattle.std.proofs.Common.{◌≡◌, ◌≢◌, ◌⊎◌, ℕ, zero, suc, ◌<◌, List, [], ◌∷◌, Bool, true, false, length, inl, inr, refl, sym, ap, ap₂, subst, arith}
+use Rattle.std.proofs.Common.{◌≡◌, ◌≢◌, ◌⊎◌, ◌↔◌, IsTrue, ℕ, zero, suc, ◌<◌, List, [], ◌∷◌, Bool, true, false, length, inl, inr, refl, ap, ap₂, arith}
 use Rattle.std.specs.Prelude.{slice_index, MatchBool, not}
-use Rattle.std.proofs.lemmas.Bool.{cases_eq}
+use Rattle.std.proofs.lemmas.Bool.{cases_eq, false≢true}
 
 -- lists of one length differ at some place, or are the same
 apart-or-same : (xs ys : List ℕ) → length ys ≡ length xs → ((j : ℕ) × (j < length xs) × (slice_index xs j ≢ slice_index ys j)) ⊎ (xs ≡ ys)
@@ -24,10 +24,10 @@ differ-is true one other long apart = elim (apart-or-same one other long) [
 ]
 differ-is false one other long same = λ j. ap (λ (l : List ℕ). slice_index l j) same
 
-flip : (A B : Type 0) (p : Bool) → MatchBool p A B → MatchBool (not p) B A
-flip A B true h = h
-flip A B false h = h
+apart-when : (p : Bool) (A : Type 0) → (IsTrue p ↔ A) → MatchBool (not p) (A → ⊥) A
+apart-when true A same = same.0 refl
+apart-when false A same = λ a. absurd (false≢true (same.1 a))
 
-pub differ-by : (b p : Bool) (one other : List ℕ) → length other ≡ length one → b ≡ not p → MatchBool p (one ≡ other) (one ≢ other)
-    → MatchBool b ((j : ℕ) × (j < length one) × (slice_index one j ≢ slice_index other j)) ((j : ℕ) → slice_index one j ≡ slice_index other j)
-differ-by b p one other long is told = differ-is b one other long (subst (λ x. MatchBool x (one ≢ other) (one ≡ other)) (sym is) (flip (one ≡ other) (one ≢ other) p told))
+pub differ-by : (p : Bool) (one other : List ℕ) → length other ≡ length one → (IsTrue p ↔ (one ≡ other))
+    → MatchBool (not p) ((j : ℕ) × (j < length one) × (slice_index one j ≢ slice_index other j)) ((j : ℕ) → slice_index one j ≡ slice_index other j)
+differ-by p one other long same = differ-is (not p) one other long (apart-when p (one ≡ other) same)

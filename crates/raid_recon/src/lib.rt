@@ -21,8 +21,6 @@ mod room;
 mod stripe;
 mod sums;
 mod sweep;
-#[cfg(test)]
-mod tests;
 
 pub use count::rebuild_count;
 pub use memory::Memory;

@@ -1,5 +1,5 @@
 //! Reading and summing the units of a stripe, and writing its check unit.
-ghost use Rattle.std.specs.Prelude.{◌≡◌, ◌≢◌, ◌<◌, ◌≤◌, ◌+◌, ◌*◌, ℕ, length, slice_index, IfOk, MatchBool};
+ghost use Rattle.std.specs.Prelude.{◌≡◌, ◌≢◌, ◌<◌, ◌≤◌, ◌+◌, ◌*◌, ◌↔◌, ℕ, length, slice_index, IfOk, IsTrue, MatchBool};
 ghost use Rattle.blk_disk.specs.Devices.{Changes};
 ghost use Rattle.lay_core.specs.Layout.{data_units};
 ghost use Rattle.eng_cols.specs.Cols.{IsFor};
@@ -145,6 +145,18 @@ pub(crate) fn sum_data<L: Layout, D: Disk>(
     Ok(())
 }
 
+// Whether two units are equal. Each pair of bytes is looked at, so that the compiler takes many at once.
+fn are_equal(one: &[u8], other: &[u8]) -> bool
+    requires { length other.now ≡ length one.now }
+    ensures { IsTrue result ↔ (one.now ≡ other.now) }
+{
+    let mut equal = true;
+    for k in 0..one.len() {
+        equal &= one[k] == other[k];
+    }
+    equal
+}
+
 // Whether two units differ.
 fn differ(one: &[u8], other: &[u8]) -> bool
     requires { length other.now ≡ length one.now }
@@ -152,7 +164,7 @@ fn differ(one: &[u8], other: &[u8]) -> bool
         ((j : ℕ) × (j < length one.now) × (slice_index one.now j ≢ slice_index other.now j))
         ((j : ℕ) → slice_index one.now j ≡ slice_index other.now j) }
 {
-    one != other
+    !are_equal(one, other)
 }
 
 /// Reads all units, makes `sum` the sum of the data units, and answers whether the check unit holds

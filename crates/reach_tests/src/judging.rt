@@ -17,3 +17,8 @@ pub(crate) fn same_at<R: Debug + Drop, T: PartialEq + Debug + Drop>(
 ) {
     assert_eq!(rt; found, wanted, "{row:?}");
 }
+
+/// So it is.
+pub(crate) fn holds(rt: &impl Abort, so: bool) {
+    assert!(rt; so);
+}

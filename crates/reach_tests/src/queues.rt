@@ -1,6 +1,7 @@
 //! Three requests to a disk of 1,000 sectors: two writes, and a read of what the first wrote.
 ghost use Rattle.std.specs.Prelude.{◌≡◌, IfOk, length};
 
+use crate::judging::{holds, same};
 use blk_plain::{Op, Pattern, Span};
 use sim_queue::{Memory, Queue, Replies, Request, Served, each_is_served_once, reply_all, serve};
 use std::alloc::Global;
@@ -77,7 +78,7 @@ const fn service(request: u32, start: u64, end: u64) -> Served {
 fn first_in_first_out(rt: HostRuntime) -> Result<(), Fail> {
     let services = served(rt.alloc(), Queue::Fifo)?;
     let wanted = [service(0, 0, 11), service(1, 11, 21), service(2, 21, 30)];
-    assert_eq!(rt; services.as_slice(), wanted.as_slice());
+    same(&rt, services.as_slice(), wanted.as_slice());
     Ok(())
 }
 
@@ -86,7 +87,7 @@ fn the_nearest_first(rt: HostRuntime) -> Result<(), Fail> {
     let wanted = [service(1, 0, 2), service(0, 2, 11), service(2, 11, 12)];
     for queue in [Queue::Sstf, Queue::Scan] {
         let services = served(rt.alloc(), queue)?;
-        assert_eq!(rt; services.as_slice(), wanted.as_slice());
+        same(&rt, services.as_slice(), wanted.as_slice());
     }
     Ok(())
 }
@@ -95,9 +96,11 @@ fn the_nearest_first(rt: HostRuntime) -> Result<(), Fail> {
 fn the_read_is_replied_what_was_written(rt: HostRuntime) -> Result<(), Fail> {
     for queue in [Queue::Fifo, Queue::Sstf, Queue::Scan] {
         let replies = answered(rt.alloc(), queue)?;
-        assert_eq!(rt; replies.sectors(2).len(), 1);
-        assert!(rt; replies.sectors(2)[0].iter().all(|byte| *byte == 0x11));
-        assert_eq!(rt; replies.sectors(0).len(), 0);
+        same(&rt, replies.sectors(2).len(), 1);
+        for sector in replies.sectors(2) {
+            holds(&rt, sector.iter().all(|byte| *byte == 0x11));
+        }
+        same(&rt, replies.sectors(0).len(), 0);
     }
     Ok(())
 }

@@ -1,4 +1,5 @@
 //! Lists of components, found by their labels: what is printed of each, worked by hand.
+use crate::judging::{holds, same, same_at};
 use blk_disk::{Call, MemDisk, SECTOR};
 use raid_bay::{MemBay, MemSink, Name};
 use raid_label::{Label, write_label};
@@ -19,7 +20,7 @@ const NONE: Mark = (0, 0, 0, 0);
 /// A list, its components, and what is printed.
 type Row = (&'static str, &'static [Component], &'static str);
 
-const FOUND: [Row; 6] = [
+const FOUND: &[Row] = &[
     (
         "d4\nd0\nz\n",
         &[
@@ -74,7 +75,7 @@ const FOUND: [Row; 6] = [
     ("# nothing\n", &[], ""),
 ];
 
-const REFUSED: [Row; 7] = [
+const REFUSED: &[Row] = &[
     ("z\nz z\n", &[], "status conf 2 7\n"),
     ("z\ny z\n", &[], "status conf 2 1\n"),
     ("z \x01\n", &[], "status conf 1 1\n"),
@@ -167,8 +168,8 @@ fn is_read_once(rt: &impl Abort, bay: &MemBay<MemDisk>, component: Component) {
     }];
     let count = usize::from(sectors > 0);
     match bay.disk(name) {
-        Some(disk) => assert_eq!(rt; disk.calls(), &calls[..count], "{name}"),
-        None => assert!(rt; false, "{name}"),
+        Some(disk) => same_at(rt, name, disk.calls(), &calls[..count]),
+        None => same_at(rt, name, false, true),
     }
 }
 
@@ -176,7 +177,7 @@ fn is_found(rt: &impl Abort, alloc: Global, row: Row) -> Result<(), Fail> {
     let (list, components, wanted) = row;
     let mut bay = bay_of(alloc, list.as_bytes(), components)?;
     let found = printed(alloc, &mut bay)?;
-    assert_eq!(rt; found.as_slice(), wanted.as_bytes(), "{list}");
+    same_at(rt, list, found.as_slice(), wanted.as_bytes());
     for component in components {
         is_read_once(rt, &bay, *component);
     }
@@ -186,7 +187,7 @@ fn is_found(rt: &impl Abort, alloc: Global, row: Row) -> Result<(), Fail> {
 #[test]
 fn components_are_told_by_their_labels(rt: HostRuntime) -> Result<(), Fail> {
     for row in FOUND {
-        is_found(&rt, rt.alloc(), row)?;
+        is_found(&rt, rt.alloc(), *row)?;
     }
     Ok(())
 }
@@ -195,9 +196,9 @@ fn is_refused(rt: &impl Abort, alloc: Global, row: Row) -> Result<(), Fail> {
     let (list, components, wanted) = row;
     let mut bay = bay_of(alloc, list.as_bytes(), components)?;
     let found = printed(alloc, &mut bay)?;
-    assert_eq!(rt; found.as_slice(), wanted.as_bytes(), "{list}");
+    same_at(rt, list, found.as_slice(), wanted.as_bytes());
     for component in components {
-        assert!(rt; bay.disk(component.0).is_some());
+        holds(rt, bay.disk(component.0).is_some());
     }
     Ok(())
 }
@@ -205,7 +206,7 @@ fn is_refused(rt: &impl Abort, alloc: Global, row: Row) -> Result<(), Fail> {
 #[test]
 fn the_first_fault_of_a_list_is_its_refusal(rt: HostRuntime) -> Result<(), Fail> {
     for row in REFUSED {
-        is_refused(&rt, rt.alloc(), row)?;
+        is_refused(&rt, rt.alloc(), *row)?;
     }
     Ok(())
 }
@@ -220,10 +221,10 @@ fn a_name_has_at_most_255_bytes(rt: HostRuntime) -> Result<(), Fail> {
     let alloc = rt.alloc();
     let mut longest = bay_of(alloc, &long_name(alloc, 255)?, &[])?;
     let refused = printed(alloc, &mut longest)?;
-    assert!(rt; refused.starts_with(b"status nofile nnn"));
+    holds(&rt, refused.starts_with(b"status nofile nnn"));
     let mut longer = bay_of(alloc, &long_name(alloc, 256)?, &[])?;
     let refused = printed(alloc, &mut longer)?;
-    assert_eq!(rt; refused.as_slice(), b"status conf 1 7\n".as_slice());
+    same(&rt, refused.as_slice(), b"status conf 1 7\n".as_slice());
     Ok(())
 }
 
@@ -254,10 +255,10 @@ fn numbered_bay(alloc: Global, count: u16) -> Result<MemBay<MemDisk>, Fail> {
 fn a_list_has_at_most_1024_names(rt: HostRuntime) -> Result<(), Fail> {
     let alloc = rt.alloc();
     let found = printed(alloc, &mut numbered_bay(alloc, 1024)?)?;
-    assert_eq!(rt; found.len(), 1024 * "bare 1000\n".len());
-    assert!(rt; found.starts_with(b"bare 1000\nbare 1001\n"));
-    assert!(rt; found.ends_with(b"bare 2022\nbare 2023\n"));
+    same(&rt, found.len(), 1024 * "bare 1000\n".len());
+    holds(&rt, found.starts_with(b"bare 1000\nbare 1001\n"));
+    holds(&rt, found.ends_with(b"bare 2022\nbare 2023\n"));
     let refused = printed(alloc, &mut numbered_bay(alloc, 1025)?)?;
-    assert_eq!(rt; refused.as_slice(), b"status conf 1025 13\n".as_slice());
+    same(&rt, refused.as_slice(), b"status conf 1025 13\n".as_slice());
     Ok(())
 }

@@ -1,4 +1,5 @@
 //! Texts of requests to a simulated disk: what is printed of them, or how they are refused.
+use crate::judging::{holds, same};
 use blk_disk::MemDisk;
 use raid_bay::{MemBay, MemSink, Name};
 use sim_queue::Queue;
@@ -46,7 +47,7 @@ const LOOSE_REPLIED: &str =
 // Texts, the order in which they are served, and what is printed: services, and replies. In the first
 // rows the ways are 640, 577 and 575 sectors, and then 64, 575 and 1, where the scan turns before the
 // last.
-const SERVED: [(&str, Queue, &str, &str); 6] = [
+const SERVED: &[(&str, Queue, &str, &str)] = &[
     (
         THREE,
         Queue::Fifo,
@@ -87,17 +88,18 @@ const SERVED: [(&str, Queue, &str, &str); 6] = [
 
 #[test]
 fn requests_are_served_and_replied(rt: HostRuntime) -> Result<(), Fail> {
-    for (text, order, served, replied) in SERVED {
+    for row in SERVED {
+        let (text, order, served, replied) = *row;
         let wanted = format!(in rt.alloc(); "{served}{replied}")?;
         let out = printed(rt.alloc(), text, order)?;
-        assert_eq!(rt; out.bytes(), wanted.as_bytes());
+        same(&rt, out.bytes(), wanted.as_bytes());
     }
     Ok(())
 }
 
 // Texts that are no requests, and the line and the code by which they are refused. Words are judged
 // from left to right, and the limits at the end of the line.
-const REFUSED: [(&str, &str); 26] = [
+const REFUSED: &[(&str, &str)] = &[
     ("", "status conf 1 1\n"),
     ("# nothing\n", "status conf 2 1\n"),
     ("disc 5\n", "status conf 1 1\n"),
@@ -137,9 +139,10 @@ const REFUSED: [(&str, &str); 26] = [
 
 #[test]
 fn texts_are_refused_by_their_first_fault(rt: HostRuntime) -> Result<(), Fail> {
-    for (text, wanted) in REFUSED {
+    for row in REFUSED {
+        let (text, wanted) = *row;
         let out = printed(rt.alloc(), text, Queue::Scan)?;
-        assert_eq!(rt; out.bytes(), wanted.as_bytes());
+        same(&rt, out.bytes(), wanted.as_bytes());
     }
     Ok(())
 }
@@ -201,7 +204,7 @@ fn as_many_requests_as_there_may_be(rt: HostRuntime) -> Result<(), Fail> {
         let mut wanted = services(rt.alloc(), order)?;
         wanted.push_str(&replies(rt.alloc())?)?;
         let out = printed(rt.alloc(), &text, order)?;
-        assert_eq!(rt; out.bytes(), wanted.as_bytes());
+        same(&rt, out.bytes(), wanted.as_bytes());
     }
     Ok(())
 }
@@ -210,7 +213,7 @@ fn as_many_requests_as_there_may_be(rt: HostRuntime) -> Result<(), Fail> {
 fn one_request_more_is_refused(rt: HostRuntime) -> Result<(), Fail> {
     let text = downwards(rt.alloc(), MOST + 1)?;
     let out = printed(rt.alloc(), &text, Queue::Fifo)?;
-    assert_eq!(rt; out.bytes(), b"status conf 4098 16\n".as_slice());
+    same(&rt, out.bytes(), b"status conf 4098 16\n".as_slice());
     Ok(())
 }
 
@@ -224,10 +227,10 @@ fn a_front_is_printed_where_the_sink_fails(rt: HostRuntime) -> Result<(), Fail> 
         let fails = vec![in rt.alloc(); call as u32]?;
         let mut out = MemSink::new(rt.alloc(), 4096, fails)?;
         match simulate(rt.alloc(), "load", Queue::Fifo, &mut bay) {
-            Ok(simulated) => assert!(rt; put_simulated(&simulated, &mut out).is_err()),
-            Err(_) => assert!(rt; false),
+            Ok(simulated) => holds(&rt, put_simulated(&simulated, &mut out).is_err()),
+            Err(_) => holds(&rt, false),
         }
-        assert_eq!(rt; out.bytes(), front.as_bytes());
+        same(&rt, out.bytes(), front.as_bytes());
         front.push_str(line)?;
     }
     Ok(())

@@ -108,13 +108,23 @@ fn text(alloc: Global, name: &str, text: &str) -> Result<(Name, Vec<u8>), Fail> 
     Ok((Name::new(alloc, name)?, text.as_bytes().to_vec(alloc)?))
 }
 
+// These texts, each with its name.
+fn text_list(alloc: Global, texts: &[(&str, &str)]) -> Result<Vec<(Name, Vec<u8>)>, Fail> {
+    let mut list = Vec::new(alloc);
+    for (name, words) in texts {
+        list.push(text(alloc, *name, *words)?)?;
+    }
+    Ok(list)
+}
+
 fn bay_of(alloc: Global, session: &Session) -> Result<MemBay<MemDisk>, Fail> {
-    let texts = vec![in alloc;
-        text(alloc, "r5", session.conf)?,
-        text(alloc, "s1", session.script)?,
-        text(alloc, "t1", session.other)?,
-        text(alloc, "t2", session.more)?,
-    ]?;
+    let texts = [
+        ("r5", session.conf),
+        ("s1", session.script),
+        ("t1", session.other),
+        ("t2", session.more),
+    ];
+    let texts = text_list(alloc, &texts)?;
     let mut disks = Vec::new(alloc);
     for name in NAMES {
         let fails = fails_of(alloc, *name, session.fails)?;
@@ -305,6 +315,39 @@ fn put(
     replace(alloc, bay, name, bytes)
 }
 
+// The component holds what these lines say.
+fn has_lines(
+    rt: &impl Abort,
+    alloc: Global,
+    bay: &MemBay<MemDisk>,
+    name: &str,
+    lines: &str,
+) -> Result<(), Fail> {
+    let held = held_by(alloc, found(bay, name)?)?;
+    same_at(rt, name, held.as_str(), lines);
+    Ok(())
+}
+
+// It has had the calls of these lines.
+fn was_called(
+    rt: &impl Abort,
+    alloc: Global,
+    bay: &MemBay<MemDisk>,
+    name: &str,
+    lines: &str,
+) -> Result<(), Fail> {
+    let calls = calls_of(alloc, found(bay, name)?)?;
+    same_at(rt, name, calls.as_str(), lines);
+    Ok(())
+}
+
+// Its first bytes are these.
+fn begins(rt: &impl Abort, bay: &MemBay<MemDisk>, name: &str, bytes: &[u8]) -> Result<(), Fail> {
+    let disk = found(bay, name)?;
+    same_at(rt, name, disk.bytes().starts_with(bytes), true);
+    Ok(())
+}
+
 // Does what a step says, and looks at what comes of it.
 fn act_out<R: Abort + Threads + Wait + Sync>(
     rt: &R,
@@ -313,28 +356,18 @@ fn act_out<R: Abort + Threads + Wait + Sync>(
     step: Step,
 ) -> Result<(), Fail> {
     match step {
-        Step::Run(words, exit, lines) => says(rt, alloc, bay, words, exit, lines)?,
-        Step::Holds(name, lines) => {
-            let held = held_by(alloc, found(bay, name)?)?;
-            same_at(rt, name, held.as_str(), lines);
-        }
-        Step::Begins(name, bytes) => {
-            let disk = found(bay, name)?;
-            same_at(rt, name, disk.bytes().starts_with(bytes), true);
-        }
-        Step::Calls(name, lines) => {
-            let calls = calls_of(alloc, found(bay, name)?)?;
-            same_at(rt, name, calls.as_str(), lines);
-        }
-        Step::Renew(name) => renew(alloc, bay, name)?,
-        Step::Resize(name, sectors) => resize(alloc, bay, name, sectors)?,
-        Step::Copy(from, to) => copy(alloc, bay, from, to)?,
-        Step::Spoil(name, sector, byte) => spoil(alloc, bay, name, sector, byte)?,
-        Step::Mark(name, serial, marks) => maps::marked_by_hand(alloc, bay, name, serial, marks)?,
-        Step::Put(name, place, byte) => put(alloc, bay, name, place, byte)?,
-        Step::Lose(name) => lose(alloc, bay, name)?,
+        Step::Run(words, exit, lines) => says(rt, alloc, bay, words, exit, lines),
+        Step::Holds(name, lines) => has_lines(rt, alloc, bay, name, lines),
+        Step::Begins(name, bytes) => begins(rt, bay, name, bytes),
+        Step::Calls(name, lines) => was_called(rt, alloc, bay, name, lines),
+        Step::Renew(name) => renew(alloc, bay, name),
+        Step::Resize(name, sectors) => resize(alloc, bay, name, sectors),
+        Step::Copy(from, to) => copy(alloc, bay, from, to),
+        Step::Spoil(name, sector, byte) => spoil(alloc, bay, name, sector, byte),
+        Step::Mark(name, serial, marks) => maps::marked_by_hand(alloc, bay, name, serial, marks),
+        Step::Put(name, place, byte) => put(alloc, bay, name, place, byte),
+        Step::Lose(name) => lose(alloc, bay, name),
     }
-    Ok(())
 }
 
 // One step after another.

@@ -10,7 +10,7 @@ const NONE: u32 = 99;
 // The opening round alone, or the sweep of a dirty array behind it; device 1 fails at each call.
 #[test]
 fn a_dirty_array_is_swept(rt: HostRuntime) -> Result<(), Fail> {
-    let rows: [(bool, u32, u64, u32, [&[u8]; 3]); 7] = [
+    const ROWS: &[(bool, u32, u64, u8, [&[u8]; 3])] = &[
         (false, NONE, 0, 8, [b"L", b"L", b"L"]),
         (false, 0, 0, 9, [b"LL", b"l", b"L"]),
         (true, 0, 0, 9, [b"LL", b"l", b"L"]),
@@ -19,21 +19,18 @@ fn a_dirty_array_is_swept(rt: HostRuntime) -> Result<(), Fail> {
         (true, 4, 2, 8, [b"LRR", b"LRRWr", b"LRWR"]),
         (true, NONE, 3, 8, [b"LRRRW", b"LRRWR", b"LRWRR"]),
     ];
-    for (dirty, call, count, counter, calls) in rows {
+    for row in ROWS {
+        let (dirty, call, count, counter, calls) = *row;
         let mut disks = devices(rt.alloc(), [NONE, call, NONE])?;
         let mut label = LAST;
         let (done, ending) = acted(rt.alloc(), Act::Begin(dirty), &mut disks, &mut label)?;
         same(&rt, done, Done::Rewrite(count));
         same(&rt, ending.lost, None);
-        holds(&rt, label.counter == counter && label.clean == 0);
+        same(&rt, (label.counter, label.clean), (u32::from(counter), 0));
         same(&rt, dead(&ending), [false, call < NONE, false]);
         have_calls(&rt, &disks, calls);
         let seat = if call == 0 { 255 } else { 0 };
-        same(
-            &rt,
-            label_on(&disks[2]),
-            Some([counter as u8, 2, 0, 0, seat, 0]),
-        );
+        same(&rt, label_on(&disks[2]), Some([counter, 2, 0, 0, seat, 0]));
     }
     Ok(())
 }
@@ -42,14 +39,15 @@ fn a_dirty_array_is_swept(rt: HostRuntime) -> Result<(), Fail> {
 // another map marks. Device 1 fails at each of the two calls.
 #[test]
 fn marked_stripes_are_swept_behind_a_map(rt: HostRuntime) -> Result<(), Fail> {
-    let rows: [(u32, u32, u32, u64, u8, [&[u8]; 3]); 5] = [
+    const ROWS: &[(u32, u32, u32, u64, u8, [&[u8]; 3])] = &[
         (1, 2, NONE, 1, 3, [b"PSR", b"PSR", b"PSRW"]),
         (3, 3, NONE, 3, 7, [b"PSRRRW", b"PSRRWR", b"PSRWRR"]),
         (0, 3, NONE, 0, 7, [b"PS", b"PS", b"PS"]),
         (3, 1, 0, 0, 1, [b"PS", b"p", b"PS"]),
         (3, 0, 1, 0, 0, [b"PS", b"Ps", b"PS"]),
     ];
-    for (swept, marked, call, count, marks, calls) in rows {
+    for row in ROWS {
+        let (swept, marked, call, count, marks, calls) = *row;
         let mut disks = devices(rt.alloc(), [NONE, call, NONE])?;
         let mut label = LAST;
         let act = Act::Map(swept, marked);
@@ -100,7 +98,7 @@ fn a_column_dies_behind_the_opening_round(rt: HostRuntime) -> Result<(), Fail> {
 
 #[test]
 fn first_labels_count_from_one(rt: HostRuntime) -> Result<(), Fail> {
-    let rows: [([u32; 3], Done, u8, [&[u8]; 3], u8); 3] = [
+    const ROWS: &[([u32; 3], Done, u8, [&[u8]; 3], u8)] = &[
         (
             [NONE, NONE, NONE],
             Done::Labelled(3),
@@ -117,7 +115,8 @@ fn first_labels_count_from_one(rt: HostRuntime) -> Result<(), Fail> {
         ),
         ([0, 0, NONE], Done::Nothing, 3, [b"l", b"l", b"L"], 255),
     ];
-    for (fails, told, counter, calls, seat) in rows {
+    for row in ROWS {
+        let (fails, told, counter, calls, seat) = *row;
         let mut disks = devices(rt.alloc(), fails)?;
         let mut label = LAST;
         let (done, ending) = acted(rt.alloc(), Act::Label, &mut disks, &mut label)?;

@@ -17,7 +17,7 @@ const LOSS: Loss = Loss {
 
 #[test]
 fn an_array_is_settled_closed_and_settled(rt: HostRuntime) -> Result<(), Fail> {
-    let rows: [(Act, [u32; 3], u32, [&[u8]; 3], Option<[u8; 6]>); 6] = [
+    const ROWS: &[(Act, [u32; 3], u32, [&[u8]; 3], Option<[u8; 6]>)] = &[
         (
             Act::End(None),
             [NONE, NONE, NONE],
@@ -61,7 +61,8 @@ fn an_array_is_settled_closed_and_settled(rt: HostRuntime) -> Result<(), Fail> {
             Some([8, 2, 0, 0, 0, 0]),
         ),
     ];
-    for (act, fails, counter, calls, last) in rows {
+    for row in ROWS {
+        let (act, fails, counter, calls, last) = *row;
         let mut disks = devices(rt.alloc(), fails)?;
         let mut label = LAST;
         let (_, ending) = acted(rt.alloc(), act, &mut disks, &mut label)?;
@@ -90,7 +91,7 @@ fn a_loss_stays_what_it_was(rt: HostRuntime) -> Result<(), Fail> {
 // written it is left as it is.
 #[test]
 fn a_column_is_failed(rt: HostRuntime) -> Result<(), Fail> {
-    let rows: [([u32; 3], Done, u32, [&[u8]; 3], Option<[u8; 6]>); 4] = [
+    const ROWS: &[([u32; 3], Done, u32, [&[u8]; 3], Option<[u8; 6]>)] = &[
         (
             [NONE, 0, NONE],
             Done::Killed(1),
@@ -114,7 +115,8 @@ fn a_column_is_failed(rt: HostRuntime) -> Result<(), Fail> {
             Some([9, 2, 0, 255, 255, 0]),
         ),
     ];
-    for (fails, told, counter, calls, last) in rows {
+    for row in ROWS {
+        let (fails, told, counter, calls, last) = *row;
         let mut disks = devices(rt.alloc(), fails)?;
         let mut label = LAST;
         let (done, ending) = acted(rt.alloc(), Act::Kill(1), &mut disks, &mut label)?;
@@ -129,7 +131,7 @@ fn a_column_is_failed(rt: HostRuntime) -> Result<(), Fail> {
 
 #[test]
 fn each_has_its_line(rt: HostRuntime) -> Result<(), Fail> {
-    let rows: [(Done, &[u8]); 8] = [
+    const ROWS: &[(Done, &[u8])] = &[
         (Done::Nothing, b""),
         (Done::Init(64), b"parity initialised 64\n"),
         (Done::Check(0), b"parity clean\n"),
@@ -142,7 +144,8 @@ fn each_has_its_line(rt: HostRuntime) -> Result<(), Fail> {
             b"parity initialised 18446744073709551615\n",
         ),
     ];
-    for (done, wanted) in rows {
+    for row in ROWS {
+        let (done, wanted) = *row;
         let mut out = MemSink::new(rt.alloc(), 100, Vec::new(rt.alloc()))?;
         put_done(&done, &mut out)?;
         same(&rt, out.bytes(), wanted);

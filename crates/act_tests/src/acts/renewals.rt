@@ -13,7 +13,7 @@ const NONE: u32 = 99;
 // settle.
 #[test]
 fn a_device_fails_at_each_call(rt: HostRuntime) -> Result<(), Fail> {
-    let rows: [(u32, u64, u32, [&[u8]; 3]); 10] = [
+    const ROWS: &[(u32, u64, u8, [&[u8]; 3])] = &[
         (0, 0, 9, [b"MLSLS", b"m", b"MLSLS"]),
         (1, 0, 10, [b"MLLSLS", b"Ml", b"MLSLS"]),
         (2, 0, 9, [b"MLRSLS", b"MLr", b"MLSLS"]),
@@ -25,18 +25,18 @@ fn a_device_fails_at_each_call(rt: HostRuntime) -> Result<(), Fail> {
         (8, 3, 10, [b"MLRRRWSLSLS", b"MLRRWRSLs", b"MLRWRRSLSLS"]),
         (9, 3, 9, [b"MLRRRWSLS", b"MLRRWRSLS", b"MLRWRRSLS"]),
     ];
-    for (call, count, counter, calls) in rows {
+    for row in ROWS {
+        let (call, count, counter, calls) = *row;
         let mut disks = devices(rt.alloc(), [NONE, call, NONE])?;
         let mut label = LAST;
         let act = Act::Renew(Renewal::Rewrite);
         let (done, ending) = acted(rt.alloc(), act, &mut disks, &mut label)?;
         same_at(&rt, call, done, Done::Rewrite(count));
         same_at(&rt, call, ending.lost, None);
-        same_at(&rt, call, label.counter, counter);
+        same_at(&rt, call, label.counter, u32::from(counter));
         same_at(&rt, call, dead(&ending), [false, call < 9, false]);
         have_calls(&rt, &disks, calls);
         let seat = if call < 9 { 255 } else { 0 };
-        let counter = counter as u8;
         same(&rt, label_on(&disks[0]), Some([counter, 0, 1, 0, seat, 0]));
         same(&rt, label_on(&disks[2]), Some([counter, 2, 1, 0, seat, 0]));
     }
@@ -48,13 +48,14 @@ fn a_device_fails_at_each_call(rt: HostRuntime) -> Result<(), Fail> {
 // settled behind that.
 #[test]
 fn a_lost_array_gets_one_round_more(rt: HostRuntime) -> Result<(), Fail> {
-    let rows: [([u32; 3], u32, [&[u8]; 3]); 4] = [
+    const ROWS: &[([u32; 3], u8, [&[u8]; 3])] = &[
         ([1, 1, NONE], 10, [b"Ml", b"Ml", b"ML"]),
         ([2, 2, NONE], 9, [b"MLr", b"MLs", b"MLSL"]),
         ([1, 3, NONE], 11, [b"Ml", b"MLSl", b"MLSL"]),
         ([1, 4, NONE], 11, [b"Ml", b"MLSLs", b"MLSLSL"]),
     ];
-    for (fails, counter, calls) in rows {
+    for row in ROWS {
+        let (fails, counter, calls) = *row;
         let mut disks = devices(rt.alloc(), fails)?;
         let mut label = LAST;
         let act = Act::Renew(Renewal::Init);
@@ -66,13 +67,9 @@ fn a_lost_array_gets_one_round_more(rt: HostRuntime) -> Result<(), Fail> {
             stripe: 0,
         };
         same(&rt, ending.lost, Some(loss));
-        same(&rt, label.counter, counter);
+        same(&rt, label.counter, u32::from(counter));
         have_calls(&rt, &disks, calls);
-        same(
-            &rt,
-            label_on(&disks[2]),
-            Some([counter as u8, 2, 0, 255, 255, 0]),
-        );
+        same(&rt, label_on(&disks[2]), Some([counter, 2, 0, 255, 255, 0]));
     }
     Ok(())
 }
@@ -96,7 +93,7 @@ fn what_is_lost_by_its_maps_gets_no_label(rt: HostRuntime) -> Result<(), Fail> {
 // stripe 1 doesn't need; there the read fails on device 1, and stripe 0 is lost.
 #[test]
 fn a_sweep_may_lose_the_array(rt: HostRuntime) -> Result<(), Fail> {
-    let rows: [(Act, u32, Done, [&[u8]; 3]); 2] = [
+    const ROWS: &[(Act, u32, Done, [&[u8]; 3])] = &[
         (Act::Begin(true), 1, Done::Rewrite(0), [b"Lr", b"Lr", b"LL"]),
         (
             Act::Renew(Renewal::Rewrite),
@@ -105,7 +102,8 @@ fn a_sweep_may_lose_the_array(rt: HostRuntime) -> Result<(), Fail> {
             [b"MLr", b"MLr", b"MLL"],
         ),
     ];
-    for (act, call, told, calls) in rows {
+    for row in ROWS {
+        let (act, call, told, calls) = *row;
         let mut disks = devices(rt.alloc(), [call, call, NONE])?;
         let mut label = LAST;
         let layout = Chain::new(3, 1, 2)?;
@@ -142,7 +140,7 @@ fn each_check_unit_is_initialised(rt: HostRuntime) -> Result<(), Fail> {
 // Without labels each device in use is settled once, also where the array is lost.
 #[test]
 fn an_array_without_labels_is_settled_once(rt: HostRuntime) -> Result<(), Fail> {
-    let rows: [([u32; 3], Done, bool, [&[u8]; 3]); 4] = [
+    const ROWS: &[([u32; 3], Done, bool, [&[u8]; 3])] = &[
         (
             [NONE, NONE, NONE],
             Done::Rewrite(3),
@@ -163,7 +161,8 @@ fn an_array_without_labels_is_settled_once(rt: HostRuntime) -> Result<(), Fail> 
         ),
         ([0, 0, NONE], Done::Nothing, true, [b"r", b"s", b"S"]),
     ];
-    for (fails, told, lost, calls) in rows {
+    for row in ROWS {
+        let (fails, told, lost, calls) = *row;
         let mut disks = devices(rt.alloc(), fails)?;
         let mut label = LAST;
         let act = Act::RenewUnlabelled(Renewal::Rewrite);
@@ -179,12 +178,13 @@ fn an_array_without_labels_is_settled_once(rt: HostRuntime) -> Result<(), Fail> 
 // A check writes nothing and settles nothing.
 #[test]
 fn stripes_are_tested(rt: HostRuntime) -> Result<(), Fail> {
-    let rows: [(u32, u64, [&[u8]; 3]); 3] = [
+    const ROWS: &[(u32, u64, [&[u8]; 3])] = &[
         (NONE, 3, [b"RRR", b"RRR", b"RRR"]),
         (0, 0, [b"R", b"r", b""]),
         (1, 1, [b"RR", b"Rr", b"RR"]),
     ];
-    for (call, count, calls) in rows {
+    for row in ROWS {
+        let (call, count, calls) = *row;
         let mut disks = devices(rt.alloc(), [NONE, call, NONE])?;
         let mut label = LAST;
         let (done, ending) = acted(rt.alloc(), Act::Check, &mut disks, &mut label)?;

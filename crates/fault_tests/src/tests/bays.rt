@@ -50,7 +50,7 @@ fn behind<R: Abort + Threads + Wait + Sync>(
 ) -> Result<Held, Fail> {
     let mut bay = bay_of(alloc, texts_of(alloc)?, before, Some(FAULT))?;
     prints(rt, alloc, &mut bay, FAULT, WORDS, (0, PRINTED))?;
-    held_by(alloc, &bay, &NAMES)
+    held_by(alloc, &bay, NAMES)
 }
 
 // How many calls the sink has: the first that fails and isn't made.

@@ -9,7 +9,7 @@ type Cut = (usize, Option<(u32, u8)>);
 // Words are judged as they stand: `START` and its parts, a section's name and its parts, numbers and names. A part of `START`
 // is a surplus disk or spare where these stand. Where the text ends too early, the line is that behind the last: it lacks a
 // line of the array, the layout or the queue, a section, or disks and spares.
-const CUTS: [Cut; 29] = [
+const CUTS: &[Cut] = &[
     (0, Some((1, 3))),
     (1, Some((1, 1))),
     (7, Some((1, 3))),
@@ -48,8 +48,8 @@ const ENDS: usize = 104;
 fn due(bytes: usize) -> Option<(u32, u8)> {
     let mut refused = None;
     for (from, answer) in CUTS {
-        if from <= bytes {
-            refused = answer;
+        if *from <= bytes {
+            refused = *answer;
         }
     }
     refused

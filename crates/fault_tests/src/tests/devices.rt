@@ -19,7 +19,7 @@ struct Row {
     endings: [&'static [Ending]; 3],
 }
 
-const NAMES: [&str; 3] = ["d0", "d1", "d2"];
+const NAMES: &[&str] = &["d0", "d1", "d2"];
 
 // The write of block 0 by a read of unit 1.
 const GRAPH: &str =
@@ -168,7 +168,7 @@ fn fails<R: Abort + Threads + Wait + Sync>(
     at: Fault,
     ending: Ending,
 ) -> Result<(), Fail> {
-    let blank = blank(alloc, &NAMES, 128)?;
+    let blank = blank(alloc, NAMES, 128)?;
     let mut bay = bay_of(
         alloc,
         texts_of(alloc, row.unit, row.script)?,
@@ -177,7 +177,7 @@ fn fails<R: Abort + Threads + Wait + Sync>(
     )?;
     let all = dying(alloc, ending.printed, at.0)?;
     prints(rt, alloc, &mut bay, at, row.words, (0, all.as_bytes()))?;
-    let held = held_by(alloc, &bay, &NAMES)?;
+    let held = held_by(alloc, &bay, NAMES)?;
     reads(rt, alloc, (row.unit, row.reads), &held, at, ending.read)
 }
 
@@ -187,7 +187,7 @@ fn each_fails<R: Abort + Threads + Wait + Sync>(
     alloc: Global,
     row: &Row,
 ) -> Result<(), Fail> {
-    let blank = blank(alloc, &NAMES, 128)?;
+    let blank = blank(alloc, NAMES, 128)?;
     let mut bay = bay_of(alloc, texts_of(alloc, row.unit, row.script)?, &blank, None)?;
     let mut out = sink(alloc)?;
     ended(rt, alloc, &mut bay, row.words, &mut out)?;
@@ -204,8 +204,7 @@ fn each_fails<R: Abort + Threads + Wait + Sync>(
 #[test]
 fn a_device_fails_at_each_of_its_calls(rt: HostRuntime) -> Result<(), Fail> {
     let alloc = rt.alloc();
-    for row in [ONE_BLOCK, SIX_BLOCKS, BY_A_GRAPH] {
-        each_fails(&rt, alloc, &row)?;
-    }
-    Ok(())
+    each_fails(&rt, alloc, &ONE_BLOCK)?;
+    each_fails(&rt, alloc, &SIX_BLOCKS)?;
+    each_fails(&rt, alloc, &BY_A_GRAPH)
 }

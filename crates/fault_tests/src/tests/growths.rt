@@ -1,7 +1,7 @@
 //! A growth of memory is refused. None is here: `tools/refused-growths fault_tests --only growths` runs this test alone, once for each.
 use super::*;
 
-const NAMES: [&str; 3] = ["d0", "d1", "d2"];
+const NAMES: &[&str] = &["d0", "d1", "d2"];
 
 const CONF: &str = "START array\n1 3 0\nSTART disks\nd0\nd1\nd2\nSTART layout\n1 1 1 5\n";
 
@@ -31,19 +31,15 @@ fn with_labels<R: Threads + Wait + Sync>(
     alloc: Global,
     words: &str,
 ) -> Result<Labelled, Fail> {
-    let blank = blank(alloc, &NAMES, 72)?;
-    let texts = vec![in alloc;
-        text(alloc, "r5", CONF)?,
-        text(alloc, "s1", SCRIPT)?,
-        text(alloc, "g1", GRAPH)?,
-    ]?;
+    let blank = blank(alloc, NAMES, 72)?;
+    let texts = text_list(alloc, &[("r5", CONF), ("s1", SCRIPT), ("g1", GRAPH)])?;
     let mut bay = bay_of(alloc, texts, &blank, None)?;
     let mut out = sink(alloc)?;
     if ended(rt, alloc, &mut bay, "r5 -I 7", &mut out)? != 0 {
         return Err("not labelled".into());
     }
     Ok(Labelled {
-        held: held_by(alloc, &bay, &NAMES)?,
+        held: held_by(alloc, &bay, NAMES)?,
         bay,
         words: names_of(alloc, words)?,
         out: sink(alloc)?,

@@ -11,14 +11,14 @@ pub(super) const PRINTED: &[u8] =
 
 pub(super) const WORDS: &str = "r5 --io s1 -w 0";
 
-pub(super) const NAMES: [&str; 6] = ["d0", "d1", "d2", "d3", "d4", "s0"];
+pub(super) const NAMES: &[&str] = &["d0", "d1", "d2", "d3", "d4", "s0"];
 
 // The first sector and the map of column 3 are read, its label written; then the write of its sectors 64 to 95 fails.
 pub(super) const FAULT: Fault = (3, 3);
 
 // The configuration and the script.
 pub(super) fn texts_of(alloc: Global) -> Result<Vec<(Name, Vec<u8>)>, Fail> {
-    Ok(vec![in alloc; text(alloc, "r5", CONF)?, text(alloc, "s1", SCRIPT)?]?)
+    text_list(alloc, &[("r5", CONF), ("s1", SCRIPT)])
 }
 
 // What its components hold before the script.
@@ -26,7 +26,7 @@ pub(super) fn labelled<R: Abort + Threads + Wait + Sync>(
     rt: &R,
     alloc: Global,
 ) -> Result<Held, Fail> {
-    let blank = blank(alloc, &NAMES, 2112)?;
+    let blank = blank(alloc, NAMES, 2112)?;
     let mut bay = bay_of(alloc, texts_of(alloc)?, &blank, None)?;
     for (words, printed) in [
         ("r5 -I 1001", "labels written 5\nstatus ok\n"),
@@ -34,5 +34,5 @@ pub(super) fn labelled<R: Abort + Threads + Wait + Sync>(
     ] {
         prints(rt, alloc, &mut bay, (0, 0), words, (0, printed.as_bytes()))?;
     }
-    held_by(alloc, &bay, &NAMES)
+    held_by(alloc, &bay, NAMES)
 }

@@ -4,7 +4,7 @@ use super::*;
 const CONF: &str =
     "START array\n1 7 0\nSTART disks\nd0\nd1\nd2\nd3\nd4\nd5\nd6\nSTART layout\n1 1 1 D\ncyclic 7 : 0 1 3\n";
 
-const NAMES: [&str; 7] = ["d0", "d1", "d2", "d3", "d4", "d5", "d6"];
+const NAMES: &[&str] = &["d0", "d1", "d2", "d3", "d4", "d5", "d6"];
 
 const READS: &str =
     "0 read 0 16\n0 read 16 16\n0 read 32 16\n0 read 48 16\n0 read 64 16\n0 read 80 16\n0 read 96 16\n0 read 112 16\n0 read 128 16\n0 read 144 3\n";
@@ -28,7 +28,7 @@ struct Beside {
 // Of tuple t, which is t, t + 1 and t + 3 modulo 7: in the first copy the units stand on the first and the third object and
 // the spare place on the second; in the second on the first two, and on the third; in the third on the last two, and on the
 // first. Stripe 7 j + t is tuple t of copy j.
-const BESIDE: [Beside; 6] = [
+const BESIDE: &[Beside] = &[
     Beside {
         column: 0,
         shared: 4,
@@ -67,13 +67,13 @@ const CALLS: u32 = 20;
 
 // The configuration, and a script.
 fn texts_of(alloc: Global, script: &str) -> Result<Vec<(Name, Vec<u8>)>, Fail> {
-    Ok(vec![in alloc; text(alloc, "r5", CONF)?, text(alloc, "s1", script)?]?)
+    text_list(alloc, &[("r5", CONF), ("s1", script)])
 }
 
 // What the array holds before the rebuild.
 fn filled<R: Abort + Threads + Wait + Sync>(rt: &R, alloc: Global) -> Result<Held, Fail> {
     let texts = texts_of(alloc, "0 write 0 16 c3\n")?;
-    let blank = blank(alloc, &NAMES, 128)?;
+    let blank = blank(alloc, NAMES, 128)?;
     let mut bay = bay_of(alloc, texts, &blank, None)?;
     for (words, printed) in [
         ("r5 -I 7", "labels written 7\nstatus ok\n"),
@@ -82,7 +82,7 @@ fn filled<R: Abort + Threads + Wait + Sync>(rt: &R, alloc: Global) -> Result<Hel
     ] {
         prints(rt, alloc, &mut bay, (0, 0), words, (0, printed.as_bytes()))?;
     }
-    held_by(alloc, &bay, &NAMES)
+    held_by(alloc, &bay, NAMES)
 }
 
 // The least stripe that has lost two units once this call has failed. Stripes are rebuilt by ascending number: one that comes
@@ -128,7 +128,7 @@ fn reads<R: Abort + Threads + Wait + Sync>(
     at: Fault,
     dead: &str,
 ) -> Result<(), Fail> {
-    let held = held_by(alloc, bay, &NAMES)?;
+    let held = held_by(alloc, bay, NAMES)?;
     let texts = texts_of(alloc, READS)?;
     let mut bay = bay_of(alloc, texts, &held, None)?;
     let all = format!(in alloc; "{READ}{dead}status ok\n")?;
@@ -197,7 +197,7 @@ fn a_device_fails_as_a_column_is_spread(rt: HostRuntime) -> Result<(), Fail> {
             CALLS as usize,
         );
         for call in 0..CALLS {
-            fails(&rt, alloc, &held, beside, call)?;
+            fails(&rt, alloc, &held, *beside, call)?;
         }
     }
     Ok(())

@@ -18,11 +18,7 @@ const ROOM: u32 = 99;
 
 // The configuration, the script and an empty one.
 fn texts_of(alloc: Global) -> Result<Vec<(Name, Vec<u8>)>, Fail> {
-    Ok(vec![in alloc;
-        text(alloc, "r5", CONF)?,
-        text(alloc, "s1", SCRIPT)?,
-        text(alloc, "t1", "")?,
-    ]?)
+    text_list(alloc, &[("r5", CONF), ("s1", SCRIPT), ("t1", "")])
 }
 
 // A device that holds this.

@@ -5,7 +5,7 @@ use std::process::Abort;
 use std::test::Fail;
 
 // The lines of the large write.
-const LARGE: [&str; 11] = [
+const LARGE: &[&str] = &[
     "graph large",
     "buffer 0 stripe 0 from 0 count 1 new 0",
     "buffer 1 stripe 0 from 0 count 1",
@@ -36,8 +36,8 @@ pub(super) fn large_with(
     changes: &[(usize, &str)],
 ) -> Result<Book, Fail> {
     let mut text = String::new(alloc);
-    for at in 0..LARGE.len() {
-        text.push_str(line_at(changes, at, LARGE[at]))?;
+    for (at, line) in LARGE.iter().enumerate() {
+        text.push_str(line_at(changes, at, *line))?;
         text.push_str("\n")?;
     }
     assert!(rt; text.len() <= 16_777_216);

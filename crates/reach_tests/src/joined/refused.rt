@@ -37,7 +37,7 @@ struct Row<'a> {
 // As the first its buffers stay, and so do its nodes before the commit; the large write's two stand behind those, so
 // that the commit is node 4, its writes are nodes 5 and 6, and the terminator is node 9. As the second its buffers are
 // three more, its nodes 0 and 1 are 2 and 3, and its writes 7 and 8.
-const ROWS: [Row; 12] = [
+const ROWS: &[Row] = &[
     Row {
         name: "nothing changed",
         changes: &[],
@@ -241,7 +241,7 @@ fn a_cause_is_found_at_its_moved_place(rt: HostRuntime) -> Result<(), Fail> {
     write_one(&rt, &mut one, &mut map);
     let mut two = Task::with_room(rt.alloc())?;
     write_two(&rt, &mut two, &mut map);
-    for row in &ROWS {
+    for row in ROWS {
         let book = large_with(&rt, rt.alloc(), row.changes)?;
         assert!(rt; book.count() == 1);
         let graph = book.graph(0);
@@ -281,7 +281,7 @@ struct Formed<'a> {
     second: Result<(), MergeFault>,
 }
 
-const FORMS: [Formed; 5] = [
+const FORMS: &[Formed] = &[
     Formed {
         name: "an antecedent that isn't below its node",
         changes: &[(5, "node 1 xor 2 1 0 after 0 3")],
@@ -319,7 +319,7 @@ fn a_graph_without_form_is_not_joined(rt: HostRuntime) -> Result<(), Fail> {
     let large = large_with(&rt, rt.alloc(), &[])?;
     assert!(rt; large.count() == 1);
     let mut out = Graph::with_room(rt.alloc(), 2048, 2048, 16_384)?;
-    for row in &FORMS {
+    for row in FORMS {
         let book = large_with(&rt, rt.alloc(), row.changes)?;
         assert!(rt; book.count() == 1);
         out.clear();

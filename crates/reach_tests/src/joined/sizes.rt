@@ -91,7 +91,7 @@ struct Row<'a> {
 const NOTHING: (u32, u32, u32) = (0, 0, 0);
 
 // A graph has two nodes more than sums. It has an antecedent for each sum and one more, and its sources.
-const ROWS: [Row; 9] = [
+const ROWS: &[Row] = &[
     Row {
         name: "2,050 nodes",
         first: Size {
@@ -224,7 +224,7 @@ const ROWS: [Row; 9] = [
 
 #[test]
 fn two_graphs_may_be_as_large_as_an_operation(rt: HostRuntime) -> Result<(), Fail> {
-    for row in &ROWS {
+    for row in ROWS {
         let first = sized(&rt, rt.alloc(), row.first)?;
         assert!(rt; first.count() == 1);
         let second = sized(&rt, rt.alloc(), row.second)?;

@@ -10,10 +10,7 @@ fn writes_meet<R: Abort + Threads + Wait + Sync>(
     conf: &str,
     words: &str,
 ) -> Result<(), Fail> {
-    let texts = vec![in alloc;
-        text(alloc, "r5", conf)?,
-        text(alloc, "s1", "0 write 0 1 a5\n")?,
-    ]?;
+    let texts = text_list(alloc, &[("r5", conf), ("s1", "0 write 0 1 a5\n")])?;
     let gate = Gate::new(alloc)?;
     let one = GateDisk::new(zeros(alloc, 128, Vec::new(alloc))?, gate.clone()?, 0, 64);
     let other = GateDisk::new(zeros(alloc, 128, Vec::new(alloc))?, gate, 1, 64);

@@ -229,11 +229,7 @@ pub(super) fn bay_with(
     graphs: &str,
     script: &str,
 ) -> Result<MemBay<MemDisk>, Fail> {
-    let texts = vec![in alloc;
-        text(alloc, "r5", conf)?,
-        text(alloc, "s1", script)?,
-        text(alloc, "t1", graphs)?,
-    ]?;
+    let texts = text_list(alloc, &[("r5", conf), ("s1", script), ("t1", graphs)])?;
     let mut disks = Vec::new(alloc);
     for i in 0..31u32 {
         let name = format!(in alloc; "d{i}")?;

@@ -203,7 +203,7 @@ const STOPPING: &[&str] = &["d0", "d1", "d2", "d3", "d4", "s0"];
 
 // Devices whose power can be stopped.
 fn stop_bay(alloc: Global) -> Result<MemBay<MemStop>, Fail> {
-    let texts = vec![in alloc; text(alloc, "r5", letters::WIDE)?, text(alloc, "s1", "")?]?;
+    let texts = text_list(alloc, &[("r5", letters::WIDE), ("s1", "")])?;
     let mut disks = Vec::new(alloc);
     for name in STOPPING {
         let bytes = vec![in alloc; 0; SECTOR * 2112]?;

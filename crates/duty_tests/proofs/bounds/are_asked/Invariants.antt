@@ -6,5 +6,5 @@ use Rattle.top_bound.specs.Bound.{MayBeAsked}
 use Rattle.duty_tests.proofs.bounds.are_asked.Given as goal
 
 -- a script may hold the items so far
-abbrev pub invariant-loop-item : goal.invariant-loop-item
-invariant-loop-item l = All (λ (i : Item). MayBeAsked (seen i)) (take l.item-index l.items)
+abbrev pub invariant-loop-at : goal.invariant-loop-at
+invariant-loop-at l = All (λ (i : Item). MayBeAsked (seen i)) (take l.at l.items.items)

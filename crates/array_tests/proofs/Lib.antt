@@ -1,0 +1,3 @@
+mod SmallSetups
+mod SmallRebuilds
+mod ShortTraces
