@@ -11,6 +11,7 @@ here=$(cd "$(dirname "$0")" && pwd)
 . "$here/timing.sh"
 command -v cc > /dev/null || { echo "no C compiler here: nothing was measured"; exit 0; }
 cc -O3 -o plain5 "$here/plain5.c"
+plain5=./plain5
 
 rounds=${ROUNDS:-7}
 units='1 8 32 128'
@@ -51,7 +52,7 @@ components() {
 plain() {
     local name=$1 how=$2 prefix=$3 unit=$4 script=$5
     # shellcheck disable=SC2046
-    timed "$name" ./plain5 "$how" "$unit" $(components "$prefix") < "$script"
+    timed "$name" "$plain5" "$how" "$unit" $(components "$prefix") < "$script"
     tail -n 1 out | grep -qx 'status ok'
 }
 
@@ -65,7 +66,7 @@ compare() {
     shift 5
     "$program" "$conf" "$@" > printed
     # shellcheck disable=SC2046
-    ./plain5 "$how" "$unit" $(components plain.) < "$script" > out
+    "$plain5" "$how" "$unit" $(components plain.) < "$script" > out
     cmp printed out
     for disk in 0 1 2 3 4; do cmp "d$disk" "plain.d$disk"; done
     echo "$what: the same output, and the same components"
@@ -88,7 +89,10 @@ rm plain.*
 array wide. 128 512
 for unit in $units; do array "$unit." "$unit" $((256 * 2048 / 4 / unit)); done
 
-for _ in $(seq "$rounds"); do
+built=$program
+for round in $(seq "$rounds"); do
+    copies "$round" "$built" ./plain5
+    program=$folder/$(basename "$built").$round plain5=./plain5.$round
     run none conf --io empty -w 0
     plain c.none run '' 32 empty
     for workers in 0 1 4; do run "one$workers" conf --io one -w "$workers"; done

@@ -16,6 +16,14 @@ array() {
     done
 }
 
+# Copies of files, as NAME.ROUND. Where a program's pages lie in memory weighs a third of its time and more, so each round runs
+# copies of its own, and the least of the rounds is of as many places.
+copies() {
+    local round=$1 file
+    shift
+    for file in "$@"; do cp "$file" "$(basename "$file").$round"; done
+}
+
 declare -A least
 
 # Runs a command, and notes its nanoseconds under a name where they are the least so far.
