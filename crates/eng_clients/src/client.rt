@@ -71,14 +71,17 @@ impl Model for Client {
     } };
 }
 
-// The item at a place, if there is one.
-pub(crate) fn item_in(items: &Items, at: usize) -> Option<Item>
-    ensures { result ≡ slice_get items.now.items at }
+// The item at a place, if there is one, comes in the place of another.
+pub(crate) fn bring_item(items: &Items, at: usize, item: &mut Option<Item>)
+    ensures { item.new ≡ slice_get items.now.items at }
 {
-    if at < items.len() {
-        Some(items.get(at))
-    } else {
-        None
+    if at >= items.len() {
+        *item = None;
+        return;
+    }
+    match item.as_mut() {
+        Some(item) => items.copy_to(at, item),
+        None => *item = Some(items.get(at)),
     }
 }
 
@@ -197,7 +200,7 @@ impl Client {
         ensures { self.new ≡ with_reply self.old reply }
     {
         self.replies.push_reserved(reply);
-        self.item = item_in(&self.items, self.replies.len());
+        bring_item(&self.items, self.replies.len(), &mut self.item);
         self.stage = Stage::Nothing;
         self.lease.clear();
     }

@@ -3,7 +3,7 @@ ghost use Rattle.std.specs.Prelude.{◌≡◌, ◌<◌, ◌≤◌, ◌++◌, [],
 ghost use Rattle.eng_clients.specs.Desk.{desk_at};
 ghost use Rattle.eng_clients.specs.Listing.{rebuild};
 
-use crate::client::{Client, item_in};
+use crate::client::{Client, bring_item};
 use crate::clients::Clients;
 use crate::memory::Memory;
 use eng_one::with_bit;
@@ -78,6 +78,6 @@ fn hand_to(rebuilds: &mut Rebuilds, client: &mut Client)
 {
     mem::swap(&mut rebuilds.items, &mut client.items);
     mem::swap(&mut rebuilds.replies, &mut client.replies);
-    client.item = item_in(&client.items, 0);
+    bring_item(&client.items, 0, &mut client.item);
     rebuilds.room = 0;
 }

@@ -111,8 +111,10 @@ pub fn row_leases<L: Layout>(layout: &L, items: &Items, graphs: &[Graph]) -> u32
     ensures { result ≡ row_leases (L.shape layout.now) graphs.now items.now.items }
 {
     let mut most = 0;
+    let mut item = Item::Fail { column: 0 };
     for i in 0..items.len() {
-        most = most.max(item_leases(layout, &items.get(i), graphs));
+        items.copy_to(i, &mut item);
+        most = most.max(item_leases(layout, &item, graphs));
     }
     most
 }

@@ -3,7 +3,7 @@ ghost use Rattle.std.specs.Prelude.{◌≡◌, ◌<◌, ◌≤◌, ◌++◌, [],
 ghost use Rattle.blk_plain.specs.declared.op.Op.TheVariants as op;
 ghost use Rattle.eng_world.specs.declared.item.Item.TheVariants as item;
 
-use crate::slot::{Slot, item_of, keep};
+use crate::slot::{Slot, keep, put_item};
 use blk_plain::Patches;
 use eng_world::Item;
 use std::alloc::{AllocError, Global};
@@ -81,7 +81,17 @@ impl Items {
         requires { at < length self.now.items }
         ensures { slice_get self.now.items at ≡ Some result }
     {
-        item_of(&self.writes, &self.slots[at])
+        let mut item = Item::Fail { column: 0 };
+        self.copy_to(at, &mut item);
+        item
+    }
+
+    /// Puts the item at a place in the place of another, which takes fewer moves than to hand it out.
+    pub fn copy_to(&self, at: usize, item: &mut Item)
+        requires { at < length self.now.items }
+        ensures { slice_get self.now.items at ≡ Some item.new }
+    {
+        put_item(&self.writes, &self.slots[at], item);
     }
 
     /// Puts an item behind the others. The only error is want of memory.

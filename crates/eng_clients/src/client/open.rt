@@ -5,7 +5,7 @@ ghost use Rattle.eng_log.specs.Given.{items_at};
 ghost use Rattle.eng_clients.specs.Replied.{told_of};
 ghost use Rattle.eng_clients.specs.Fresh.{new_desk};
 
-use crate::client::{Client, item_in};
+use crate::client::{Client, bring_item};
 use crate::memory::Memory;
 use crate::stage::Stage;
 use blk_plain::limits;
@@ -106,7 +106,7 @@ impl ClientRoom {
             ..
         } = self;
         client.items = take_items(given, number, none);
-        client.item = item_in(&client.items, 0);
+        bring_item(&client.items, 0, &mut client.item);
         client.replies = replies;
         client
     }

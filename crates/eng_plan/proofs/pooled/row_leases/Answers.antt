@@ -12,7 +12,7 @@ pub loop-i-preserved : goal.loop-i-preserved
 loop-i-preserved g c =
     let y = g.L.Layout.shape c.args.layout.now in
     let f : ℕ → ℕ = λ k. item_leases y c.args.graphs.now (slice_get c.args.items.now.items k) in
-    let one : c.item_leases.result ≡ f c.loop-i.i = item-read y c.args.graphs.now c.args.items.now.items c.loop-i.i c.get.result c.item_leases.result (slice_get_within c.args.items.now.items c.loop-i.i c.get.result c.get.ensures) (sym (get_or_from_slice_get c.args.items.now.items c.loop-i.i c.get.result c.get.result c.get.ensures)) c.item_leases.ensures in
+    let one : c.item_leases.result ≡ f c.loop-i.i = item-read y c.args.graphs.now c.args.items.now.items c.loop-i.i c.copy_to.new.item c.item_leases.result (slice_get_within c.args.items.now.items c.loop-i.i c.copy_to.new.item c.copy_to.ensures) (sym (get_or_from_slice_get c.args.items.now.items c.loop-i.i c.copy_to.new.item c.copy_to.new.item c.copy_to.ensures)) c.item_leases.ensures in
     let all : c.loop-i.most ≡ greatest f c.loop-i.i = c.loop-i.invariant in
     let most : c.max-most.result ≡ max c.loop-i.most c.item_leases.result = c.max-most.ensures ∙ max-is c.loop-i.most c.item_leases.result in
     most
