@@ -6,7 +6,8 @@ use eng_world::Event;
 /// for again to fire it.
 #[derive(Clone, Copy, Debug, PartialEq, Eq)]
 pub struct Chosen {
+    /// It can be done while nothing else happens to the core.
     pub event: Event,
-    /// None for what has no node, and for a node that makes no call.
+    /// Where its node's unit stands. None where it has no node, and for a node that makes no call.
     pub at: Option<Spot>,
 }

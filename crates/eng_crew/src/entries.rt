@@ -12,22 +12,18 @@ use eng_turn::{Pass, Turn};
 use lay_core::Layout;
 use std::sync::Wait;
 
-// A worker that is the only one does the work of so many events in the turn itself: nobody waits for the core.
-const SINGLE: u32 = 16;
+// A worker that is the only one, or has had the core to itself for long, does the work of so many events in the turn
+// itself: nobody waits for the core, since while devices are quick the others sleep.
+const ALONE: u32 = 32;
 
-// One that has had the core to itself for long does that of so many: while devices are quick the others sleep.
-const ALONE: u32 = 4;
-
-// How much work is to be done in the turn.
+// How much work is to be done in the turn. It is counted as so many turns: those that sleep judge by turns.
 fn within<L: Layout + Drop, D: Disk + Drop>(turn: &Turn<CrewRule<L, D>>, pace: &mut Pace) -> u32 {
-    let alone = pace.is_alone(turn.turns());
-    if turn.is_single() {
-        SINGLE
-    } else if alone {
-        ALONE
-    } else {
-        0
+    if !pace.is_alone(turn.turns()) && !turn.is_single() {
+        return 0;
     }
+    turn.count(u64::from(ALONE));
+    pace.counted(u64::from(ALONE));
+    ALONE
 }
 
 /// A turn of a pass that has this job, if it has one: that is performed first, beside the others, and comes home in the

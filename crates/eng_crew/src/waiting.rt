@@ -77,7 +77,12 @@ impl Pace {
 
     /// It had a turn in which nothing was done.
     pub(crate) fn looked(&mut self) {
-        self.turns = self.turns.wrapping_add(1);
+        self.counted(1);
+    }
+
+    /// So many turns of its own were counted since it last came to the core.
+    pub(crate) fn counted(&mut self, turns: u64) {
+        self.turns = self.turns.wrapping_add(turns);
     }
 
     // Sleeps once. Nobody needs to wake the thread. Whether the others were quick meanwhile, by how many turns they had.

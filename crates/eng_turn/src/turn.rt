@@ -22,7 +22,8 @@ pub struct Memory;
 ///
 /// It is one word and one slot. The word is twice the number of passes, plus 1 while a pass has the value; the slot
 /// holds the value while none has. Beside them stands how many passes are parked, or about to be, which only saves wakes
-/// of nobody, and how many turns there were, which only helps to choose when to enter: so no rule speaks of either.
+/// of nobody, and how many turns there were, with what was counted as turns, which only helps to choose when to enter: so no
+/// rule speaks of either.
 #[derive(Drop)]
 pub struct Turn<R: TurnRule> {
     table: Table<

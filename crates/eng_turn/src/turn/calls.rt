@@ -168,6 +168,11 @@ impl<R: TurnRule> Turn<R> {
         self.turns.load(Ordering::SeqCst)
     }
 
+    /// Counts so many turns more, for as much that is done in one turn. As `turns`, which tells them too.
+    pub fn count(&self, turns: u64) {
+        self.turns.fetch_add(turns, Ordering::SeqCst);
+    }
+
     /// Whether a pass had the value a moment ago. As `turns`.
     pub fn is_taken(&self) -> bool {
         self.table.shared.peek(0) % 2 == 1
