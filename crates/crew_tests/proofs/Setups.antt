@@ -11,7 +11,7 @@ use Rattle.lay_plain.specs.LeftSymmetric.{left_symmetric}
 use Rattle.graph_mean.specs.Graph.{Held}
 use Rattle.eng_cols.specs.declared.column.Column.{Column}
 use Rattle.eng_cols.specs.declared.column.Column.TheVariants as set
-use Rattle.eng_cols.specs.Cols.{ColumnState, Live, Dead, Filling, Spread, HasDevice, is_set_filling, is_set_spread}
+use Rattle.eng_cols.specs.Cols.{ColumnState, Live, Dead, Filling, Spread, HasDevice, is_set_filling, is_set_spread, HasDeviceOn}
 use Rattle.eng_world.specs.declared.item.Item.{Item}
 use Rattle.eng_world.specs.declared.item.Item.TheVariants as item
 use Rattle.eng_world.specs.Step.{MayBeAsked}
@@ -25,7 +25,6 @@ use Rattle.eng_cols.specs.Stripes.{filled_in, states_of}
 use Rattle.eng_events.specs.Opened.{NamesGraph}
 use Rattle.crew_tests.specs.Trial.{IsSmallOp, IsSmall, AreSmall}
 use Rattle.crew_tests.proofs.Trials.{device-there, items-few, sectors-few, is-setup}
-use Rattle.top_close.specs.Settled.{HasDeviceOn}
 use Rattle.top_serve.specs.Setups.{IsNotLost}
 use Rattle.crew_tests.specs.Ready.{IsReadyToServe, IsDegraded, IsPaused}
 

@@ -10,12 +10,11 @@ use Rattle.eng_array.specs.declared.start.Start.{Start}
 use Rattle.eng_array.specs.declared.start.Start.TheVariants as start
 use Rattle.eng_cols.specs.declared.column.Column.{Column}
 use Rattle.eng_cols.specs.declared.column.Column.TheVariants as column
-use Rattle.eng_cols.specs.Cols.{IsFor, is_set_filling}
+use Rattle.eng_cols.specs.Cols.{IsFor, is_set_filling, HasDeviceOn}
 use Rattle.eng_cols.specs.Lost.{NotLost}
 use Rattle.eng_cols.specs.Stripes.{states_of}
 use Rattle.eng_parts.specs.declared.setup.Setup.{Setup}
 use Rattle.raid_label.specs.Bytes.{IsHeld}
-use Rattle.top_close.specs.Settled.{HasDeviceOn}
 use Rattle.top_rounds.specs.Labels.{IsNumbered}
 use Rattle.crew_tests.specs.Ready.{IsReadyToServe}
 use Rattle.top_labelled.specs.declared.labelled.Labelled.{Labelled}

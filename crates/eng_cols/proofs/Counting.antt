@@ -7,7 +7,9 @@ use Rattle.lay_core.specs.Layout.{Shape}
 use Rattle.eng_cols.specs.declared.column.Column.{Column}
 use Rattle.eng_cols.specs.Cols.{ColumnState, is_done_on, none_done}
 use Rattle.eng_cols.specs.Seats.{is_place_on, is_unit_of, IsStripeOf}
-use Rattle.eng_cols.specs.Stripes.{all_done_below, any_below, count_below, done_at, done_set, filled_from, filled_in, first_done, first_or, is_led, is_stripe_by, is_stripe_of, is_unit_by, leading, spreads}
+use Rattle.eng_cols.specs.Stripes.{all_done_below, done_at, done_set, filled_from, filled_in, first_done, first_or, is_stripe_by, is_stripe_of, is_unit_by, leading, spreads}
+use Rattle.eng_cols.proofs.Words.{is_led}
+use Rattle.lay_core.specs.Touched.{count_below, any_below}
 
 -- ## Numbers that pass
 
@@ -18,24 +20,24 @@ or-true false = refl
 pub any-here : (p : ℕ → Bool) (n i : ℕ) → i < n → p i ≡ true → any_below p n ≡ true
 any-here p zero i h e = absurd (omega (arith, h))
 any-here p (suc n) i h e = elim (cases_eq i n) [
-  | inl same ↦ ap (λ b. any_below p n || b) (ap p (sym same) ∙ e) ∙ or-true (any_below p n)
-  | inr ne ↦ ap (λ b. b || p n) (any-here p n i (omega (arith, h, ne)) e)
+  | inl same ↦ ap (λ b. b || any_below p n) (ap p (sym same) ∙ e)
+  | inr ne ↦ ap (λ b. p n || b) (any-here p n i (omega (arith, h, ne)) e) ∙ or-true (p n)
 ]
 
 pub any-where : (p : ℕ → Bool) (n : ℕ) → any_below p n ≡ true → (i : ℕ) × (i < n) × (p i ≡ true)
 any-where p zero h = let z : false ≡ true = h in absurd (let u : ⊥ = cc in u)
-any-where p (suc n) h = elim (cases_Bool (any_below p n)) [
-  | inl e ↦ let w = any-where p n e in (w.0, omega (arith, w.1), w.2)
-  | inr e ↦ (n, omega arith, sym (ap (λ b. b || p n) e) ∙ h)
+any-where p (suc n) h = elim (cases_Bool (p n)) [
+  | inl e ↦ (n, omega arith, e)
+  | inr e ↦ let w = any-where p n (sym (ap (λ b. b || any_below p n) e) ∙ h) in (w.0, omega (arith, w.1), w.2)
 ]
 
 -- one more that doesn't pass
 pub any-more : (p : ℕ → Bool) (n m : ℕ) → m ≡ suc n → any_below p n ≡ false → p n ≡ false → any_below p m ≡ false
-any-more p n m next none e = ap (any_below p) next ∙ (ap (λ b. b || p n) none ∙ e)
+any-more p n m next none e = ap (any_below p) next ∙ (ap (λ b. b || any_below p n) e ∙ none)
 
 pub any-same : (p q : ℕ → Bool) (n : ℕ) → ((i : ℕ) → p i ≡ q i) → any_below p n ≡ any_below q n
 any-same p q zero same = refl
-any-same p q (suc n) same = ap₂ (λ a b. a || b) (any-same p q n same) (same n)
+any-same p q (suc n) same = ap₂ (λ a b. a || b) (same n) (any-same p q n same)
 
 pub count-more : (p : ℕ → Bool) (n m : ℕ) → m ≡ suc n → count_below p m ≡ count_below p n + (if p n then 1 else 0)
 count-more p n m next = ap (count_below p) next

@@ -3,8 +3,10 @@ use Rattle.std.proofs.Common.{◌≡◌, ◌≢◌, ◌⊎◌, ◌<◌, ◌≤�
 use Rattle.std.specs.Prelude.{◌&&◌, ◌||◌, not, if◌then◌else◌, nat_lt}
 use Rattle.std.proofs.lemmas.Bool.{cases_eq, cases_Bool}
 use Rattle.eng_cols.specs.Cols.{is_done, none_done}
-use Rattle.eng_cols.specs.Stripes.{all_done_below, count_below, first_done, is_led}
+use Rattle.eng_cols.specs.Stripes.{all_done_below, first_done}
 use Rattle.eng_cols.proofs.Counting.{led-stays, first-length, first-none, first-one, first-skip}
+use Rattle.eng_cols.proofs.Words.{is_led}
+use Rattle.lay_core.specs.Touched.{count_below}
 
 no : {A : Type 0} → false ≡ true → A
 no h = absurd (let u : ⊥ = cc in u)

@@ -14,3 +14,4 @@ pub mod Decoding
 pub mod Sent
 pub mod Wholes
 pub mod DeathLaws
+pub mod Words

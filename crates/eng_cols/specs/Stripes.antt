@@ -1,20 +1,11 @@
 -- The stripes of a column, how many they are, and which of them are done as the column is set.
-use Rattle.std.specs.Prelude.{ℕ, zero, suc, ◌+◌, ◌==◌, ◌&&◌, ◌||◌, not, Bool, true, false, List, [], ◌∷◌, if◌then◌else◌, map, nat_lt, Option, Some, None, option_and_then, slice_get, slice_set}
+use Rattle.std.specs.Prelude.{ℕ, zero, suc, ◌==◌, ◌&&◌, ◌||◌, not, Bool, true, List, [], ◌∷◌, if◌then◌else◌, map, nat_lt, Option, Some, None, option_and_then, slice_get, slice_set}
 use Rattle.lay_core.specs.Layout.{Shape}
 use Rattle.eng_cols.specs.declared.column.Column.{Column}
 use Rattle.eng_cols.specs.declared.column.Column.TheVariants as column
 use Rattle.eng_cols.specs.Cols.{ColumnState, is_done_on, is_set_spread, is_spread, none_done, passes, state_set}
 use Rattle.eng_cols.specs.Seats.{is_place_on}
-
--- one of the numbers below n passes
-abbrev pub any_below : (ℕ → Bool) → ℕ → Bool
-any_below p zero = false
-any_below p (suc n) = any_below p n || p n
-
--- how many of them do
-abbrev pub count_below : (ℕ → Bool) → ℕ → ℕ
-count_below p zero = 0
-count_below p (suc n) = count_below p n + (if p n then 1 else 0)
+use Rattle.lay_core.specs.Touched.{count_below, any_below}
 
 -- ## The stripes of a column
 
@@ -31,7 +22,8 @@ is_unit_by y spread s i c = (c == (y.place s i).column) || (spread (y.place s i)
 
 -- stripe s is one of column c: it has a unit of it
 unfoldable pub is_stripe_by : Shape → (ℕ → Bool) → ℕ → ℕ → Bool
-is_stripe_by y spread c s = any_below (λ i. is_unit_by y spread s i c) y.width
+is_stripe_by y spread c s =
+    any_below (λ i. (c == (y.place s i).column) || (spread (y.place s i).column && is_place_on (y.spare s) c)) y.width
 
 abbrev pub is_stripe_of : Shape → List ColumnState → ℕ → ℕ → Bool
 is_stripe_of y cols c s = is_stripe_by y (are_spread cols) c s
@@ -65,7 +57,7 @@ filled_from y spread (x ∷ columns) c = first_or y spread c (done_set x) (fille
 
 -- the stripes that are done on the column that is filling: the first of its stripes, as many as it says
 unfoldable pub filled_in : Shape → List Column → List Bool
-filled_in y columns = filled_from y (spreads columns) columns 0
+filled_in y columns = filled_from y (λ k. passes is_set_spread (slice_get columns k)) columns 0
 
 -- the columns as they are set
 abbrev pub states_of : Shape → List Column → List ColumnState
@@ -78,10 +70,7 @@ unfoldable pub all_done_below : (ℕ → Bool) → (ℕ → Bool) → ℕ → Bo
 all_done_below p done zero = true
 all_done_below p done (suc s) = all_done_below p done s && (not (p s) || done s)
 
--- it passes, and is done with each before it that passes
-abbrev pub is_led : (ℕ → Bool) → (ℕ → Bool) → ℕ → Bool
-is_led p done s = p s && all_done_below p done (suc s)
-
 -- how many of the column's stripes are done with all of its stripes before them
 unfoldable pub leading : Shape → List ColumnState → ℕ → ℕ
-leading y cols c = count_below (is_led (is_stripe_of y cols c) (is_done_on (slice_get cols c))) y.stripes
+leading y cols c =
+    count_below (λ s. is_stripe_of y cols c s && all_done_below (is_stripe_of y cols c) (is_done_on (slice_get cols c)) (suc s)) y.stripes

@@ -12,7 +12,7 @@ use Rattle.graph_mean.specs.declared.step.Status.TheVariants as status
 use Rattle.graph_mean.specs.declared.step.Phase.{Phase}
 use Rattle.graph_mean.specs.declared.step.Phase.TheVariants.{Before, After, RollingBack, Ended, Undone}
 use Rattle.graph_mean.specs.Graph.{View, kind_at}
-use Rattle.graph_mean.specs.Steps.{Units, UnitOf, any_below, reads, is_good, is_still_read, none_out, phase_lost, settled, stripe_of}
+use Rattle.graph_mean.specs.Steps.{Units, UnitOf, reads, is_good, is_still_read, none_out, phase_lost, settled, stripe_of}
 use Rattle.eng_one.specs.Control.{mark_in, mark_of, settled_in, phase_bad, Stands, MayEndBad, LosesOwn}
 use Rattle.eng_one.proofs.Settled.{some_out}
 use Rattle.eng_one.proofs.Leading.{settled-same}
@@ -29,6 +29,7 @@ use Rattle.eng_clients.specs.Desk.{Desk, with_ended}
 use Rattle.eng_state.specs.Failing.{dying, reads_dying, suffered_in, suffered}
 use Rattle.eng_state.specs.Bad.{with_bad}
 use Rattle.eng_fails.proofs.Dying.{dying-here}
+use Rattle.lay_core.specs.Touched.{any_below}
 
 -- ## What is still read
 

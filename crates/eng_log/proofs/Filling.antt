@@ -5,9 +5,10 @@ use Rattle.std.proofs.lemmas.List.{get_or_past}
 use Rattle.graph_mean.specs.Steps.{Covers}
 use Rattle.blk_disk.specs.Disk.{sector_at}
 use Rattle.buf_pool.specs.Pool.{PoolView}
-use Rattle.graph_mean.specs.Graph.{View, buf_at, no_buf}
+use Rattle.graph_mean.specs.Graph.{View, buf_at}
 use Rattle.eng_log.specs.Filled.{HasBuffers, FillsAlone, bytes_of}
 use Rattle.eng_log.proofs.Seating.{fills-refl, fills-then, fills-lease, fills-home}
+use Rattle.graph_mean.proofs.Words.{no_buf}
 
 -- a buffer that covers an offset is one of the graph's
 pub covers-below : (g : View) (b o : ℕ) → Covers g b o → b < length g.bufs

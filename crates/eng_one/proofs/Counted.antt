@@ -8,7 +8,7 @@ use Rattle.std.proofs.lemmas.List.Sums.{sum_by-cons}
 use Rattle.std.proofs.lemmas.Bool.{cases_eq, cases_lt, cases_order, cond-true, cond-false, eq-eqb, ne_eqb, lt-ltb, le-ltb}
 use Rattle.graph_mean.specs.declared.step.Status.{Status}
 use Rattle.graph_mean.specs.declared.step.Status.TheVariants.{Idle, Out, Good, Bad, Skipped}
-use Rattle.graph_mean.specs.Graph.{View, Vertex, vertex_at, no_vertex, IsAnte}
+use Rattle.graph_mean.specs.Graph.{View, Vertex, vertex_at, IsAnte}
 use Rattle.graph_mean.specs.Steps.{HasEnded}
 use Rattle.graph_mean.specs.Fewest.{sum_below, one_if}
 use Rattle.graph_mean.proofs.Reading.{sum-add, sum-zero}
@@ -17,6 +17,7 @@ use Rattle.eng_one.specs.Control.{mark_in}
 use Rattle.eng_one.specs.Followers.{Links, followers_in}
 use Rattle.eng_one.specs.Counts.{times, waits, is_unended, AreFollowers, CanStart}
 use Rattle.eng_one.proofs.Chains.{times-cons}
+use Rattle.graph_mean.proofs.Words.{no_vertex}
 
 -- ---- sums
 

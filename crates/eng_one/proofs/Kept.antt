@@ -11,7 +11,7 @@ use Rattle.graph_mean.specs.declared.step.Status.{Status}
 use Rattle.graph_mean.specs.declared.step.Status.TheVariants.{Idle, Out, Good, Bad, Skipped}
 use Rattle.graph_mean.specs.declared.step.Phase.{Phase}
 use Rattle.graph_mean.specs.declared.step.Phase.TheVariants.{Before, After, Undone}
-use Rattle.graph_mean.specs.Graph.{View, Vertex, vertex_at, no_vertex, blank}
+use Rattle.graph_mean.specs.Graph.{View, Vertex, vertex_at, blank}
 use Rattle.graph_mean.specs.Steps.{IsRunning, is_out}
 use Rattle.graph_mean.specs.Fewest.{one_if}
 use Rattle.graph_mean.proofs.Tallies.{counted-none}
@@ -24,6 +24,7 @@ use Rattle.eng_one.proofs.Marking.{count-fired}
 use Rattle.eng_one.proofs.Settled.{running-settled}
 use Rattle.eng_one.proofs.Counted.{waits-ended, waits-fired, waits-met, none-unmet}
 use Rattle.eng_one.proofs.Waits.{and-no}
+use Rattle.graph_mean.proofs.Words.{no_vertex}
 
 -- ---- the ready nodes in ascending order
 

@@ -7,11 +7,12 @@ use Rattle.std.proofs.lemmas.List.Sums.{sum_by-le-sum_by, AllPass-from_list_all}
 use Rattle.std.proofs.lemmas.List.Elements.{All-get_or, All-contains}
 use Rattle.std.proofs.lemmas.Bool.{cases_lt, ltb-true}
 use Rattle.graph_mean.specs.declared.refusal.Refusal.TheVariants.{Large, Index}
-use Rattle.graph_mean.specs.Graph.{View, Vertex, IsAnte, no_vertex, vertex_at, edges_at, edge_count}
+use Rattle.graph_mean.specs.Graph.{View, Vertex, IsAnte, vertex_at, edges_at, edge_count}
 use Rattle.graph_mean.specs.Task.{Aim, Missing}
 use Rattle.graph_mean.specs.Refused.{IsFree}
 use Rattle.eng_one.specs.Counts.{CanStart, ante_count}
 use Rattle.eng_one.specs.Samples.{whole, small}
+use Rattle.graph_mean.proofs.Words.{no_vertex}
 
 -- there are no more antecedents than sources and antecedents
 pub antes-le_edges : (g : View) → ante_count g ≤ edge_count g

@@ -86,15 +86,14 @@ whole-many y law s below =
 
 -- below a later number no fewer pass
 count-up : (p : ℕ → Bool) (n m : ℕ) → n ≤ m → count_below p n ≤ count_below p m
-unfolding count_below
 count-up p n zero le = let e = ap (count_below p) (let z : n ≡ 0 = omega (arith, le) in z) in omega (arith, e)
 count-up p n (suc m) le = elim (cases_lt m n) [
   | inl l ↦ let e = ap (count_below p) (let z : suc m ≡ n = omega (arith, l, le) in z) in omega (arith, e)
   | inr g ↦
       let r = count-up p n m g in
       elim (cases_Bool (p m)) [
-        | inl e ↦ let c = cond-true (p m) (suc (count_below p m)) (count_below p m) e in omega (arith, c, r)
-        | inr e ↦ let c = cond-false (p m) (suc (count_below p m)) (count_below p m) e in omega (arith, c, r)
+        | inl e ↦ let c = cond-true {A = ℕ} (p m) 1 0 e in omega (arith, c, r)
+        | inr e ↦ let c = cond-false {A = ℕ} (p m) 1 0 e in omega (arith, c, r)
       ]
 ]
 
@@ -130,7 +129,6 @@ some-block y ss s (i, o, hi, ho, t) = let a = Any-from_list_any (λ span. is_in 
 
 -- where one of two others passes wherever one does, it is no more often than they together
 count-split : (p q r : ℕ → Bool) (n : ℕ) → ((s : ℕ) → p s ≡ true → (q s ≡ true) ⊎ (r s ≡ true)) → count_below p n ≤ count_below q n + count_below r n
-unfolding count_below
 count-split p q r zero h = omega arith
 count-split p q r (suc n) h =
     let c = count-split p q r n h in
@@ -138,21 +136,20 @@ count-split p q r (suc n) h =
     let v = count-up r n (suc n) (omega arith) in
     elim (cases_Bool (p n)) [
       | inl e ↦
-          let a = cond-true (p n) (suc (count_below p n)) (count_below p n) e in
+          let a = cond-true {A = ℕ} (p n) 1 0 e in
           elim (h n e) [
-            | inl f ↦ let b = cond-true (q n) (suc (count_below q n)) (count_below q n) f in omega (arith, a, b, c, v)
-            | inr f ↦ let b = cond-true (r n) (suc (count_below r n)) (count_below r n) f in omega (arith, a, b, c, u)
+            | inl f ↦ let b = cond-true {A = ℕ} (q n) 1 0 f in omega (arith, a, b, c, v)
+            | inr f ↦ let b = cond-true {A = ℕ} (r n) 1 0 f in omega (arith, a, b, c, u)
           ]
-      | inr e ↦ let a = cond-false (p n) (suc (count_below p n)) (count_below p n) e in omega (arith, a, c, u, v)
+      | inr e ↦ let a = cond-false {A = ℕ} (p n) 1 0 e in omega (arith, a, c, u, v)
     ]
 
 -- and none where it never passes
 count-none : (p : ℕ → Bool) (n : ℕ) → ((s : ℕ) → p s ≡ true → ⊥) → count_below p n ≡ 0
-unfolding count_below
 count-none p zero h = refl
 count-none p (suc n) h = elim (cases_Bool (p n)) [
   | inl e ↦ absurd (h n e)
-  | inr e ↦ let a = cond-false (p n) (suc (count_below p n)) (count_below p n) e in let b = count-none p n h in omega (arith, a, b)
+  | inr e ↦ let a = cond-false {A = ℕ} (p n) 1 0 e in let b = count-none p n h in omega (arith, a, b)
 ]
 
 -- some spans touch no more stripes than each by itself, all together

@@ -11,7 +11,7 @@ use Rattle.graph_mean.specs.declared.step.Status.{Status}
 use Rattle.graph_mean.specs.declared.step.Status.TheVariants as status
 use Rattle.graph_mean.specs.declared.step.Phase.{Phase}
 use Rattle.graph_mean.specs.declared.step.Phase.TheVariants.{Before, After, RollingBack, Ended, Undone}
-use Rattle.graph_mean.specs.Graph.{Held as Lent, View as Drawn, no_buf}
+use Rattle.graph_mean.specs.Graph.{Held as Lent, View as Drawn}
 use Rattle.graph_mean.specs.Steps.{Covers, settled, none_out}
 use Rattle.eng_one.specs.Control.{mark_of, mark_in, settled_in}
 use Rattle.eng_world.specs.World.{Current}
@@ -21,6 +21,7 @@ use Rattle.eng_clients.specs.Desk.{Desk, desk_at, no_desk}
 use Rattle.eng_state.specs.Shows.{ShowsCurrent, HoldBytes}
 use Rattle.eng_state.specs.Sound.{RunsWell, jobs_of, jobs_at}
 use Rattle.eng_log.specs.Filled.{buffer_byte}
+use Rattle.graph_mean.proofs.Words.{no_buf}
 
 -- what is covered is covered by a buffer of the graph
 pub covers-below : (g : Drawn) (b o : ℕ) → Covers g b o → b < length g.bufs

@@ -6,7 +6,7 @@ use Rattle.std.proofs.lemmas.Option.{slice_get-get_or, get_or_from_slice_get, sl
 use Rattle.blk_plain.specs.declared.op.Op.TheVariants as op
 use Rattle.lay_core.specs.Layout.{Shape, IsLayout}
 use Rattle.eng_cols.specs.Cols.{ColumnState, Dead, Filling, is_done, is_done_on, is_spread, none_done, passes}
-use Rattle.eng_cols.specs.Stripes.{all_done_below, are_spread, count_below, is_led, is_stripe_of, leading}
+use Rattle.eng_cols.specs.Stripes.{all_done_below, are_spread, is_stripe_of, leading}
 use Rattle.eng_cols.proofs.Counting.{leading-is, stripe-of, stripe-same}
 use Rattle.eng_cols.proofs.Lists.{get_set_same, get_set_other}
 use Rattle.eng_world.specs.declared.item.Item.{Item}
@@ -25,6 +25,8 @@ use Rattle.eng_world.proofs.Filled.{FillsSo, fills-so}
 use Rattle.eng_world.proofs.Front.{IsFront, front-grows}
 use Rattle.eng_world.proofs.OnlyAsked.{none-done, only-asked}
 use Rattle.eng_world.proofs.Whole.{asked-done, fill-seats, first-step, parts, starts}
+use Rattle.eng_cols.proofs.Words.{is_led}
+use Rattle.lay_core.specs.Touched.{count_below}
 
 -- what leads goes by what passes
 all-done-same : (p q done : ℕ → Bool) (n : ℕ) → ((s : ℕ) → p s ≡ q s) → all_done_below p done n ≡ all_done_below q done n

@@ -3,9 +3,11 @@ use Rattle.std.proofs.Common.{◌≡◌, ◌⊎◌, ◌<◌, ◌+◌, inl, inr, 
 use Rattle.std.specs.Prelude.{◌==◌, ◌&&◌, ◌||◌, if◌then◌else◌, not, Contains}
 use Rattle.std.specs.List.Sorted.{IsStrictlyIncreasing}
 use Rattle.std.proofs.lemmas.Bool.{cases_Bool, cases_eq, eq-eqb, ne_eqb, eqb-true}
-use Rattle.eng_cols.specs.Stripes.{all_done_below, count_below, is_led}
+use Rattle.eng_cols.specs.Stripes.{all_done_below}
 use Rattle.eng_cols.proofs.Leading.{count-rest, count-step, each-done}
 use Rattle.eng_world.proofs.Shared.{no}
+use Rattle.eng_cols.proofs.Words.{is_led}
+use Rattle.lay_core.specs.Touched.{count_below}
 
 -- ## Counts
 

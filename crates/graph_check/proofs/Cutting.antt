@@ -8,7 +8,7 @@ use Rattle.std.proofs.lemmas.List.Folds.{list_any_at}
 use Rattle.lay_core.specs.declared.place.Part.{Part}
 use Rattle.lay_core.specs.Touched.{part_has}
 use Rattle.lay_core.specs.Sums.{xor_below}
-use Rattle.graph_mean.specs.Graph.{View, no_buf, kind_at, buf_at, ret_at}
+use Rattle.graph_mean.specs.Graph.{View, kind_at, buf_at, ret_at}
 use Rattle.graph_mean.specs.Sums.{old_of, new_of}
 use Rattle.graph_mean.specs.Task.{Aim, Missing, IsTask, is_write, is_read, is_touched, is_wanted, has_equation, data_units, data_due, due}
 use Rattle.graph_mean.specs.Steps.{Covers, Writes, Wrote, stripe_of}
@@ -17,6 +17,7 @@ use Rattle.graph_mean.specs.Fewest.{sum_below, one_if}
 use Rattle.graph_mean.proofs.Invariant.{wrote-is}
 use Rattle.graph_mean.proofs.Xor.{below_same}
 use Rattle.graph_check.specs.Pieces.{range_cuts, buf_cuts, part_cuts, is_cut, pieces_of, IsOnePiece, IsAlike, IsCutTable, is_noted, noted_of, noted_pieces}
+use Rattle.graph_mean.proofs.Words.{no_buf}
 
 same-test : (a b : Bool) → (a ≡ true → b ≡ true) → (b ≡ true → a ≡ true) → a ≡ b
 same-test true b f h = sym (f refl)

@@ -21,3 +21,4 @@ pub mod Accepting
 pub mod Parts
 pub mod Spans
 pub mod Unique
+pub mod Words

@@ -9,7 +9,7 @@ use Rattle.graph_mean.specs.declared.graph.Buf.{Buf}
 use Rattle.graph_mean.specs.declared.graph.Ret.{Ret}
 use Rattle.graph_mean.specs.declared.graph.Node.{Node}
 use Rattle.graph_mean.specs.declared.graph.Node.TheVariants.{Cmt, Trm}
-use Rattle.graph_mean.specs.Graph.{View, Held, Vertex, no_vertex, vertex_at, kind_at, blank, edge_count, edges_at, with_node, Chain, Follows}
+use Rattle.graph_mean.specs.Graph.{View, Held, Vertex, vertex_at, kind_at, blank, edge_count, edges_at, with_node, Chain, Follows}
 use Rattle.graph_check.specs.Following.{IsDescending}
 use Rattle.graph_merge.specs.declared.half.Ends.{Ends}
 use Rattle.graph_merge.specs.declared.half.Group.TheVariants.{Early, Rest}
@@ -18,6 +18,7 @@ use Rattle.graph_merge.specs.Form.{IsFormed, IsTooLarge}
 use Rattle.graph_merge.specs.Joined.{before, picked, is_in, moved_vertex, moved_group}
 use Rattle.graph_merge.proofs.PushedNodes.{joint_pushed}
 use Rattle.graph_merge.proofs.Forming.{descending}
+use Rattle.graph_mean.proofs.Words.{no_vertex}
 
 pub nodes_grow : (h g : Held) (xs : List Vertex) (n e : ℕ) → g ≡ with_nodes h xs → length xs ≡ n → sum_by edges_at xs ≡ e → Grows h g n e
 nodes_grow h g xs n e is long edges = record {

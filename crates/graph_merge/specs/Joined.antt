@@ -1,5 +1,5 @@
 -- Two graphs joined under one commit.
-use Rattle.std.specs.Prelude.{◌≡◌, ℕ, zero, suc, ◌+◌, ◌<◌, ◌↔◌, ◌==◌, ◌&&◌, Bool, true, false, not, List, [], ◌∷◌, ◌++◌, length, map, slice_index, slice_index_or, cond, if◌then◌else◌}
+use Rattle.std.specs.Prelude.{◌≡◌, ℕ, zero, suc, ◌+◌, ◌<◌, ◌↔◌, ◌==◌, ◌&&◌, Bool, true, false, not, List, [], ◌∷◌, ◌++◌, length, map, slice_index, slice_index_or, cond, if◌then◌else◌, ◌≤◌}
 use Rattle.graph_mean.specs.declared.graph.Buf.{Buf}
 use Rattle.graph_mean.specs.declared.graph.Ret.{Ret}
 use Rattle.graph_mean.specs.declared.graph.Node.{Node}
@@ -9,7 +9,8 @@ use Rattle.graph_merge.specs.declared.half.Ends.{Ends}
 use Rattle.graph_merge.specs.declared.half.Group.{Group}
 use Rattle.graph_merge.specs.declared.half.Group.TheVariants.{Early, Rest}
 use Rattle.graph_merge.specs.declared.half.Offsets.{Offsets}
-use Rattle.graph_merge.specs.Form.{IsFormed, AreBelow, AreMovable, IsTooLarge}
+use Rattle.graph_merge.specs.Form.{IsFormed, IsTooLarge}
+use Rattle.graph_mean.specs.Steps.{stripe_of}
 
 -- one of the two graphs, with its commit and its terminator, and for each node whether it follows the commit
 pub record Half : Type 0 where
@@ -24,12 +25,6 @@ is_late late n = slice_index_or late n false
 abbrev pub is_in : Group → Ends → List Bool → ℕ → Bool
 is_in Early ends late n = not (is_late late n) && not (n == ends.commit)
 is_in Rest ends late n = is_late late n && not (n == ends.end)
-
-abbrev pub is_early : Half → ℕ → Bool
-is_early h = is_in Early h.ends h.late
-
-abbrev pub is_rest : Half → ℕ → Bool
-is_rest h = is_in Rest h.ends h.late
 
 -- how many of the first n numbers pass
 unfoldable pub before : (ℕ → Bool) → ℕ → ℕ
@@ -46,7 +41,8 @@ unfoldable pub place : Half → Offsets → ℕ → ℕ
 place h o n =
     if n == h.ends.commit then o.commit
     else (if n == h.ends.end then o.end
-    else (if is_late h.late n then o.rest + before (is_rest h) n else o.early + before (is_early h) n))
+    else (if is_late h.late n then o.rest + before (is_in Rest h.ends h.late) n
+    else o.early + before (is_in Early h.ends h.late) n))
 
 -- a node, with its buffers moved up
 abbrev pub moved_kind : ℕ → Node → Node
@@ -76,7 +72,9 @@ moved_vertex place up v = record { kind = moved_kind up v.kind; sources = map (�
 
 -- node n of a half in the joined graph
 unfoldable pub node_of : Half → Offsets → ℕ → ℕ → Vertex
-node_of h o up n = moved_vertex (place h o) up (vertex_at h.graph n)
+node_of h o up n =
+    let v = vertex_at h.graph n in
+    record { kind = moved_kind up v.kind; sources = map (λ b. b + up) v.sources; antes = map (place h o) v.antes }
 
 abbrev pub joint_by_tables : View → ℕ → List ℕ → View → ℕ → List ℕ → Node → Vertex
 joint_by_tables a n places_a b m places_b kind = record { kind = kind; sources = []; antes = map (λ k. slice_index places_a k) (vertex_at a n).antes ++ map (λ k. slice_index places_b k) (vertex_at b m).antes }
@@ -89,26 +87,28 @@ group_of group h o up n = picked (is_in group h.ends h.late) (node_of h o up) n
 abbrev pub moved_group : View → Group → Ends → List Bool → ℕ → List ℕ → ℕ → List Vertex
 moved_group g group ends late up places n = picked (is_in group ends late) (λ k. moved_vertex (λ a. slice_index places a) up (vertex_at g k)) n
 
--- how many early nodes and how many others a half has
-abbrev pub earlies : Half → ℕ
-earlies h = before (is_early h) (length h.graph.nodes)
-
-abbrev pub rests : Half → ℕ
-rests h = before (is_rest h) (length h.graph.nodes)
+-- how many nodes of a half are in a group
+abbrev pub count_in : Group → Half → ℕ
+count_in group h = before (is_in group h.ends h.late) (length h.graph.nodes)
 
 -- the numbers of the one commit and of the one terminator
 abbrev pub commit_place : Half → Half → ℕ
-commit_place a b = earlies a + earlies b
+commit_place a b = count_in Early a + count_in Early b
 
 abbrev pub end_place : Half → Half → ℕ
-end_place a b = commit_place a b + 1 + rests a + rests b
+end_place a b = commit_place a b + 1 + count_in Rest a + count_in Rest b
 
 -- from where the nodes of the two halves are numbered
 abbrev pub first_offsets : Half → Half → Offsets
 first_offsets a b = record { early = 0; rest = commit_place a b + 1; commit = commit_place a b; end = end_place a b }
 
 abbrev pub second_offsets : Half → Half → Offsets
-second_offsets a b = record { early = earlies a; rest = commit_place a b + 1 + rests a; commit = commit_place a b; end = end_place a b }
+second_offsets a b = record {
+  early = count_in Early a;
+  rest = commit_place a b + 1 + count_in Rest a;
+  commit = commit_place a b;
+  end = end_place a b;
+}
 
 -- a node of this kind that has the antecedents of node n of one half and of node m of the other
 unfoldable pub joint : Half → Half → Node → ℕ → ℕ → Vertex
@@ -143,7 +143,7 @@ pub record IsJoined (a b : View) (shift : ℕ) (out : View) : Type 0 where
   pub of_second : second.graph ≡ b
   pub first_marked : IsMarkedHalf first
   pub second_marked : IsMarkedHalf second
-  pub first_below : AreBelow a shift
-  pub second_movable : AreMovable b shift
+  pub first_below : (n : ℕ) → n < length a.bufs → stripe_of a n < shift
+  pub second_movable : (n : ℕ) → n < length b.bufs → stripe_of b n + shift ≤ 4294967295
   pub small : ¬ (IsTooLarge a b)
   pub is : out ≡ joined first second shift

@@ -8,9 +8,10 @@ use Rattle.raid_text.specs.Text.{Text, Numbered, is_sound, sound_words, words_of
 use Rattle.graph_mean.specs.declared.graph.Buf.{Buf}
 use Rattle.graph_mean.specs.declared.graph.Ret.{Ret}
 use Rattle.graph_mean.specs.Graph.{View, Vertex, blank, edge_count, edges_at, is_xor}
-use Rattle.graph_text.specs.FormatSteps.{◌>>=◌, at_end, next_word, only_if}
+use Rattle.text_steps.specs.Steps.{◌>>=◌, at_end, next_word, only_if}
 use Rattle.graph_text.specs.FormatLines.{buffer_of, node_of, return_of}
-use Rattle.graph_text.specs.Format.{Named, Read, after_line, has_name, inside_line, is_empty, is_name, outside_line, placed_line, start_of, with_buffer_line, with_node_line, with_return_line}
+use Rattle.graph_text.specs.Format.{Named, Read, after_line, inside_line, is_name, outside_line, placed_line, start_of, with_buffer_line, with_node_line, with_return_line}
+use Rattle.graph_text.specs.Steps.{has_name, is_empty}
 use Rattle.graph_text.specs.FormatForm.{Place, Literal, FillsAll, IsLineOf, buffer_places, end_places, node_places, return_places, start_places}
 use Rattle.graph_text.proofs.CanonicalSteps.{bind_ok, ok_same, only_ok, bytes_same, words_are, word_fills, end_fills, word_read, end_read}
 use Rattle.graph_text.proofs.CanonicalLines.{buffer_fills, buffer_read, node_fills, node_read, return_fills, return_read}
@@ -96,7 +97,7 @@ pub record IsEntry (ended : List Named) (current : Option Named) (words : List T
   pub fills : FillsAll (entry_places (view_of current) entry) words
 
 start_fills : (ended : List Named) (words : List Text) (name : Text) → start_of ended words ≡ Ok name → IsNext ended None (Start name) × FillsAll (Literal name ∷ []) words
-unfolding start_of
+unfolding start_of has_name
 start_fills ended words name h =
     let w = bind_ok (next_word words) _ name h in
     let n = bind_ok (only_if (is_name w.0.0) 1) _ name w.2 in
@@ -233,7 +234,7 @@ line_is read line next h =
 -- ---- a line of the form is read
 
 start_read : (ended : List Named) (name : Text) (words : List Text) → IsNext ended None (Start name) → FillsAll (Literal name ∷ []) words → start_of ended words ≡ Ok name
-unfolding start_of
+unfolding start_of has_name
 start_read ended name words (named, other, few) fills =
     let w = word_read (Literal name) [] words fills in
     let is : w.0 ≡ name = w.3 in

@@ -15,7 +15,9 @@ use Rattle.graph_mean.specs.declared.graph.Ret.{Ret}
 use Rattle.graph_mean.specs.declared.graph.Node.{Node}
 use Rattle.graph_mean.specs.declared.graph.Node.TheVariants.{Rd, Wr, Xor, Cmt, Trm}
 use Rattle.graph_mean.specs.Graph.{View, Vertex, blank, edge_count, edges_at, is_xor}
-use Rattle.graph_text.specs.Format.{Named, Read, after_line, after_lines, at_line, at_text_end, graphs_of, has_name, is_name, nothing_read}
+use Rattle.graph_text.specs.Format.{Named, Read, after_line, after_lines, at_text_end, graphs_of, is_name}
+use Rattle.text_steps.specs.Steps.{at_line}
+use Rattle.graph_text.specs.Steps.{has_name, nothing_read}
 use Rattle.graph_text.specs.FormatForm.{AreGraphs, Differ, HasForm, IsLineOf, Literal, Number, IsWordBuf, IsWordKind, IsWordNode, IsWordRet, IsWritable, Place, after_places, body_lines, buffer_lines, buffer_places, end_places, file_lines, graph_lines, kind_places, new_places, node_lines, node_places, number_places, return_lines, return_places, start_places}
 use Rattle.graph_text.specs.Canonical.{FileIsOfTheForm}
 use Rattle.graph_text.proofs.CanonicalSteps.{AreSmall, bind_ok, fills_small, ok_same}

@@ -8,8 +8,10 @@ use Rattle.graph_mean.specs.declared.graph.Ret.{Ret}
 use Rattle.graph_mean.specs.declared.graph.Node.{Node}
 use Rattle.graph_mean.specs.declared.graph.Node.TheVariants.{Rd, Wr, Xor, Cmt, Trm}
 use Rattle.graph_mean.specs.Graph.{Vertex, is_xor}
-use Rattle.graph_text.specs.FormatSteps.{after_index, after_word, at_end, next_number, next_pair, next_word}
-use Rattle.graph_text.specs.FormatLines.{after_of, antes_of, buffer_of, kind_of, new_of, node_of, plain_of, read_of, return_of, sources_of, write_of, xor_of}
+use Rattle.graph_text.specs.FormatSteps.{after_index, after_word, next_pair}
+use Rattle.text_steps.specs.Steps.{at_end, next_number, next_word}
+use Rattle.graph_text.specs.FormatLines.{after_of, antes_of, buffer_of, kind_of, new_of, node_of, plain_of, return_of, sources_of}
+use Rattle.graph_text.specs.Steps.{read_of, write_of, xor_of}
 use Rattle.graph_text.specs.FormatForm.{Place, Literal, Number, FillsAll, after_places, kind_places, new_places, number_places}
 use Rattle.graph_text.proofs.CanonicalSteps.{bind_ok, ok_same, bytes_same, words_are, literal_fills, number_fills, index_fills, pair_fills, end_fills, new_fills, after_fills, sources_fill, word_read, literal_read, number_read, index_read, pair_read, end_read, new_read, after_read, sources_read}
 
@@ -115,7 +117,7 @@ terminate_fills words v h =
     subst (λ (n : Vertex). NodeFills n (codes "terminate" ∷ words)) a.1 ((refl, a.2), λ _. refl)
 
 kind_fills : (word : Text) (words : List Text) (v : Vertex) → kind_of word words ≡ Ok v → NodeFills v (word ∷ words)
-unfolding kind_of
+unfolding kind_of read_of write_of xor_of
 kind_fills word words v h = reads (bytes_eq word (codes "read")) refl h
   where
     terminates : (b : Bool) → bytes_eq word (codes "terminate") ≡ b → cond b (plain_of Trm words) (Err 1) ≡ Ok v → NodeFills v (word ∷ words)

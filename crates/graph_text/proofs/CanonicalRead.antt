@@ -12,7 +12,8 @@ use Rattle.raid_text.specs.Text.{Text, Numbered, lines_in}
 use Rattle.graph_mean.specs.declared.graph.Buf.{Buf}
 use Rattle.graph_mean.specs.declared.graph.Ret.{Ret}
 use Rattle.graph_mean.specs.Graph.{View, Vertex, edges_at}
-use Rattle.graph_text.specs.Format.{Named, Read, after_lines, graphs_of, has_name, is_name}
+use Rattle.graph_text.specs.Format.{Named, Read, after_lines, graphs_of, is_name}
+use Rattle.graph_text.specs.Steps.{has_name}
 use Rattle.graph_text.specs.FormatForm.{AreGraphs, Differ, HasForm, IsWordNode, IsWritable, Place, body_lines, buffer_lines, end_places, file_lines, graph_lines, node_lines, return_lines, start_places}
 use Rattle.graph_text.specs.Canonical.{FileIsRead}
 use Rattle.graph_text.proofs.CanonicalEntries.{Entry, Start, Buffer, Node, Return, End, IsNext, after, entry_places, line_read, view_of}

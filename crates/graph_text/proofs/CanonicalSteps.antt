@@ -1,12 +1,13 @@
 -- One step of reading a line, and what it says of the form.
 use Rattle.std.proofs.Common.{◌≡◌, ◌∙◌, ℕ, ◌<◌, ◌^◌, Bool, true, false, cond, List, [], ◌∷◌, ◌++◌, Option, Some, None, Result, Ok, Err, refl, ap, subst, eq-eqb, length}
-use Rattle.std.specs.Prelude.{◌&&◌, codes, nat_eq, nat_le, nat_lt}
+use Rattle.std.specs.Prelude.{◌&&◌, codes, nat_eq, nat_le, nat_lt, ok_or}
 use Rattle.std.specs.Str.{all_ascii_digits, bytes_eq}
 use Rattle.std.specs.Str.Parse.{digits_value}
 use Rattle.std.proofs.lemmas.Bool.{and_parts, eqb-true, ltb-true}
 use Rattle.std.proofs.lemmas.Slice.Eq.{bytes_eq-Decides}
 use Rattle.raid_text.specs.Text.{Text, number_of}
-use Rattle.graph_text.specs.FormatSteps.{◌>>=◌, after_index, after_word, at_end, next_number, next_pair, next_word, number_in, numbers_of, only_if, or_code}
+use Rattle.graph_text.specs.FormatSteps.{after_index, after_word, next_pair, numbers_of}
+use Rattle.text_steps.specs.Steps.{◌>>=◌, at_end, next_number, next_word, number_in, only_if}
 use Rattle.graph_text.specs.FormatLines.{after_of, antes_of, new_of, sources_of}
 use Rattle.graph_text.specs.FormatForm.{Place, Literal, Number, Fills, FillsAll, after_places, new_places, number_places}
 
@@ -52,7 +53,7 @@ pub number_is : (word : Text) (n : ℕ) → number_in word ≡ Ok n → number_o
 unfolding number_in
 number_is word n h = go (number_of word) h
   where
-    go : (o : Option ℕ) → or_code o 2 ≡ Ok n → o ≡ Some n
+    go : (o : Option ℕ) → ok_or {E = ℕ} o 2 ≡ Ok n → o ≡ Some n
     go None e = absurd (cc)
     go (Some k) e = ap (λ (m : ℕ). Some m) (ok_same k n e)
 

@@ -19,7 +19,8 @@ use Rattle.graph_mean.specs.declared.graph.Ret.{Ret}
 use Rattle.graph_mean.specs.declared.graph.Node.{Node}
 use Rattle.graph_mean.specs.declared.graph.Node.TheVariants.{Rd, Wr, Xor, Cmt, Trm}
 use Rattle.graph_mean.specs.Graph.{Vertex}
-use Rattle.graph_text.specs.Format.{Named, is_name, is_name_byte}
+use Rattle.graph_text.specs.Format.{Named, is_name}
+use Rattle.graph_text.specs.Steps.{is_name_byte}
 use Rattle.graph_text.specs.FormatForm.{AreGraphs, FillsAll, HasForm, IsWordBuf, IsWordKind, IsWordNode, IsWordRet, IsWritable, Literal, Number, Place, after_places, body_lines, buffer_lines, buffer_places, canonical, end_places, file_lines, graph_lines, graph_text, kind_places, new_places, node_lines, node_places, number_places, printed, return_lines, return_places, start_places}
 use Rattle.graph_text.specs.Printing.{line_text, lines_text}
 use Rattle.graph_text.specs.Canonical.{FileTextIsRead, GraphTextIsRead, file_text}

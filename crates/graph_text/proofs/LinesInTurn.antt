@@ -1,8 +1,10 @@
 -- Lines that are read one after another, as a loop does.
 use Rattle.std.proofs.Common.{◌≡◌, ◌∙◌, ℕ, List, [], ◌∷◌, Result, Ok, Err, length, refl, sym, ap}
 use Rattle.raid_text.specs.Text.{Numbered, Text, lines_in, raw_lines}
-use Rattle.graph_text.specs.FormatSteps.{◌>>=◌}
-use Rattle.graph_text.specs.Format.{At, Named, Read, after_line, after_lines, at_text_end, graphs_of, nothing_read}
+use Rattle.text_steps.specs.Steps.{◌>>=◌}
+use Rattle.graph_text.specs.Format.{Named, Read, after_line, after_lines, at_text_end, graphs_of}
+use Rattle.text_steps.specs.declared.at.At.{At}
+use Rattle.graph_text.specs.Steps.{nothing_read}
 use Rattle.std.specs.Prelude.{IfOk}
 use Rattle.graph_text.specs.FormatForm.{AreGraphs}
 use Rattle.graph_text.specs.declared.fault.BookFault.{BookFault}

@@ -5,7 +5,8 @@ use Rattle.std.specs.List.{list_any, position_or_len}
 use Rattle.std.specs.Str.{bytes_eq}
 use Rattle.raid_text.specs.Text.{Text}
 use Rattle.graph_mean.specs.Graph.{Held, View}
-use Rattle.graph_text.specs.Format.{Named, has_name}
+use Rattle.graph_text.specs.Format.{Named}
+use Rattle.graph_text.specs.Steps.{has_name}
 use Rattle.graph_text.specs.BookView.{named_graphs}
 
 pub length_named : (names : List Text) (graphs : List Held) → length names ≡ length graphs → length (named_graphs names graphs) ≡ length names

@@ -7,7 +7,7 @@ use Rattle.std.proofs.lemmas.List.{take_all, length-take}
 use Rattle.raid_text.specs.Text.{Text}
 use Rattle.graph_mean.specs.declared.graph.Node.{Node}
 use Rattle.graph_mean.specs.Graph.{Vertex, View, edge_count, edges_at}
-use Rattle.graph_text.specs.FormatSteps.{◌>>=◌, only_if}
+use Rattle.text_steps.specs.Steps.{◌>>=◌, only_if}
 use Rattle.graph_text.specs.FormatLines.{node_of}
 use Rattle.graph_text.specs.Format.{with_node_line}
 use Rattle.graph_text.specs.Kept.{firsts, kept_node}

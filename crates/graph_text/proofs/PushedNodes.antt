@@ -5,8 +5,9 @@ use Rattle.std.proofs.Math.Seq.{set-append_seam, take-append_seam, take-length}
 use Rattle.std.proofs.lemmas.Grind.{take_at_read, common_steps}
 use Rattle.std.proofs.lemmas.List.Sums.{sum_by-append}
 use Rattle.graph_mean.specs.declared.graph.Node.{Node}
-use Rattle.graph_mean.specs.Graph.{Held, Vertex, edge_count, edges_at, last_vertex, no_vertex, with_ante, with_node, with_source}
+use Rattle.graph_mean.specs.Graph.{Held, Vertex, edge_count, edges_at, last_vertex, with_ante, with_node, with_source}
 use Rattle.graph_text.specs.Pushed.{with_antes, with_last, with_sources, with_vertex}
+use Rattle.graph_mean.proofs.Words.{no_vertex}
 
 last_place : (front : List Vertex) (v : Vertex) → length (front ++ v ∷ []) - 1 ≡ length front
 last_place front v = let e = length-append front (v ∷ []) in omega arith

@@ -13,7 +13,8 @@ use Rattle.graph_mean.specs.declared.graph.Ret.{Ret}
 use Rattle.graph_mean.specs.declared.graph.Node.{Node}
 use Rattle.graph_mean.specs.declared.graph.Node.TheVariants.{Rd, Wr, Xor, Cmt, Trm}
 use Rattle.graph_mean.specs.Graph.{Vertex, edges_at}
-use Rattle.graph_text.specs.Format.{Named, is_name, is_name_byte}
+use Rattle.graph_text.specs.Format.{Named, is_name}
+use Rattle.graph_text.specs.Steps.{is_name_byte}
 use Rattle.graph_text.specs.FormatForm.{IsWordBuf, IsWordKind, IsWordNode, IsWordRet, IsWritable, Literal, Number, Place, after_places, buffer_lines, buffer_places, end_places, graph_text, kind_places, new_places, node_lines, node_places, number_places, printed, return_lines, return_places, start_places}
 use Rattle.graph_text.specs.Printing.{line_text, lines_text, spaced}
 use Rattle.graph_text.proofs.PrintedLines.{graph_is, line_of}

@@ -1,6 +1,7 @@
 -- What the reader answers. Want of memory is free.
 use Rattle.std.specs.Prelude.{◌≡◌, ℕ, List, Result, Ok, Err}
-use Rattle.graph_text.specs.Format.{At, Named, Read}
+use Rattle.graph_text.specs.Format.{Named, Read}
+use Rattle.text_steps.specs.declared.at.At.{At}
 use Rattle.graph_text.specs.declared.fault.BookFault.{BookFault}
 use Rattle.graph_text.specs.declared.fault.BookFault.TheVariants as book
 use Rattle.graph_text.specs.declared.fault.LineFault.{LineFault}

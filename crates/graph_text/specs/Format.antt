@@ -4,8 +4,9 @@ use Rattle.std.specs.List.{list_all, list_any}
 use Rattle.std.specs.Str.{bytes_eq}
 use Rattle.raid_text.specs.Text.{Text, Numbered, is_sound, lines_in, raw_lines, words_of}
 use Rattle.graph_mean.specs.Graph.{View, blank, edge_count, edges_at}
-use Rattle.graph_text.specs.FormatSteps.{◌>>=◌, only_if, next_word, at_end}
 use Rattle.graph_text.specs.FormatLines.{buffer_of, node_of, return_of}
+use Rattle.text_steps.specs.Steps.{◌>>=◌, only_if, next_word, at_end, at_line}
+use Rattle.text_steps.specs.declared.at.At.{At}
 
 -- a graph of a file, with its name
 pub record Named : Type 0 where
@@ -14,17 +15,11 @@ pub record Named : Type 0 where
 
 -- ---- names
 
--- `a` to `z`, `0` to `9`, `_` and `-`
-abbrev pub is_name_byte : ℕ → Bool
-is_name_byte b = (nat_le 97 b && nat_le b 122) || ((nat_le 48 b && nat_le b 57) || (b == 95 || b == 45))
-
--- 1 to 32 of these bytes
+-- 1 to 32 of the bytes `a` to `z`, `0` to `9`, `_` and `-`
 unfoldable pub is_name : Text → Bool
-is_name word = (nat_le 1 (length word) && nat_le (length word) 32) && list_all is_name_byte word
-
--- whether one of the graphs has this name
-unfoldable pub has_name : List Named → Text → Bool
-has_name graphs name = list_any (λ g. bytes_eq g.name name) graphs
+is_name word = (nat_le 1 (length word) && nat_le (length word) 32) && list_all
+    (λ b. (nat_le 97 b && nat_le b 122)
+    || ((nat_le 48 b && nat_le b 57) || (b == 95 || b == 45))) word
 
 -- ---- one line
 
@@ -33,19 +28,15 @@ unfoldable pub start_of : List Named → List Text → Result Text ℕ
 start_of graphs words = do
   name ← next_word words
   named ← only_if (is_name name.0) 1
-  differs ← only_if (not (has_name graphs name.0)) 4
+  differs ← only_if (not (list_any (λ g. bytes_eq g.name name.0) graphs)) 4
   end ← at_end name.1
   room ← only_if (nat_lt (length graphs) 64) 5
   Ok name.0
 
--- nothing stands there yet
-abbrev pub is_empty : {A : Type 0} → List A → Bool
-is_empty xs = nat_eq (length xs) 0
-
 -- the graph with the buffer of a line: code 1 behind a node or a return, 5 where it has 2,048 buffers
 unfoldable pub with_buffer_line : View → List Text → Result View ℕ
 with_buffer_line g words = do
-  order ← only_if (is_empty g.nodes && is_empty g.rets) 1
+  order ← only_if (nat_eq (length g.nodes) 0 && nat_eq (length g.rets) 0) 1
   buf ← buffer_of (length g.bufs) words
   room ← only_if (nat_lt (length g.bufs) 2048) 5
   Ok (record g { bufs = g.bufs ++ buf ∷ [] })
@@ -53,7 +44,7 @@ with_buffer_line g words = do
 -- the graph with the node of a line: code 1 behind a return, 5 where it has 2,048 nodes, or would have more than 16,384 sources and antecedents
 unfoldable pub with_node_line : View → List Text → Result View ℕ
 with_node_line g words = do
-  order ← only_if (is_empty g.rets) 1
+  order ← only_if (nat_eq (length g.rets) 0) 1
   node ← node_of (length g.nodes) words
   room ← only_if (nat_lt (length g.nodes) 2048 && nat_le (edge_count g + edges_at node) 16384) 5
   Ok (record g { nodes = g.nodes ++ node ∷ [] })
@@ -99,16 +90,6 @@ after_line read line = do
 
 -- ---- all lines
 
--- a refusal: the number of the line, and the code
-pub record At : Type 0 where
-  pub line : ℕ
-  pub code : ℕ
-
--- the value, or the refusal of this line
-abbrev pub at_line : {A : Type 0} → ℕ → Result A ℕ → Result A At
-at_line n (Ok x) = Ok x
-at_line n (Err code) = Err (record { line = n; code = code })
-
 -- after these lines
 unfoldable pub after_lines : Read → List Numbered → Result Read At
 after_lines read [] = Ok read
@@ -119,10 +100,8 @@ abbrev pub at_text_end : ℕ → List Named → Option Named → Result (List Na
 at_text_end n ended None = Ok ended
 at_text_end n ended (Some g) = Err (record { line = n + 1; code = 6 })
 
--- before the first line
-abbrev pub nothing_read : Read
-nothing_read = record { ended = []; current = None }
-
 -- the graphs of a text, in their order
 unfoldable pub graphs_of : Text → Result (List Named) At
-graphs_of text = after_lines nothing_read (lines_in text) >>= λ read. at_text_end (length (raw_lines text)) read.ended read.current
+graphs_of text =
+    after_lines (record { ended = []; current = None }) (lines_in text)
+    >>= λ read. at_text_end (length (raw_lines text)) read.ended read.current

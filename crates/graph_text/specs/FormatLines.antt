@@ -7,7 +7,8 @@ use Rattle.graph_mean.specs.declared.graph.Ret.{Ret}
 use Rattle.graph_mean.specs.declared.graph.Node.{Node}
 use Rattle.graph_mean.specs.declared.graph.Node.TheVariants.{Rd, Wr, Xor, Cmt, Trm}
 use Rattle.graph_mean.specs.Graph.{Vertex}
-use Rattle.graph_text.specs.FormatSteps.{◌>>=◌, number_in, next_word, after_word, next_number, after_index, next_pair, at_end, numbers_of}
+use Rattle.graph_text.specs.FormatSteps.{after_word, after_index, next_pair, numbers_of}
+use Rattle.text_steps.specs.Steps.{◌>>=◌, number_in, next_word, next_number, at_end}
 
 -- ---- buffer I stripe S from O count L, and `new U` behind it where it is filled with new data
 
@@ -62,32 +63,20 @@ plain_of kind words = do
   antes ← antes_of behind
   Ok (record { kind = kind; sources = []; antes = antes })
 
--- `UNIT BUFFER` of a read, and its antecedents
-unfoldable pub read_of : List Text → Result Vertex ℕ
-read_of words = do
-  pair ← next_pair words
-  plain_of (Rd pair.0 pair.1) pair.2
-
--- `UNIT BUFFER` of a write, and its antecedents
-unfoldable pub write_of : List Text → Result Vertex ℕ
-write_of words = do
-  pair ← next_pair words
-  plain_of (Wr pair.0 pair.1) pair.2
-
--- `TARGET SOURCE ..` of an exclusive-or, and its antecedents
-unfoldable pub xor_of : List Text → Result Vertex ℕ
-xor_of words = do
-  target ← next_number words
-  sources ← sources_of target.1
-  antes ← antes_of sources.1
-  Ok (record { kind = Xor target.0; sources = sources.0; antes = antes })
-
 -- what stands behind the node's kind
 unfoldable pub kind_of : Text → List Text → Result Vertex ℕ
 kind_of kind words =
-    if bytes_eq kind (codes "read") then read_of words
-    else (if bytes_eq kind (codes "write") then write_of words
-    else (if bytes_eq kind (codes "xor") then xor_of words
+    if bytes_eq kind (codes "read") then (do
+      pair ← next_pair words
+      plain_of (Rd pair.0 pair.1) pair.2)
+    else (if bytes_eq kind (codes "write") then (do
+      pair ← next_pair words
+      plain_of (Wr pair.0 pair.1) pair.2)
+    else (if bytes_eq kind (codes "xor") then (do
+      target ← next_number words
+      sources ← sources_of target.1
+      antes ← antes_of sources.1
+      Ok (record { kind = Xor target.0; sources = sources.0; antes = antes }))
     else (if bytes_eq kind (codes "commit") then plain_of Cmt words
     else (if bytes_eq kind (codes "terminate") then plain_of Trm words
     else Err 1))))

@@ -3,7 +3,7 @@ use Rattle.std.specs.Prelude.{ℕ, Bool, true, false, List, ◌++◌, Option, So
 use Rattle.raid_text.specs.Text.{Text}
 use Rattle.graph_mean.specs.declared.graph.Node.{Node}
 use Rattle.graph_mean.specs.Graph.{Vertex}
-use Rattle.graph_text.specs.FormatSteps.{◌>>=◌}
+use Rattle.text_steps.specs.Steps.{◌>>=◌}
 use Rattle.graph_text.specs.Answers.{Gives}
 
 -- the first 16,385 numbers

@@ -8,3 +8,4 @@ pub mod BookView
 pub mod Answers
 pub mod Printing
 pub mod Canonical
+pub mod Steps

@@ -2,7 +2,7 @@
 ghost use Rattle.std.specs.Prelude.{◌≡◌, ◌<◌, ◌≤◌, ◌++◌, ◌∷◌, [], Some, length, map, position, option_map, slice_get, vec_len, vec_capacity, IfOk, IfSome};
 ghost use Rattle.std.specs.List.{list_any};
 ghost use Rattle.std.specs.Str.{bytes_eq};
-ghost use Rattle.graph_text.specs.Format.{has_name};
+ghost use Rattle.graph_text.specs.Steps.{has_name};
 
 use crate::name::Name;
 use blk_plain::limits;

@@ -2,7 +2,8 @@
 ghost use Rattle.std.specs.Prelude.{◌≡◌, ◌≤◌, length};
 ghost use Rattle.std.specs.List.{list_all};
 ghost use Rattle.std.specs.Str.{bytes_eq};
-ghost use Rattle.graph_text.specs.Format.{is_name, is_name_byte};
+ghost use Rattle.graph_text.specs.Format.{is_name};
+ghost use Rattle.graph_text.specs.Steps.{is_name_byte};
 
 use std::marker::Model;
 

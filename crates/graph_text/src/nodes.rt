@@ -3,7 +3,8 @@ ghost use Rattle.std.specs.Prelude.{◌≡◌, ◌<◌, [], length, IfOk, IsTrue
 ghost use Rattle.graph_mean.specs.Graph.{is_xor};
 ghost use Rattle.raid_text.specs.Seen.{words_left};
 ghost use Rattle.graph_mean.specs.declared.graph.Node.TheVariants.{Cmt, Trm};
-ghost use Rattle.graph_text.specs.FormatLines.{kind_of, node_of, plain_of, read_of, write_of, xor_of};
+ghost use Rattle.graph_text.specs.FormatLines.{kind_of, node_of, plain_of};
+ghost use Rattle.graph_text.specs.Steps.{read_of, write_of, xor_of};
 ghost use Rattle.graph_text.specs.Kept.{GivesNode};
 
 use crate::codes::WORD;
@@ -28,7 +29,7 @@ fn plain_in(kind: Node, words: &mut Words, edges: &mut Edges) -> Result<Node, u8
 }
 
 // UNIT BUFFER of a read.
-#[tactic(auto, unfolding(crate::specs::FormatLines::read_of))]
+#[tactic(auto, unfolding(crate::specs::Steps::read_of))]
 fn read_in(words: &mut Words, edges: &mut Edges) -> Result<Node, u8>
     requires sources { edges.old.sources ≡ [] }
     requires antes { edges.old.antes ≡ [] }
@@ -41,7 +42,7 @@ fn read_in(words: &mut Words, edges: &mut Edges) -> Result<Node, u8>
 }
 
 // UNIT BUFFER of a write.
-#[tactic(auto, unfolding(crate::specs::FormatLines::write_of))]
+#[tactic(auto, unfolding(crate::specs::Steps::write_of))]
 fn write_in(words: &mut Words, edges: &mut Edges) -> Result<Node, u8>
     requires sources { edges.old.sources ≡ [] }
     requires antes { edges.old.antes ≡ [] }
@@ -54,7 +55,7 @@ fn write_in(words: &mut Words, edges: &mut Edges) -> Result<Node, u8>
 }
 
 // TARGET SOURCE .. of an exclusive-or.
-#[tactic(auto, unfolding(crate::specs::FormatLines::xor_of))]
+#[tactic(auto, unfolding(crate::specs::Steps::xor_of))]
 fn xor_in(words: &mut Words, edges: &mut Edges) -> Result<Node, u8>
     requires sources { edges.old.sources ≡ [] }
     requires antes { edges.old.antes ≡ [] }
@@ -69,7 +70,7 @@ fn xor_in(words: &mut Words, edges: &mut Edges) -> Result<Node, u8>
 }
 
 // What stands behind the node's kind.
-#[tactic(auto, unfolding(crate::specs::FormatLines::kind_of))]
+#[tactic(auto, unfolding(crate::specs::FormatLines::kind_of, crate::specs::Steps::read_of, crate::specs::Steps::write_of, crate::specs::Steps::xor_of))]
 fn kind_in(kind: &[u8], words: &mut Words, edges: &mut Edges) -> Result<Node, u8>
     requires sources { edges.old.sources ≡ [] }
     requires antes { edges.old.antes ≡ [] }

@@ -1,7 +1,8 @@
 //! The reader of a whole file.
 ghost use Rattle.std.specs.Prelude.{◌≡◌, ◌≤◌, ◌+◌, ◌<◌, codes, length, Some, Ok, Err, IsSome, IfOk};
 ghost use Rattle.raid_text.specs.Seen.{seen as seen_line, words_left};
-ghost use Rattle.graph_text.specs.Format.{after_line, at_text_end, graphs_of, inside_line, nothing_read, outside_line, placed_line, start_of};
+ghost use Rattle.graph_text.specs.Format.{after_line, at_text_end, graphs_of, inside_line, outside_line, placed_line, start_of};
+ghost use Rattle.graph_text.specs.Steps.{nothing_read};
 ghost use Rattle.graph_text.specs.FormatForm.{AreGraphs};
 ghost use Rattle.graph_text.specs.Answers.{Gives, GivesBook, GivesRead};
 
@@ -141,7 +142,7 @@ impl Reader {
 }
 
 // The name of a graph that begins behind these.
-#[tactic(auto, unfolding(crate::specs::Format::start_of, crate::specs::Format::is_name))]
+#[tactic(auto, unfolding(crate::specs::Format::start_of, crate::specs::Format::is_name, crate::specs::Steps::has_name))]
 fn start_in(ended: &Book, words: &mut Words) -> Result<Name, u8>
     ensures name { result ≡ start_of ended.now (words_left words.old) }
     ensures few { IfOk result (λ _. length ended.now < 64) }

@@ -4,13 +4,14 @@
 ghost use Rattle.std.specs.Prelude.{◌≡◌};
 ghost use Rattle.raid_text.specs.Seen.{words_left};
 ghost use Rattle.graph_text.specs.Answers.{Gives};
-ghost use Rattle.graph_text.specs.FormatSteps.{next_word, after_word, next_number, after_index, next_pair, at_end, number_in};
+ghost use Rattle.graph_text.specs.FormatSteps.{after_word, after_index, next_pair};
+ghost use Rattle.text_steps.specs.Steps.{next_word, next_number, at_end, number_in};
 
 use crate::codes::{INDEX, NUMBER, WORD};
 use raid_text::{Words, number};
 
 /// The next word.
-#[tactic(auto, unfolding(crate::specs::FormatSteps::next_word))]
+#[tactic(auto, unfolding(text_steps::specs::Steps::next_word))]
 pub fn next_word<'a>(words: &mut Words<'a>) -> Result<&'a [u8], u8>
     ensures { Gives (λ word. (word.now, words_left words.new)) result
         (next_word (words_left words.old)) }
@@ -34,7 +35,7 @@ pub fn pass_word(words: &mut Words, wanted: &[u8]) -> Result<(), u8>
 }
 
 /// The number that a word is.
-#[tactic(auto, unfolding(crate::specs::FormatSteps::number_in))]
+#[tactic(auto, unfolding(text_steps::specs::Steps::number_in))]
 pub fn number_in(word: &[u8]) -> Result<u32, u8>
     ensures { result ≡ number_in word.now }
 {
@@ -45,7 +46,7 @@ pub fn number_in(word: &[u8]) -> Result<u32, u8>
 }
 
 /// The next word, which is a number.
-#[tactic(auto, unfolding(crate::specs::FormatSteps::next_number))]
+#[tactic(auto, unfolding(text_steps::specs::Steps::next_number))]
 pub fn next_number(words: &mut Words) -> Result<u32, u8>
     ensures { Gives (λ n. (n, words_left words.new)) result (next_number (words_left words.old)) }
 {
@@ -76,7 +77,7 @@ pub fn next_pair(words: &mut Words) -> Result<(u32, u32), u8>
 }
 
 /// Sees that no word is left.
-#[tactic(auto, unfolding(crate::specs::FormatSteps::at_end))]
+#[tactic(auto, unfolding(text_steps::specs::Steps::at_end))]
 pub fn pass_end(words: &mut Words) -> Result<(), u8>
     ensures { result ≡ at_end (words_left words.old) }
 {

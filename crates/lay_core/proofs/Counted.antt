@@ -16,35 +16,32 @@ use Rattle.lay_core.proofs.Walked.{Passed, of-some, span-in, nothing-before, all
 -- ## Numbers that pass a test
 
 pub count-most : (p : ℕ → Bool) (n : ℕ) → count_below p n ≤ n
-unfolding count_below
 count-most p zero = omega arith
 count-most p (suc n) =
     let r = count-most p n in
     elim (cases_Bool (p n)) [
-      | inl e ↦ let c = cond-true (p n) (suc (count_below p n)) (count_below p n) e in omega (arith, c, r)
-      | inr e ↦ let c = cond-false (p n) (suc (count_below p n)) (count_below p n) e in omega (arith, c, r)
+      | inl e ↦ let c = cond-true {A = ℕ} (p n) 1 0 e in omega (arith, c, r)
+      | inr e ↦ let c = cond-false {A = ℕ} (p n) 1 0 e in omega (arith, c, r)
     ]
 
 -- where none of the next passes, the count stays
 pub count-none : (p : ℕ → Bool) (n m : ℕ) → n ≤ m → ((s : ℕ) → n ≤ s → s < m → p s ≡ false) → count_below p m ≡ count_below p n
-unfolding count_below
 count-none p n zero le none = ap (count_below p) (let e : 0 ≡ n = omega (arith, le) in e)
 count-none p n (suc m) le none = elim (cases_lt m n) [
   | inl l ↦ ap (count_below p) (let e : suc m ≡ n = omega (arith, l, le) in e)
   | inr g ↦
-      let c = cond-false (p m) (suc (count_below p m)) (count_below p m) (none m g (omega arith)) in
+      let c = cond-false {A = ℕ} (p m) 1 0 (none m g (omega arith)) in
       let r = count-none p n m g (λ s a b. none s a (omega (arith, b))) in
       omega (arith, c, r)
 ]
 
 -- where each passes, it goes up by one for each
 pub count-each : (p : ℕ → Bool) (n m : ℕ) → n ≤ m → ((s : ℕ) → n ≤ s → s < m → p s ≡ true) → count_below p m ≡ count_below p n + (m - n)
-unfolding count_below
 count-each p n zero le each = let e = ap (count_below p) (let z : 0 ≡ n = omega (arith, le) in z) in omega (arith, e)
 count-each p n (suc m) le each = elim (cases_lt m n) [
   | inl l ↦ let e = ap (count_below p) (let z : suc m ≡ n = omega (arith, l, le) in z) in omega (arith, e, l)
   | inr g ↦
-      let c = cond-true (p m) (suc (count_below p m)) (count_below p m) (each m g (omega arith)) in
+      let c = cond-true {A = ℕ} (p m) 1 0 (each m g (omega arith)) in
       let r = count-each p n m g (λ s a b. each s a (omega (arith, b))) in
       omega (arith, c, r, g)
 ]
@@ -59,7 +56,6 @@ pub record IsCounted (y : Shape) (test : ℕ → Bool) (at next n : ℕ) : Type 
   pub within : next ≤ y.stripes
 
 pub begin-count : (y : Shape) (test : ℕ → Bool) → IsCounted y test 0 0 0
-unfolding count_below
 begin-count y test = record {
   many = omega arith;
   low = λ b l. absurd (let u : ⊥ = omega (arith, l) in u);

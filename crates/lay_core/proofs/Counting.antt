@@ -9,7 +9,6 @@ use Rattle.lay_core.specs.Layout.{Shape, data_units, block_of}
 use Rattle.lay_core.specs.Touched.{Touched, HasBlock, IsSplit, any_below, count_below, has_block, stripes_among}
 
 any-has : (p : ℕ → Bool) (n : ℕ) → any_below p n ≡ true → (i : ℕ) × (i < n) × (p i ≡ true)
-unfolding any_below
 any-has p zero h = let z : false ≡ true = h in absurd (let u : ⊥ = cc in u)
 any-has p (suc n) h = elim (cases_Bool (p n)) [
   | inl e ↦ (n, omega arith, e)
@@ -17,7 +16,6 @@ any-has p (suc n) h = elim (cases_Bool (p n)) [
 ]
 
 has-any : (p : ℕ → Bool) (n i : ℕ) → i < n → p i ≡ true → any_below p n ≡ true
-unfolding any_below
 has-any p zero i l h = absurd (omega (arith, l))
 has-any p (suc n) i l h = elim (cases_Bool (p n)) [
   | inl e ↦ ap (λ b. b || any_below p n) e
@@ -46,7 +44,6 @@ module _ (p : ℕ → Bool) (xs : List ℕ) (up : IsStrictlyIncreasing xs) where
 
   -- numbers of the list that pass are at most as many as there are
   pub at-least : (n m : ℕ) → m ≤ length xs → ((k : ℕ) → k < m → get_or xs k 0 < n) → ((k : ℕ) → k < length xs → p (get_or xs k 0) ≡ true) → m ≤ count_below p n
-  unfolding count_below
   at-least n zero le less passes = omega arith
   at-least zero (suc m) le less passes = absurd (let l = less 0 (omega arith) in let u : ⊥ = omega (arith, l) in u)
   at-least (suc n) (suc m) le less passes = elim (cases_lt (get_or xs m 0) n) [
@@ -56,20 +53,19 @@ module _ (p : ℕ → Bool) (xs : List ℕ) (up : IsStrictlyIncreasing xs) where
           | inr j ↦ let e : k ≡ m = omega (arith, h, j) in let v = ap (λ (z : ℕ). get_or xs z 0) e in omega (arith, v, l)
         ]) passes in
         elim (cases_Bool (p n)) [
-          | inl e ↦ let c = cond-true (p n) (suc (count_below p n)) (count_below p n) e in omega (arith, more, c)
-          | inr e ↦ let c = cond-false (p n) (suc (count_below p n)) (count_below p n) e in omega (arith, more, c)
+          | inl e ↦ let c = cond-true {A = ℕ} (p n) 1 0 e in omega (arith, more, c)
+          | inr e ↦ let c = cond-false {A = ℕ} (p n) 1 0 e in omega (arith, more, c)
         ]
     | inr l ↦
         let q = less m (omega arith) in
         let e : get_or xs m 0 ≡ n = omega (arith, l, q) in
         let more = at-least n m (omega (arith, le)) (λ k h. let b = below-next k m h (omega (arith, le)) in omega (arith, b, e)) passes in
-        let c = cond-true (p n) (suc (count_below p n)) (count_below p n) (ap p (sym e) ∙ passes m (omega (arith, le))) in
+        let c = cond-true {A = ℕ} (p n) 1 0 (ap p (sym e) ∙ passes m (omega (arith, le))) in
         omega (arith, more, c)
   ]
 
   -- and where each that passes is of the list, there are no more
   pub at-most : (n m : ℕ) → m ≤ length xs → ((v : ℕ) → v < n → p v ≡ true → (k : ℕ) × (k < m) × (get_or xs k 0 ≡ v)) → count_below p n ≤ m
-  unfolding count_below
   at-most zero m le has = omega arith
   at-most (suc n) m le has = elim (cases_Bool (p n)) [
     | inl e ↦
@@ -86,10 +82,10 @@ module _ (p : ℕ → Bool) (xs : List ℕ) (up : IsStrictlyIncreasing xs) where
             | inr le' ↦ let same : w.0 ≡ at.0 = omega (arith, ge, le') in let b = ap (λ (z : ℕ). get_or xs z 0) same in absurd (let u : ⊥ = omega (arith, b, is, wv, l) in u)
           ]
         ]) in
-        let c = cond-true (p n) (suc (count_below p n)) (count_below p n) e in
+        let c = cond-true {A = ℕ} (p n) 1 0 e in
         omega (arith, less, c, km)
     | inr e ↦
-        let c = cond-false (p n) (suc (count_below p n)) (count_below p n) e in
+        let c = cond-false {A = ℕ} (p n) 1 0 e in
         let less = at-most n m le (λ v l t. has v (omega (arith, l)) t) in
         omega (arith, less, c)
   ]

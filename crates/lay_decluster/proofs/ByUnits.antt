@@ -3,7 +3,7 @@ use Rattle.std.specs.Prelude.{◌≡◌, ◌<◌, ◌≤◌, ◌+◌, ◌*◌, �
 use Rattle.std.proofs.Common.{arith, refl, ap, ◌∙◌, inl, inr}
 use Rattle.std.proofs.lemmas.Bool.{cases_lt, eqb-true}
 use Rattle.std.proofs.lemmas.Nat.{mul-le}
-use Rattle.lay_core.specs.Layout.{Shape, HoldsUnit, SparesLieByUnits, data_units}
+use Rattle.lay_core.specs.Layout.{Shape, SparesLieByUnits, data_units}
 use Rattle.lay_design.specs.Counting.{count_below}
 use Rattle.lay_design.specs.Design.{Blocks}
 use Rattle.lay_decluster.specs.Limits.{table_rows, table_stripes, stripes_in, IsTabled}
@@ -47,18 +47,13 @@ module _ (d : Blocks) (u rows : ℕ) (tabled : IsTabled d u rows) (wide : 3 ≤ 
         absurd (omega (arith, empty, some))
   ]
 
-  check_on : (x : ℕ) → x < d.v → HoldsUnit y x
+  -- a unit of some stripe lies on each column
+  check_on : (x : ℕ) → x < d.v → (t : ℕ) × (i : ℕ) × (t < y.stripes) × (i < y.width) × ((y.place t i).column ≡ x)
   check_on x within =
       let even : count_in_table (table_stripes d) 0 (has_check y x) ≡ d.r = (spared_balanced d tabled.design wide u rows).check_units 0 x table_within within in
       let found = passes_one (λ s. has_check y x (0 * table_stripes d + s)) (table_stripes d) (omega (arith, even, degree_least)) in
       let s : ℕ = 0 * table_stripes d + found.0 in
-      record {
-        stripe = s;
-        unit = data_units y;
-        within = let less = found.1 in omega (arith, less, table_within);
-        below = omega arith;
-        column = eqb-true (y.place s (data_units y)).column x found.2;
-      }
+      (s, data_units y, let less = found.1 in omega (arith, less, table_within), omega arith, eqb-true (y.place s (data_units y)).column x found.2)
 
   pub spared_by_units : SparesLieByUnits y
   spared_by_units s p within is = check_on p.column ((spared_lawful d u rows tabled wide).spare_within s p within is).0

@@ -10,9 +10,9 @@ table_rows d = d.k * d.r
 abbrev pub table_stripes : Blocks → ℕ
 table_stripes d = d.k * d.b
 
--- the stripes that so many rows make
+-- the stripes that so many rows make: k b of each full table of k r rows
 abbrev pub stripes_in : Blocks → ℕ → ℕ
-stripes_in d rows = table_stripes d * (rows / table_rows d)
+stripes_in d rows = d.k * d.b * (rows / (d.k * d.r))
 
 -- a unit has 1 to 128 sectors
 abbrev pub IsUnit : ℕ → Type 0

@@ -4,13 +4,9 @@ use Rattle.std.proofs.Common.{arith, refl, ap, ◌∙◌, inl, inr}
 use Rattle.std.proofs.lemmas.Bool.{ltb-true, ltb-false, cases_lt}
 use Rattle.std.proofs.Math.Nat.{mod-eq_of_lt, mod_self}
 
--- data unit i stands at the i-th of the positions without position j
-abbrev pub beside : ℕ → ℕ → ℕ
-beside j i = if nat_lt i j then i else i + 1
-
--- without spare places: the check unit, the last of the k units, stands at position j
+-- without spare places: the check unit, the last of the k units, stands at position j, and data unit i at the i-th of the others
 abbrev pub unit_position : ℕ → ℕ → ℕ → ℕ
-unit_position k j i = if nat_lt i (k - 1) then beside j i else j
+unit_position k j i = if nat_lt i (k - 1) then (if nat_lt i j then i else i + 1) else j
 
 -- the spare place stands behind the check unit, around the end
 abbrev pub spare_position : ℕ → ℕ → ℕ

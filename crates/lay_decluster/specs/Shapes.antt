@@ -25,7 +25,7 @@ declustered d u rows = record {
   spare = λ s. None;
 }
 
--- level D: and so does the spare place
+-- level D: and so does the spare place, which stands behind the check unit, around the end
 abbrev pub spared : Blocks → ℕ → ℕ → Shape
 spared d u rows = record {
   columns = d.v;
@@ -35,7 +35,7 @@ spared d u rows = record {
   stripes = stripes_in d rows;
   rows = rows;
   place = λ s i. seat d s (spared_position d.k (copy_of d s) i);
-  spare = λ s. Some (seat d s (spare_position d.k (copy_of d s)));
+  spare = λ s. Some (seat d s ((copy_of d s + 1) % d.k));
 }
 
 module _ (d : Blocks) (u rows : ℕ) (tabled : IsTabled d u rows) where

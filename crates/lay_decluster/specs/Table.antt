@@ -1,8 +1,8 @@
 -- Full tables: where the tuples of a design lie on the columns, stripe by stripe.
-use Rattle.std.specs.Prelude.{◌≡◌, ◌<◌, ◌/◌, ◌%◌, ℕ, Bool}
+use Rattle.std.specs.Prelude.{◌≡◌, ◌<◌, ◌/◌, ◌%◌, ℕ, Bool, get_or}
 use Rattle.lay_core.specs.declared.place.Place.{Place}
 use Rattle.lay_design.specs.Counting.{count_below}
-use Rattle.lay_design.specs.Blocks.{object, has}
+use Rattle.lay_design.specs.Blocks.{has, tuple}
 use Rattle.lay_design.specs.Design.{Blocks}
 
 -- the design is repeated from end to end: the tuple of stripe s
@@ -15,15 +15,15 @@ copy_of d s = (s / d.b) % d.k
 
 -- the column of a position of stripe s
 abbrev pub column_at : Blocks → ℕ → ℕ → ℕ
-column_at d s position = object d.k d.objects (tuple_of d s) position
+column_at d s position = get_or (tuple d.k d.objects (s % d.b)) position 0
 
 -- stripe s has a position on column x
 abbrev pub lies_on : Blocks → ℕ → ℕ → Bool
-lies_on d x s = has d.k d.objects x (tuple_of d s)
+lies_on d x s = has d.k d.objects x (s % d.b)
 
 -- the lowest row of column x that is free for stripe s: each earlier stripe with a position there has taken one
 abbrev pub free_row : Blocks → ℕ → ℕ → ℕ
-free_row d x s = count_below (lies_on d x) s
+free_row d x s = count_below (λ t. has d.k d.objects x (t % d.b)) s
 
 -- the place of a position of stripe s
 abbrev pub seat : Blocks → ℕ → ℕ → Place

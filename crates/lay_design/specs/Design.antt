@@ -1,9 +1,10 @@
 -- Block designs: what they are, and why other numbers and tuples are none.
-use Rattle.std.specs.Prelude.{◌≡◌, ◌≢◌, ◌<◌, ◌≤◌, ◌-◌, ◌*◌, ◌==◌, ◌&&◌, ℕ, Bool, List, length, nat_lt, not}
+use Rattle.std.specs.Prelude.{◌≡◌, ◌≢◌, ◌<◌, ◌≤◌, ◌-◌, ◌*◌, ◌==◌, ◌&&◌, ℕ, Bool, List, length, take, get_or, nat_le, nat_lt, not}
 use Rattle.lay_design.specs.declared.fault.DesignFault.{DesignFault}
 use Rattle.lay_design.specs.declared.fault.DesignFault.TheVariants.{Count, Element, Repeat, Degree, Pair, Memory}
-use Rattle.lay_design.specs.Counting.{IsNowhere, IsFirstPlace}
-use Rattle.lay_design.specs.Blocks.{is_outside, is_repeated, tuple, degree, together}
+use Rattle.lay_design.specs.Counting.{count_below, IsNowhere, IsFirstPlace}
+use Rattle.lay_design.specs.Blocks.{tuple, has, degree, together}
+use Rattle.std.specs.List.{list_any}
 
 -- the numbers of a design and its tuples, one after the other: b tuples of k of the objects 0 to v - 1, of which each is to stand in r tuples and each two in lambda
 pub record Blocks : Type 0 where
@@ -28,19 +29,21 @@ pub record AreNumbers (d : Blocks) : Type 0 where
 
 -- a place of tuple t has no object below v
 abbrev pub outside : Blocks → ℕ → ℕ → Bool
-outside d t = is_outside d.v (tuple d.k d.objects t)
+outside d t place = nat_le d.v (get_or (tuple d.k d.objects t) place 0)
 
 -- a place of tuple t has the object of an earlier one
 abbrev pub repeated : Blocks → ℕ → ℕ → Bool
-repeated d t = is_repeated (tuple d.k d.objects t)
+repeated d t place =
+    list_any (λ x. x == get_or (tuple d.k d.objects t) place 0) (take place (tuple d.k d.objects t))
 
 -- an object doesn't stand in r tuples
 abbrev pub strays : Blocks → ℕ → Bool
-strays d x = not (degree d.b d.k d.objects x == d.r)
+strays d x = not (count_below (has d.k d.objects x) d.b == d.r)
 
 -- x is less than y, and the two don't stand together in lambda tuples
 abbrev pub parts : Blocks → ℕ → ℕ → Bool
-parts d x y = nat_lt x y && not (together d.b d.k d.objects x y == d.lambda)
+parts d x y =
+    nat_lt x y && not (count_below (λ t. has d.k d.objects x t && has d.k d.objects y t) d.b == d.lambda)
 
 -- a block design: b tuples of k distinct objects below v, each object in r of them, each two objects together in lambda
 pub record IsDesign (d : Blocks) : Type 0 where

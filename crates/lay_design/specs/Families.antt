@@ -21,7 +21,7 @@ cyclic v base = record {
   k = length base;
   r = length base;
   lambda = length base * (length base - 1) / (v - 1);
-  objects = flat (map (moved v base) (range_with_len 0 v));
+  objects = flat_map (λ tuple. tuple) (map (λ t. map (λ x. (x + t) % v) base) (range_with_len 0 v));
 }
 
 -- how many tuples of k of n objects there are: Pascal's rule
@@ -44,7 +44,7 @@ complete v k = record {
   k = k;
   r = choose (v - 1) (k - 1);
   lambda = choose (v - 2) (k - 2);
-  objects = flat (subsets 0 v k);
+  objects = flat_map (λ tuple. tuple) (subsets 0 v k);
 }
 
 -- there is no memory for the tuples, where their numbers are within the limits, or they are no design

@@ -3,10 +3,7 @@ use Rattle.std.specs.Prelude.{◌+◌, ◌-◌, ◌*◌, ◌%◌, ℕ, if◌then
 use Rattle.lay_core.specs.Layout.{Shape}
 use Rattle.lay_plain.specs.Plain.{by_rows}
 
--- the column of unit i of stripe s, of n columns: the check unit, which is the last, goes one column to the left with each stripe, and the data units are dealt out to the columns in turn
-abbrev pub left_symmetric_column : ℕ → ℕ → ℕ → ℕ
-left_symmetric_column n s i = if nat_lt i (n - 1) then (s * (n - 1) + i) % n else n - 1 - s % n
-
--- level 5 over n columns with units of u sectors: each stripe is a row with one check unit
+-- level 5 over n columns with units of u sectors: each stripe is a row with one check unit, which is the last and goes one column to the left with each stripe; the data units are dealt out to the columns in turn
 abbrev pub left_symmetric : ℕ → ℕ → ℕ → Shape
-left_symmetric n u rows = by_rows n 1 u rows (left_symmetric_column n)
+left_symmetric n u rows =
+    by_rows n 1 u rows (λ s i. if nat_lt i (n - 1) then (s * (n - 1) + i) % n else n - 1 - s % n)

@@ -6,7 +6,11 @@ use Rattle.std.proofs.lemmas.Nat.{mod-mul-add, div-add-mod'}
 use Rattle.std.proofs.Math.Nat.{mod-lt, mul-le-mul_left}
 use Rattle.lay_core.specs.Layout.{IsLayout}
 use Rattle.lay_plain.specs.Plain.{IsInLimits, by_rows_lawful}
-use Rattle.lay_plain.specs.LeftSymmetric.{left_symmetric_column, left_symmetric}
+use Rattle.lay_plain.specs.LeftSymmetric.{left_symmetric}
+
+-- the column of unit i of stripe s, of n columns
+abbrev left_symmetric_column : ℕ → ℕ → ℕ → ℕ
+left_symmetric_column n s i = if nat_lt i (n - 1) then (s * (n - 1) + i) % n else n - 1 - s % n
 
 -- over m + 1 columns the check unit of stripe q * (m + 1) + r is dealt out m - r columns behind q * m + r rounds
 dealt : (m q r : ℕ) → r ≤ m → (q * (m + 1) + r) * m + m ≡ (q * m + r) * (m + 1) + (m - r)

@@ -93,7 +93,7 @@ set_of position places p = record {
   columns = p.columns;
   level = p.level;
   members = count_by (is_member_of position) places;
-  wanted = count_by is_wanted (take p.columns p.seats);
+  wanted = count_by (λ seat. not (seat == 254 || seat == 255)) (take p.columns p.seats);
 }
 
 -- the serials of the labels, ascending, each once
@@ -114,4 +114,5 @@ pub record IsGrouping (labels : List (Option Label)) (sets : List Set) (places :
       → IsSetOf labels places k (slice_index_or sets k d)
   pub count : length places ≡ length labels
   pub standings : (i : ℕ) (d : Standing) → i < length labels
-      → slice_index_or places i d ≡ standing labels (map (λ s. s.serial) sets) i
+      → slice_index_or places i d
+      ≡ standing_of labels (map (λ s. s.serial) sets) (take i labels) (slice_index_or labels i None)

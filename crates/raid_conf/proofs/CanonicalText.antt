@@ -22,8 +22,9 @@ use Rattle.raid_conf.specs.Designs.{blocks_of}
 use Rattle.raid_conf.specs.Levels.{is_level}
 use Rattle.raid_conf.specs.Form.{FillsAll, HasForm, IsConf, IsDesignOf, IsDiskName, IsGiven, IsName, Literal, Number, Place, array_places, canonical, conf_places, conf_text, design_places, given_places, layout_places, name_places, printed, queue_places, spare_places, start_places, tuple_places}
 use Rattle.raid_conf.specs.Format.{conf_of}
-use Rattle.raid_conf.specs.Printing.{IsPrintable}
+use Rattle.raid_conf.specs.Printing.{IsPrintable, placed_text}
 use Rattle.raid_conf.specs.Laws.{ConfTextIsPrintedAgain, ConfTextIsRead}
+use Rattle.raid_conf.proofs.Direct.{text_is}
 use Rattle.raid_conf.proofs.Judged.{design_is}
 use Rattle.raid_conf.proofs.OneStep.{ok_same}
 use Rattle.raid_conf.proofs.ReadConf.{conf_read}
@@ -197,10 +198,10 @@ conf_placed present conf is =
     start_placed name word = (omega arith, (refl, (word, tt)))
 
 -- the canonical text is read as what was printed
-pub text_read : (conf : Conf) → IsConf conf → conf_of (conf_text conf) ≡ Ok conf
-text_read conf is =
+placed_read : (conf : Conf) → IsConf conf → conf_of (placed_text conf) ≡ Ok conf
+placed_read conf is =
     let present = not (nat_eq conf.spares 0) in
-    conf_read (conf_text conf) conf is (record {
+    conf_read (placed_text conf) conf is (record {
       short = false;
       present = present;
       behind = [];
@@ -212,6 +213,9 @@ text_read conf is =
     not_false : (b : Bool) → not b ≡ false → b ≡ true
     not_false true h = refl
     not_false false h = cc
+
+pub text_read : (conf : Conf) → IsConf conf → conf_of (conf_text conf) ≡ Ok conf
+text_read conf is = ap conf_of (text_is conf) ∙ placed_read conf is
 
 pub conf_text_read : ConfTextIsRead
 conf_text_read conf is = record { short = text_short conf is; read = text_read conf is }

@@ -6,7 +6,7 @@ use Rattle.std.proofs.lemmas.Slice.Eq.{bytes_eq-Decides}
 use Rattle.std.proofs.lemmas.Bool.{cases_lt}
 use Rattle.std.proofs.lemmas.List.{get_or_append_left, length_push}
 use Rattle.raid_text.specs.Text.{Text}
-use Rattle.raid_conf.specs.Sections.{has_name}
+use Rattle.raid_conf.specs.Steps.{has_name}
 use Rattle.raid_conf.specs.Form.{Differ}
 
 -- a name that isn't among these is none of them

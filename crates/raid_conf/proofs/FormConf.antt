@@ -15,10 +15,11 @@ use Rattle.raid_conf.specs.declared.given.Given.TheVariants.{Listed, Cyclic, Com
 use Rattle.raid_conf.specs.declared.role.Role.TheVariants.{Disk, Spare}
 use Rattle.raid_conf.specs.Designs.{objects_of, serves}
 use Rattle.raid_conf.specs.Levels.{allows, has_design, is_level}
-use Rattle.raid_conf.specs.Sections.{complete_of, Counts, cyclic_of, layout_of, listed_of, no_design, pass_start, queue_begins, queue_of, spares_begin, tuple_of}
+use Rattle.raid_conf.specs.Sections.{complete_of, Counts, cyclic_of, layout_of, listed_of, pass_start, queue_begins, queue_of, spares_begin, tuple_of}
+use Rattle.raid_conf.specs.Steps.{no_design, conf_in, disks_in, listed_in, spare_lines, tail_in}
 use Rattle.text_steps.specs.Steps.{◌>>=◌, at_line, line_if_any, Next, next_line, next_word, only_if, Rest, whole}
 use Rattle.raid_conf.specs.Form.{Place, Literal, Number, conf_places, design_places, Differ, FillsAll, given_places, HasForm, IsConf, IsConfOf, IsDesignOf, IsDiskName, IsGiven, IsLineOf, IsName, IsTail, IsWordGiven, layout_places, name_places, queue_places, spare_places, start_places, tuple_places}
-use Rattle.raid_conf.specs.Format.{after_start, array_in, conf_in, conf_of, debug_behind, design_in, disks_in, given_in, kind_in, layout_in, listed_in, names_in, next_tuple, queue_behind, queue_in, spare_lines, spares_in, tail_in, tuples_in}
+use Rattle.raid_conf.specs.Format.{after_start, array_in, conf_of, debug_behind, design_in, given_in, kind_in, layout_in, names_in, next_tuple, queue_behind, queue_in, spares_in, tuples_in}
 use Rattle.raid_conf.specs.Laws.{ConfIsOfTheForm}
 use Rattle.raid_conf.proofs.FormDesigns.{BaseRead, complete_fills, cyclic_fills, layout_fills, listed_fills, NumbersRead, queue_fills, TupleRead, tuple_line_fills, WidthRead}
 use Rattle.raid_conf.proofs.FormLines.{queue_begun, QueueBegins, spares_begun, SparesBegin, start_fills}
@@ -81,7 +82,7 @@ spare_lines_front spares disks rest line names left at begun h =
     })
 
 spares_front : (spares : ℕ) (disks : List Text) (rest : Rest) (names : List Text) (left : Rest) → spares_in spares disks rest ≡ Ok (names, left) → SparesFront spares disks rest names left
-unfolding spares_in
+unfolding spares_in spare_lines
 spares_front spares disks rest names left h =
     let line = bind_ok (next_line 3 rest) _ (names, left) h in
     let present = bind_ok (at_line line.0.at (spares_begin spares line.0.words)) _ (names, left) line.2 in
@@ -220,7 +221,7 @@ complete_front columns rest line words given left at split h =
     })
 
 kind_front : (kind : Text) (columns : ℕ) (rest : Rest) (line : Next) (words : List Text) (given : Given) (left : Rest) → LineRead rest line → Behind kind line words → kind_in kind columns line.at words line.rest ≡ Ok (given, left) → GivenFront columns rest given left
-unfolding kind_in
+unfolding kind_in listed_in
 kind_front kind columns rest line words given left at split h = design (bytes_eq kind (codes "design")) refl h
   where
     last : Result (Given × Rest) At
@@ -382,7 +383,7 @@ conf_form rest conf h =
     )
 
 pub conf_of_form : ConfIsOfTheForm
-unfolding conf_of
+unfolding conf_of conf_in disks_in tail_in
 conf_of_form text conf h = conf_form (whole text) conf h
 
 -- what is read is within the limits

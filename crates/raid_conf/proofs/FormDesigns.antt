@@ -7,7 +7,8 @@ use Rattle.raid_text.specs.Text.{Text, number_of}
 use Rattle.raid_conf.specs.declared.given.Given.{Given}
 use Rattle.raid_conf.specs.declared.given.Given.TheVariants.{Listed, Cyclic, Complete}
 use Rattle.raid_conf.specs.Levels.{allows, is_level}
-use Rattle.raid_conf.specs.Sections.{after_objects, begins, complete_of, Counts, cyclic_of, first_of, layout_of, level_in, listed_of, numbers_behind, queue_of, tuple_behind, tuple_of, with_number}
+use Rattle.raid_conf.specs.Sections.{complete_of, Counts, cyclic_of, first_of, layout_of, level_in, listed_of, numbers_behind, queue_of, tuple_behind, tuple_of, with_number}
+use Rattle.raid_conf.specs.Steps.{after_objects, begins}
 use Rattle.text_steps.specs.Steps.{◌>>=◌, after_number, after_word, at_end, next_number, next_word, number_in, only_if}
 use Rattle.raid_conf.specs.Form.{Place, Literal, Number, FillsAll, IsWordGiven, layout_places}
 use Rattle.raid_conf.proofs.OneStep.{between, bind_ok, end_fills, literal_fills, NumberRead, number_fills, number_is, number_read, number_small, ok_pair, ok_same, only_ok, wanted_read, words_are}

@@ -11,7 +11,8 @@ use Rattle.raid_conf.specs.declared.given.Given.TheVariants.{Listed, Cyclic, Com
 use Rattle.raid_conf.specs.declared.role.Role.{Role}
 use Rattle.raid_conf.specs.declared.role.Role.TheVariants.{Disk, Spare}
 use Rattle.raid_conf.specs.Levels.{allows, is_level}
-use Rattle.raid_conf.specs.Sections.{absent_as, after_objects, array_of, begins, complete_of, count_code, counts_of, Counts, cyclic_of, first_of, has_name, layout_of, level_in, listed_of, may_be_columns, name_in, name_of, new_name, numbers_behind, pass_start, queue_begins, queue_of, queue_or_debug, spare_or_layout, spares_begin, start_of, tuple_behind, tuple_of, with_number}
+use Rattle.raid_conf.specs.Sections.{absent_as, array_of, complete_of, count_code, counts_of, Counts, cyclic_of, first_of, layout_of, level_in, listed_of, name_in, name_of, numbers_behind, pass_start, queue_begins, queue_of, spares_begin, start_of, tuple_behind, tuple_of, with_number}
+use Rattle.raid_conf.specs.Steps.{after_objects, begins, has_name, may_be_columns, new_name, queue_or_debug, spare_or_layout}
 use Rattle.text_steps.specs.Steps.{◌>>=◌, after_number, after_word, at_end, next_number, next_word, number_in, only_if}
 use Rattle.raid_conf.specs.Form.{Place, Literal, Number, Fills, FillsAll, array_places, disk_word, IsDiskName, IsName, IsWordGiven, layout_places, name_places, start_places}
 use Rattle.raid_conf.proofs.OneStep.{between, bind_ok, bytes_same, end_fills, end_is, literal_fills, literal_is, NumberRead, number_fills, number_is, number_read, number_small, ok_pair, ok_same, only_ok, same_bytes, wanted_read, words_are}
@@ -200,7 +201,7 @@ absent_read Disk names word name same h =
 absent_read Spare names word name same h = absurd (cc)
 
 name_read : (role : Role) (names : List Text) (word name : Text) → is_word word ≡ true → begins word ≡ false → name_in role names word ≡ Ok name → WordRead role names word name
-unfolding name_in new_name
+unfolding name_in new_name has_name
 name_read role names word name some goes_on h = go (bytes_eq word (codes "absent")) refl h
   where
     go : (b : Bool) → bytes_eq word (codes "absent") ≡ b → cond b (absent_as role) (only_if (nat_le (length word) 255 && not (has_name names word)) 7 >>= λ fits. Ok word) ≡ Ok name → WordRead role names word name

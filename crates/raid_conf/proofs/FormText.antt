@@ -15,10 +15,11 @@ use Rattle.raid_conf.specs.declared.role.Role.{Role}
 use Rattle.raid_conf.specs.declared.role.Role.TheVariants.{Disk, Spare}
 use Rattle.raid_conf.specs.Designs.{serves}
 use Rattle.raid_conf.specs.Levels.{allows, has_design, is_level}
-use Rattle.raid_conf.specs.Sections.{array_of, complete_of, count_code, Counts, cyclic_of, has_name, layout_of, listed_of, name_of, no_design, pass_start, queue_begins, queue_of, spares_begin, tuple_of}
+use Rattle.raid_conf.specs.Sections.{array_of, complete_of, count_code, Counts, cyclic_of, layout_of, listed_of, name_of, pass_start, queue_begins, queue_of, spares_begin, tuple_of}
+use Rattle.raid_conf.specs.Steps.{has_name, no_design, conf_in, disks_in, listed_in, spare_lines, tail_in}
 use Rattle.text_steps.specs.Steps.{◌>>=◌, at_line, line_among, line_if_any, Next, next_line, next_word, only_if, or_missing, Rest, whole, words_in}
 use Rattle.raid_conf.specs.Form.{Place, Literal, Number, array_places, conf_places, design_places, Differ, FillsAll, given_places, HasForm, IsConf, IsConfOf, IsDesignOf, IsGiven, IsLineOf, IsTail, layout_places, name_places, queue_places, spare_places, start_places, tuple_places}
-use Rattle.raid_conf.specs.Format.{after_start, array_in, conf_in, conf_of, debug_behind, design_in, disks_in, given_in, kind_in, layout_in, listed_in, names_in, next_name, next_tuple, queue_behind, queue_in, spare_lines, spares_in, tail_in, tuples_in, with_name}
+use Rattle.raid_conf.specs.Format.{after_start, array_in, conf_of, debug_behind, design_in, given_in, kind_in, layout_in, names_in, next_name, next_tuple, queue_behind, queue_in, spares_in, tuples_in, with_name}
 use Rattle.raid_conf.specs.Laws.{ConfIsOfTheForm}
 use Rattle.raid_conf.proofs.FormDesigns.{BaseRead, complete_fills, cyclic_fills, layout_fills, listed_fills, queue_fills, TupleRead, tuple_line_fills}
 use Rattle.raid_conf.proofs.FormLines.{array_fills, IsNameFor, name_fills, queue_begun, QueueBegins, spares_begun, SparesBegin, start_fills}

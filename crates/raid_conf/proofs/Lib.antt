@@ -13,6 +13,7 @@ pub mod TableLaws
 pub mod Making
 pub mod ByUnits
 pub mod Sent
+pub mod Direct
 pub mod PrintedLines
 pub mod ShortTexts
 pub mod CanonicalText

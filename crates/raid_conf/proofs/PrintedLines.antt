@@ -10,6 +10,7 @@ use Rattle.raid_text.specs.Text.{Text}
 use Rattle.raid_text.specs.Printed.{text_of}
 use Rattle.raid_conf.specs.declared.conf.Conf.{Conf}
 use Rattle.raid_conf.specs.Form.{Number, Place, array_places, canonical, conf_places, conf_text, design_places, layout_places, name_places, printed, queue_places, spare_places, start_places, tuple_places}
+use Rattle.raid_conf.proofs.Direct.{text_is}
 use Rattle.raid_conf.specs.Printing.{device_places, level_places, line_text, lines_text, spaced}
 
 -- ---- a line
@@ -120,6 +121,7 @@ conf_then conf none front whole count empty one two =
     ∙ ap (λ (t : Text). t ++ lines_text (device_places conf ++ level_places conf)) empty
     ∙ ap lines_text (conf_lines conf count)
     ∙ sym (canonical_is (conf_places false (not (nat_eq conf.spares 0)) conf))
+    ∙ sym (text_is conf)
 
 -- the section of the spares, of which there are some
 pub spares_then : (old mid new : Text) (names : List Text) → nat_eq (length names) 0 ≡ false → mid ≡ old ++ line_text (start_places (codes "spare")) → new ≡ mid ++ lines_text (map name_places names)

@@ -11,12 +11,13 @@ use Rattle.raid_conf.specs.declared.given.Given.{Given}
 use Rattle.raid_conf.specs.declared.given.Given.TheVariants.{Listed, Cyclic, Complete}
 use Rattle.raid_conf.specs.declared.role.Role.{Role}
 use Rattle.raid_conf.specs.declared.role.Role.TheVariants.{Disk, Spare}
-use Rattle.raid_conf.specs.Designs.{blocks_of, is_design, serves}
+use Rattle.raid_conf.specs.Designs.{blocks_of, is_design, serves, is_wide}
 use Rattle.raid_conf.specs.Levels.{has_design}
-use Rattle.raid_conf.specs.Sections.{count_code, has_name}
+use Rattle.raid_conf.specs.Sections.{count_code}
+use Rattle.raid_conf.specs.Steps.{has_name, conf_in, disks_in, listed_in, spare_lines, tail_in}
 use Rattle.text_steps.specs.Steps.{line_among, line_if_any, Next, next_line, next_word, Rest, whole, words_in}
 use Rattle.raid_conf.specs.Form.{Place, Literal, Number, array_places, conf_places, design_places, Differ, FillsAll, given_places, HasForm, IsConf, IsConfOf, IsDesignOf, IsGiven, IsLineOf, IsTail, layout_places, name_places, queue_places, spare_places, start_places, tuple_places}
-use Rattle.raid_conf.specs.Format.{after_start, array_in, conf_in, conf_of, debug_behind, design_in, disks_in, given_in, kind_in, layout_in, listed_in, names_in, next_name, next_tuple, queue_behind, queue_in, spare_lines, spares_in, tail_in, tuples_in, with_name}
+use Rattle.raid_conf.specs.Format.{after_start, array_in, conf_of, debug_behind, design_in, given_in, kind_in, layout_in, names_in, next_name, next_tuple, queue_behind, queue_in, spares_in, tuples_in, with_name}
 use Rattle.raid_conf.specs.Laws.{ConfIsRead}
 use Rattle.raid_conf.proofs.DifferentNames.{differ_front, has_name-differ}
 use Rattle.raid_conf.proofs.FormLines.{IsNameFor}
@@ -152,7 +153,7 @@ tuples_back (suc b) k front tuples rest more behind some count form =
 
 -- a design's tuples have objects, and are as many as they say
 serves_design : (level : ℕ) (given : Given) → serves level given ≡ true → is_design (blocks_of given) ≡ true
-unfolding serves
+unfolding serves is_wide
 serves_design level given h = (and_parts _ _ h).1
 
 given_back : (level columns : ℕ) (given : Given) (rest : Rest) (more : List (List Place)) (behind : List Numbered) → IsGiven level columns given → HasForm (given_places given ++ more) rest.lines behind
@@ -218,7 +219,7 @@ tail_back (Some number) rest behind form tail =
 -- ---- all sections
 
 pub conf_read : ConfIsRead
-unfolding conf_of conf_in
+unfolding conf_of conf_in disks_in tail_in
 conf_read text conf is of =
     let rest = whole text in
     let tail = design_places conf.design ++ queue_places conf.queue in

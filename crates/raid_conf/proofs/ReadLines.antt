@@ -10,7 +10,8 @@ use Rattle.raid_conf.specs.declared.given.Given.TheVariants.{Listed, Cyclic, Com
 use Rattle.raid_conf.specs.declared.role.Role.{Role}
 use Rattle.raid_conf.specs.declared.role.Role.TheVariants.{Disk, Spare}
 use Rattle.raid_conf.specs.Levels.{allows, is_level}
-use Rattle.raid_conf.specs.Sections.{after_objects, array_of, begins, complete_of, counts_of, cyclic_of, first_of, has_name, layout_of, level_in, listed_of, may_be_columns, name_in, name_of, new_name, numbers_behind, pass_start, queue_begins, queue_of, queue_or_debug, spare_or_layout, spares_begin, start_of, tuple_behind, tuple_of, with_number}
+use Rattle.raid_conf.specs.Sections.{array_of, complete_of, counts_of, cyclic_of, first_of, layout_of, level_in, listed_of, name_in, name_of, numbers_behind, pass_start, queue_begins, queue_of, spares_begin, start_of, tuple_behind, tuple_of, with_number}
+use Rattle.raid_conf.specs.Steps.{after_objects, begins, has_name, may_be_columns, new_name, queue_or_debug, spare_or_layout}
 use Rattle.text_steps.specs.Steps.{next_word}
 use Rattle.raid_conf.specs.Form.{Place, Literal, Number, FillsAll, array_places, disk_word, IsName, layout_places, name_places, start_places}
 use Rattle.raid_conf.proofs.FormLines.{IsNameFor}
@@ -109,14 +110,14 @@ other_eq a b other = go (bytes_eq a b) refl
     go false e = refl
 
 named_back : (role : Role) (names : List Text) (name : Text) (words : List Text) → IsName name → has_name names name ≡ false → FillsAll (Literal name ∷ []) words → name_of role names words ≡ Ok name
-unfolding name_of name_in new_name next_word
+unfolding name_of name_in new_name has_name next_word
 named_back role names name words is none fills =
     let word = word_back (Literal name) [] words fills in
     let named : word.0 ≡ name = word.3 in
     rw (word.2, named, other_eq name (codes "START") is.no_start, other_eq name (codes "absent") is.present, at_most (length name) 255 is.short, none, end_back word.1 word.4) refl
 
 absent_back : (names words : List Text) → FillsAll (Literal (codes "absent") ∷ []) words → name_of Disk names words ≡ Ok []
-unfolding name_of name_in next_word
+unfolding name_of name_in new_name has_name next_word
 absent_back names words fills =
     let word = word_back (Literal (codes "absent")) [] words fills in
     let named : word.0 ≡ codes "absent" = word.3 in

@@ -9,10 +9,11 @@ use Rattle.raid_text.specs.Text.{Text}
 use Rattle.raid_conf.specs.declared.conf.Conf.{Conf}
 use Rattle.raid_conf.specs.declared.given.Given.{Given}
 use Rattle.raid_conf.specs.declared.given.Given.TheVariants.{Listed, Cyclic, Complete}
-use Rattle.raid_conf.specs.Designs.{blocks_of, is_design, serves}
+use Rattle.raid_conf.specs.Designs.{blocks_of, is_design, serves, is_wide}
 use Rattle.raid_conf.specs.Form.{IsConf, IsDesignOf, IsDiskName, IsGiven, IsName, Literal, Number, Place, array_places, conf_places, conf_text, design_places, given_places, layout_places, name_places, printed, queue_places, spare_places, start_places, tuple_places}
 use Rattle.raid_conf.specs.Printing.{line_text, lines_text, spaced}
 use Rattle.raid_conf.proofs.Judged.{design_is}
+use Rattle.raid_conf.proofs.Direct.{text_is}
 use Rattle.raid_conf.proofs.PrintedLines.{canonical_is, line_of}
 
 -- ---- numbers and designs
@@ -28,7 +29,7 @@ drop_small (suc k) [] are = All-nil (λ (n : ℕ). n < 2 ^ 32)
 drop_small (suc k) (n ∷ ns) are = drop_small k ns (All-tail (λ (m : ℕ). m < 2 ^ 32) n ns are)
 
 pub serves_design : (level : ℕ) (given : Given) → serves level given ≡ true → is_design (blocks_of given) ≡ true
-unfolding serves
+unfolding serves is_wide
 serves_design level given h = (and_parts _ _ h).1
 
 -- ---- a line
@@ -225,4 +226,4 @@ text_short conf is =
     let lines = conf_places false present conf in
     let short = lines_length lines (conf_short present conf is) in
     let few = conf_count present conf is in
-    omega (arith, ap length (canonical_is lines), short, few)
+    omega (arith, ap length (text_is conf), ap length (canonical_is lines), short, few)

@@ -12,7 +12,7 @@ use Rattle.raid_conf.specs.declared.given.Given.{Given}
 use Rattle.raid_conf.specs.declared.given.Given.TheVariants.{Listed, Cyclic, Complete}
 use Rattle.raid_conf.specs.declared.plain.Plain.{Plain}
 use Rattle.raid_conf.specs.declared.plain.Plain.TheVariants.{Striped, Mirrored, LastChecked, LeftSymmetric, Chained}
-use Rattle.raid_conf.specs.Designs.{blocks_of, objects_of, serves}
+use Rattle.raid_conf.specs.Designs.{blocks_of, objects_of, serves, is_wide}
 use Rattle.raid_conf.specs.Form.{IsConf, IsDesignOf}
 use Rattle.raid_conf.specs.Layouts.{HasDesign, IsMakeable, design_shape, level_rows, level_shape, level_stripes, plain_of, plain_rows, plain_shape, plain_stripes, shape_of, table_rows, table_stripes}
 use Rattle.raid_conf.specs.Levels.{allows, has_design}
@@ -40,7 +40,7 @@ choose_step (suc n) (suc k) hn hk =
 -- ---- the design that is given
 
 pub serves_design : (level : ℕ) (given : Given) → IsTrue (serves level given) → IsDesign (blocks_of given)
-unfolding serves
+unfolding serves is_wide
 serves_design level given h = design_is (blocks_of given) ((and_parts _ _ h).1)
 
 -- where there is one, the level stands on it

@@ -1,5 +1,5 @@
 -- Whether what a configuration gives stands for a block design.
-use Rattle.std.specs.Prelude.{◌≡◌, ◌≤◌, ◌<◌, ◌*◌, ◌-◌, ◌==◌, ◌&&◌, ◌||◌, ℕ, Bool, not, List, length, nat_eq, nat_le}
+use Rattle.std.specs.Prelude.{◌*◌, ◌-◌, ◌==◌, ◌&&◌, ◌||◌, ℕ, Bool, not, length, nat_eq, nat_le}
 use Rattle.std.specs.List.{list_all, range_with_len}
 use Rattle.lay_design.specs.Design.{Blocks, outside, parts, repeated, strays}
 use Rattle.lay_design.specs.Families.{complete, cyclic}
@@ -44,4 +44,4 @@ is_wide given = nat_le 3 (width_of given)
 
 -- whether a level can stand on it: a block design, whose tuples have three objects at least at level D, where one of them is the spare place
 unfoldable pub serves : ℕ → Given → Bool
-serves level given = (not (level == 68) || is_wide given) && is_design (blocks_of given)
+serves level given = (not (level == 68) || nat_le 3 (width_of given)) && is_design (blocks_of given)

@@ -1,6 +1,6 @@
 -- The form of a configuration: what stands at each place of each of its lines.
-use Rattle.std.specs.Prelude.{◌≡◌, ◌≢◌, ℕ, zero, suc, ◌<◌, ◌≤◌, ◌^◌, Bool, true, false, not, ◌&&◌, ◌||◌, IsTrue, List, [], ◌∷◌, ◌++◌, Option, Some, None, codes, length, map, decimal, take, drop, nat_eq, slice_index_or, All}
-use Rattle.std.specs.Option.{ForSome}
+use Rattle.std.specs.Prelude.{if◌then◌else◌, ◌≡◌, ◌≢◌, ℕ, zero, suc, ◌<◌, ◌≤◌, ◌^◌, Bool, true, false, IsTrue, List, [], ◌∷◌, ◌++◌, Option, Some, None, codes, length, map, decimal, take, drop, nat_eq, slice_index_or, All}
+use Rattle.std.specs.Option.{ForSome, option_map_or}
 use Rattle.raid_text.specs.Text.{Text, Numbered, is_word, number_of, sound_words}
 use Rattle.raid_text.specs.Printed.{text_of}
 use Rattle.raid_conf.specs.declared.conf.Conf.{Conf}
@@ -172,6 +172,36 @@ printed (Number n) = decimal n
 abbrev pub canonical : List (List Place) → Text
 canonical places = text_of (map (λ line. map printed line) places)
 
--- the canonical text of a configuration: three numbers on the array's line, the section of the spares where there are any, no debug lines
+-- ---- the same of a configuration, line by line
+
+-- b lines of k numbers
+unfoldable pub tuple_lines : ℕ → ℕ → List ℕ → List (List Text)
+tuple_lines zero k tuples = []
+tuple_lines (suc b) k tuples = map decimal (take k tuples) ∷ tuple_lines b k (drop k tuples)
+
+-- the lines of a design, if there is one
+abbrev pub design_lines : Option Given → List (List Text)
+design_lines None = []
+design_lines (Some (Listed b v k r lambda tuples)) =
+    (codes "design" ∷ decimal b ∷ decimal v ∷ decimal k ∷ decimal r ∷ decimal lambda ∷ [])
+    ∷ tuple_lines b k tuples
+design_lines (Some (Cyclic v base)) =
+    (codes "cyclic" ∷ decimal v ∷ codes ":" ∷ map decimal base) ∷ []
+design_lines (Some (Complete v k)) = (codes "complete" ∷ decimal v ∷ decimal k ∷ []) ∷ []
+
+-- The canonical text of a configuration: three numbers on the array's line, the section of the
+-- spares where there are any, that of the queue where its number is given, no debug lines.
 abbrev pub conf_text : Conf → Text
-conf_text conf = canonical (conf_places false (not (nat_eq conf.spares 0)) conf)
+conf_text conf = text_of (
+    (codes "START" ∷ codes "array" ∷ [])
+    ∷ (codes "1" ∷ decimal conf.columns ∷ decimal conf.spares ∷ [])
+    ∷ (codes "START" ∷ codes "disks" ∷ [])
+    ∷ (map (λ name. disk_word name ∷ []) conf.disks
+    ++ ((if nat_eq conf.spares 0 then []
+    else (codes "START" ∷ codes "spare" ∷ []) ∷ map (λ name. disk_word name ∷ []) conf.spare_names)
+    ++ ((codes "START" ∷ codes "layout" ∷ [])
+    ∷ (decimal conf.unit ∷ codes "1" ∷ codes "1" ∷ (conf.level ∷ []) ∷ [])
+    ∷ (design_lines conf.design
+    ++ option_map_or
+    (λ number. (codes "START" ∷ codes "queue" ∷ []) ∷ (codes "fifo" ∷ decimal number ∷ []) ∷ [])
+    conf.queue [])))))

@@ -10,7 +10,7 @@ use Rattle.raid_conf.specs.declared.role.Role.{Role}
 use Rattle.raid_conf.specs.declared.role.Role.TheVariants.{Disk, Spare}
 use Rattle.raid_conf.specs.Designs.{serves}
 use Rattle.raid_conf.specs.Levels.{has_design}
-use Rattle.raid_conf.specs.Sections.{array_of, complete_of, count_code, cyclic_of, layout_of, listed_of, name_of, no_design, pass_start, queue_begins, queue_of, spares_begin, tuple_of}
+use Rattle.raid_conf.specs.Sections.{array_of, complete_of, count_code, cyclic_of, layout_of, listed_of, name_of, pass_start, queue_begins, queue_of, spares_begin, tuple_of}
 use Rattle.text_steps.specs.Steps.{◌>>=◌, at_line, Next, line_if_any, next_line, next_word, only_if, Rest, whole}
 
 -- the lines behind the one that begins this section; code 3 where none is left, this code where the next begins no section
@@ -44,23 +44,16 @@ unfoldable pub names_in : Role → ℕ → List Text → List Text → Rest → 
 names_in role zero before names rest = Ok (names, rest)
 names_in role (suc n) before names rest = with_name role before names rest >>= λ more. names_in role n before more.0 more.1
 
--- the names of so many disks, and the lines behind them
-unfoldable pub disks_in : ℕ → Rest → Result (List Text × Rest) At
-disks_in columns rest = after_start 1 (codes "disks") rest >>= names_in Disk columns [] []
-
--- the names of so many spares, and the lines behind the one that begins the layout
-unfoldable pub spare_lines : ℕ → List Text → Rest → Result (List Text × Rest) At
-spare_lines spares disks rest = do
-  names ← names_in Spare spares disks [] rest
-  layout ← after_start 6 (codes "layout") names.1
-  Ok (names.0, layout)
-
 -- the same with the line that begins their section, which may be left out where there are none
 unfoldable pub spares_in : ℕ → List Text → Rest → Result (List Text × Rest) At
 spares_in spares disks rest = do
   line ← next_line 3 rest
   present ← at_line line.at (spares_begin spares line.words)
-  if present then spare_lines spares disks line.rest else Ok ([], line.rest)
+  if present then (do
+    names ← names_in Spare spares disks [] line.rest
+    layout ← after_start 6 (codes "layout") names.1
+    Ok (names.0, layout))
+      else Ok ([], line.rest)
 
 -- the sectors of a unit, the level, and the lines behind them
 unfoldable pub layout_in : ℕ → Rest → Result (ℕ × ℕ × Rest) At
@@ -81,20 +74,16 @@ unfoldable pub tuples_in : ℕ → ℕ → List ℕ → Rest → Result (List �
 tuples_in zero k front rest = Ok (front, rest)
 tuples_in (suc b) k front rest = next_tuple k front rest >>= λ more. tuples_in b k more.0 more.1
 
--- a listed design: the words behind `design` on its line, and its tuples
-unfoldable pub listed_in : ℕ → ℕ → List Text → Rest → Result (Given × Rest) At
-listed_in columns at words rest = do
-  counts ← at_line at (listed_of columns words)
-  tuples ← tuples_in counts.b counts.k [] rest
-  Ok (Listed counts.b columns counts.k counts.r counts.lambda tuples.0, tuples.1)
-
--- a design that this word begins
+-- a design that this word begins; where it begins none, code 11 if it begins a section, and else 1
 unfoldable pub kind_in : Text → ℕ → ℕ → List Text → Rest → Result (Given × Rest) At
 kind_in kind columns at words rest =
-    if bytes_eq kind (codes "design") then listed_in columns at words rest
+    if bytes_eq kind (codes "design") then (do
+      counts ← at_line at (listed_of columns words)
+      tuples ← tuples_in counts.b counts.k [] rest
+      Ok (Listed counts.b columns counts.k counts.r counts.lambda tuples.0, tuples.1))
     else (if bytes_eq kind (codes "cyclic") then (at_line at (cyclic_of columns words) >>= λ given. Ok (given, rest))
     else (if bytes_eq kind (codes "complete") then (at_line at (complete_of columns words) >>= λ given. Ok (given, rest))
-    else Err (record { line = at; code = no_design kind })))
+    else Err (record { line = at; code = if bytes_eq kind (codes "START") then 11 else 1 })))
 
 -- the design of a level, and the lines behind it; code 11 where no line is left, and 12 at its first line where the level can't stand on it
 unfoldable pub given_in : ℕ → ℕ → Rest → Result (Given × Rest) At
@@ -130,21 +119,22 @@ queue_behind (Some line) = do
   present ← at_line line.at (queue_begins line.words)
   if present then (queue_in line.rest >>= λ number. Ok (Some number)) else Ok None
 
--- the same of the lines behind the layout
-unfoldable pub tail_in : Rest → Result (Option ℕ) At
-tail_in rest = line_if_any rest >>= queue_behind
-
--- what the lines say
-unfoldable pub conf_in : Rest → Result Conf At
-conf_in rest = do
-  array ← array_in rest
-  disks ← disks_in array.0 array.2
+-- what a text says
+unfoldable pub conf_of : Text → Result Conf At
+conf_of text = do
+  array ← array_in (whole text)
+  disks ← after_start 1 (codes "disks") array.2 >>= names_in Disk array.0 [] []
   spares ← spares_in array.1 disks.0 disks.1
   layout ← layout_in array.0 spares.1
   design ← design_in layout.1 array.0 layout.2
-  queue ← tail_in design.1
-  Ok (record { columns = array.0; spares = array.1; unit = layout.0; level = layout.1; queue = queue; disks = disks.0; spare_names = spares.0; design = design.0 })
-
--- what a text says
-unfoldable pub conf_of : Text → Result Conf At
-conf_of text = conf_in (whole text)
+  queue ← line_if_any design.1 >>= queue_behind
+  Ok (record {
+    columns = array.0;
+    spares = array.1;
+    unit = layout.0;
+    level = layout.1;
+    queue = queue;
+    disks = disks.0;
+    spare_names = spares.0;
+    design = design.0;
+  })

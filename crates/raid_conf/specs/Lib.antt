@@ -8,3 +8,4 @@ pub mod Laws
 pub mod Printing
 pub mod Layouts
 pub mod Parameters
+pub mod Steps

@@ -5,7 +5,7 @@ use Rattle.raid_text.specs.Text.{Text}
 use Rattle.raid_conf.specs.declared.conf.Conf.{Conf}
 use Rattle.raid_conf.specs.declared.given.Given.{Given}
 use Rattle.raid_conf.specs.declared.given.Given.TheVariants.{Listed, Cyclic, Complete}
-use Rattle.raid_conf.specs.Form.{Place, array_places, design_places, layout_places, name_places, printed, queue_places, spare_places, start_places}
+use Rattle.raid_conf.specs.Form.{Place, array_places, design_places, layout_places, name_places, printed, queue_places, spare_places, start_places, canonical, conf_places}
 
 -- the words that are printed at these places, a space before each
 abbrev pub spaced : List Place → Text
@@ -35,3 +35,7 @@ abbrev pub IsPrintable : Given → Type 0
 IsPrintable (Listed b v k r lambda tuples) = (0 < k) × (length tuples ≡ b * k)
 IsPrintable (Cyclic v base) = Unit {0}
 IsPrintable (Complete v k) = Unit {0}
+
+-- the canonical text of a configuration by the places of its form
+abbrev pub placed_text : Conf → Text
+placed_text conf = canonical (conf_places false (not (nat_eq conf.spares 0)) conf)

@@ -1,5 +1,5 @@
 -- The lines of a configuration, one by one: what a line says, or the code by which it is refused.
-use Rattle.std.specs.Prelude.{ℕ, zero, suc, ◌+◌, Bool, true, false, ◌&&◌, not, List, [], ◌∷◌, ◌++◌, Result, Ok, Err, if◌then◌else◌, nat_eq, nat_le, nat_lt, codes, length}
+use Rattle.std.specs.Prelude.{ℕ, zero, suc, Bool, true, false, ◌&&◌, not, List, [], ◌∷◌, ◌++◌, Result, Ok, Err, if◌then◌else◌, nat_eq, nat_le, nat_lt, codes, length}
 use Rattle.std.specs.List.{list_any}
 use Rattle.std.specs.Str.{bytes_eq}
 use Rattle.raid_text.specs.Text.{Text}
@@ -12,10 +12,6 @@ use Rattle.text_steps.specs.Steps.{◌>>=◌, after_number, after_word, at_end, 
 
 -- ---- the lines that begin sections
 
--- the line begins a section
-abbrev pub begins : Text → Bool
-begins word = bytes_eq word (codes "START")
-
 -- the name of the section that a line begins, and the words behind it; this code where the line begins none
 unfoldable pub start_of : ℕ → List Text → Result (Text × List Text) ℕ
 start_of code words = after_word (codes "START") code words >>= next_word
@@ -27,37 +23,31 @@ pass_start code name words = do
   named ← only_if (bytes_eq start.0 name) 3
   at_end start.1
 
--- a section of this name behind the disks is that of the spares, or else that of the layout: code 6 where it is the layout's and there are to be spares
-unfoldable pub spare_or_layout : ℕ → Text → List Text → Result Bool ℕ
-spare_or_layout spares name words =
-    if bytes_eq name (codes "spare") then (at_end words >>= λ end. Ok true)
-    else (if bytes_eq name (codes "layout") then (only_if (nat_eq spares 0) 6 >>= λ none. at_end words >>= λ end. Ok false) else Err 3)
-
--- whether the section of the spares begins behind the disks, or that of the layout
+-- whether the section of the spares begins behind the disks, or that of the layout: code 6 where it
+-- is the layout's and there are to be spares
 unfoldable pub spares_begin : ℕ → List Text → Result Bool ℕ
-spares_begin spares words = start_of 5 words >>= λ start. spare_or_layout spares start.0 start.1
-
--- a section of this name behind the layout is that of the queue, or else that of the debug lines
-unfoldable pub queue_or_debug : Text → List Text → Result Bool ℕ
-queue_or_debug name words =
-    if bytes_eq name (codes "queue") then (at_end words >>= λ end. Ok true)
-    else (if bytes_eq name (codes "debug") then (at_end words >>= λ end. Ok false) else Err 3)
+spares_begin spares words = do
+  start ← start_of 5 words
+  if bytes_eq start.0 (codes "spare") then (at_end start.1 >>= λ end. Ok true)
+      else (if bytes_eq start.0 (codes "layout")
+      then (only_if (nat_eq spares 0) 6 >>= λ none. at_end start.1 >>= λ end. Ok false) else Err 3)
 
 -- whether the section of the queue begins behind the layout, or that of the debug lines
 unfoldable pub queue_begins : List Text → Result Bool ℕ
-queue_begins words = start_of 1 words >>= λ start. queue_or_debug start.0 start.1
+queue_begins words = do
+  start ← start_of 1 words
+  if bytes_eq start.0 (codes "queue") then (at_end start.1 >>= λ end. Ok true)
+      else (if bytes_eq start.0 (codes "debug")
+      then (at_end start.1 >>= λ end. Ok false) else Err 3)
 
 -- ---- the array's line
-
-abbrev pub may_be_columns : ℕ → Bool
-may_be_columns n = nat_le 1 n && nat_le n 32
 
 -- the columns and spares of a line whose first two numbers are these: where a third comes, the first counts rows and is 1
 unfoldable pub counts_of : ℕ → ℕ → List Text → Result (ℕ × ℕ) ℕ
 counts_of first second [] = only_if (nat_le second 8) 2 >>= λ few. Ok (first, second)
 counts_of first second (word ∷ words) = do
   row ← only_if (nat_eq first 1) 2
-  columns ← only_if (may_be_columns second) 2
+  columns ← only_if (nat_le 1 second && nat_le second 32) 2
   spares ← number_in word
   few ← only_if (nat_le spares 8) 2
   end ← at_end words
@@ -67,7 +57,7 @@ counts_of first second (word ∷ words) = do
 unfoldable pub array_of : List Text → Result (ℕ × ℕ) ℕ
 array_of words = do
   first ← next_number words
-  row_or_columns ← only_if (may_be_columns first.0) 2
+  row_or_columns ← only_if (nat_le 1 first.0 && nat_le first.0 32) 2
   second ← next_number first.1
   counts_of first.0 second.0 second.1
 
@@ -78,28 +68,23 @@ abbrev pub count_code : Role → ℕ
 count_code Disk = 5
 count_code Spare = 6
 
--- one of the names is this one
-unfoldable pub has_name : List Text → Text → Bool
-has_name names name = list_any (λ n. bytes_eq n name) names
-
--- a name of 1 to 255 bytes that isn't among these; code 7 for any other
-unfoldable pub new_name : List Text → Text → Result Text ℕ
-new_name names word = only_if (nat_le (length word) 255 && not (has_name names word)) 7 >>= λ fits. Ok word
-
 -- what `absent` stands for: a disk that is missing, whose name is the empty text. A spare can't be
 abbrev pub absent_as : Role → Result Text ℕ
 absent_as Disk = Ok []
 absent_as Spare = Err 7
 
--- the name that a word is, behind these
+-- the name that a word is, behind these; code 7 where it has more than 255 bytes, or is one of them
 unfoldable pub name_in : Role → List Text → Text → Result Text ℕ
-name_in role names word = if bytes_eq word (codes "absent") then absent_as role else new_name names word
+name_in role names word =
+    if bytes_eq word (codes "absent") then absent_as role
+    else (only_if (nat_le (length word) 255 && not (list_any (λ n. bytes_eq n word) names)) 7
+    >>= λ fits. Ok word)
 
 -- the name that is alone on a line, which begins no section
 unfoldable pub name_of : Role → List Text → List Text → Result Text ℕ
 name_of role names words = do
   word ← next_word words
-  goes_on ← only_if (not (begins word.0)) (count_code role)
+  goes_on ← only_if (not (bytes_eq word.0 (codes "START"))) (count_code role)
   name ← name_in role names word.0
   end ← at_end word.1
   Ok name
@@ -142,15 +127,11 @@ pub record Counts : Type 0 where
   pub r : ℕ
   pub lambda : ℕ
 
--- the words behind v, which is the number of columns; code 4 where it is another
-unfoldable pub after_objects : ℕ → List Text → Result (List Text) ℕ
-after_objects columns words = after_number columns 4 words
-
--- `b v k r lambda` behind `design`
+-- `b v k r lambda` behind `design`: v is the number of columns, or code 4
 unfoldable pub listed_of : ℕ → List Text → Result Counts ℕ
 listed_of columns words = do
   b ← next_number words
-  v ← after_objects columns b.1
+  v ← after_number columns 4 b.1
   k ← next_number v
   r ← next_number k.1
   lambda ← next_number r.1
@@ -172,7 +153,7 @@ tuple_behind (suc n) front (word ∷ words) = with_number front word >>= λ more
 unfoldable pub first_of : List Text → Result (Text × List Text) ℕ
 first_of words = do
   word ← next_word words
-  goes_on ← only_if (not (begins word.0)) 11
+  goes_on ← only_if (not (bytes_eq word.0 (codes "START"))) 11
   Ok word
 
 -- these tuples and the one of k numbers on a line
@@ -187,7 +168,7 @@ numbers_behind front (word ∷ words) = with_number front word >>= λ more. numb
 -- `v : e1 .. ek` behind `cyclic`, with one element at least
 unfoldable pub cyclic_of : ℕ → List Text → Result Given ℕ
 cyclic_of columns words = do
-  v ← after_objects columns words
+  v ← after_number columns 4 words
   colon ← after_word (codes ":") 1 v
   base ← numbers_behind [] colon
   some ← only_if (nat_lt 0 (length base)) 1
@@ -196,11 +177,7 @@ cyclic_of columns words = do
 -- `v k` behind `complete`
 unfoldable pub complete_of : ℕ → List Text → Result Given ℕ
 complete_of columns words = do
-  v ← after_objects columns words
+  v ← after_number columns 4 words
   k ← next_number v
   end ← at_end k.1
   Ok (Complete columns k.0)
-
--- a line in the design's place that begins with no design word: code 11 where it begins a section, else 1
-abbrev pub no_design : Text → ℕ
-no_design word = if begins word then 11 else 1

@@ -3,7 +3,8 @@ ghost use Rattle.std.specs.Prelude.{◌≡◌, ◌∷◌, []};
 ghost use Rattle.raid_text.specs.Seen.{words_left};
 ghost use Rattle.raid_conf.specs.Answers.{GivesIfRoom};
 ghost use Rattle.raid_conf.specs.Format.{next_tuple, tuples_in};
-ghost use Rattle.raid_conf.specs.Sections.{after_objects, complete_of, cyclic_of, first_of, listed_of, no_design, numbers_behind, tuple_behind, tuple_of, with_number};
+ghost use Rattle.raid_conf.specs.Sections.{complete_of, cyclic_of, first_of, listed_of, numbers_behind, tuple_behind, tuple_of, with_number};
+ghost use Rattle.raid_conf.specs.Steps.{after_objects, no_design};
 ghost use Rattle.text_steps.specs.Steps.{at_line, rest_of};
 ghost use Rattle.text_steps.specs.Answers.{Gives};
 
@@ -19,7 +20,7 @@ use text_steps::{
 };
 
 // Passes v, which is the number of columns.
-#[tactic(auto, unfolding(crate::specs::Sections::after_objects))]
+#[tactic(auto, unfolding(crate::specs::Steps::after_objects))]
 fn pass_objects(columns: u32, words: &mut Words) -> Result<(), u8>
     ensures { Gives (λ _. words_left words.new) result
         (after_objects columns (words_left words.old)) }
@@ -28,7 +29,7 @@ fn pass_objects(columns: u32, words: &mut Words) -> Result<(), u8>
 }
 
 /// The numbers behind `design`.
-#[tactic(auto, unfolding(crate::specs::Sections::listed_of))]
+#[tactic(auto, unfolding(crate::specs::Sections::listed_of, crate::specs::Steps::after_objects))]
 pub(crate) fn listed_line(columns: u32, words: &mut Words) -> Result<Counts, u8>
     ensures { Gives
         (λ counts. record { b = counts.b; k = counts.k; r = counts.r; lambda = counts.lambda })
@@ -166,7 +167,7 @@ fn read_numbers(alloc: Global, line: u32, words: &mut Words) -> Result<Numbers, 
 }
 
 /// The numbers behind `cyclic`.
-#[tactic(auto, unfolding(crate::specs::Sections::cyclic_of))]
+#[tactic(auto, unfolding(crate::specs::Sections::cyclic_of, crate::specs::Steps::after_objects))]
 pub(crate) fn cyclic_line(
     alloc: Global,
     columns: u32,
@@ -186,7 +187,7 @@ pub(crate) fn cyclic_line(
 }
 
 /// The numbers behind `complete`.
-#[tactic(auto, unfolding(crate::specs::Sections::complete_of))]
+#[tactic(auto, unfolding(crate::specs::Sections::complete_of, crate::specs::Steps::after_objects))]
 pub(crate) fn complete_line(columns: u32, words: &mut Words) -> Result<Given, u8>
     ensures { Gives (λ given. given) result (complete_of columns (words_left words.old)) }
 {

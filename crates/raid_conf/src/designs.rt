@@ -78,7 +78,7 @@ fn is_wide(given: &Given) -> bool
 
 /// Whether a level can stand on what is given: a block design, whose tuples have three objects at
 /// least at level D, where one of them is the spare place.
-#[tactic(auto, unfolding(crate::specs::Designs::serves))]
+#[tactic(auto, unfolding(crate::specs::Designs::serves, crate::specs::Designs::is_wide))]
 pub(crate) fn serves(alloc: Global, level: u8, given: &Given) -> Result<bool, ConfFault>
     ensures { Judges result (serves level given.now) }
 {

@@ -4,7 +4,8 @@ ghost use Rattle.raid_text.specs.Seen.{words_left};
 ghost use Rattle.raid_text.specs.Text.{is_word};
 ghost use Rattle.raid_conf.specs.Answers.{GivesIfRoom};
 ghost use Rattle.raid_conf.specs.Format.{names_in, next_name, with_name};
-ghost use Rattle.raid_conf.specs.Sections.{absent_as, count_code, has_name, name_in, name_of, new_name};
+ghost use Rattle.raid_conf.specs.Sections.{absent_as, count_code, name_in, name_of};
+ghost use Rattle.raid_conf.specs.Steps.{has_name, new_name};
 ghost use Rattle.text_steps.specs.Steps.{rest_of};
 ghost use Rattle.text_steps.specs.Answers.{Gives};
 
@@ -40,7 +41,7 @@ fn text_of(word: &[u8]) -> &str
     }
 }
 
-#[tactic(auto, unfolding(crate::specs::Sections::new_name))]
+#[tactic(auto, unfolding(crate::specs::Steps::new_name))]
 fn new_name<'a>(before: &Names, names: &Names, word: &'a [u8]) -> Result<&'a str, u8>
     requires { IsTrue (is_word word.now) }
     ensures { Gives (λ name. name.now) result (new_name (before.now ++ names.now) word.now) }
@@ -68,7 +69,7 @@ fn absent_as(role: Role) -> Result<&'static str, u8>
     }
 }
 
-#[tactic(auto, unfolding(crate::specs::Sections::name_in))]
+#[tactic(auto, unfolding(crate::specs::Sections::name_in, crate::specs::Steps::new_name, crate::specs::Steps::has_name))]
 fn name_in<'a>(role: Role, before: &Names, names: &Names, word: &'a [u8]) -> Result<&'a str, u8>
     requires { IsTrue (is_word word.now) }
     ensures { Gives (λ name. name.now) result (name_in role (before.now ++ names.now) word.now) }

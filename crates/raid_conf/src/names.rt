@@ -1,6 +1,6 @@
 //! Names of disks.
 ghost use Rattle.std.specs.Prelude.{◌≡◌, ◌<◌, ◌≤◌, ◌++◌, ◌∷◌, [], length, slice_get, Some, IfOk, IfErr};
-ghost use Rattle.raid_conf.specs.Sections.{has_name};
+ghost use Rattle.raid_conf.specs.Steps.{has_name};
 
 use crate::fault::ConfFault;
 use std::alloc::Global;
@@ -99,7 +99,7 @@ impl Names {
     }
 }
 
-#[tactic(auto, unfolding(crate::specs::Sections::has_name))]
+#[tactic(auto, unfolding(crate::specs::Steps::has_name))]
 fn is_among(names: &[Name], name: &str) -> bool
     ensures { result ≡ has_name names.now name.now }
 {

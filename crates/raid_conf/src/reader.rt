@@ -3,7 +3,8 @@ ghost use Rattle.std.specs.Prelude.{◌≡◌, ◌≤◌, length, IfOk};
 ghost use Rattle.raid_text.specs.Seen.{words_left};
 ghost use Rattle.raid_conf.specs.Answers.{GivesConf, GivesIfRoom};
 ghost use Rattle.raid_conf.specs.Form.{IsConf};
-ghost use Rattle.raid_conf.specs.Format.{after_start, array_in, conf_in, conf_of, design_in, disks_in, given_in, kind_in, layout_in, listed_in, queue_in, spare_lines, spares_in, tail_in};
+ghost use Rattle.raid_conf.specs.Format.{after_start, array_in, conf_of, design_in, given_in, kind_in, layout_in, queue_in, spares_in};
+ghost use Rattle.raid_conf.specs.Steps.{conf_in, disks_in, listed_in, spare_lines, tail_in};
 ghost use Rattle.text_steps.specs.Steps.{rest_of};
 ghost use Rattle.text_steps.specs.Answers.{Gives};
 
@@ -46,7 +47,7 @@ fn read_array(lines: &mut Lines) -> Result<Sizes, At>
     at_line(line.at, array_line(&mut line.words))
 }
 
-#[tactic(auto, unfolding(crate::specs::Format::disks_in))]
+#[tactic(auto, unfolding(crate::specs::Steps::disks_in))]
 fn read_disks(alloc: Global, lines: &mut Lines, columns: u32) -> Result<Names, ConfFault>
     requires { columns ≤ 32 }
     ensures { GivesIfRoom (λ names. (names, rest_of lines.new)) result
@@ -57,7 +58,7 @@ fn read_disks(alloc: Global, lines: &mut Lines, columns: u32) -> Result<Names, C
 }
 
 // The names of the spares, and the line that begins the layout.
-#[tactic(auto, unfolding(crate::specs::Format::spare_lines))]
+#[tactic(auto, unfolding(crate::specs::Steps::spare_lines))]
 fn read_spare_lines(
     alloc: Global,
     lines: &mut Lines,
@@ -74,7 +75,7 @@ fn read_spare_lines(
 }
 
 // The same with the line that begins the section of the spares, which may be left out.
-#[tactic(auto, unfolding(crate::specs::Format::spares_in))]
+#[tactic(auto, unfolding(crate::specs::Format::spares_in, crate::specs::Steps::spare_lines))]
 fn read_spares(
     alloc: Global,
     lines: &mut Lines,
@@ -104,7 +105,7 @@ fn read_layout(lines: &mut Lines, columns: u32) -> Result<Kind, At>
 }
 
 // A listed design, on whose line `design` was passed.
-#[tactic(auto, unfolding(crate::specs::Format::listed_in))]
+#[tactic(auto, unfolding(crate::specs::Steps::listed_in))]
 fn read_listed(
     alloc: Global,
     lines: &mut Lines,
@@ -127,7 +128,7 @@ fn read_listed(
     })
 }
 
-#[tactic(auto, unfolding(crate::specs::Format::kind_in))]
+#[tactic(auto, unfolding(crate::specs::Format::kind_in, crate::specs::Steps::listed_in))]
 fn read_kind(
     alloc: Global,
     lines: &mut Lines,
@@ -205,7 +206,7 @@ fn read_queue(lines: &mut Lines) -> Result<u32, At>
 }
 
 // The queue's number, where its section comes.
-#[tactic(auto, unfolding(crate::specs::Format::tail_in))]
+#[tactic(auto, unfolding(crate::specs::Steps::tail_in))]
 fn read_tail(lines: &mut Lines) -> Result<Option<u32>, At>
     ensures { result ≡ tail_in (rest_of lines.old) }
 {
@@ -220,7 +221,7 @@ fn read_tail(lines: &mut Lines) -> Result<Option<u32>, At>
     }
 }
 
-#[tactic(auto, unfolding(crate::specs::Format::conf_in))]
+#[tactic(auto, unfolding(crate::specs::Steps::conf_in))]
 fn read_lines(alloc: Global, lines: &mut Lines) -> Result<Conf, ConfFault>
     ensures { GivesConf result (conf_in (rest_of lines.old)) }
 {

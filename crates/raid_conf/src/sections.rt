@@ -2,7 +2,8 @@
 ghost use Rattle.std.specs.Prelude.{◌≡◌, ◌≤◌, IfOk, IsTrue};
 ghost use Rattle.raid_text.specs.Seen.{words_left};
 ghost use Rattle.raid_conf.specs.Levels.{allows, is_level};
-ghost use Rattle.raid_conf.specs.Sections.{array_of, counts_of, layout_of, level_in, may_be_columns, pass_start, queue_begins, queue_of, queue_or_debug, spare_or_layout, spares_begin, start_of};
+ghost use Rattle.raid_conf.specs.Sections.{array_of, counts_of, layout_of, level_in, pass_start, queue_begins, queue_of, spares_begin, start_of};
+ghost use Rattle.raid_conf.specs.Steps.{may_be_columns, queue_or_debug, spare_or_layout};
 ghost use Rattle.text_steps.specs.Answers.{Gives};
 
 use crate::codes::{COLUMNS, DISKS, LEVEL, ONE, QUEUE, SECTION, SPARES};
@@ -35,7 +36,7 @@ pub(crate) fn pass_start(words: &mut Words, name: &[u8], code: u8) -> Result<(),
 }
 
 // Whether the section of this name is that of the spares, or else that of the layout.
-#[tactic(auto, unfolding(crate::specs::Sections::spare_or_layout))]
+#[tactic(auto, unfolding(crate::specs::Steps::spare_or_layout))]
 fn spare_or_layout(spares: u32, name: &[u8], words: &mut Words) -> Result<bool, u8>
     ensures { result ≡ spare_or_layout spares name.now (words_left words.old) }
 {
@@ -54,7 +55,7 @@ fn spare_or_layout(spares: u32, name: &[u8], words: &mut Words) -> Result<bool, 
 }
 
 /// Whether a line behind the disks begins the section of the spares, or else that of the layout.
-#[tactic(auto, unfolding(crate::specs::Sections::spares_begin))]
+#[tactic(auto, unfolding(crate::specs::Sections::spares_begin, crate::specs::Steps::spare_or_layout))]
 pub(crate) fn spares_begin(spares: u32, words: &mut Words) -> Result<bool, u8>
     ensures { result ≡ spares_begin spares (words_left words.old) }
 {
@@ -63,7 +64,7 @@ pub(crate) fn spares_begin(spares: u32, words: &mut Words) -> Result<bool, u8>
 }
 
 // Whether the section of this name is that of the queue, or else that of the debug lines.
-#[tactic(auto, unfolding(crate::specs::Sections::queue_or_debug))]
+#[tactic(auto, unfolding(crate::specs::Steps::queue_or_debug))]
 fn queue_or_debug(name: &[u8], words: &mut Words) -> Result<bool, u8>
     ensures { result ≡ queue_or_debug name.now (words_left words.old) }
 {
@@ -79,7 +80,7 @@ fn queue_or_debug(name: &[u8], words: &mut Words) -> Result<bool, u8>
 }
 
 /// Whether a line behind the layout begins the section of the queue, or else that of the debug lines.
-#[tactic(auto, unfolding(crate::specs::Sections::queue_begins))]
+#[tactic(auto, unfolding(crate::specs::Sections::queue_begins, crate::specs::Steps::queue_or_debug))]
 pub(crate) fn queue_begins(words: &mut Words) -> Result<bool, u8>
     ensures { result ≡ queue_begins (words_left words.old) }
 {

@@ -8,7 +8,8 @@ use Rattle.std.proofs.lemmas.List.{get_or-drop, take-append-drop, drop-drop, len
 use Rattle.std.proofs.lemmas.Nat.{le_bytes_4}
 use Rattle.std.proofs.lemmas.Slice.Eq.{bytes_eq-Decides}
 use Rattle.raid_label.specs.declared.label.Label.{Label}
-use Rattle.raid_label.specs.Bytes.{bytes_of, bytes_of_words, magic, label_in, fields_of, word_at, has_magic, has_zeros, names_filling, is_first, is_second, is_well_formed, IsHeld, IsSector}
+use Rattle.raid_label.specs.Bytes.{bytes_of, bytes_of_words, label_in, fields_of, word_at, has_magic, has_zeros, names_filling, is_well_formed, IsHeld, IsSector}
+use Rattle.raid_label.specs.Steps.{magic, is_first, is_second}
 
 -- the numbers that stand one behind the other
 abbrev words_from : List ℕ → ℕ → ℕ → List ℕ

@@ -7,7 +7,8 @@ use Rattle.std.proofs.lemmas.Bool.{ne_eqb}
 use Rattle.std.proofs.lemmas.List.{take_at, drop_at, drop-drop}
 use Rattle.std.proofs.lemmas.Nat.{from_le_bytes-to_le_bytes_4}
 use Rattle.raid_label.specs.declared.label.Label.{Label}
-use Rattle.raid_label.specs.Bytes.{bytes_of, bytes_of_words, filling_of, label_in, fields_of, word_at, has_magic, names_filling, is_first, is_second, is_well_formed, IsHeld, IsInRange}
+use Rattle.raid_label.specs.Bytes.{bytes_of, bytes_of_words, label_in, fields_of, word_at, has_magic, names_filling, is_well_formed, IsHeld, IsInRange}
+use Rattle.raid_label.specs.Steps.{filling_of, is_first, is_second}
 use Rattle.raid_label.proofs.WordLaws.{same_label, all_zero}
 
 seats_of : (l : Label) → length l.seats ≡ 32 → take 32 (drop 60 (bytes_of l)) ≡ l.seats

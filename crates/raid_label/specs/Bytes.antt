@@ -5,26 +5,19 @@ use Rattle.std.specs.Str.{bytes_eq}
 use Rattle.std.specs.Int.{w32, from_le_bytes, to_le_bytes}
 use Rattle.raid_label.specs.declared.label.Label.{Label}
 
--- the eight bytes with which a label begins
-abbrev pub magic : List ℕ
-magic = codes "RFLABEL1"
-
--- its numbers, in their order
-abbrev pub words_of : Label → List ℕ
-words_of l = l.version ∷ l.serial ∷ l.counter ∷ l.column ∷ l.columns ∷ l.unit ∷ l.rows ∷ l.level ∷ l.clean ∷ l.b ∷ l.k ∷ l.r ∷ l.lambda ∷ []
-
 -- numbers in four bytes each, the lowest first
 abbrev pub bytes_of_words : List ℕ → List ℕ
 bytes_of_words [] = []
 bytes_of_words (n ∷ ns) = to_le_bytes w32 n ++ bytes_of_words ns
 
--- the two of the column that is filling
-abbrev pub filling_of : Label → List ℕ
-filling_of l = l.filling ∷ l.done ∷ []
-
--- the 512 bytes of a label: the eight, the numbers, a byte for each seat, the two numbers, zeros
+-- the 512 bytes of a label: the eight with which each begins, its numbers, a byte for each seat,
+-- the two numbers of the column that is filling, zeros
 unfoldable pub bytes_of : Label → List ℕ
-bytes_of l = magic ++ (bytes_of_words (words_of l) ++ (l.seats ++ (bytes_of_words (filling_of l) ++ replicate 412 0)))
+bytes_of l =
+    codes "RFLABEL1"
+    ++ (bytes_of_words (l.version ∷ l.serial ∷ l.counter ∷ l.column ∷ l.columns ∷ l.unit ∷ l.rows
+    ∷ l.level ∷ l.clean ∷ l.b ∷ l.k ∷ l.r ∷ l.lambda ∷ [])
+    ++ (l.seats ++ (bytes_of_words (l.filling ∷ l.done ∷ []) ++ replicate 412 0)))
 
 -- What a well-formed sector may hold: it is of version 1 or 2, the column that is filling, where one is named, is one of the columns, and where none is no stripe is done.
 pub record IsHeld (l : Label) : Type 0 where
@@ -61,7 +54,7 @@ fields_of sector = record {
 
 -- the eight bytes are right
 unfoldable pub has_magic : List ℕ → Bool
-has_magic sector = bytes_eq (take 8 sector) magic
+has_magic sector = bytes_eq (take 8 sector) (codes "RFLABEL1")
 
 -- no byte but 0 stands from there on
 abbrev pub has_zeros : List ℕ → ℕ → Bool
@@ -71,17 +64,12 @@ has_zeros sector at = list_all (λ b. b == 0) (drop at sector)
 unfoldable pub names_filling : List ℕ → Bool
 names_filling sector = nat_le (word_at sector 92) (word_at sector 24) && (not (word_at sector 92 == 0) || word_at sector 96 == 0)
 
--- in version 1 zeros stand behind the seats
-abbrev pub is_first : List ℕ → Bool
-is_first sector = word_at sector 8 == 1 && has_zeros sector 92
-
--- in version 2 the two numbers, and zeros behind them
-abbrev pub is_second : List ℕ → Bool
-is_second sector = (word_at sector 8 == 2 && names_filling sector) && has_zeros sector 100
-
--- the eight bytes, a clean field of 0 or 1, and what stands behind the seats by the version are as they are to be
+-- The eight bytes, a clean field of 0 or 1, and what stands behind the seats by the version are as
+-- they are to be: in version 1 zeros, in version 2 the two numbers, and zeros behind them.
 unfoldable pub is_well_formed : List ℕ → Bool
-is_well_formed sector = (has_magic sector && nat_le (word_at sector 40) 1) && (is_first sector || is_second sector)
+is_well_formed sector = (has_magic sector && nat_le (word_at sector 40) 1)
+    && ((word_at sector 8 == 1 && has_zeros sector 92)
+    || ((word_at sector 8 == 2 && names_filling sector) && has_zeros sector 100))
 
 -- the label that a sector holds, if it is well formed
 unfoldable pub label_in : List ℕ → Option Label

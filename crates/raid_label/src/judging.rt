@@ -48,7 +48,6 @@ pub fn judge(label: Option<&Label>, found_version: u32, wanted: &Label) -> Resul
 
 /// What is wrong with a sector that holds no label, where this version was found: that there is none
 /// of a version that is read, which are 1 and 2, or that it is of another.
-#[tactic(auto, unfolding(crate::specs::Judged::is_known))]
 pub fn fault_of_version(found: u32) -> LabelFault
     ensures { result ≡ unlabelled_fault found }
 {

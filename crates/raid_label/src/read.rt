@@ -1,7 +1,8 @@
 //! Reading a label.
 ghost use Rattle.std.specs.Prelude.{◌≡◌, ◌==◌, ◌+◌, ◌≤◌, length, take, drop};
 ghost use Rattle.std.specs.List.{list_all};
-ghost use Rattle.raid_label.specs.Bytes.{label_in, fields_of, word_at, has_magic, has_zeros, names_filling, is_first, is_second, is_well_formed, version_in};
+ghost use Rattle.raid_label.specs.Bytes.{label_in, fields_of, word_at, has_magic, has_zeros, names_filling, is_well_formed, version_in};
+ghost use Rattle.raid_label.specs.Steps.{is_first, is_second};
 
 use crate::label::{Label, MAGIC};
 

@@ -1,7 +1,8 @@
 //! Writing a label.
 ghost use Rattle.std.specs.Prelude.{◌≡◌, ◌+◌, ◌≤◌, length, take, ◌++◌};
 ghost use Rattle.std.specs.Int.{w32, to_le_bytes};
-ghost use Rattle.raid_label.specs.Bytes.{bytes_of, words_of, IsHeld};
+ghost use Rattle.raid_label.specs.Bytes.{bytes_of, IsHeld};
+ghost use Rattle.raid_label.specs.Steps.{words_of};
 
 use crate::label::{Label, MAGIC};
 

@@ -4,7 +4,7 @@ use Rattle.std.proofs.lemmas.Bool.{cases_eq, cases_lt}
 use Rattle.lay_core.specs.Layout.{Shape, Blocks}
 use Rattle.graph_mean.specs.declared.graph.Node.TheVariants.{Wr}
 use Rattle.std.proofs.lemmas.List.{get_or_past}
-use Rattle.graph_mean.specs.Graph.{Vertex, no_vertex, kind_at}
+use Rattle.graph_mean.specs.Graph.{Vertex, kind_at}
 use Rattle.graph_mean.specs.Steps.{stripe_of}
 use Rattle.eng_cols.specs.declared.spot.Loss.{Loss}
 use Rattle.eng_world.specs.declared.item.Item.{Item}
@@ -23,6 +23,7 @@ use Rattle.eng_world.proofs.Outs.{outlives-back}
 use Rattle.raid_map.specs.Regions.{region_of}
 use Rattle.raid_map.specs.Mapped.{Covers, AreAskedFor}
 use Rattle.raid_map.proofs.Chosen.{EachChosen, chosen-writes}
+use Rattle.graph_mean.proofs.Words.{no_vertex}
 
 -- ## While the array isn't lost
 

@@ -23,10 +23,11 @@ use Rattle.eng_world.proofs.Placed.{EachPlaced, only-rows}
 use Rattle.eng_world.proofs.Reaching.{reaches}
 use Rattle.eng_world.proofs.Promised.{not-lost}
 use Rattle.eng_world.proofs.Caused.{tail-has, head-has}
-use Rattle.raid_map.specs.Regions.{number_at, bit_of, IsMap}
+use Rattle.raid_map.specs.Regions.{number_at, IsMap}
 use Rattle.raid_map.specs.Stops.{Logged, Stored, SameSector, MayHold}
 use Rattle.raid_map.specs.Mapped.{Event, IsUnderWay, Mark, Settle, Happens, Clear, Mapped, Writes, Settles, Logs, Covers, MappedRun, IsStart}
 use Rattle.raid_map.proofs.Sited.{IsMarked, stays, lies, each-sited, under-way}
+use Rattle.raid_map.proofs.Words.{bit_of}
 
 -- ## Lists
 

@@ -23,3 +23,4 @@ pub mod Behind
 pub mod Spans
 pub mod Script
 pub mod Readers
+pub mod Words

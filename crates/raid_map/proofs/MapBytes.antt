@@ -3,7 +3,8 @@ use Rattle.std.proofs.Common.{◌≡◌, ◌<◌, ◌≤◌, ◌+◌, ◌-◌, �
 use Rattle.std.specs.Prelude.{MatchBool, ◌==◌, ◌&&◌, nat_lt}
 use Rattle.std.proofs.lemmas.Bool.{cases_Bool, lt-ltb, cond-true, cond-false}
 use Rattle.std.proofs.lemmas.List.{get_or_past}
-use Rattle.raid_map.specs.Regions.{region_stripes, regions_in, bit_of, bit_at, number_at, HasMagic, IsMap, Marks, is_marked, one_if, packed, byte_of, NonePast}
+use Rattle.raid_map.specs.Regions.{region_stripes, regions_in, bit_at, number_at, HasMagic, IsMap, Marks, is_marked, one_if, packed, byte_of, NonePast}
+use Rattle.raid_map.proofs.Words.{bit_of}
 
 -- ## Bits
 

@@ -12,10 +12,10 @@ use Rattle.blk_disk.specs.Stops.{Left, MayHold}
 use Rattle.blk_disk.proofs.DeviceLaws.{changes-refl, changes-then, changes-more, changes_size, rises-wider}
 use Rattle.eng_cols.specs.declared.column.Column.{Column}
 use Rattle.eng_cols.specs.declared.column.Column.TheVariants as column
-use Rattle.eng_cols.specs.Cols.{device_set}
+use Rattle.eng_cols.specs.Cols.{device_set, HasDeviceOn, has_device}
 use Rattle.eng_cols.specs.Deaths.{Dies}
 use Rattle.eng_cols.proofs.DeathLaws.{dies-refl, dies-more, dies-then, dies-set}
-use Rattle.raid_map.specs.Marking.{IsOn, has_device, IsMapSector, MarksOn, MarksAtMost, CanBeMarked, LosesDevice, MarksColumn, AreMarked}
+use Rattle.raid_map.specs.Marking.{IsMapSector, MarksOn, MarksAtMost, CanBeMarked, LosesDevice, MarksColumn, AreMarked}
 
 -- ## Lists of columns
 
@@ -32,7 +32,7 @@ set_other (y ∷ xs) (suc i) zero x apart = refl
 set_other (y ∷ xs) (suc i) (suc k) x apart = set_other xs i k x (λ e. apart (omega (arith, e)))
 
 -- a column that has a device is one of the list
-pub on_within : (columns : List Column) (c d : ℕ) → IsOn columns c d → c < length columns
+pub on_within : (columns : List Column) (c d : ℕ) → HasDeviceOn columns c d → c < length columns
 on_within columns c d h = go (slice_get columns c) refl h
   where
     go : (o : Option Column) → slice_get columns c ≡ o → device_set o ≡ Some d → c < length columns
@@ -43,7 +43,7 @@ pub if_other : (columns : List Column) (c k : ℕ) (good : Bool) → k ≢ c →
 if_other columns c k true apart = refl
 if_other columns c k false apart = set_other columns c k column.Dead apart
 
-pub if_on : (columns : List Column) (c d : ℕ) (good : Bool) → c < length columns → IsOn (if good then columns else set columns c column.Dead) c d → good ≡ true
+pub if_on : (columns : List Column) (c d : ℕ) (good : Bool) → c < length columns → HasDeviceOn (if good then columns else set columns c column.Dead) c d → good ≡ true
 if_on columns c d true within h = refl
 if_on columns c d false within h = absurd (let z : None ≡ Some d = ap device_set (sym (set_here columns c column.Dead within)) ∙ h in let u : ⊥ = cc in u)
 
@@ -52,7 +52,7 @@ if_dies cause columns c true h why = dies-refl cause columns
 if_dies cause columns c false h why = dies-set cause columns c h (why refl)
 
 -- the column has its device still exactly where the mark went well
-pub if_has : (columns : List Column) (c d : ℕ) (good : Bool) → c < length columns → IsOn columns c d → has_device (slice_get (if good then columns else set columns c column.Dead) c) ≡ good
+pub if_has : (columns : List Column) (c d : ℕ) (good : Bool) → c < length columns → HasDeviceOn columns c d → has_device (slice_get (if good then columns else set columns c column.Dead) c) ≡ good
 if_has columns c d true within on = ap is_some on
 if_has columns c d false within on = ap has_device (set_here columns c column.Dead within)
 
@@ -90,17 +90,17 @@ module _ {D : Type 0} (g : Ghosts D) (bytes : List ℕ) where
   }
 
   -- the next column has no device
-  pub marked-skip : (n : ℕ) (columns after : List Column) (old new : List (Option D)) → ((d : ℕ) → IsOn after n d → ⊥) → AreMarked g n bytes columns after old new → AreMarked g (n + 1) bytes columns after old new
+  pub marked-skip : (n : ℕ) (columns after : List Column) (old new : List (Option D)) → ((d : ℕ) → HasDeviceOn after n d → ⊥) → AreMarked g n bytes columns after old new → AreMarked g (n + 1) bytes columns after old new
   marked-skip n columns after old new not was = record {
     frame = was.frame;
     dies = was.dies;
     safe = λ c d x below on there. elim (cases_lt c n) [
       | inl lt ↦ was.safe c d x lt on there
-      | inr le ↦ let e : c ≡ n = omega (arith, below, le) in absurd (not d (subst (λ z. IsOn after z d) e on))
+      | inr le ↦ let e : c ≡ n = omega (arith, below, le) in absurd (not d (subst (λ z. HasDeviceOn after z d) e on))
     ];
     once = λ c d below on. elim (cases_lt c n) [
       | inl lt ↦ was.once c d lt on
-      | inr le ↦ let e : c ≡ n = omega (arith, below, le) in absurd (not d (ap device_set (was.kept n (omega arith)) ∙ subst (λ z. IsOn columns z d) e on))
+      | inr le ↦ let e : c ≡ n = omega (arith, below, le) in absurd (not d (ap device_set (was.kept n (omega arith)) ∙ subst (λ z. HasDeviceOn columns z d) e on))
     ];
     others = λ d never. was.others d (λ c below. never c (omega (arith, below)));
     kept = λ c h. was.kept c (omega (arith, h));
@@ -111,7 +111,7 @@ module _ {D : Type 0} (g : Ghosts D) (bytes : List ℕ) where
     abbrev d : ℕ
     d = step.device
 
-    here : IsOn columns n d
+    here : HasDeviceOn columns n d
     here = ap device_set (sym (was.kept n (omega arith))) ∙ step.on
 
     within : n < length mid
@@ -138,13 +138,13 @@ module _ {D : Type 0} (g : Ghosts D) (bytes : List ℕ) where
     state c below = ap (λ (l : List Column). slice_get l c) step.after_is ∙ if_other mid n c step.good (λ e. omega (arith, below, e))
 
     -- an earlier column's device, by the columns as they were or are
-    was-on : (c k : ℕ) → IsOn mid c k → IsOn columns c k
+    was-on : (c k : ℕ) → HasDeviceOn mid c k → HasDeviceOn columns c k
     was-on c k on = elim (was.dies.each c) [
       | inl same ↦ ap device_set (sym same) ∙ on
       | inr dead ↦ absurd (let z : None ≡ Some k = ap device_set (sym dead.0) ∙ on in let u : ⊥ = cc in u)
     ]
 
-    apart-from : (c k : ℕ) → c < n → IsOn columns c k → k ≢ d
+    apart-from : (c k : ℕ) → c < n → HasDeviceOn columns c k → k ≢ d
     apart-from c k below on e = let z = can.apart c n d (on ∙ ap Some e) here in omega (arith, below, z)
 
     -- its calls
@@ -160,12 +160,12 @@ module _ {D : Type 0} (g : Ghosts D) (bytes : List ℕ) where
       dies = dies;
       safe = λ c k x below on there. elim (cases_lt c n) [
         | inl lt ↦
-            let in-mid : IsOn mid c k = ap device_set (sym (state c lt)) ∙ on in
+            let in-mid : HasDeviceOn mid c k = ap device_set (sym (state c lt)) ∙ on in
             was.safe c k x lt in-mid (sym (step.marking.others k (apart-from c k lt (was-on c k in-mid))) ∙ there)
         | inr le ↦
             let e : c ≡ n = omega (arith, below, le) in
-            let on-n : IsOn after n k = subst (λ z. IsOn after z k) e on in
-            let good : step.good ≡ true = if_on mid n k step.good within (subst (λ (l : List Column). IsOn l n k) step.after_is on-n) in
+            let on-n : HasDeviceOn after n k = subst (λ z. HasDeviceOn after z k) e on in
+            let good : step.good ≡ true = if_on mid n k step.good within (subst (λ (l : List Column). HasDeviceOn l n k) step.after_is on-n) in
             let same : d ≡ k = one_device (sym step.on ∙ ap (λ (l : List Column). device_set (slice_get l n)) (ap (λ b. if b then mid else set mid n column.Dead) (sym good) ∙ sym step.after_is) ∙ on-n) in
             step.marking.safe good x (ap (device_at new) same ∙ there)
       ];
@@ -175,7 +175,7 @@ module _ {D : Type 0} (g : Ghosts D) (bytes : List ℕ) where
             (subst (λ o. MarksOn (calls_of g old k) (calls_of g dev k) (has_device o)) (sym (state c lt)) (was.once c k lt on))
         | inr le ↦
             let e : n ≡ c = omega (arith, below, le) in
-            let same : d ≡ k = one_device (sym here ∙ subst (λ z. IsOn columns z k) (sym e) on) in
+            let same : d ≡ k = one_device (sym here ∙ subst (λ z. HasDeviceOn columns z k) (sym e) on) in
             subst (λ z. MarksOn (calls_of g old k) (calls_of g new k) (has_device (slice_get after z))) e
             (subst (λ b. MarksOn (calls_of g old k) (calls_of g new k) b) (sym good_is)
             (subst (λ j. MarksOn (calls_of g old j) (calls_of g new j) step.good) same marks))
@@ -189,14 +189,14 @@ module _ {D : Type 0} (g : Ghosts D) (bytes : List ℕ) where
     }
 
   -- the device of the next column has its sectors
-  pub still_sized : (n d : ℕ) (columns mid : List Column) (old dev : List (Option D)) → CanBeMarked g columns old → AreMarked g n bytes columns mid old dev → IsOn mid n d → 2 ≤ size_of g dev d
+  pub still_sized : (n d : ℕ) (columns mid : List Column) (old dev : List (Option D)) → CanBeMarked g columns old → AreMarked g n bytes columns mid old dev → HasDeviceOn mid n d → 2 ≤ size_of g dev d
   still_sized n d columns mid old dev can was on =
       let s = can.sized n d (ap device_set (sym (was.kept n (omega arith))) ∙ on) in
       let e = changes_size g (IsMapSector columns) old dev d was.frame in omega (arith, s, e)
 
   -- whatever a stop leaves of a device in use, it holds the bytes
   pub left_marked : (columns after : List Column) (old new : List (Option D)) → length after ≡ length columns → AreMarked g (length columns) bytes columns after old new → g.tells
-      → (c d : ℕ) → IsOn after c d → (x : D) → device_at new d ≡ Some x → (l : Left) → g.left x ≡ Some l → (held : List ℕ) → MayHold l 1 held → held ≡ bytes
+      → (c d : ℕ) → HasDeviceOn after c d → (x : D) → device_at new d ≡ Some x → (l : Left) → g.left x ≡ Some l → (held : List ℕ) → MayHold l 1 held → held ≡ bytes
   left_marked columns after old new same was told c d on x there l is held may =
       let safe = was.safe c d x (let w = on_within after c d on in omega (arith, w, same)) on there in
       go (safe.left l is) (safe.held told) may

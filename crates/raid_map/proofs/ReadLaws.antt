@@ -10,13 +10,13 @@ use Rattle.blk_disk.proofs.DeviceLaws.{changes-refl, changes-then, changes_size,
 use Rattle.lay_core.specs.Layout.{Shape}
 use Rattle.eng_cols.specs.declared.column.Column.{Column}
 use Rattle.eng_cols.specs.declared.column.Column.TheVariants as column
-use Rattle.eng_cols.specs.Cols.{HasDevice, device_set, state_set}
+use Rattle.eng_cols.specs.Cols.{HasDevice, device_set, state_set, HasDeviceOn, has_device}
 use Rattle.eng_cols.specs.Deaths.{Dies}
 use Rattle.eng_cols.specs.Stripes.{states_of, filled_in}
 use Rattle.eng_cols.proofs.DeathLaws.{dies-refl, dies-more, dies-then}
 use Rattle.eng_cols.proofs.Fewer.{states-at}
 use Rattle.raid_map.specs.Regions.{regions_in, bit_at, IsMap, Marks, is_marked, IsMapOf, Adds}
-use Rattle.raid_map.specs.Marking.{IsOn, has_device, CanBeMarked, LosesDevice}
+use Rattle.raid_map.specs.Marking.{CanBeMarked, LosesDevice}
 use Rattle.raid_map.specs.Reading.{is_true, Grows, AddsRead, ReadsColumn, AreRead, IsUnion}
 use Rattle.raid_map.proofs.MarkLaws.{on_within, if_other, if_on, if_dies, if_has, one_device}
 use Rattle.raid_map.proofs.Unions.{regions-few, added-marks}
@@ -38,13 +38,13 @@ module _ {D : Type 0} (g : Ghosts D) where
   }
 
   -- the next column has no device
-  pub read-skip : (n : ℕ) (columns after : List Column) (old new : List (Option D)) → ((d : ℕ) → IsOn after n d → ⊥) → AreRead g n columns after old new → AreRead g (n + 1) columns after old new
+  pub read-skip : (n : ℕ) (columns after : List Column) (old new : List (Option D)) → ((d : ℕ) → HasDeviceOn after n d → ⊥) → AreRead g n columns after old new → AreRead g (n + 1) columns after old new
   read-skip n columns after old new not was = record {
     frame = was.frame;
     dies = was.dies;
     once = λ c d below on. elim (cases_lt c n) [
       | inl lt ↦ was.once c d lt on
-      | inr le ↦ let e : c ≡ n = omega (arith, below, le) in absurd (not d (ap device_set (was.kept n (omega arith)) ∙ subst (λ z. IsOn columns z d) e on))
+      | inr le ↦ let e : c ≡ n = omega (arith, below, le) in absurd (not d (ap device_set (was.kept n (omega arith)) ∙ subst (λ z. HasDeviceOn columns z d) e on))
     ];
     others = λ d never. was.others d (λ c below. never c (omega (arith, below)));
     kept = λ c h. was.kept c (omega (arith, h));
@@ -57,7 +57,7 @@ module _ {D : Type 0} (g : Ghosts D) where
     abbrev good : Bool
     good = is_some step.answer
 
-    here : IsOn columns n d
+    here : HasDeviceOn columns n d
     here = ap device_set (sym (was.kept n (omega arith))) ∙ step.on
 
     within : n < length mid
@@ -80,7 +80,7 @@ module _ {D : Type 0} (g : Ghosts D) where
     pub read-state : (c : ℕ) → c < n → slice_get after c ≡ slice_get mid c
     read-state c below = ap (λ (l : List Column). slice_get l c) step.after_is ∙ if_other mid n c good (λ e. omega (arith, below, e))
 
-    apart-from : (c k : ℕ) → c < n → IsOn columns c k → k ≢ d
+    apart-from : (c k : ℕ) → c < n → HasDeviceOn columns c k → k ≢ d
     apart-from c k below on e = let z = can.apart c n d (on ∙ ap Some e) here in omega (arith, below, z)
 
     call : Tells (calls_of g old d) (calls_of g new d) (call_of 0 1 512 good)
@@ -99,7 +99,7 @@ module _ {D : Type 0} (g : Ghosts D) where
             (subst (λ o. Tells (calls_of g old k) (calls_of g dev k) (call_of 0 1 512 (has_device o))) (sym (read-state c lt)) (was.once c k lt on))
         | inr le ↦
             let e : n ≡ c = omega (arith, below, le) in
-            let same : d ≡ k = one_device (sym here ∙ subst (λ z. IsOn columns z k) (sym e) on) in
+            let same : d ≡ k = one_device (sym here ∙ subst (λ z. HasDeviceOn columns z k) (sym e) on) in
             subst (λ z. Tells (calls_of g old k) (calls_of g new k) (call_of 0 1 512 (has_device (slice_get after z)))) e
             (subst (λ b. Tells (calls_of g old k) (calls_of g new k) (call_of 0 1 512 b)) (sym good_is)
             (subst (λ j. Tells (calls_of g old j) (calls_of g new j) (call_of 0 1 512 good)) same call))
@@ -109,17 +109,17 @@ module _ {D : Type 0} (g : Ghosts D) where
     }
 
     -- a column that has a device still had it, and its read went well
-    pub on-good : (k : ℕ) → IsOn after n k → (good ≡ true) × (d ≡ k)
+    pub on-good : (k : ℕ) → HasDeviceOn after n k → (good ≡ true) × (d ≡ k)
     on-good k on =
-        let ok : good ≡ true = if_on mid n k good within (subst (λ (l : List Column). IsOn l n k) step.after_is on) in
+        let ok : good ≡ true = if_on mid n k good within (subst (λ (l : List Column). HasDeviceOn l n k) step.after_is on) in
         (ok, one_device (sym step.on ∙ ap (λ (l : List Column). device_set (slice_get l n)) (ap (λ b. if b then mid else set mid n column.Dead) (sym ok) ∙ sym step.after_is) ∙ on))
 
     -- and one whose read went well has it
-    pub good-on : good ≡ true → IsOn after n d
+    pub good-on : good ≡ true → HasDeviceOn after n d
     good-on ok = ap (λ (l : List Column). device_set (slice_get l n)) (step.after_is ∙ ap (λ b. if b then mid else set mid n column.Dead) ok) ∙ step.on
 
   -- the device of the next column has its sectors
-  pub read-sized : (n d : ℕ) (columns mid : List Column) (old dev : List (Option D)) → CanBeMarked g columns old → AreRead g n columns mid old dev → IsOn mid n d → 2 ≤ size_of g dev d
+  pub read-sized : (n d : ℕ) (columns mid : List Column) (old dev : List (Option D)) → CanBeMarked g columns old → AreRead g n columns mid old dev → HasDeviceOn mid n d → 2 ≤ size_of g dev d
   read-sized n d columns mid old dev can was on =
       let s = can.sized n d (ap device_set (sym (was.kept n (omega arith))) ∙ on) in
       let e = changes_size g (λ _ _. ⊥) old dev d was.frame in omega (arith, s, e)
@@ -131,7 +131,7 @@ pub record HasMapBelow {D : Type 0} (g : Ghosts D) (stripes serial n : ℕ) (col
   pub column : ℕ
   pub device : ℕ
   pub below : column < n
-  pub on : IsOn columns column device
+  pub on : HasDeviceOn columns column device
   pub map : IsMap serial stripes marks (contents_of g ds device 1)
 
 -- the map marks what it marked, and what the maps of the first n columns' devices mark
@@ -169,7 +169,7 @@ module _ {D : Type 0} (g : Ghosts D) (ds : List (Option D)) (old : Marks) where
     narrow : (marks : ℕ → Bool) (has : Below (n + 1) after marks) → has.column < n → Below n mid marks
     narrow marks has lt = record { column = has.column; device = has.device; below = lt; on = ap device_set (sym (state has.column lt)) ∙ has.on; map = has.map }
 
-    pub union-same : ((marks : ℕ → Bool) (d : ℕ) → IsOn after n d → IsMap old.serial old.stripes marks (contents_of g ds d 1) → ⊥) → (new : Marks) (found : Bool) → UnionTo g n mid ds old new found → UnionTo g (n + 1) after ds old new found
+    pub union-same : ((marks : ℕ → Bool) (d : ℕ) → HasDeviceOn after n d → IsMap old.serial old.stripes marks (contents_of g ds d 1) → ⊥) → (new : Marks) (found : Bool) → UnionTo g n mid ds old new found → UnionTo g (n + 1) after ds old new found
     union-same none new found was = record {
       all = λ marks r has within is. was.all marks r (back marks has) within is;
       only = λ r within is. elim (was.only r within is) [ inl m ↦ inl m | inr h ↦ inr (h.0, wider h.0 h.1, h.2) ];
@@ -183,18 +183,18 @@ module _ {D : Type 0} (g : Ghosts D) (ds : List (Option D)) (old : Marks) where
           | inr le ↦
               let b = has.below in
               let e : has.column ≡ n = omega (arith, b, le) in
-              absurd (none marks has.device (subst (λ c. IsOn after c has.device) e has.on) has.map)
+              absurd (none marks has.device (subst (λ c. HasDeviceOn after c has.device) e has.on) has.map)
         ]
 
     -- the next has a map, which is added
-    pub union-adds : (d : ℕ) → IsOn after n d → (mine new : Marks) (found : Bool) → Grows old mine → IsMapOf mine (sector_of g ds d 1) → Adds mine new (sector_of g ds d 1) → UnionTo g n mid ds old mine found → UnionTo g (n + 1) after ds old new true
+    pub union-adds : (d : ℕ) → HasDeviceOn after n d → (mine new : Marks) (found : Bool) → Grows old mine → IsMapOf mine (sector_of g ds d 1) → Adds mine new (sector_of g ds d 1) → UnionTo g n mid ds old mine found → UnionTo g (n + 1) after ds old new true
     union-adds d on mine new found grows is adds was = record {
       all = λ marks r has within m. elim (cases_lt has.column n) [
         | inl lt ↦ kept r within (was.all marks r (narrow marks has lt) within m)
         | inr le ↦
             let b = has.below in
             let e : has.column ≡ n = omega (arith, b, le) in
-            let same : has.device ≡ d = one_device (sym (subst (λ c. IsOn after c has.device) e has.on) ∙ on) in
+            let same : has.device ≡ d = one_device (sym (subst (λ c. HasDeviceOn after c has.device) e has.on) ∙ on) in
             added marks r (subst (λ k. IsMap old.serial old.stripes marks (contents_of g ds k 1)) same has.map) within m
       ];
       only = λ r within m. elim (or-cases (is_marked mine.marks r) (bit_at (slice_index (sector_of g ds d 1)) r) (sym (adds.marks r (inside r within)) ∙ m)) [
@@ -232,7 +232,7 @@ module _ {D : Type 0} (g : Ghosts D) (ds : List (Option D)) (old : Marks) where
 -- ## One column more, and all
 
 -- a column's device by the columns as they are set, and as they stand
-set-device : (y : Shape) (columns : List Column) (c d : ℕ) → IsOn columns c d → HasDevice (states_of y columns) c d
+set-device : (y : Shape) (columns : List Column) (c d : ℕ) → HasDeviceOn columns c d → HasDevice (states_of y columns) c d
 set-device y columns c d has = go (slice_get columns c) refl has
   where
     go : (o : Option Column) → slice_get columns c ≡ o → device_set o ≡ Some d → HasDevice (states_of y columns) c d
@@ -242,7 +242,7 @@ set-device y columns c d has = go (slice_get columns c) refl has
     go (Some column.Spread) is h = absurd (let u : ⊥ = cc in u)
     go None is h = absurd (let u : ⊥ = cc in u)
 
-pub device-set : (y : Shape) (columns : List Column) (c d : ℕ) → HasDevice (states_of y columns) c d → IsOn columns c d
+pub device-set : (y : Shape) (columns : List Column) (c d : ℕ) → HasDevice (states_of y columns) c d → HasDeviceOn columns c d
 device-set y columns c d has = go (slice_get columns c) (sym (slice_get-map (state_set y.stripes (filled_in y columns)) columns c)) has
   where
     go : (o : Option Column) → option_map (state_set y.stripes (filled_in y columns)) o ≡ slice_get (states_of y columns) c → HasDevice (states_of y columns) c d → device_set o ≡ Some d
@@ -267,7 +267,7 @@ module _ {D : Type 0} (g : Ghosts D) where
   said-none columns ds old = record { grows = grows-refl old; union = λ told. union-none g ds old columns }
 
   -- the next column has no device
-  pub said-skip : (n : ℕ) (mid : List Column) (ds : List (Option D)) (old new : Marks) (any : Bool) → ((d : ℕ) → IsOn mid n d → ⊥) → SaidTo n mid ds old new any → SaidTo (n + 1) mid ds old new any
+  pub said-skip : (n : ℕ) (mid : List Column) (ds : List (Option D)) (old new : Marks) (any : Bool) → ((d : ℕ) → HasDeviceOn mid n d → ⊥) → SaidTo n mid ds old new any → SaidTo (n + 1) mid ds old new any
   said-skip n mid ds old new any not was = record {
     grows = was.grows;
     union = λ told. union-same g ds old n mid mid (λ c below. refl) (λ marks d on map. not d on) new any (was.union told);
@@ -288,10 +288,10 @@ module _ {D : Type 0} (g : Ghosts D) where
         go (Some b) h = h.0
 
     -- it has none
-    none-added : g.tells → found ≡ false → (next ≡ before) × ((marks : ℕ → Bool) (d : ℕ) → IsOn after n d → IsMap old.serial old.stripes marks (contents_of g ds d 1) → ⊥)
+    none-added : g.tells → found ≡ false → (next ≡ before) × ((marks : ℕ → Bool) (d : ℕ) → HasDeviceOn after n d → IsMap old.serial old.stripes marks (contents_of g ds d 1) → ⊥)
     none-added told not = go step.answer refl step.adds
       where
-        go : (a : Option Bool) → step.answer ≡ a → AddsRead g.tells before next (sector_of g dev step.device 1) a → (next ≡ before) × ((marks : ℕ → Bool) (d : ℕ) → IsOn after n d → IsMap old.serial old.stripes marks (contents_of g ds d 1) → ⊥)
+        go : (a : Option Bool) → step.answer ≡ a → AddsRead g.tells before next (sector_of g dev step.device 1) a → (next ≡ before) × ((marks : ℕ → Bool) (d : ℕ) → HasDeviceOn after n d → IsMap old.serial old.stripes marks (contents_of g ds d 1) → ⊥)
         go None is h = (h, λ marks d on map. no-bool (sym (ap is_some is) ∙ (on-good g n columns mid after ds dev new before next found can read step d on).0))
         go (Some true) is h = no-bool (sym not ∙ step.found_is ∙ ap is_true is)
         go (Some false) is h =

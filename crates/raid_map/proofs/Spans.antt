@@ -12,12 +12,13 @@ use Rattle.lay_core.specs.Layout.{Shape}
 use Rattle.lay_core.specs.Touched.{Touched, PassesEnd, PassesEndSome, IsSplit, stripe_count, stripes_among}
 use Rattle.graph_mean.specs.declared.graph.Node.{Node}
 use Rattle.graph_mean.specs.declared.graph.Node.TheVariants.{Rd, Wr, Xor, Cmt, Trm}
-use Rattle.graph_mean.specs.Graph.{View, Vertex, no_vertex, kind_at}
+use Rattle.graph_mean.specs.Graph.{View, Vertex, kind_at}
 use Rattle.eng_world.specs.declared.item.Item.{Item}
 use Rattle.item_list.specs.ItemList.{ItemList}
 use Rattle.raid_map.specs.Regions.{region_of, Marks, is_marked}
 use Rattle.raid_map.specs.Mapped.{HasWrite}
 use Rattle.raid_map.specs.Asking.{node_writes, MayWriteIn, SomeMayWrite, ScriptMayWrite, Reaches, MarksAlso}
+use Rattle.graph_mean.proofs.Words.{no_vertex}
 
 -- what came well wasn't refused
 pub split-not-refused : {T E : Type 0} {r : Result T E} {x : T} {e : E} → r ≡ Ok x → r ≡ Err e → ⊥

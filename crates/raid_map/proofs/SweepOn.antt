@@ -18,7 +18,7 @@ use Rattle.eng_cols.proofs.DeathLaws.{dies-refl, dies-more, dies-then, dies-set}
 use Rattle.eng_cols.proofs.Spots.{available-seat, seat-device}
 use Rattle.eng_cols.proofs.Killing.{seat-apart}
 use Rattle.raid_recon.specs.declared.kind.Sweep.TheVariants.{Sync}
-use Rattle.eng_cols.specs.Stripes.{filled_in, states_of, count_below}
+use Rattle.eng_cols.specs.Stripes.{filled_in, states_of}
 use Rattle.raid_recon.specs.Array.{IsArray, IsJudge, IsComplete, IsCheckSector, Failed}
 use Rattle.raid_recon.specs.Ends.{ChecksHold}
 use Rattle.raid_recon.specs.Sums.{sum_of, HoldsSum, IsZero, IsNotZero}
@@ -29,6 +29,7 @@ use Rattle.raid_recon.proofs.Places.{states-killed, array-kept}
 use Rattle.raid_recon.proofs.Frames.{last-unit, byte-same, check-alone, sum-same}
 use Rattle.raid_recon.proofs.Backs.{Back, back-refl, back-then, back-turn, seat-unspread, byte-back, sum-back, check-back}
 use Rattle.raid_map.specs.Sweeping.{MayRewrite, UnsoundAreMarked, IsSweptTo, IsCountedTo}
+use Rattle.lay_core.specs.Touched.{count_below}
 
 no-bool : {A : Type 0} → false ≡ true → A
 no-bool h = absurd (let u : ⊥ = cc in u)

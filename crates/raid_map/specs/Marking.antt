@@ -1,5 +1,5 @@
 -- What it is that the devices in use are marked.
-use Rattle.std.specs.Prelude.{◌≡◌, ◌≢◌, ◌<◌, ◌≤◌, ◌⊎◌, ℕ, List, [], ◌∷◌, ◌++◌, Bool, true, false, Option, Some, None, is_some, slice_get, slice_set, if◌then◌else◌}
+use Rattle.std.specs.Prelude.{◌≡◌, ◌≢◌, ◌<◌, ◌≤◌, ◌⊎◌, ℕ, List, [], ◌∷◌, ◌++◌, Bool, true, false, Option, Some, None, slice_get, slice_set, if◌then◌else◌}
 use Rattle.blk_disk.specs.declared.disk.Call.{Call}
 use Rattle.blk_disk.specs.declared.disk.Disk.{Ghosts}
 use Rattle.blk_disk.specs.Disk.{call_of}
@@ -7,21 +7,13 @@ use Rattle.blk_disk.specs.Devices.{device_at, size_of, calls_of, RisesOn, Change
 use Rattle.blk_disk.specs.Stops.{Left}
 use Rattle.eng_cols.specs.declared.column.Column.{Column}
 use Rattle.eng_cols.specs.declared.column.Column.TheVariants as column
-use Rattle.eng_cols.specs.Cols.{device_set}
+use Rattle.eng_cols.specs.Cols.{HasDeviceOn, has_device}
 use Rattle.eng_cols.specs.Deaths.{Dies}
-
--- column c has device d
-abbrev pub IsOn : List Column → ℕ → ℕ → Type 0
-IsOn columns c d = device_set (slice_get columns c) ≡ Some d
-
--- there is a column there, and it has a device
-abbrev pub has_device : Option Column → Bool
-has_device o = is_some (device_set o)
 
 -- sector 1 of a device in use
 pub record IsMapSector (columns : List Column) (d n : ℕ) : Type 0 where
   pub col : ℕ
-  pub on : IsOn columns col d
+  pub on : HasDeviceOn columns col d
   pub second : n ≡ 1
 
 -- the calls that mark a device: its sector 1 is written and it is settled, both well, or one of the two fails
@@ -44,8 +36,8 @@ MarksAtMost (Some before) (Some now) = (more : List Call) × ((more ≡ []) ⊎ 
 module _ {D : Type 0} (g : Ghosts D) where
   -- The device of each column is there with two sectors, and is no other's.
   pub record CanBeMarked (columns : List Column) (devices : List (Option D)) : Type 0 where
-    pub sized : (c d : ℕ) → IsOn columns c d → 2 ≤ size_of g devices d
-    pub apart : (c k d : ℕ) → IsOn columns c d → IsOn columns k d → c ≡ k
+    pub sized : (c d : ℕ) → HasDeviceOn columns c d → 2 ≤ size_of g devices d
+    pub apart : (c k d : ℕ) → HasDeviceOn columns c d → HasDeviceOn columns k d → c ≡ k
 
   -- the device holds these bytes in sector 1, and a stop leaves what it holds and nothing else
   pub record IsSafeOn (x : D) (bytes : List ℕ) : Type 0 where
@@ -55,7 +47,7 @@ module _ {D : Type 0} (g : Ghosts D) where
   -- the column had a device whose count of faults rose
   pub record LosesDevice (columns : List Column) (old new : List (Option D)) (c : ℕ) : Type 0 where
     pub device : ℕ
-    pub had : IsOn columns c device
+    pub had : HasDeviceOn columns c device
     pub rose : RisesOn g old new device
 
   -- Device d was marked, well or not, and no other was called.
@@ -70,7 +62,7 @@ module _ {D : Type 0} (g : Ghosts D) where
   pub record MarksColumn (c : ℕ) (bytes : List ℕ) (columns after : List Column) (old new : List (Option D)) : Type 0 where
     pub device : ℕ
     pub good : Bool
-    pub on : IsOn columns c device
+    pub on : HasDeviceOn columns c device
     pub marking : IsMarking device bytes old new good
     pub after_is : after ≡ (if good then columns else slice_set columns c column.Dead)
 
@@ -78,8 +70,8 @@ module _ {D : Type 0} (g : Ghosts D) where
   pub record AreMarked (n : ℕ) (bytes : List ℕ) (columns after : List Column) (old new : List (Option D)) : Type 0 where
     pub frame : Changes g (IsMapSector columns) old new
     pub dies : Dies (LosesDevice columns old new) columns after
-    pub safe : (c d : ℕ) (x : D) → c < n → IsOn after c d → device_at new d ≡ Some x → IsSafeOn x bytes
-    pub once : (c d : ℕ) → c < n → IsOn columns c d → MarksOn (calls_of g old d) (calls_of g new d) (has_device (slice_get after c))
-    pub others : (d : ℕ) → ((c : ℕ) → c < n → IsOn columns c d → ⊥) → device_at new d ≡ device_at old d
+    pub safe : (c d : ℕ) (x : D) → c < n → HasDeviceOn after c d → device_at new d ≡ Some x → IsSafeOn x bytes
+    pub once : (c d : ℕ) → c < n → HasDeviceOn columns c d → MarksOn (calls_of g old d) (calls_of g new d) (has_device (slice_get after c))
+    pub others : (d : ℕ) → ((c : ℕ) → c < n → HasDeviceOn columns c d → ⊥) → device_at new d ≡ device_at old d
     pub kept : (c : ℕ) → n ≤ c → slice_get after c ≡ slice_get columns c
     pub told : (d : ℕ) → MarksAtMost (calls_of g old d) (calls_of g new d)

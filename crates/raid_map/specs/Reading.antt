@@ -9,8 +9,9 @@ use Rattle.eng_cols.specs.declared.column.Column.TheVariants as column
 use Rattle.eng_cols.specs.Deaths.{Dies}
 use Rattle.eng_cols.specs.Stripes.{states_of}
 use Rattle.raid_map.specs.Regions.{regions_in, Marks, is_marked, IsMapOf, Adds}
-use Rattle.raid_map.specs.Marking.{IsOn, has_device, LosesDevice}
+use Rattle.raid_map.specs.Marking.{LosesDevice}
 use Rattle.raid_map.specs.Union.{HasMap, UnionMarks}
+use Rattle.eng_cols.specs.Cols.{HasDeviceOn, has_device}
 
 -- it is there, and true
 abbrev pub is_true : Option Bool → Bool
@@ -46,7 +47,7 @@ module _ {D : Type 0} (g : Ghosts D) where
   pub record ReadsColumn (c : ℕ) (columns after : List Column) (old new : List (Option D)) (was is : Marks) (found : Bool) : Type 0 where
     pub device : ℕ
     pub answer : Option Bool
-    pub on : IsOn columns c device
+    pub on : HasDeviceOn columns c device
     pub reading : IsReading device old new (is_some answer)
     pub after_is : after ≡ (if is_some answer then columns else slice_set columns c column.Dead)
     pub adds : AddsRead g.tells was is (sector_of g old device 1) answer
@@ -56,8 +57,8 @@ module _ {D : Type 0} (g : Ghosts D) where
   pub record AreRead (n : ℕ) (columns after : List Column) (old new : List (Option D)) : Type 0 where
     pub frame : Changes g (λ _ _. ⊥) old new
     pub dies : Dies (LosesDevice g columns old new) columns after
-    pub once : (c d : ℕ) → c < n → IsOn columns c d → Tells (calls_of g old d) (calls_of g new d) (call_of 0 1 512 (has_device (slice_get after c)))
-    pub others : (d : ℕ) → ((c : ℕ) → c < n → IsOn columns c d → ⊥) → device_at new d ≡ device_at old d
+    pub once : (c d : ℕ) → c < n → HasDeviceOn columns c d → Tells (calls_of g old d) (calls_of g new d) (call_of 0 1 512 (has_device (slice_get after c)))
+    pub others : (d : ℕ) → ((c : ℕ) → c < n → HasDeviceOn columns c d → ⊥) → device_at new d ≡ device_at old d
     pub kept : (c : ℕ) → n ≤ c → slice_get after c ≡ slice_get columns c
 
   -- The map marks what it marked, and the regions that the union of these devices' maps marks; and it is said whether one of them has a map of the array. This is so for every layout of so many stripes.

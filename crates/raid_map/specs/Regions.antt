@@ -13,17 +13,13 @@ region_of stripes s = s / region_stripes stripes
 abbrev pub regions_in : ℕ → ℕ
 regions_in stripes = region_of stripes (stripes - 1) + 1
 
--- bit i of a byte
-abbrev pub bit_of : ℕ → ℕ → Bool
-bit_of byte i = ((byte / 2 ^ i) % 2) == 1
-
 -- the number in the four bytes from this one on, the lowest first
 abbrev pub number_at : (ℕ → ℕ) → ℕ → ℕ
 number_at bytes at = bytes at + 256 * bytes (at + 1) + 65536 * bytes (at + 2) + 16777216 * bytes (at + 3)
 
 -- the bit of region r
 abbrev pub bit_at : (ℕ → ℕ) → ℕ → Bool
-bit_at bytes r = bit_of (bytes (16 + r / 8)) (r % 8)
+bit_at bytes r = ((bytes (16 + r / 8) / 2 ^ (r % 8)) % 2) == 1
 
 -- the eight bytes with which a map begins
 abbrev pub HasMagic : (ℕ → ℕ) → Type 0
@@ -31,10 +27,11 @@ HasMagic bytes = (k : ℕ) → k < 8 → bytes k ≡ slice_index (codes "RFPMAP0
 
 -- The bytes are a well-formed map of the array of this serial and so many stripes, which marks these regions: eight bytes of magic, the serial, how many stripes a region has, and a bit for each region. The bits past the last region are 0.
 pub record IsMap (serial stripes : ℕ) (marks : ℕ → Bool) (bytes : ℕ → ℕ) : Type 0 where
-  pub magic : HasMagic bytes
+  pub magic : (k : ℕ) → k < 8 → bytes k ≡ slice_index (codes "RFPMAP01") k
   pub serial_is : number_at bytes 8 ≡ serial
   pub region_is : number_at bytes 12 ≡ region_stripes stripes
-  pub bits : (r : ℕ) → r < 3968 → bit_at bytes r ≡ (nat_lt r (regions_in stripes) && marks r)
+  pub bits : (r : ℕ) → r < 3968
+      → (((bytes (16 + r / 8) / 2 ^ (r % 8)) % 2) == 1) ≡ (nat_lt r (regions_in stripes) && marks r)
 
 -- no region from this one on is marked
 abbrev pub NonePast : ℕ → (ℕ → ℕ) → Type 0

@@ -7,11 +7,12 @@ use Rattle.lay_core.specs.Layout.{Shape}
 use Rattle.eng_cols.specs.declared.column.Column.{Column}
 use Rattle.eng_cols.specs.Cols.{ColumnState}
 use Rattle.eng_cols.specs.Deaths.{Dies}
-use Rattle.eng_cols.specs.Stripes.{states_of, count_below}
+use Rattle.eng_cols.specs.Stripes.{states_of}
 use Rattle.raid_recon.specs.Array.{IsComplete, IsCheckSector, Failed}
 use Rattle.raid_recon.specs.Ends.{AreGoodButLast, IsUnitCall}
 use Rattle.raid_recon.specs.Sums.{IsZero, IsNotZero}
 use Rattle.raid_map.specs.Regions.{Marks, region_of, is_marked}
+use Rattle.lay_core.specs.Touched.{count_below}
 
 -- the stripe lies in a region that the map marks
 abbrev pub marks_stripe : Marks → ℕ → Bool

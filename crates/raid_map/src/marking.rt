@@ -4,7 +4,8 @@ ghost use Rattle.blk_disk.specs.Disk.{Rose};
 ghost use Rattle.blk_disk.specs.Devices.{Stays, device_at, size_of};
 ghost use Rattle.blk_disk.specs.Stops.{Left, MayHold};
 ghost use Rattle.raid_map.specs.Regions.{IsBytesOf};
-ghost use Rattle.raid_map.specs.Marking.{IsOn, CanBeMarked, MarksOn, IsSafeOn, IsMarking, MarksColumn, AreMarked};
+ghost use Rattle.raid_map.specs.Marking.{CanBeMarked, MarksOn, IsSafeOn, IsMarking, MarksColumn, AreMarked};
+ghost use Rattle.eng_cols.specs.Cols.{HasDeviceOn};
 
 use crate::map::Map;
 use blk_disk::{Failed, SECTOR, StopDisk};
@@ -50,7 +51,7 @@ fn mark_column<D: StopDisk>(
     sector: &[u8],
 )
     requires long { length sector.now ≡ 512 }
-    requires on { IsOn columns.old column device }
+    requires on { HasDeviceOn columns.old column device }
     requires column { column < length columns.old }
     requires within { device < length devices.old }
     requires sized { 2 ≤ size_of D.Disk devices.old device }
@@ -83,7 +84,7 @@ pub fn mark_all<D: StopDisk>(map: &Map, devices: &mut [Option<D>], columns: &mut
     ensures marked { (bytes : List ℕ) × IsBytesOf map.now bytes
         × AreMarked D.Disk (length columns.old)
         bytes columns.old columns.new devices.old devices.new }
-    ensures images { D.tells → (c d : ℕ) → IsOn columns.new c d → (x : D)
+    ensures images { D.tells → (c d : ℕ) → HasDeviceOn columns.new c d → (x : D)
         → device_at devices.new d ≡ Some x → (left : Left) → D.left x ≡ Some left
         → (held : List ℕ) → MayHold left 1 held → IsBytesOf map.now held }
 {

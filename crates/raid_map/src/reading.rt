@@ -3,8 +3,9 @@ ghost use Rattle.std.specs.Prelude.{◌≡◌, ◌<◌, ◌≤◌, ℕ, length, 
 ghost use Rattle.blk_disk.specs.Disk.{Rose, Tells, call_of};
 ghost use Rattle.blk_disk.specs.Devices.{Stays, size_of, sector_of};
 ghost use Rattle.lay_core.specs.Layout.{Shape};
-ghost use Rattle.raid_map.specs.Marking.{IsOn, CanBeMarked};
+ghost use Rattle.raid_map.specs.Marking.{CanBeMarked};
 ghost use Rattle.raid_map.specs.Reading.{Grows, AddsRead, IsReading, ReadsColumn, AreRead, IsUnion};
+ghost use Rattle.eng_cols.specs.Cols.{HasDeviceOn};
 
 use crate::map::Map;
 use blk_disk::{Disk, Failed, SECTOR};
@@ -47,7 +48,7 @@ fn read_column<D: Disk>(
     column: usize,
     device: u32,
 ) -> bool
-    requires on { IsOn columns.old column device }
+    requires on { HasDeviceOn columns.old column device }
     requires column { column < length columns.old }
     requires within { device < length devices.old }
     requires sized { 2 ≤ size_of D.Disk devices.old device }

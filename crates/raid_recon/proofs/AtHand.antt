@@ -18,9 +18,10 @@ use Rattle.eng_cols.specs.Contents.{Contents, byte_at}
 use Rattle.eng_cols.proofs.Spots.{seat-device}
 use Rattle.raid_recon.specs.declared.ahead.Rows.{Rows}
 use Rattle.raid_recon.specs.Turns.{call_if}
-use Rattle.raid_recon.specs.Ahead.{Agrees, AreHands, Holds, ahead_call, byte_in, is_at_hand, no_rows, rows_at, rows_from, seat_rows, seat_reads, window_at}
+use Rattle.raid_recon.specs.Ahead.{Agrees, AreHands, Holds, byte_in, is_at_hand, no_rows, rows_at, seat_rows, seat_reads, window_at}
 use Rattle.raid_recon.specs.Units.{IsAhead}
 use Rattle.raid_recon.proofs.Backs.{Back}
+use Rattle.raid_recon.proofs.Words.{ahead_call, rows_from}
 
 -- a row at hand lies behind the first of the read and before its end
 pub at_hand-is : (rows : Rows) (row : ℕ) → is_at_hand rows row ≡ true → (rows.first < row) × (row < rows.end)

@@ -15,7 +15,7 @@ use Rattle.eng_cols.proofs.Spots.{available-seat}
 use Rattle.eng_cols.proofs.Killing.{seat-apart}
 use Rattle.raid_recon.specs.declared.kind.Sweep.{Sweep}
 use Rattle.raid_recon.specs.declared.kind.Sweep.TheVariants.{Check, Sync, Init}
-use Rattle.eng_cols.specs.Stripes.{states_of, count_below}
+use Rattle.eng_cols.specs.Stripes.{states_of}
 use Rattle.raid_recon.specs.Array.{IsArray, IsComplete}
 use Rattle.raid_recon.specs.Sums.{sum_of, IsZero, IsNotZero, HoldsSum}
 use Rattle.raid_recon.specs.Turns.{Turn, Left, Unread, Sound, Unsound, Written, Unwritten, does_count, does_write, dead_at, columns_after, Rewrites, is_check, is_init, IsTurn}
@@ -27,6 +27,7 @@ use Rattle.raid_recon.proofs.Bytes.{zero-from}
 use Rattle.raid_recon.proofs.Frames.{last-unit, check-alone, byte-same, sum-same}
 use Rattle.raid_recon.proofs.Backs.{Back, back-refl, back-then, back-turn, back-in, seat-unspread, sum-back}
 use Rattle.raid_recon.proofs.Logs.{turn-below, turn-newest, turn-older, turn-cases}
+use Rattle.lay_core.specs.Touched.{count_below}
 
 no-bool : {A : Type 0} → false ≡ true → A
 no-bool h = absurd (let u : ⊥ = cc in u)

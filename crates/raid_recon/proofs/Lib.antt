@@ -17,3 +17,4 @@ pub mod Turning
 pub mod Ends
 pub mod UnitCalls
 pub mod Fitting
+pub mod Words

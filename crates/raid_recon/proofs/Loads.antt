@@ -13,12 +13,13 @@ use Rattle.eng_cols.specs.Contents.{sector_at}
 use Rattle.raid_recon.specs.declared.ahead.Rows.{Rows}
 use Rattle.raid_recon.specs.declared.kind.FailedAt.{FailedAt}
 use Rattle.raid_recon.specs.Turns.{TellsMore, call_if}
-use Rattle.raid_recon.specs.Ahead.{AreHands, byte_in, is_at_hand, rows_at, rows_from, seat_rows, window_at}
+use Rattle.raid_recon.specs.Ahead.{AreHands, byte_in, is_at_hand, rows_at, seat_rows, window_at}
 use Rattle.raid_recon.specs.Units.{IsAhead, IsReadInto, LoadsUnit, call_from}
 use Rattle.raid_recon.proofs.AtHand.{ahead-same, ahead-later, hit-rows, hit-reads, miss-reads, miss-agrees, miss-holds, rows_at-same, rows_at-other, put-outside, put-inside}
 use Rattle.raid_recon.proofs.Backs.{back-refl}
 use Rattle.raid_recon.proofs.Bytes.{byte-seat}
 use Rattle.raid_recon.proofs.Calls.{tells_more-nil}
+use Rattle.raid_recon.proofs.Words.{rows_from}
 
 abbrev nothing : ℕ → ℕ → Type 0
 nothing d n = ⊥

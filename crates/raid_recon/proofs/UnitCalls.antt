@@ -22,13 +22,14 @@ use Rattle.raid_recon.specs.declared.kind.Sweep.TheVariants.{Check, Sync, Init}
 use Rattle.eng_cols.specs.Stripes.{states_of}
 use Rattle.raid_recon.specs.Array.{IsArray}
 use Rattle.raid_recon.specs.Turns.{Turn, Left, Unread, Sound, Unsound, Written, Unwritten, TellsMore, call_if, call_at, seat_calls, units_read, dead_at, columns_after, IsTurn}
-use Rattle.raid_recon.specs.Ahead.{ahead_call, ahead_in, is_at_hand, read_rows, reads_ahead, rows_from, rows_in, seat_reads, turn_ahead}
+use Rattle.raid_recon.specs.Ahead.{ahead_in, is_at_hand, read_rows, reads_ahead, rows_in, seat_reads, turn_ahead}
 use Rattle.raid_recon.specs.Log.{columns_in, AreTurns}
 use Rattle.raid_recon.specs.Swept.{IsSwept}
 use Rattle.raid_recon.specs.Ends.{AreGoodButLast, IsRowsCall, CallsRows}
 use Rattle.raid_recon.proofs.Places.{states-killed}
 use Rattle.raid_recon.proofs.Frames.{last-unit}
 use Rattle.raid_recon.proofs.Backs.{Back, back-in, back-turn, seat-unspread}
+use Rattle.raid_recon.proofs.Words.{ahead_call, rows_from}
 
 Goods : List Call → Type 0
 Goods [] = Unit {0}

@@ -66,29 +66,22 @@ Holds y most contents cols s rows bytes = (t i : ℕ) (at : Spot) → s ≤ t �
 
 -- ## The calls
 
--- how many rows a call reads that begins with this one: so many, as far as there are
-abbrev pub rows_from : Shape → ℕ → ℕ → ℕ
-rows_from y most row = min most (y.rows - row)
-
 -- the rows of a device behind the read of a unit that stands on it: what was at hand stays where the unit was at hand; else the rows are those that were read, and none where that failed
 abbrev pub rows_read : Shape → ℕ → ℕ → Bool → Rows → Rows
 rows_read y most row good rows =
     if is_at_hand rows row then rows
-    else record { first = row; end = row + (if good then rows_from y most row else 0) }
+    else record { first = row; end = row + (if good then min most (y.rows - row) else 0) }
 
 -- the same of device d, whatever is read
 abbrev pub seat_rows : Shape → ℕ → Option Spot → Bool → ℕ → Rows → Rows
 seat_rows y most None good d rows = rows
 seat_rows y most (Some at) good d rows = if d == at.device then rows_read y most at.row good rows else rows
 
--- the call by which a unit is read that isn't at hand, with the rows behind it
-abbrev pub ahead_call : Shape → ℕ → Spot → Bool → Call
-ahead_call y most at good = record { kind = 0; first = 64 + at.row * y.unit_sectors; count = rows_from y most at.row * y.unit_sectors; good = good }
-
 -- the calls of device d as a unit is read: none where it is at hand
 abbrev pub seat_reads : Shape → ℕ → Option Spot → Bool → ℕ → Rows → List Call
 seat_reads y most None good d rows = []
-seat_reads y most (Some at) good d rows = call_if ((d == at.device) && not (is_at_hand rows at.row)) (ahead_call y most at good)
+seat_reads y most (Some at) good d rows = call_if ((d == at.device) && not (is_at_hand rows at.row))
+    (record { kind = 0; first = 64 + at.row * y.unit_sectors; count = min most (y.rows - at.row) * y.unit_sectors; good = good })
 
 -- the rows of device d behind the reads of the stripe's first n units, and its calls in them
 abbrev pub read_rows : Shape → ℕ → List ColumnState → ℕ → ℕ → ℕ → Rows → Rows
@@ -118,7 +111,7 @@ turn_ahead kind y most cols s Unwritten d rows = reads_ahead y most cols s (unit
 
 -- the rows of device d behind these turns, the newest first, and its calls in them
 abbrev pub rows_in : Sweep → Shape → ℕ → List Column → List Turn → ℕ → Rows
-rows_in kind y most columns [] d = no_rows
+rows_in kind y most columns [] d = record { first = 0; end = 0 }
 rows_in kind y most columns (t ∷ ts) d = turn_rows kind y most (states_of y (columns_in y columns ts)) (length ts) t d (rows_in kind y most columns ts d)
 
 abbrev pub ahead_in : Sweep → Shape → ℕ → List Column → List Turn → ℕ → List Call

@@ -11,10 +11,11 @@ use Rattle.eng_cols.specs.Seats.{is_available, seat}
 use Rattle.eng_cols.specs.Contents.{byte_of}
 use Rattle.raid_recon.specs.declared.kind.Sweep.{Sweep}
 use Rattle.raid_recon.specs.declared.kind.Sweep.TheVariants.{Check, Sync, Init}
-use Rattle.eng_cols.specs.Stripes.{states_of, count_below}
+use Rattle.eng_cols.specs.Stripes.{states_of}
 use Rattle.raid_recon.specs.Array.{IsComplete, IsCheckSector}
 use Rattle.raid_recon.specs.Sums.{IsNotZero, HoldsSum}
 use Rattle.raid_recon.specs.Turns.{Rewrites, call_at}
+use Rattle.lay_core.specs.Touched.{count_below}
 
 -- a stripe that lacks no unit is to be counted: at an initialisation any, else one whose sum isn't zero
 abbrev pub IsToCount : Sweep → Type 0 → Type 0

@@ -1,7 +1,8 @@
 //! How many stripes a column is rebuilt in.
 ghost use Rattle.std.specs.Prelude.{◌≡◌, ◌<◌, ◌↔◌, ℕ, length, IsTrue};
 ghost use Rattle.eng_cols.specs.Seats.{IsStripeOf};
-ghost use Rattle.eng_cols.specs.Stripes.{count_below, is_stripe_of, states_of};
+ghost use Rattle.eng_cols.specs.Stripes.{is_stripe_of, states_of};
+ghost use Rattle.lay_core.specs.Touched.{count_below};
 
 use eng_cols::{Column, is_stripe_of};
 use lay_core::Layout;

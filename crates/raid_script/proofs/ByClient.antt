@@ -10,7 +10,7 @@ use Rattle.std.proofs.lemmas.List.Sums.{sum_by-cons}
 use Rattle.raid_text.specs.Text.{Numbered}
 use Rattle.graph_text.specs.Format.{Named}
 use Rattle.raid_script.specs.declared.join.Join.{Join}
-use Rattle.raid_script.specs.Asked.{AreFew, Asked, Writes, WritesAll, Reads, Syncs, Fails, Other, IsAsked, IsJoinOf, IsScript, Request, asked_by, by_client, by_first, joined_in, joins_of, read_sectors, scripted}
+use Rattle.raid_script.specs.Asked.{AreFew, Asked, Writes, WritesAll, Reads, Syncs, Fails, Other, IsAsked, IsJoinOf, IsScript, Request, asked_by, by_first, joined_in, joins_of, read_sectors, scripted}
 use Rattle.raid_script.specs.Form.{AreLinesOf, AreRequests, IsJoin, IsSaid}
 
 -- ---- all clients
@@ -195,11 +195,11 @@ ones : (qs : List Request) → sum_by (λ (_ : Request). 1) qs ≡ length qs
 ones [] = refl
 ones (q ∷ qs) = let total = sum_by-cons (λ (_ : Request). 1) q qs in omega (arith, total, ones qs)
 
-sixteen : (qs : List Request) → length (by_client qs) ≡ 16
+sixteen : (qs : List Request) → length (by_first 16 qs) ≡ 16
 unfolding by_first
 sixteen qs = length-map-range_with_len (asked_by qs) 0 16
 
-pub clients_few : (qs : List Request) → AreRequests qs → AreFew (by_client qs)
+pub clients_few : (qs : List Request) → AreRequests qs → AreFew (by_first 16 qs)
 clients_few qs are =
     let items = firsts_most (λ items. length items) (λ _. 1) (record { none = refl; more = λ a others. omega arith }) 16 qs in
     let sectors = firsts_most (λ items. sum_by read_sectors items) read_sectors (record { none = refl; more = λ a others. sum_by-cons read_sectors a others }) 16 qs in

@@ -4,7 +4,8 @@ use Rattle.std.specs.List.{range_with_len}
 use Rattle.std.proofs.lemmas.List.FromFn.{map-range_with_len_more}
 use Rattle.rand_pcg.specs.Lcg.{Lcg, next_state, state_after}
 use Rattle.rand_pcg.specs.Pcg.{multiplier_64, pcg32}
-use Rattle.raid_script.specs.Drawn.{after, drawn, first_word, item_at, item_by, item_from, row_from, rows_from, seeded, share, taken, word_at, word_of}
+use Rattle.raid_script.specs.Drawn.{drawn, item_at, share, word_at}
+use Rattle.raid_script.specs.DrawnParts.{after, first_word, item_by, item_from, row_from, rows_from, seeded, taken, word_of}
 
 steps_more : (w m p n k s : ℕ) → state_after w m p k (state_after w m p n s) ≡ state_after w m p (n + k) s
 unfolding state_after
@@ -65,13 +66,18 @@ same_map f h same a (suc n) = rw (same a, same_map f h same (a + 1) n) refl
 word_is : (g : Lcg) (m i k n : ℕ) → m + (3 * i + k) ≡ n → word_of n g ≡ word_of k (after (3 * i) (after m g))
 word_is g m i k n is = ap (λ (w : ℕ). word_of w g) (sym is) ∙ sym (ap first_word (after_more (3 * i) k (after m g) ∙ after_more m (3 * i + k) g))
 
+-- an item by its words
+at_words : (seed client wide n : ℕ) → item_at seed client wide n ≡ item_by client wide (word_of n (seeded seed)) (word_of (n + 1) (seeded seed)) (word_of (n + 2) (seeded seed))
+unfolding item_at item_by word_at first_word after seeded
+at_words seed client wide n = refl
+
 item_is : (seed client wide ops i : ℕ) → item_at seed client wide (3 * (client * ops + i)) ≡ item_from client wide (after (3 * i) (after (3 * (client * ops)) (seeded seed)))
-unfolding item_at item_from word_at
+unfolding item_from
 item_is seed client wide ops i =
     let g = seeded seed in
     let n = 3 * (client * ops + i) in
     let m = 3 * (client * ops) in
-    rw (word_is g m i 0 n (omega arith), word_is g m i 1 (n + 1) (omega arith), word_is g m i 2 (n + 2) (omega arith)) refl
+    at_words seed client wide n ∙ rw (word_is g m i 0 n (omega arith), word_is g m i 1 (n + 1) (omega arith), word_is g m i 2 (n + 2) (omega arith)) refl
 
 row_is : (seed client wide ops : ℕ) → map (λ i. item_at seed client wide (3 * (client * ops + i))) (range_with_len 0 ops) ≡ row_from client wide ops (after (3 * (client * ops)) (seeded seed))
 unfolding row_from

@@ -1,8 +1,9 @@
 -- Lines that are read one after another, as a loop does.
 use Rattle.std.proofs.Common.{◌≡◌, ◌∙◌, ℕ, ◌+◌, List, [], ◌∷◌, ◌++◌, Result, Ok, Err, length, refl, sym, ap, append_assoc, append-nil}
 use Rattle.raid_text.specs.Text.{Numbered}
-use Rattle.graph_text.specs.FormatSteps.{◌>>=◌}
-use Rattle.graph_text.specs.Format.{At, Named}
+use Rattle.text_steps.specs.Steps.{◌>>=◌}
+use Rattle.graph_text.specs.Format.{Named}
+use Rattle.text_steps.specs.declared.at.At.{At}
 use Rattle.raid_script.specs.Asked.{Request, joined_in, read_sectors}
 use Rattle.raid_script.specs.Format.{next_of, requests_behind}
 

@@ -2,7 +2,7 @@
 use Rattle.std.proofs.Common.{◌≡◌, ℕ, zero, suc, ◌≤◌, List, [], ◌∷◌, Ok, length, subst, arith, All}
 use Rattle.std.proofs.lemmas.List.Elements.{All-cons, All-nil}
 use Rattle.raid_text.specs.Text.{Text}
-use Rattle.graph_text.specs.FormatSteps.{at_end}
+use Rattle.text_steps.specs.Steps.{at_end}
 use Rattle.graph_text.specs.Format.{Named}
 use Rattle.graph_text.proofs.CanonicalSteps.{bind_ok, ok_pair, ok_same}
 use Rattle.raid_script.specs.Asked.{AskedPatch, IsPatch}

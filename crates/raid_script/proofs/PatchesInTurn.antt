@@ -1,7 +1,7 @@
 -- The patches of a line that are read one after another, as a loop does.
 use Rattle.std.proofs.Common.{◌≡◌, ◌∙◌, ℕ, zero, suc, ◌+◌, ◌-◌, ◌<◌, List, [], ◌∷◌, ◌++◌, Result, Ok, Err, refl, sym, ap, arith, append_assoc, append-nil}
 use Rattle.raid_text.specs.Text.{Text}
-use Rattle.graph_text.specs.FormatSteps.{◌>>=◌, at_end}
+use Rattle.text_steps.specs.Steps.{◌>>=◌, at_end}
 use Rattle.raid_script.specs.Answers.{behind}
 use Rattle.raid_script.specs.Asked.{AskedPatch}
 use Rattle.raid_script.specs.Format.{next_patch, patches_of}

@@ -2,10 +2,11 @@
 use Rattle.std.proofs.Common.{◌≡◌, ℕ, zero, suc, ◌≤◌, List, [], ◌∷◌, Ok, length, refl, arith, All}
 use Rattle.std.proofs.lemmas.List.Elements.{All-head, All-tail}
 use Rattle.raid_text.specs.Text.{Text}
-use Rattle.graph_text.specs.FormatSteps.{at_end}
+use Rattle.text_steps.specs.Steps.{at_end}
 use Rattle.graph_text.specs.Format.{Named}
 use Rattle.raid_script.specs.Asked.{AskedPatch, ArePatches, IsPatch}
-use Rattle.raid_script.specs.Format.{all_patches_of, next_patch, patches_of, writes_of}
+use Rattle.raid_script.specs.Format.{all_patches_of, next_patch, patches_of}
+use Rattle.raid_script.specs.Steps.{writes_of}
 use Rattle.raid_script.specs.Asked.{WritesAll}
 use Rattle.raid_script.specs.Form.{Place, Number, Digits, FillsAll, patch_places}
 use Rattle.raid_script.proofs.PlacesRead.{pattern_read, span_read}

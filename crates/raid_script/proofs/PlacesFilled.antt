@@ -1,6 +1,6 @@
 -- One step of reading a line that gives a value, and which places its words fill.
 use Rattle.std.proofs.Common.{◌≡◌, ◌∙◌, ℕ, ◌<◌, ◌^◌, true, List, [], ◌∷◌, ◌++◌, Option, Some, None, Result, Ok, ap, length, arith}
-use Rattle.std.specs.Prelude.{not, nat_eq, nat_lt}
+use Rattle.std.specs.Prelude.{not, nat_eq, nat_lt, ok_or}
 use Rattle.std.specs.Str.{bytes_eq}
 use Rattle.std.proofs.lemmas.Bool.{ltb-true}
 use Rattle.std.proofs.lemmas.Bool.Decides.{nat_tests}
@@ -8,13 +8,14 @@ use Rattle.std.proofs.lemmas.List.Quantifiers.{position-Some}
 use Rattle.graph_mean.specs.Graph.{blank}
 use Rattle.raid_text.specs.Text.{Text}
 use Rattle.raid_text.specs.Pattern.{pattern_of}
-use Rattle.graph_text.specs.FormatSteps.{at_end, next_number, next_word, number_in, only_if, or_code}
+use Rattle.text_steps.specs.Steps.{at_end, next_number, next_word, number_in, only_if}
 use Rattle.graph_text.specs.Format.{Named}
 use Rattle.graph_text.proofs.CanonicalSteps.{bind_ok, number_is, number_small, ok_pair, ok_same, only_ok, words_are}
-use Rattle.raid_script.specs.Format.{graph_of, next_client, next_column, next_graph, next_pattern, next_span}
+use Rattle.raid_script.specs.Format.{next_client, next_column, next_graph, next_pattern, next_span}
+use Rattle.raid_script.specs.Steps.{graph_of}
 use Rattle.raid_script.specs.Form.{Place, Number, Digits, FillsAll}
 
-pub or_ok : {A : Type 0} (o : Option A) (code : ℕ) (x : A) → or_code o code ≡ Ok x → o ≡ Some x
+pub or_ok : {A : Type 0} (o : Option A) (code : ℕ) (x : A) → ok_or o code ≡ Ok x → o ≡ Some x
 or_ok None code x h = absurd (cc)
 or_ok (Some y) code x h = ap (λ z. Some z) (ok_same y x h)
 
@@ -99,7 +100,7 @@ pub pattern_fills : (book : List Named) (words : List Text) (bytes : List ℕ) (
 unfolding next_pattern
 pattern_fills book words bytes behind h places fills =
     let w = bind_ok (next_word words) _ (bytes, behind) h in
-    let b = bind_ok (or_code (pattern_of w.0.0) 4) _ (bytes, behind) w.2 in
+    let b = bind_ok (ok_or (pattern_of w.0.0) 4) _ (bytes, behind) w.2 in
     let both = ok_pair b.0 bytes w.0.1 behind b.2 in
     let is : pattern_of w.0.0 ≡ Some bytes = or_ok (pattern_of w.0.0) 4 b.0 b.1 ∙ ap (λ (x : List ℕ). Some x) both.0 in
     rw (words_are words w.0.0 w.0.1 w.1) (is, rw both.1 fills)
@@ -117,10 +118,10 @@ unfolding graph_of
 graph_within book name graph h = (position-Some (λ g. bytes_eq g.name name) book graph (record { name = []; graph = blank }) h).0
 
 pub graph_fills : (book : List Named) (words : List Text) (graph : ℕ) (behind : List Text) → next_graph book words ≡ Ok (graph, behind) → GraphRead book words graph behind
-unfolding next_graph
+unfolding next_graph graph_of
 graph_fills book words graph behind h =
     let w = bind_ok (next_word words) _ (graph, behind) h in
-    let g = bind_ok (or_code (graph_of book w.0.0) 6) _ (graph, behind) w.2 in
+    let g = bind_ok (ok_or (graph_of book w.0.0) 6) _ (graph, behind) w.2 in
     let both = ok_pair g.0 graph w.0.1 behind g.2 in
     let is : graph_of book w.0.0 ≡ Some graph = or_ok (graph_of book w.0.0) 6 g.0 g.1 ∙ ap (λ (x : ℕ). Some x) both.0 in
     record {

@@ -3,10 +3,11 @@ use Rattle.std.proofs.Common.{◌≡◌, ℕ, ◌<◌, true, List, [], ◌∷◌
 use Rattle.std.specs.Prelude.{not, nat_eq, nat_lt}
 use Rattle.std.proofs.lemmas.Bool.Decides.{nat_tests}
 use Rattle.raid_text.specs.Text.{Text}
-use Rattle.graph_text.specs.FormatSteps.{at_end, next_number, next_word}
+use Rattle.text_steps.specs.Steps.{at_end, next_number, next_word}
 use Rattle.graph_text.specs.Format.{Named}
 use Rattle.graph_text.proofs.CanonicalSteps.{is_number}
 use Rattle.raid_script.specs.Format.{next_client, next_column, next_graph, next_pattern, next_span}
+use Rattle.raid_script.specs.Steps.{graph_of}
 use Rattle.raid_script.specs.Form.{Place, Number, Digits, Graph, Fills, FillsAll}
 
 pub word_read : (book : List Named) (place : Place) (places : List Place) (words : List Text) → FillsAll book (place ∷ places) words
@@ -56,6 +57,6 @@ pattern_read book bytes places [] fills = absurd fills
 pattern_read book bytes places (w ∷ ws) (fill, fills) = (ws, rw fill refl, fills)
 
 pub graph_read : (book : List Named) (graph : ℕ) (places : List Place) (words : List Text) → FillsAll book (Graph graph ∷ places) words → (behind : List Text) × (next_graph book words ≡ Ok (graph, behind)) × FillsAll book places behind
-unfolding next_graph next_word
+unfolding next_graph graph_of next_word
 graph_read book graph places [] fills = absurd fills
 graph_read book graph places (w ∷ ws) (fill, fills) = (ws, rw fill refl, fills)

@@ -5,7 +5,8 @@ use Rattle.std.proofs.lemmas.List.Sums.{sum_by-cons}
 use Rattle.std.specs.List.{range_with_len}
 use Rattle.raid_bay.specs.Sink.{Puts}
 use Rattle.raid_bay.specs.SinkLaws.{puts_then, puts_cut}
-use Rattle.raid_script.specs.Blocks.{block_line, run_lines, blocks_text}
+use Rattle.raid_script.specs.Blocks.{run_lines, blocks_text}
+use Rattle.raid_script.specs.Steps.{block_line}
 use Rattle.raid_script.proofs.RunLaws.{first_run}
 
 -- the front of a text was put, and then what is left of it
@@ -21,6 +22,7 @@ pub blocks_more : (first : ℕ) (sectors : List (List ℕ)) (n : ℕ) (d : List 
     → ((k : ℕ) (e : List ℕ) → k < n → get_or sectors k e ≡ get_or sectors 0 e)
     → ((e : List ℕ) → n < length sectors → get_or sectors n e ≢ get_or sectors 0 e)
     → blocks_text first sectors ≡ block_line first n (get_or sectors 0 d) ++ blocks_text (first + n) (drop n sectors)
+unfolding block_line
 blocks_more first sectors n d some within equal maximal = ap (run_lines first) (first_run sectors n d some within equal maximal)
 
 -- the texts of the places from i up to n

@@ -6,7 +6,8 @@ use Rattle.raid_script.specs.declared.fault.ScriptFault.{ScriptFault}
 use Rattle.raid_script.specs.declared.fault.ScriptFault.TheVariants as fault
 use Rattle.raid_script.specs.Answers.{GivesFault}
 use Rattle.raid_script.specs.Asked.{AreFew, IsScript, Request, Scripted, scripted}
-use Rattle.raid_script.specs.Format.{requests_of, script_of}
+use Rattle.raid_script.specs.Format.{script_of}
+use Rattle.raid_script.specs.Steps.{requests_of}
 use Rattle.raid_script.proofs.ByClient.{clients_few, script_asked}
 use Rattle.raid_script.proofs.ScriptForm.{script_of_form}
 

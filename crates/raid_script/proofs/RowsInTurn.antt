@@ -7,10 +7,12 @@ use Rattle.std.proofs.lemmas.List.Elements.{filter-append}
 use Rattle.std.proofs.lemmas.List.FromFn.{fill_by_all, get_or-map-range_with_len, length-map-range_with_len}
 use Rattle.std.proofs.Math.ListN.{length-set}
 use Rattle.raid_text.specs.Text.{Text, Numbered, lines_in}
-use Rattle.graph_text.specs.Format.{At, Named}
+use Rattle.graph_text.specs.Format.{Named}
+use Rattle.text_steps.specs.declared.at.At.{At}
 use Rattle.raid_script.specs.declared.join.Join.{Join}
-use Rattle.raid_script.specs.Asked.{Asked, Request, Scripted, asked_by, by_client, by_first, joined_in, joins_of, read_sectors, scripted, with_asked, with_request}
-use Rattle.raid_script.specs.Format.{next_of, requests_behind, requests_of}
+use Rattle.raid_script.specs.Asked.{Asked, Request, Scripted, asked_by, by_first, joined_in, joins_of, read_sectors, scripted, with_asked, with_request}
+use Rattle.raid_script.specs.Format.{next_of, requests_behind}
+use Rattle.raid_script.specs.Steps.{requests_of}
 use Rattle.raid_script.proofs.LinesInTurn.{with_front, goes_on, ends, is_done}
 
 -- ## One item more
@@ -31,42 +33,42 @@ asked_more front q client =
     one false = refl
 
 -- each client's items, where one item more stands behind those of its client
-each : (front : List Request) (q : Request) (client : ℕ) → client < 16 → get_or (with_asked (by_client front) q.client q.asked) client [] ≡ asked_by (front ++ q ∷ []) client
+each : (front : List Request) (q : Request) (client : ℕ) → client < 16 → get_or (with_asked (by_first 16 front) q.client q.asked) client [] ≡ asked_by (front ++ q ∷ []) client
 unfolding by_first added
 each front q client below = elim (cases_eq client q.client) [ inl same ↦ own same | inr other ↦ others other ]
   where
     row : List Asked
-    row = get_or (by_client front) q.client []
+    row = get_or (by_first 16 front) q.client []
 
-    was : (c : ℕ) → c < 16 → get_or (by_client front) c [] ≡ asked_by front c
+    was : (c : ℕ) → c < 16 → get_or (by_first 16 front) c [] ≡ asked_by front c
     was c l = get_or-map-range_with_len (asked_by front) 0 16 c c [] l (omega arith)
 
-    many : length (by_client front) ≡ 16
+    many : length (by_first 16 front) ≡ 16
     many = length-map-range_with_len (asked_by front) 0 16
 
     more : (c : ℕ) (b : Bool) → nat_eq q.client c ≡ b → asked_by (front ++ q ∷ []) c ≡ asked_by front c ++ cond b (q.asked ∷ []) []
     more c b e = asked_more front q c ∙ ap (λ (t : Bool). asked_by front c ++ cond t (q.asked ∷ []) []) e
 
-    own : client ≡ q.client → get_or (with_asked (by_client front) q.client q.asked) client [] ≡ asked_by (front ++ q ∷ []) client
+    own : client ≡ q.client → get_or (with_asked (by_first 16 front) q.client q.asked) client [] ≡ asked_by (front ++ q ∷ []) client
     own same =
         let less : q.client < 16 = omega (arith, same, below) in
-        let now : get_or (with_asked (by_client front) q.client q.asked) q.client [] ≡ row ++ q.asked ∷ [] = get_or-set_same (by_client front) q.client (row ++ q.asked ∷ []) [] (let n = many in omega (arith, less, n)) in
+        let now : get_or (with_asked (by_first 16 front) q.client q.asked) q.client [] ≡ row ++ q.asked ∷ [] = get_or-set_same (by_first 16 front) q.client (row ++ q.asked ∷ []) [] (let n = many in omega (arith, less, n)) in
         let before : row ++ q.asked ∷ [] ≡ asked_by front q.client ++ q.asked ∷ [] = ap (λ (r : List Asked). r ++ q.asked ∷ []) (was q.client less) in
         let all : asked_by (front ++ q ∷ []) q.client ≡ asked_by front q.client ++ q.asked ∷ [] = more q.client true (eq-eqb q.client q.client refl) in
-        subst (λ (c : ℕ). get_or (with_asked (by_client front) q.client q.asked) c [] ≡ asked_by (front ++ q ∷ []) c) (sym same) (now ∙ (before ∙ sym all))
+        subst (λ (c : ℕ). get_or (with_asked (by_first 16 front) q.client q.asked) c [] ≡ asked_by (front ++ q ∷ []) c) (sym same) (now ∙ (before ∙ sym all))
 
-    others : (client ≡ q.client → ⊥) → get_or (with_asked (by_client front) q.client q.asked) client [] ≡ asked_by (front ++ q ∷ []) client
+    others : (client ≡ q.client → ⊥) → get_or (with_asked (by_first 16 front) q.client q.asked) client [] ≡ asked_by (front ++ q ∷ []) client
     others other =
         let differs : nat_eq q.client client ≡ false = elim (cases_Bool (nat_eq q.client client)) [ inl e ↦ absurd (other (sym (eqb-true q.client client e))) | inr e ↦ e ] in
-        let now : get_or (with_asked (by_client front) q.client q.asked) client [] ≡ get_or (by_client front) client [] = get_or-set_other (by_client front) q.client client (row ++ q.asked ∷ []) [] other in
+        let now : get_or (with_asked (by_first 16 front) q.client q.asked) client [] ≡ get_or (by_first 16 front) client [] = get_or-set_other (by_first 16 front) q.client client (row ++ q.asked ∷ []) [] other in
         let all : asked_by (front ++ q ∷ []) client ≡ asked_by front client ++ [] = more client false differs in
         now ∙ (was client below ∙ sym (all ∙ append-nil (asked_by front client)))
 
-sorted_more : (front : List Request) (q : Request) → with_asked (by_client front) q.client q.asked ≡ by_client (front ++ q ∷ [])
+sorted_more : (front : List Request) (q : Request) → with_asked (by_first 16 front) q.client q.asked ≡ by_first 16 (front ++ q ∷ [])
 unfolding by_first
 sorted_more front q =
-    fill_by_all (asked_by (front ++ q ∷ [])) (with_asked (by_client front) q.client q.asked) 16 []
-    (length-set (by_client front) q.client (get_or (by_client front) q.client [] ++ q.asked ∷ []) ∙ length-map-range_with_len (asked_by front) 0 16)
+    fill_by_all (asked_by (front ++ q ∷ [])) (with_asked (by_first 16 front) q.client q.asked) 16 []
+    (length-set (by_first 16 front) q.client (get_or (by_first 16 front) q.client [] ++ q.asked ∷ []) ∙ length-map-range_with_len (asked_by front) 0 16)
     (λ client below. each front q client below)
 
 -- ## Join lines
@@ -103,7 +105,7 @@ one_read book columns text script n r line lines q h so_far = record {
   front = so_far.front ++ q ∷ [];
   sorted = ap (λ (x : Scripted). with_request x q) so_far.sorted
       ∙ (ap (λ (rows : List (List Asked)). script_with rows (joins_of so_far.front ++ joined_in q.joined)) (sorted_more so_far.front q)
-      ∙ ap (λ (js : List Join). script_with (by_client (so_far.front ++ q ∷ [])) js) (joins_more so_far.front q));
+      ∙ ap (λ (js : List Join). script_with (by_first 16 (so_far.front ++ q ∷ [])) js) (joins_more so_far.front q));
   told = subst (λ (j : ℕ). with_front (so_far.front ++ q ∷ []) (requests_behind book columns (n + 1) (r + read_sectors q.asked) j lines) ≡ requests_of book columns text)
       (sym (length-append script.joins (joined_in q.joined)))
       (goes_on book columns n r (length script.joins) so_far.front line lines q (requests_of book columns text) h so_far.told);

@@ -7,11 +7,12 @@ use Rattle.std.proofs.lemmas.Bool.{and_parts, leb-true, ltb-true}
 use Rattle.std.proofs.lemmas.List.Elements.{All-cons, All-nil}
 use Rattle.std.proofs.lemmas.List.Sums.{sum_by-cons}
 use Rattle.raid_text.specs.Text.{Text, Numbered, is_sound, lines_in, sound_words, words_of}
-use Rattle.graph_text.specs.FormatSteps.{at_end, next_number, next_word, only_if}
-use Rattle.graph_text.specs.Format.{Named, at_line}
+use Rattle.text_steps.specs.Steps.{at_end, next_number, next_word, only_if, at_line}
+use Rattle.graph_text.specs.Format.{Named}
 use Rattle.graph_text.proofs.CanonicalSteps.{bind_ok, bytes_same, ok_same, only_ok, words_are}
 use Rattle.raid_script.specs.Asked.{Asked, Writes, WritesAll, Reads, Syncs, Fails, IsAsked, IsPatch, Request, joined_in, read_sectors, scripted}
-use Rattle.raid_script.specs.Format.{Halves, all_patches_of, are_apart, asked_of, fail_of, halves_of, item_of, join_of, line_of, next_client, next_column, next_graph, next_of, next_patch, next_pattern, next_span, plain_of, read_of, request_of, requests_behind, requests_of, run_of, script_of, sync_of, use_of, write_of, writes_of}
+use Rattle.raid_script.specs.Format.{Halves, all_patches_of, are_apart, halves_of, item_of, join_of, line_of, next_client, next_column, next_graph, next_of, next_patch, next_pattern, next_span, requests_behind, run_of, script_of}
+use Rattle.raid_script.specs.Steps.{asked_of, fail_of, plain_of, read_of, request_of, requests_of, sync_of, use_of, write_of, writes_of}
 use Rattle.raid_script.specs.Form.{Place, Literal, Number, Digits, Graph, AreLinesOf, FillsAll, IsLineOf, IsRequest, IsSaid, asked_places, patch_places, places, said_places, use_places}
 use Rattle.raid_script.specs.Laws.{ScriptIsOfTheForm}
 use Rattle.raid_script.proofs.PatchesApart.{test-apart}
@@ -70,7 +71,7 @@ read_fills book columns graphs graph words asked known h =
     })
 
 run_fills : (book : List Named) (columns graphs : ℕ) (graph : Option ℕ) (kind : Text) (words : List Text) (asked : Asked) → ForSome graph (λ g. g < graphs) → run_of graph kind words ≡ Ok asked → RunRead book columns graphs graph kind words asked
-unfolding run_of
+unfolding run_of write_of writes_of read_of
 run_fills book columns graphs graph kind words asked known h = writes (bytes_eq kind (codes "write")) refl h
   where
     reads : (b : Bool) → bytes_eq kind (codes "read") ≡ b → cond b (read_of graph words) (Err 1) ≡ Ok asked → RunRead book columns graphs graph kind words asked
@@ -118,7 +119,7 @@ use_fills book columns words asked h =
     rw all (run.is, run.fills (codes "use" ∷ named.name ∷ []) (refl, (named.named, tt)))
 
 item_fills : (book : List Named) (columns : ℕ) (kind : Text) (words : List Text) (asked : Asked) → item_of book columns kind words ≡ Ok asked → ItemRead book columns kind words asked
-unfolding item_of
+unfolding item_of sync_of fail_of use_of
 item_fills book columns kind words asked h = syncs (bytes_eq kind (codes "sync")) refl h
   where
     runs : run_of None kind words ≡ Ok asked → ItemRead book columns kind words asked
@@ -241,7 +242,7 @@ request_fills book columns j line words r h =
     ((rw asked.client_is known.0, asked.is), subst (λ (c : ℕ). FillsAll book (Number c ∷ said_places r.asked r.joined) words) (sym asked.client_is) numbered)
 
 line_fills : (book : List Named) (columns j : ℕ) (line : Numbered) (r : Request) → line_of book columns j line ≡ Ok r → IsRequest columns (length book) j line.at r × IsLineOf book (places r) line
-unfolding line_of sound_words
+unfolding line_of request_of asked_of plain_of sound_words
 line_fills book columns j line r h =
     let sound = bind_ok (only_if (is_sound line.body) 1) _ r h in
     let fills = request_fills book columns j line.at (words_of line.body) r sound.2 in

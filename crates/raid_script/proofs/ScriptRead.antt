@@ -7,11 +7,12 @@ use Rattle.std.proofs.lemmas.List.Sums.{sum_by-cons}
 use Rattle.std.specs.Str.{bytes_eq}
 use Rattle.graph_text.proofs.CanonicalSteps.{bytes_same}
 use Rattle.raid_text.specs.Text.{Text, Numbered, is_sound, lines_in, sound_words, words_of}
-use Rattle.graph_text.specs.FormatSteps.{next_word}
+use Rattle.text_steps.specs.Steps.{next_word}
 use Rattle.graph_text.specs.Format.{Named}
 use Rattle.raid_script.specs.declared.join.Join.{Join}
 use Rattle.raid_script.specs.Asked.{Asked, AskedPatch, Writes, WritesAll, Reads, Syncs, Fails, Other, ArePatches, IsAsked, IsPatch, Request, joined_in, read_sectors}
-use Rattle.raid_script.specs.Format.{are_apart, asked_of, fail_of, halves_of, item_of, join_of, line_of, next_graph, next_of, next_patch, plain_of, read_of, request_of, requests_behind, run_of, script_of, sync_of, use_of, write_of}
+use Rattle.raid_script.specs.Format.{are_apart, halves_of, item_of, join_of, line_of, next_graph, next_of, next_patch, requests_behind, run_of, script_of}
+use Rattle.raid_script.specs.Steps.{asked_of, fail_of, plain_of, read_of, request_of, sync_of, use_of, write_of, writes_of}
 use Rattle.raid_script.specs.Form.{Place, Literal, Number, Digits, Graph, AreLinesOf, FillsAll, IsJoin, IsLineOf, IsRequest, IsSaid, asked_places, join_places, patch_places, patches_in, places, said_places}
 use Rattle.raid_script.specs.Laws.{ScriptIsRead}
 use Rattle.raid_script.proofs.PatchesApart.{apart-test}
@@ -48,7 +49,7 @@ abbrev ItemReads : List Named → ℕ → List Text → Asked → Type 0
 ItemReads book columns words asked = (kind : Text) × (behind : List Text) × (words ≡ kind ∷ behind) × (item_of book columns kind behind ≡ Ok asked)
 
 item_read : (book : List Named) (columns graphs : ℕ) (asked : Asked) (words : List Text) → IsAsked columns graphs asked → FillsAll book (asked_places asked) words → ItemReads book columns words asked
-unfolding item_of use_of run_of next_word
+unfolding item_of use_of run_of write_of writes_of read_of sync_of fail_of next_word
 item_read book columns graphs (Writes first count bytes None) words is fills =
     let kind = word_read book (Literal (codes "write")) (Number first ∷ Number count ∷ Digits bytes ∷ []) words fills in
     let named : kind.0 ≡ codes "write" = kind.3 in
@@ -97,7 +98,7 @@ item_read book columns graphs Other words is fills = absurd is
 
 -- such a kind isn't that of a join line
 other_kind : (book : List Named) (columns : ℕ) (kind : Text) (words : List Text) (asked : Asked) → item_of book columns kind words ≡ Ok asked → bytes_eq kind (codes "join") ≡ false
-unfolding item_of run_of
+unfolding item_of run_of write_of writes_of read_of sync_of fail_of use_of
 other_kind book columns kind words asked h = go (bytes_eq kind (codes "join")) refl
   where
     go : (b : Bool) → bytes_eq kind (codes "join") ≡ b → bytes_eq kind (codes "join") ≡ false
@@ -173,7 +174,7 @@ request_read book columns j line r words is fills =
     rw (client.1, asked.split, asked.read) refl
 
 line_read : (book : List Named) (columns j : ℕ) (r : Request) (line : Numbered) → IsRequest columns (length book) j line.at r → IsLineOf book (places r) line → line_of book columns j line ≡ Ok r
-unfolding line_of sound_words
+unfolding line_of request_of asked_of plain_of sound_words
 line_read book columns j r line is form = go (is_sound line.body) refl form.1
   where
     some_same : (p q : List Text) → ◌≡◌ {A = Option (List Text)} (Some p) (Some q) → p ≡ q

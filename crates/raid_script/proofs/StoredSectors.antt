@@ -7,8 +7,9 @@ use Rattle.std.proofs.lemmas.List.Sums.{sum_by-append}
 use Rattle.blk_disk.specs.Disk.{sector_at}
 use Rattle.blk_disk.specs.Sectors.{sector_at-part}
 use Rattle.sector_store.proofs.Putting.{chunk-is}
-use Rattle.raid_script.specs.Blocks.{block_line, blocks_text}
-use Rattle.raid_script.specs.Replies.{bytes_from, sectors_of}
+use Rattle.raid_script.specs.Blocks.{blocks_text}
+use Rattle.raid_script.specs.Steps.{block_line, sectors_of}
+use Rattle.raid_script.specs.Replies.{bytes_from}
 use Rattle.raid_script.specs.Summary.{byte_sum}
 use Rattle.raid_script.proofs.Printed.{blocks_more}
 

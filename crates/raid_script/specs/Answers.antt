@@ -1,7 +1,7 @@
 -- What the reader answers. Want of memory is free.
 use Rattle.std.specs.Prelude.{◌≡◌, ℕ, List, ◌++◌, Result, Ok, Err}
-use Rattle.graph_text.specs.FormatSteps.{◌>>=◌}
-use Rattle.graph_text.specs.Format.{At}
+use Rattle.text_steps.specs.Steps.{◌>>=◌}
+use Rattle.text_steps.specs.declared.at.At.{At}
 use Rattle.raid_script.specs.declared.fault.ScriptFault.{ScriptFault}
 use Rattle.raid_script.specs.declared.fault.ScriptFault.TheVariants as fault
 use Rattle.raid_script.specs.declared.joining.Halves.{Halves}

@@ -83,10 +83,6 @@ asked_by requests client = map (λ r. r.asked) (filter (λ r. nat_eq r.client cl
 unfoldable pub by_first : ℕ → List Request → List (List Asked)
 by_first n requests = map (asked_by requests) (range_with_len 0 n)
 
--- what each of the sixteen clients asks for
-abbrev pub by_client : List Request → List (List Asked)
-by_client requests = by_first 16 requests
-
 -- the join line that there is, if there is one
 abbrev pub joined_in : Option Join → List Join
 joined_in None = []
@@ -99,7 +95,7 @@ joins_of (r ∷ requests) = joined_in r.joined ++ joins_of requests
 
 -- what all clients ask for, and the join lines
 abbrev pub scripted : List Request → Scripted
-scripted requests = record { clients = by_client requests; joins = joins_of requests }
+scripted requests = record { clients = by_first 16 requests; joins = joins_of requests }
 
 -- what each client asks for, with one item more behind those of this client
 abbrev pub with_asked : List (List Asked) → ℕ → Asked → List (List Asked)

@@ -5,15 +5,14 @@ use Rattle.put_line.specs.Line.{line}
 use Rattle.raid_script.specs.Repetition.{shortest}
 use Rattle.raid_script.specs.Runs.{SectorRun, runs}
 
--- block FIRST COUNT HEX
-unfoldable pub block_line : ℕ → ℕ → List ℕ → List ℕ
-block_line first count sector = line
-    (codes "block " ∷ decimal first ∷ codes " " ∷ decimal count ∷ codes " " ∷ encode_lower (shortest sector) ∷ codes "\n" ∷ [])
-
--- the lines of runs, of which the first begins at this block and each other one behind the one before it
+-- the lines of runs, block FIRST COUNT HEX, of which the first begins at this block and each other
+-- one behind the one before it
 abbrev pub run_lines : ℕ → List SectorRun → List ℕ
 run_lines first [] = []
-run_lines first (run ∷ others) = block_line first run.count run.sector ++ run_lines (first + run.count) others
+run_lines first (run ∷ others) =
+    line (codes "block " ∷ decimal first ∷ codes " " ∷ decimal run.count ∷ codes " "
+    ∷ encode_lower (shortest run.sector) ∷ codes "\n" ∷ [])
+    ++ run_lines (first + run.count) others
 
 -- the lines of sectors, the first of which is this block's
 abbrev pub blocks_text : ℕ → List (List ℕ) → List ℕ

@@ -3,13 +3,10 @@ use Rattle.std.specs.Prelude.{ℕ, List, [], ◌∷◌, codes, decimal, flat_map
 use Rattle.blk_plain.specs.declared.op.OpId.{OpId}
 use Rattle.put_line.specs.Line.{line}
 
--- commit C.I
-unfoldable pub commit_line : OpId → List ℕ
-commit_line id = line (codes "commit " ∷ decimal id.client ∷ codes "." ∷ decimal id.index ∷ codes "\n" ∷ [])
-
--- what is printed of an operation: its line, and nothing of client 16, the array's own
+-- what is printed of an operation: commit C.I, and nothing of client 16, the array's own
 abbrev pub commit_text : OpId → List ℕ
-commit_text id = if nat_eq id.client 16 then [] else commit_line id
+commit_text id = if nat_eq id.client 16 then []
+    else line (codes "commit " ∷ decimal id.client ∷ codes "." ∷ decimal id.index ∷ codes "\n" ∷ [])
 
 -- of all, in the history's order
 abbrev pub history_text : List OpId → List ℕ

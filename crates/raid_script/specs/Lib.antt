@@ -11,3 +11,5 @@ pub mod Runs
 pub mod Blocks
 pub mod Replies
 pub mod Summary
+pub mod Steps
+pub mod DrawnParts

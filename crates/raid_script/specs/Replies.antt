@@ -21,65 +21,39 @@ use Rattle.raid_script.specs.Blocks.{blocks_text}
 abbrev pub numbers_text : List ℕ → List ℕ
 numbers_text numbers = flat_map (λ number. codes " " ++ decimal number) numbers
 
--- the name of a cause
-abbrev pub cause_name : Refusal → List ℕ
-cause_name cause.Large = codes "G14"
-cause_name (cause.Index what place) = codes "G1"
-cause_name (cause.Order node) = codes "G2"
-cause_name (cause.Commits count) = codes "G3"
-cause_name (cause.Ends count node) = codes "G4"
-cause_name (cause.Assigned buffer times) = codes "G5"
-cause_name (cause.Unordered node buffer) = codes "G6"
-cause_name (cause.LateRead node) = codes "G7"
-cause_name (cause.EarlyWrite node) = codes "G8"
-cause_name (cause.Missing node) = codes "G9"
-cause_name (cause.Twice first second) = codes "G10"
-cause_name (cause.Mixed what place) = codes "G11"
-cause_name (cause.WrongValue stripe unit offset) = codes "G12"
-cause_name (cause.WrongReturn block) = codes "G13"
+-- of each cause its name and its fields
+abbrev pub cause_of : Refusal → List ℕ × List ℕ
+cause_of cause.Large = (codes "G14", [])
+cause_of (cause.Index what place) = (codes "G1", what ∷ place ∷ [])
+cause_of (cause.Order node) = (codes "G2", node ∷ [])
+cause_of (cause.Commits count) = (codes "G3", count ∷ [])
+cause_of (cause.Ends count node) = (codes "G4", count ∷ node ∷ [])
+cause_of (cause.Assigned buffer times) = (codes "G5", buffer ∷ times ∷ [])
+cause_of (cause.Unordered node buffer) = (codes "G6", node ∷ buffer ∷ [])
+cause_of (cause.LateRead node) = (codes "G7", node ∷ [])
+cause_of (cause.EarlyWrite node) = (codes "G8", node ∷ [])
+cause_of (cause.Missing node) = (codes "G9", node ∷ [])
+cause_of (cause.Twice first second) = (codes "G10", first ∷ second ∷ [])
+cause_of (cause.Mixed what place) = (codes "G11", what ∷ place ∷ [])
+cause_of (cause.WrongValue stripe unit offset) = (codes "G12", stripe ∷ unit ∷ offset ∷ [])
+cause_of (cause.WrongReturn block) = (codes "G13", block ∷ [])
 
--- its fields
-abbrev pub cause_fields : Refusal → List ℕ
-cause_fields cause.Large = []
-cause_fields (cause.Index what place) = what ∷ place ∷ []
-cause_fields (cause.Order node) = node ∷ []
-cause_fields (cause.Commits count) = count ∷ []
-cause_fields (cause.Ends count node) = count ∷ node ∷ []
-cause_fields (cause.Assigned buffer times) = buffer ∷ times ∷ []
-cause_fields (cause.Unordered node buffer) = node ∷ buffer ∷ []
-cause_fields (cause.LateRead node) = node ∷ []
-cause_fields (cause.EarlyWrite node) = node ∷ []
-cause_fields (cause.Missing node) = node ∷ []
-cause_fields (cause.Twice first second) = first ∷ second ∷ []
-cause_fields (cause.Mixed what place) = what ∷ place ∷ []
-cause_fields (cause.WrongValue stripe unit offset) = stripe ∷ unit ∷ offset ∷ []
-cause_fields (cause.WrongReturn block) = block ∷ []
-
--- the words of a reply, and the numbers behind them
-abbrev pub reply_words : Reply → List ℕ
-reply_words reply.Done = codes "done"
-reply_words reply.Data = codes "data"
-reply_words reply.Okay = codes "ok"
-reply_words (reply.Undone device) = codes "undone"
-reply_words reply.Range = codes "refused R1"
-reply_words reply.Long = codes "refused R2"
-reply_words (reply.Refused cause) = codes "refused " ++ cause_name cause
-reply_words reply.Lost = codes "lost"
-
-abbrev pub reply_numbers : Reply → List ℕ
-reply_numbers reply.Done = []
-reply_numbers reply.Data = []
-reply_numbers reply.Okay = []
-reply_numbers (reply.Undone device) = device ∷ []
-reply_numbers reply.Range = []
-reply_numbers reply.Long = []
-reply_numbers (reply.Refused cause) = cause_fields cause
-reply_numbers reply.Lost = []
+-- of each reply its words and its numbers
+abbrev pub reply_of : Reply → List ℕ × List ℕ
+reply_of reply.Done = (codes "done", [])
+reply_of reply.Data = (codes "data", [])
+reply_of reply.Okay = (codes "ok", [])
+reply_of (reply.Undone device) = (codes "undone", device ∷ [])
+reply_of reply.Range = (codes "refused R1", [])
+reply_of reply.Long = (codes "refused R2", [])
+reply_of (reply.Refused cause) = (codes "refused " ++ (cause_of cause).0, (cause_of cause).1)
+reply_of reply.Lost = (codes "lost", [])
 
 -- reply C.I, the words and the numbers
 unfoldable pub reply_line : ℕ → ℕ → Reply → List ℕ
 reply_line client index told =
-    line (codes "reply " ∷ decimal client ∷ codes "." ∷ decimal index ∷ codes " " ∷ reply_words told ∷ numbers_text (reply_numbers told) ∷ codes "\n" ∷ [])
+    line (codes "reply " ∷ decimal client ∷ codes "." ∷ decimal index ∷ codes " "
+    ∷ (reply_of told).0 ∷ numbers_text (reply_of told).1 ∷ codes "\n" ∷ [])
 
 -- ---- which sectors a reply has
 
@@ -120,16 +94,10 @@ abbrev pub item_first : Item → ℕ
 item_first (item.Run op graph) = op_first op
 item_first (item.Fail column) = 0
 
--- ---- the text
-
--- the sectors that bytes are
-abbrev pub sectors_of : List ℕ → List (List ℕ)
-sectors_of bytes = first_chunks 512 (length bytes / 512) bytes
-
 -- the runs of the sectors behind `data`, and nothing behind another reply
 abbrev pub data_text : Reply → ℕ → List ℕ → List ℕ
 data_text reply.Done first bytes = []
-data_text reply.Data first bytes = blocks_text first (sectors_of bytes)
+data_text reply.Data first bytes = blocks_text first (first_chunks 512 (length bytes / 512) bytes)
 data_text reply.Okay first bytes = []
 data_text (reply.Undone device) first bytes = []
 data_text reply.Range first bytes = []

@@ -6,15 +6,13 @@ pub record SectorRun : Type 0 where
   pub sector : List ℕ
   pub count : ℕ
 
--- a run of so many of these
-abbrev pub run_of : List ℕ → ℕ → SectorRun
-run_of sector count = record { sector = sector; count = count }
-
 -- the runs as a sector comes in front of them: it joins the first one where that has its bytes
 abbrev pub joined : List ℕ → List SectorRun → List SectorRun
-joined sector [] = run_of sector 1 ∷ []
+joined sector [] = record { sector = sector; count = 1 } ∷ []
 joined sector (first ∷ others) =
-    if bytes_eq sector first.sector then run_of sector (first.count + 1) ∷ others else run_of sector 1 ∷ first ∷ others
+    if bytes_eq sector first.sector
+    then record { sector = sector; count = first.count + 1 } ∷ others
+    else record { sector = sector; count = 1 } ∷ first ∷ others
 
 -- the maximal runs of equal sectors that follow one another
 abbrev pub runs : List (List ℕ) → List SectorRun

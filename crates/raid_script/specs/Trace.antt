@@ -13,24 +13,16 @@ id_line word id = line (word ∷ codes " " ∷ decimal id.client ∷ codes "." �
 unfoldable pub node_line : List ℕ → OpId → ℕ → List ℕ
 node_line word id node = line (word ∷ codes " " ∷ decimal id.client ∷ codes "." ∷ decimal id.index ∷ codes " " ∷ decimal node ∷ codes "\n" ∷ [])
 
--- a word and a column
-unfoldable pub column_line : List ℕ → ℕ → List ℕ
-column_line word column = line (word ∷ codes " " ∷ decimal column ∷ codes "\n" ∷ [])
-
--- fill COLUMN DEVICE COUNT
-unfoldable pub fill_line : ℕ → ℕ → ℕ → List ℕ
-fill_line column device count = line (codes "fill " ∷ decimal column ∷ codes " " ∷ decimal device ∷ codes " " ∷ decimal count ∷ codes "\n" ∷ [])
-
--- resume COLUMN COUNT
-unfoldable pub resume_line : ℕ → ℕ → List ℕ
-resume_line column count = line (codes "resume " ∷ decimal column ∷ codes " " ∷ decimal count ∷ codes "\n" ∷ [])
-
 -- the line of an event
 abbrev pub event_line : Traced → List ℕ
-event_line (traced.Fill column device count) = fill_line column device count
-event_line (traced.Resume column count) = resume_line column count
-event_line (traced.Spread column) = column_line (codes "spread") column
-event_line (traced.Fail column) = column_line (codes "fail") column
+event_line (traced.Fill column device count) = line
+    (codes "fill " ∷ decimal column ∷ codes " " ∷ decimal device ∷ codes " " ∷ decimal count
+    ∷ codes "\n" ∷ [])
+event_line (traced.Resume column count) = line
+    (codes "resume " ∷ decimal column ∷ codes " " ∷ decimal count ∷ codes "\n" ∷ [])
+event_line (traced.Spread column) =
+    line (codes "spread" ∷ codes " " ∷ decimal column ∷ codes "\n" ∷ [])
+event_line (traced.Fail column) = line (codes "fail" ∷ codes " " ∷ decimal column ∷ codes "\n" ∷ [])
 event_line (traced.Begin id) = id_line (codes "begin") id
 event_line (traced.Take id) = id_line (codes "take") id
 event_line (traced.Fire id node) = node_line (codes "fire") id node

@@ -1,6 +1,6 @@
 //! The words of a reply.
 ghost use Rattle.std.specs.Prelude.{◌≡◌, ◌≤◌, ◌+◌, ◌*◌, ◌++◌, length};
-ghost use Rattle.raid_script.specs.Replies.{numbers_text, cause_name, cause_fields, reply_words, reply_numbers, reply_line};
+ghost use Rattle.raid_script.specs.Replies.{numbers_text, cause_of, reply_of, reply_line};
 
 use eng_world::Reply;
 use graph_mean::Refusal;
@@ -20,7 +20,7 @@ fn push_numbers(line: &mut Line, numbers: &[u32])
 }
 
 fn name_of(cause: Refusal) -> &'static [u8]
-    ensures value { result.now ≡ cause_name cause }
+    ensures value { result.now ≡ (cause_of cause).0 }
     ensures short { length result.now ≤ 3 }
 {
     match cause {
@@ -44,7 +44,7 @@ fn name_of(cause: Refusal) -> &'static [u8]
 // Adds the fields of a cause, with a space before each.
 fn push_fields(line: &mut Line, cause: Refusal)
     requires { length line.old ≤ 100 }
-    ensures value { line.new ≡ line.old ++ numbers_text (cause_fields cause) }
+    ensures value { line.new ≡ line.old ++ numbers_text (cause_of cause).1 }
     ensures short { length line.new ≤ length line.old + 123 }
 {
     match cause {
@@ -72,7 +72,7 @@ fn push_fields(line: &mut Line, cause: Refusal)
 // Adds the words of a reply, without its numbers.
 fn push_words(line: &mut Line, reply: Reply)
     requires { length line.old ≤ 88 }
-    ensures value { line.new ≡ line.old ++ reply_words reply }
+    ensures value { line.new ≡ line.old ++ (reply_of reply).0 }
     ensures short { length line.new ≤ length line.old + 12 }
 {
     match reply {
@@ -93,7 +93,7 @@ fn push_words(line: &mut Line, reply: Reply)
 // Adds the numbers of a reply, with a space before each.
 fn push_told(line: &mut Line, reply: Reply)
     requires { length line.old ≤ 100 }
-    ensures value { line.new ≡ line.old ++ numbers_text (reply_numbers reply) }
+    ensures value { line.new ≡ line.old ++ numbers_text (reply_of reply).1 }
     ensures short { length line.new ≤ length line.old + 123 }
 {
     match reply {

@@ -2,7 +2,8 @@
 ghost use Rattle.std.specs.Prelude.{◌≡◌, ◌+◌, ◌*◌, ◌<◌, ◌≤◌, ◌^◌, ◌∷◌, [], map, IfOk};
 ghost use Rattle.raid_text.specs.Pattern.{pattern_bytes};
 ghost use Rattle.raid_script.specs.Asked.{AreFew, seen};
-ghost use Rattle.raid_script.specs.Drawn.{AreApart, after, drawn, item_by, item_from, row_from, seeded, share, taken, word_of};
+ghost use Rattle.raid_script.specs.Drawn.{AreApart, drawn, share};
+ghost use Rattle.raid_script.specs.DrawnParts.{after, item_by, item_from, row_from, seeded, taken, word_of};
 
 use crate::memory::Memory;
 use crate::script::Script;
@@ -17,14 +18,14 @@ use std::alloc::{AllocError, Global};
 /// The most blocks of an item.
 const LONGEST: u64 = 8;
 
-#[tactic(auto, unfolding(crate::specs::Drawn::seeded))]
+#[tactic(auto, unfolding(crate::specs::DrawnParts::seeded))]
 pub(crate) fn words_of(seed: u64) -> Lcg64Xsh32
     ensures { result ≡ seeded seed }
 {
     Lcg64Xsh32::seed_from_u64(seed)
 }
 
-#[tactic(auto, unfolding(crate::specs::Drawn::after, crate::specs::Drawn::first_word))]
+#[tactic(auto, unfolding(crate::specs::DrawnParts::after, crate::specs::DrawnParts::first_word))]
 pub(crate) fn next(words: &mut Lcg64Xsh32) -> u32
     ensures value { result ≡ word_of 0 words.old }
     ensures rest { words.new ≡ after 1 words.old }
@@ -41,7 +42,7 @@ fn one_byte(byte: u8) -> Pattern
 }
 
 // The item that three words make, in a client's share of so many blocks.
-#[tactic(auto, unfolding(crate::specs::Drawn::item_by))]
+#[tactic(auto, unfolding(crate::specs::DrawnParts::item_by))]
 fn item_by(client: u32, wide: u64, a: u32, p: u32, q: u32) -> Item
     requires some { 0 < wide }
     requires fits { (client + 1) * wide < 2 ^ 64 }
@@ -65,7 +66,7 @@ fn item_by(client: u32, wide: u64, a: u32, p: u32, q: u32) -> Item
 }
 
 // The item that the next three words make.
-#[tactic(auto, unfolding(crate::specs::Drawn::item_from))]
+#[tactic(auto, unfolding(crate::specs::DrawnParts::item_from))]
 fn item_from(client: u32, wide: u64, words: &mut Lcg64Xsh32) -> Item
     requires some { 0 < wide }
     requires fits { (client + 1) * wide < 2 ^ 64 }

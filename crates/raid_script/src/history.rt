@@ -2,7 +2,8 @@
 ghost use Rattle.std.specs.Prelude.{◌≡◌, ◌≤◌, is_ok, OnErr};
 ghost use Rattle.blk_disk.specs.Disk.{Rose};
 ghost use Rattle.raid_bay.specs.Sink.{Puts};
-ghost use Rattle.raid_script.specs.History.{commit_line, commit_text, history_text};
+ghost use Rattle.raid_script.specs.History.{commit_text, history_text};
+ghost use Rattle.raid_script.specs.Steps.{commit_line};
 
 use blk_disk::Failed;
 use blk_plain::{OpId, limits};
@@ -12,7 +13,7 @@ use raid_bay::Sink;
 /// The client whose operations are the array's own.
 const OWN: u32 = limits::CLIENTS;
 
-#[tactic(auto, unfolding(crate::specs::History::commit_line))]
+#[tactic(auto, unfolding(crate::specs::Steps::commit_line))]
 fn set_commit(line: &mut Line, id: OpId)
     ensures { line.new ≡ commit_line id }
 {
@@ -25,6 +26,7 @@ fn set_commit(line: &mut Line, id: OpId)
 }
 
 // Prints what there is of an operation.
+#[tactic(auto, unfolding(crate::specs::Steps::commit_line))]
 fn put_commit<K: Sink>(id: OpId, line: &mut Line, out: &mut K) -> Result<(), Failed>
     ensures output { K.tells
         → Puts (is_ok result) (K.output out.old) (commit_text id) (K.output out.new) }

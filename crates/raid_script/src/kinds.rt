@@ -3,7 +3,8 @@ ghost use Rattle.raid_text.specs.Seen.{words_left};
 ghost use Rattle.graph_text.specs.Answers.{Gives};
 ghost use Rattle.blk_plain.specs.declared.op.Patches.{Patches};
 ghost use Rattle.raid_script.specs.Asked.{seen_said};
-ghost use Rattle.raid_script.specs.Format.{fail_of, item_of, read_of, run_of, sync_of, use_of, write_of, writes_of};
+ghost use Rattle.raid_script.specs.Format.{item_of, run_of};
+ghost use Rattle.raid_script.specs.Steps.{fail_of, read_of, sync_of, use_of, write_of, writes_of};
 
 use crate::codes::{SHARED, WORD};
 use crate::entry::Said;
@@ -16,7 +17,7 @@ use graph_text::Book;
 use raid_text::Words;
 
 // FIRST COUNT PATTERN.
-#[tactic(auto, unfolding(crate::specs::Format::write_of))]
+#[tactic(auto, unfolding(crate::specs::Steps::write_of))]
 fn write_in(graph: Option<u32>, words: &mut Words) -> Result<Said, u8>
     ensures { (p : Patches) → Gives (seen_said p) result (write_of graph (words_left words.old)) }
 {
@@ -31,7 +32,7 @@ fn write_in(graph: Option<u32>, words: &mut Words) -> Result<Said, u8>
 }
 
 // FIRST COUNT PATTERN, one to eight times, put into the room.
-#[tactic(auto, unfolding(crate::specs::Format::writes_of))]
+#[tactic(auto, unfolding(crate::specs::Steps::writes_of))]
 fn writes_in(graph: Option<u32>, words: &mut Words, room: &mut Patches) -> Result<Said, u8>
     ensures { Gives (seen_said room.new) result (writes_of graph (words_left words.old)) }
 {
@@ -44,7 +45,7 @@ fn writes_in(graph: Option<u32>, words: &mut Words, room: &mut Patches) -> Resul
 }
 
 // FIRST COUNT.
-#[tactic(auto, unfolding(crate::specs::Format::read_of))]
+#[tactic(auto, unfolding(crate::specs::Steps::read_of))]
 fn read_in(graph: Option<u32>, words: &mut Words) -> Result<Said, u8>
     ensures { (p : Patches) → Gives (seen_said p) result (read_of graph (words_left words.old)) }
 {
@@ -54,7 +55,7 @@ fn read_in(graph: Option<u32>, words: &mut Words) -> Result<Said, u8>
 }
 
 // STRIPE.
-#[tactic(auto, unfolding(crate::specs::Format::sync_of))]
+#[tactic(auto, unfolding(crate::specs::Steps::sync_of))]
 fn sync_in(words: &mut Words) -> Result<Said, u8>
     ensures { (p : Patches) → Gives (seen_said p) result (sync_of (words_left words.old)) }
 {
@@ -64,7 +65,7 @@ fn sync_in(words: &mut Words) -> Result<Said, u8>
 }
 
 // COLUMN.
-#[tactic(auto, unfolding(crate::specs::Format::fail_of))]
+#[tactic(auto, unfolding(crate::specs::Steps::fail_of))]
 fn fail_in(columns: u32, words: &mut Words) -> Result<Said, u8>
     ensures { (p : Patches) → Gives (seen_said p) result (fail_of columns (words_left words.old)) }
 {
@@ -74,7 +75,7 @@ fn fail_in(columns: u32, words: &mut Words) -> Result<Said, u8>
 }
 
 // What stands behind `write`, `writes` or `read`.
-#[tactic(auto, unfolding(crate::specs::Format::run_of))]
+#[tactic(auto, unfolding(crate::specs::Format::run_of, crate::specs::Steps::write_of, crate::specs::Steps::writes_of, crate::specs::Steps::read_of))]
 fn run_in(
     graph: Option<u32>,
     kind: &[u8],
@@ -95,7 +96,7 @@ fn run_in(
 }
 
 // NAME, and a write or a read behind it.
-#[tactic(auto, unfolding(crate::specs::Format::use_of))]
+#[tactic(auto, unfolding(crate::specs::Steps::use_of))]
 fn use_in(book: &Book, words: &mut Words, room: &mut Patches) -> Result<Said, u8>
     ensures { Gives (seen_said room.new) result (use_of book.now (words_left words.old)) }
 {
@@ -105,7 +106,7 @@ fn use_in(book: &Book, words: &mut Words, room: &mut Patches) -> Result<Said, u8
 }
 
 /// What stands behind the word that says what kind of item it is.
-#[tactic(auto, unfolding(crate::specs::Format::item_of))]
+#[tactic(auto, unfolding(crate::specs::Format::item_of, crate::specs::Steps::sync_of, crate::specs::Steps::fail_of, crate::specs::Steps::use_of))]
 pub fn item_in(
     book: &Book,
     columns: u32,

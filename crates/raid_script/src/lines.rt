@@ -4,7 +4,8 @@ ghost use Rattle.raid_text.specs.Seen.{seen as seen_line, words_left};
 ghost use Rattle.blk_plain.specs.declared.op.Patches.{Patches};
 ghost use Rattle.graph_text.specs.Answers.{Gives};
 ghost use Rattle.raid_script.specs.Asked.{joined_in, read_sectors, seen_entry, seen_said};
-ghost use Rattle.raid_script.specs.Format.{asked_of, line_of, next_of, plain_of, request_of};
+ghost use Rattle.raid_script.specs.Format.{line_of, next_of};
+ghost use Rattle.raid_script.specs.Steps.{asked_of, plain_of, request_of};
 
 use crate::codes::{LIMIT, WORD};
 use crate::entry::{Entry, Said};
@@ -15,7 +16,7 @@ use blk_plain::{Patches, limits};
 use graph_text::Book;
 use raid_text::{Line, Words};
 
-#[tactic(auto, unfolding(crate::specs::Format::plain_of))]
+#[tactic(auto, unfolding(crate::specs::Steps::plain_of))]
 fn plain_in(
     book: &Book,
     columns: u32,
@@ -37,7 +38,7 @@ fn plain_in(
     })
 }
 
-#[tactic(auto, unfolding(crate::specs::Format::asked_of))]
+#[tactic(auto, unfolding(crate::specs::Steps::asked_of))]
 fn asked_in(
     book: &Book,
     columns: u32,
@@ -61,7 +62,7 @@ fn asked_in(
     }
 }
 
-#[tactic(auto, unfolding(crate::specs::Format::request_of))]
+#[tactic(auto, unfolding(crate::specs::Steps::request_of))]
 fn entry_in(
     book: &Book,
     columns: u32,
@@ -81,7 +82,7 @@ fn entry_in(
     asked_in(book, columns, joins, line, client, kind, words, room)
 }
 
-#[tactic(auto, unfolding(crate::specs::Format::line_of))]
+#[tactic(auto, unfolding(crate::specs::Format::line_of, crate::specs::Steps::request_of, crate::specs::Steps::asked_of, crate::specs::Steps::plain_of))]
 fn read_line(
     book: &Book,
     columns: u32,

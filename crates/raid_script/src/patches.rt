@@ -25,7 +25,7 @@ fn patch_from(word: &[u8], words: &mut Words) -> Result<Patch, u8>
 }
 
 /// FIRST, COUNT and PATTERN.
-#[tactic(auto, unfolding(crate::specs::Format::next_patch, crate::specs::Format::next_span, graph_text::specs::FormatSteps::next_number))]
+#[tactic(auto, unfolding(crate::specs::Format::next_patch, crate::specs::Format::next_span, text_steps::specs::Steps::next_number))]
 pub fn next_patch(words: &mut Words) -> Result<Patch, u8>
     ensures value { Gives (λ p. (seen_patch p, words_left words.new)) result
         (next_patch (words_left words.old)) }
@@ -81,7 +81,7 @@ fn add_patches(words: &mut Words, patches: &mut Patches) -> Result<(), u8>
 }
 
 /// FIRST COUNT PATTERN, one to eight times.
-#[tactic(auto, unfolding(crate::specs::Format::all_patches_of, crate::specs::Format::next_patch, crate::specs::Format::next_span, graph_text::specs::FormatSteps::next_number))]
+#[tactic(auto, unfolding(crate::specs::Format::all_patches_of, crate::specs::Format::next_patch, crate::specs::Format::next_span, text_steps::specs::Steps::next_number))]
 pub fn patches_in(words: &mut Words) -> Result<Patches, u8>
     ensures value { Gives seen_patches result (all_patches_of (words_left words.old)) }
     ensures few { IfOk result (λ p. p.used ≤ 8) }

@@ -3,8 +3,8 @@ ghost use Rattle.std.specs.Prelude.{◌≡◌, ◌≢◌, ◌≤◌, ◌<◌, �
 ghost use Rattle.blk_disk.specs.Disk.{Rose, sector_at};
 ghost use Rattle.raid_bay.specs.Sink.{Puts};
 ghost use Rattle.raid_script.specs.Runs.{SectorRun, AreRuns, runs};
-ghost use Rattle.raid_script.specs.Blocks.{block_line, blocks_text};
-ghost use Rattle.raid_script.specs.Replies.{sectors_of};
+ghost use Rattle.raid_script.specs.Blocks.{blocks_text};
+ghost use Rattle.raid_script.specs.Steps.{block_line, sectors_of};
 
 use crate::repetition::shortest_string;
 use blk_disk::Failed;
@@ -40,7 +40,7 @@ pub fn run_length(sectors: &[[u8; 512]]) -> usize
     sectors.len()
 }
 
-#[tactic(auto, unfolding(crate::specs::Blocks::block_line))]
+#[tactic(auto, unfolding(crate::specs::Steps::block_line))]
 fn set_block(line: &mut Line, first: u128, count: usize, sector: &[u8; 512])
     ensures { line.new ≡ block_line first count sector.now }
 {

@@ -2,7 +2,8 @@
 ghost use Rattle.std.specs.Prelude.{◌≡◌, ◌≤◌, length, is_ok, OnErr};
 ghost use Rattle.blk_disk.specs.Disk.{Rose};
 ghost use Rattle.raid_bay.specs.Sink.{Puts};
-ghost use Rattle.raid_script.specs.Trace.{id_line, node_line, column_line, fill_line, resume_line, event_line, trace_text};
+ghost use Rattle.raid_script.specs.Trace.{id_line, node_line, event_line, trace_text};
+ghost use Rattle.raid_script.specs.Steps.{column_line, fill_line, resume_line};
 
 use blk_disk::Failed;
 use blk_plain::OpId;
@@ -41,7 +42,7 @@ fn set_node(line: &mut Line, word: &[u8], id: OpId, node: u32)
     line.push(b"\n");
 }
 
-#[tactic(auto, unfolding(crate::specs::Trace::column_line))]
+#[tactic(auto, unfolding(crate::specs::Steps::column_line))]
 fn set_column(line: &mut Line, word: &[u8], column: u32)
     requires { length word.now ≤ 6 }
     ensures { line.new ≡ column_line word.now column }
@@ -53,7 +54,7 @@ fn set_column(line: &mut Line, word: &[u8], column: u32)
     line.push(b"\n");
 }
 
-#[tactic(auto, unfolding(crate::specs::Trace::fill_line))]
+#[tactic(auto, unfolding(crate::specs::Steps::fill_line))]
 fn set_fill(line: &mut Line, column: u32, device: u32, count: u32)
     ensures { line.new ≡ fill_line column device count }
 {
@@ -67,7 +68,7 @@ fn set_fill(line: &mut Line, column: u32, device: u32, count: u32)
     line.push(b"\n");
 }
 
-#[tactic(auto, unfolding(crate::specs::Trace::resume_line))]
+#[tactic(auto, unfolding(crate::specs::Steps::resume_line))]
 fn set_resume(line: &mut Line, column: u32, count: u32)
     ensures { line.new ≡ resume_line column count }
 {
@@ -79,6 +80,7 @@ fn set_resume(line: &mut Line, column: u32, count: u32)
     line.push(b"\n");
 }
 
+#[tactic(auto, unfolding(crate::specs::Steps::fill_line, crate::specs::Steps::resume_line, crate::specs::Steps::column_line))]
 fn set_event(line: &mut Line, event: Traced)
     ensures { line.new ≡ event_line event }
 {

@@ -5,7 +5,7 @@ ghost use Rattle.std.specs.Prelude.{◌≡◌, ◌<◌, ◌≤◌, ◌∷◌, If
 ghost use Rattle.raid_text.specs.Pattern.{pattern_bytes};
 ghost use Rattle.raid_text.specs.Seen.{words_left};
 ghost use Rattle.graph_text.specs.Answers.{Gives};
-ghost use Rattle.graph_text.specs.FormatSteps.{at_end, next_number, next_word, number_in};
+ghost use Rattle.text_steps.specs.Steps.{at_end, next_number, next_word, number_in};
 ghost use Rattle.raid_script.specs.Format.{next_client, next_column, next_graph, next_pattern, next_span};
 
 use crate::codes::{CLIENT, COLUMN, GRAPH, NUMBER, PATTERN, WORD};
@@ -14,7 +14,7 @@ use graph_text::Book;
 use raid_text::{Words, number, pattern};
 
 /// The next word.
-#[tactic(auto, unfolding(graph_text::specs::FormatSteps::next_word))]
+#[tactic(auto, unfolding(text_steps::specs::Steps::next_word))]
 pub fn next_word<'a>(words: &mut Words<'a>) -> Result<&'a [u8], u8>
     ensures { Gives (λ word. (word.now, words_left words.new)) result
         (next_word (words_left words.old)) }
@@ -26,7 +26,7 @@ pub fn next_word<'a>(words: &mut Words<'a>) -> Result<&'a [u8], u8>
 }
 
 // The number that a word is.
-#[tactic(auto, unfolding(graph_text::specs::FormatSteps::number_in))]
+#[tactic(auto, unfolding(text_steps::specs::Steps::number_in))]
 fn number_in(word: &[u8]) -> Result<u32, u8>
     ensures { result ≡ number_in word.now }
 {
@@ -37,7 +37,7 @@ fn number_in(word: &[u8]) -> Result<u32, u8>
 }
 
 /// The next word, which is a number.
-#[tactic(auto, unfolding(graph_text::specs::FormatSteps::next_number))]
+#[tactic(auto, unfolding(text_steps::specs::Steps::next_number))]
 pub fn next_number(words: &mut Words) -> Result<u32, u8>
     ensures { Gives (λ n. (n, words_left words.new)) result (next_number (words_left words.old)) }
 {
@@ -48,7 +48,7 @@ pub fn next_number(words: &mut Words) -> Result<u32, u8>
 }
 
 /// Sees that no word is left.
-#[tactic(auto, unfolding(graph_text::specs::FormatSteps::at_end))]
+#[tactic(auto, unfolding(text_steps::specs::Steps::at_end))]
 pub fn pass_end(words: &mut Words) -> Result<(), u8>
     ensures { result ≡ at_end (words_left words.old) }
 {
@@ -74,7 +74,7 @@ pub fn next_client(words: &mut Words) -> Result<u32, u8>
 }
 
 /// FIRST, which is this word, and COUNT, which isn't 0.
-#[tactic(auto, unfolding(crate::specs::Format::next_span, graph_text::specs::FormatSteps::next_number))]
+#[tactic(auto, unfolding(crate::specs::Format::next_span, text_steps::specs::Steps::next_number))]
 pub fn span_from(word: &[u8], words: &mut Words) -> Result<Span, u8>
     ensures value { Gives (λ span. (span.first, span.count, words_left words.new)) result
         (next_span (word.now ∷ words_left words.old)) }
@@ -92,7 +92,7 @@ pub fn span_from(word: &[u8], words: &mut Words) -> Result<Span, u8>
 }
 
 /// FIRST and COUNT, which isn't 0.
-#[tactic(auto, unfolding(crate::specs::Format::next_span, graph_text::specs::FormatSteps::next_number))]
+#[tactic(auto, unfolding(crate::specs::Format::next_span, text_steps::specs::Steps::next_number))]
 pub fn next_span(words: &mut Words) -> Result<Span, u8>
     ensures { Gives (λ span. (span.first, span.count, words_left words.new)) result
         (next_span (words_left words.old)) }
@@ -131,7 +131,7 @@ pub fn next_column(columns: u32, words: &mut Words) -> Result<u32, u8>
 }
 
 /// NAME, as the number of the graph that has it.
-#[tactic(auto, unfolding(crate::specs::Format::next_graph, crate::specs::Format::graph_of))]
+#[tactic(auto, unfolding(crate::specs::Format::next_graph, crate::specs::Steps::graph_of))]
 pub fn next_graph(book: &Book, words: &mut Words) -> Result<u32, u8>
     ensures { Gives (λ n. (n, words_left words.new)) result
         (next_graph book.now (words_left words.old)) }

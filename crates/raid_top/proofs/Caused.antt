@@ -42,7 +42,7 @@ use Rattle.top_duty.specs.Duty.{Admitted, Duty, OnArray, Shows, OneLabel, PrintC
 use Rattle.top_duty.specs.Opening.{needs_for, needs_of}
 use Rattle.top_duty.specs.Start.{has_failed}
 use Rattle.raid_top.specs.Arrays.{Renews}
-use Rattle.raid_top.specs.Does.{Does, DoesArray, DoesDeed, DoesRun}
+use Rattle.raid_top.specs.Does.{Does, DoesDeed, DoesRun}
 use Rattle.raid_top.specs.Losses.{AreCaused, DeathsHaveCauses, IsCauseOfDeath, columns_due, columns_in_end, loss_of}
 use Rattle.raid_top.specs.Ordered.{AreOrdered}
 use Rattle.raid_top.specs.Outcome.{Outcome, Ran, Did, Looked}
@@ -191,7 +191,7 @@ module _ {D : Type 0} (g : Ghosts D) (a : Admitted) (old back : List (Option D))
     kills (Ran action s) is h = absurd h
     kills (Looked text) is h = absurd h
 
-    array_ends : (action : Action) (o : Outcome) → a.asked.command.action ≡ action → DoesArray g a failed old back action o → Ends o
+    array_ends : (action : Action) (o : Outcome) → a.asked.command.action ≡ action → DoesDeed g a failed old back (profile_of action).deed o → Ends o
     array_ends (Io beside workers mapped) o same h = run_ends a.opened.newest o h
     array_ends (Sweep seed clients ops workers mapped) o same h = run_ends a.opened.newest o h
     array_ends Init (Did act e) same h = dead_ends named act e (renew_dies named act e renewal.Init a.opened.newest h) (renewed_given named act e renewal.Init a.opened.newest none h)

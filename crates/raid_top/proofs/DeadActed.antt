@@ -4,7 +4,7 @@ use Rattle.std.proofs.Common.{refl, sym, ap, subst, ◌∙◌}
 use Rattle.blk_disk.specs.declared.disk.Disk.{Ghosts}
 use Rattle.eng_cols.specs.declared.spot.Loss.{Loss}
 use Rattle.graph_mean.specs.Graph.{View}
-use Rattle.graph_text.specs.Format.{At}
+use Rattle.text_steps.specs.declared.at.At.{At}
 use Rattle.top_bay.specs.Asked.{Asked, asked_in, names_for}
 use Rattle.top_fetch.specs.Told.{Told}
 use Rattle.top_open.specs.Opening.{Opened}

@@ -25,7 +25,7 @@ use Rattle.top_words.specs.declared.profile.Deed.TheVariants as deed
 use Rattle.top_duty.specs.Duty.{Admitted, Duty, OnArray, Shows, OneLabel, PrintConf, columns_of, layout_of}
 use Rattle.top_duty.specs.Start.{has_failed}
 use Rattle.raid_top.specs.Arrays.{Renews}
-use Rattle.raid_top.specs.Does.{Does, DoesDeed, DoesRun, Says, SaysLabel, ShowsArray}
+use Rattle.raid_top.specs.Does.{Does, DoesDeed, DoesRun, Says, ShowsArray}
 use Rattle.raid_top.specs.Outcome.{Outcome, Ran, Did, Looked}
 use Rattle.raid_top.specs.Shown.{AreMapsFound}
 
@@ -81,10 +81,10 @@ module _ {D : Type 0} (g : Ghosts D) where
   saying_moves old back said (Ran action s) h = absurd h
   saying_moves old back said (Did act e) h = absurd h
 
-  label_moves : (old back : List (Option D)) (fronts : List Front) (o : Outcome) → SaysLabel g old back fronts o → Moves old back
-  label_moves old back [] o h = absurd h
-  label_moves old back (front ∷ []) o h = saying_moves old back _ o h
-  label_moves old back (front ∷ (other ∷ fronts)) o h = absurd h
+  label_moves : (k : Asked) (old back : List (Option D)) (fronts : List Front) (o : Outcome) → Does g (OneLabel k) fronts old back o → Moves old back
+  label_moves k old back [] o h = absurd h
+  label_moves k old back (front ∷ []) o h = saying_moves old back _ o h
+  label_moves k old back (front ∷ (other ∷ fronts)) o h = absurd h
 
   found_moves : (y : Shape) (newest : Option Label) (columns after : List Column) (old back : List (Option D)) (found : Option Marked) → AreMapsFound g y newest columns after old back found → Moves old back
   found_moves y None columns after old back found h = subst (λ (ds : List (Option D)). Moves old ds) (sym h.1) (changes-refl g AnySector old)
@@ -96,5 +96,5 @@ module _ {D : Type 0} (g : Ghosts D) where
   pub due_moves : (duty : Duty) (fronts : List Front) (old back : List (Option D)) (o : Outcome) → Does g duty fronts old back o → Moves old back
   due_moves (OnArray a) fronts old back o h = deed_moves a (has_failed a.start fronts) old back (profile_of a.asked.command.action).deed o h
   due_moves (Shows k opened) fronts old back o h = shown_moves k opened fronts old back o h
-  due_moves (OneLabel k) fronts old back o h = label_moves old back fronts o h
+  due_moves (OneLabel k) fronts old back o h = label_moves k old back fronts o h
   due_moves (PrintConf k) fronts old back o h = saying_moves old back _ o h

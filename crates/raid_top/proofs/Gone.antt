@@ -8,7 +8,7 @@ use Rattle.lay_core.specs.Layout.{Shape, IsLayout}
 use Rattle.eng_cols.specs.declared.column.Column.{Column}
 use Rattle.eng_cols.specs.declared.column.Column.TheVariants as column
 use Rattle.eng_cols.specs.declared.spot.Loss.{Loss}
-use Rattle.eng_cols.specs.Cols.{ColumnState, Live, Dead, Filling, Spread, all_done, is_done, is_done_on, is_set_filling, is_spread, passes, state_set}
+use Rattle.eng_cols.specs.Cols.{ColumnState, Live, Dead, Filling, Spread, is_done, is_done_on, is_set_filling, is_spread, passes, state_set}
 use Rattle.eng_cols.specs.Lost.{IsLost}
 use Rattle.eng_cols.specs.Seats.{stands_for, spare_stands, available_on, is_available, is_place_on, IsStripeOf, IsWhole}
 use Rattle.top_close.specs.Closes.{SpreadEnds, FillingEnds, ClosesAs}
@@ -17,6 +17,7 @@ use Rattle.top_close.proofs.Counts.{none_passes}
 use Rattle.top_close.proofs.LackingLaws.{min_or, max_or}
 use Rattle.raid_top.specs.Losses.{IsLostByDead, IsLostOn}
 use Rattle.raid_top.specs.Ordered.{AreOrdered}
+use Rattle.eng_cols.proofs.Words.{all_done}
 
 false_is : {A : Type 0} → false ≡ true → A
 false_is h = absurd (let u : ⊥ = cc in u)

@@ -16,13 +16,15 @@ use Rattle.top_open.specs.declared.fronts.Front.{Front}
 use Rattle.top_open.specs.Opening.{opened_in}
 use Rattle.top_status.specs.declared.status.Status.{Status}
 use Rattle.top_status.specs.declared.status.Status.TheVariants as status
-use Rattle.top_status.specs.Refusals.{Refused, ◌then◌, only, or_refusal, short_text, text_in}
+use Rattle.top_status.specs.Refusals.{Refused, ◌then◌, only, or_refusal, text_in}
+use Rattle.top_status.specs.Steps.{short_text}
 use Rattle.top_words.specs.Asked.{Command, Component, Nameless, Column, Device, profile_of}
 use Rattle.top_words.specs.declared.profile.Kind.{Kind}
 use Rattle.top_words.specs.declared.profile.Kind.TheVariants as kind
 use Rattle.top_duty.specs.Duty.{OnArray, Shows, admitted_with, duty_by, duty_for, duty_in}
-use Rattle.top_duty.specs.Opening.{as_left, as_opened, fronted_by, kind_of, needs_of, opened_by, plan_of, present_of, sizes_in, status_of}
+use Rattle.top_duty.specs.Opening.{fronted_by, kind_of, needs_of, opened_by, plan_of, present_of, sizes_in, status_of}
 use Rattle.top_duty.specs.Start.{start_in}
+use Rattle.top_duty.proofs.Opens.{as_left, as_opened}
 
 -- another status than that of a loss
 abbrev pub IsNoLoss : Status → Type 0

@@ -12,7 +12,7 @@ use Rattle.eng_cols.specs.Lost.{IsLost}
 use Rattle.eng_cols.specs.Stripes.{filled_in}
 use Rattle.eng_cols.proofs.Killing.{order-kept, spread-back}
 use Rattle.graph_mean.specs.Graph.{View}
-use Rattle.graph_text.specs.Format.{At}
+use Rattle.text_steps.specs.declared.at.At.{At}
 use Rattle.raid_conf.specs.declared.conf.Conf.{Conf}
 use Rattle.raid_conf.specs.Form.{IsConf}
 use Rattle.raid_conf.specs.Format.{conf_of}

@@ -7,7 +7,7 @@ use Rattle.blk_disk.specs.declared.disk.Disk.{Ghosts}
 use Rattle.lay_core.specs.Layout.{Shape, IsLayout, SparesLieByUnits}
 use Rattle.eng_cols.specs.declared.column.Column.{Column}
 use Rattle.eng_cols.specs.declared.column.Column.TheVariants as column
-use Rattle.eng_cols.specs.Cols.{all_done, is_set_spread, passes}
+use Rattle.eng_cols.specs.Cols.{is_set_spread, passes}
 use Rattle.eng_cols.proofs.Lists.{count_at_most, get_set_either, get_set_other}
 use Rattle.eng_array.specs.declared.start.Start.{Start}
 use Rattle.eng_array.specs.declared.start.Start.TheVariants as start
@@ -33,6 +33,7 @@ use Rattle.raid_top.specs.Ordered.{AreOrdered, IsOrdered}
 use Rattle.raid_top.proofs.Gone.{set_spread}
 use Rattle.raid_top.proofs.Labels.{unfilled_unlabelled}
 use Rattle.raid_top.proofs.Wanted.{IsNamedFor, is_admitted, named_by}
+use Rattle.eng_cols.proofs.Words.{all_done}
 
 false_is : {A : Type 0} → false ≡ true → A
 false_is h = absurd (let u : ⊥ = cc in u)

@@ -24,7 +24,7 @@ use Rattle.raid_top.specs.declared.array.Order.TheVariants as order
 use Rattle.raid_top.specs.declared.came.Came.{Came}
 use Rattle.raid_top.specs.declared.came.Came.TheVariants as came
 use Rattle.raid_top.specs.Arrays.{DoesOrder, HasRounds, IsNewest, MayDo, ending_seen}
-use Rattle.raid_top.specs.Does.{DoesArray, DoesDeed, DoesRun}
+use Rattle.raid_top.specs.Does.{DoesDeed, DoesRun}
 use Rattle.raid_top.specs.Orders.{first_label, kill_of, order_for}
 use Rattle.raid_top.specs.Outcome.{Outcome, Did}
 use Rattle.raid_top.specs.Served.{ComesOfOrder, IsRun}
@@ -145,7 +145,7 @@ module _ {D : Type 0} (g : Ghosts D) (a : Admitted) (failed : Bool) (old back : 
 
   -- what was asked was done
   pub order_does : (action : Action) (conf : Conf) (it : Order) (c : Came) → order_for (profile_of action).deed a.asked.comp a.opened.newest a.asked.conf a.opened.rows ≡ Some it
-      → ComesOfOrder g (layout_of a) (columns_of a) old back it c → DoesArray g a failed old back action (outcome_seen action conf c)
+      → ComesOfOrder g (layout_of a) (columns_of a) old back it c → DoesDeed g a failed old back (profile_of action).deed (outcome_seen action conf c)
   order_does action conf it (came.Did act ending) is h = deed_does (profile_of action).deed it act (ending_seen ending) is h
   order_does action conf it (came.Ran service) is h = absurd h
   order_does action conf it (came.Shows shown) is h = absurd h
@@ -153,7 +153,7 @@ module _ {D : Type 0} (g : Ghosts D) (a : Admitted) (failed : Bool) (old back : 
   order_does action conf it (came.Prints text) is h = absurd h
 
   -- or clients were served
-  pub run_does : (action : Action) (o : Outcome) → IsRun action → DoesRun g a failed old back a.opened.newest o → DoesArray g a failed old back action o
+  pub run_does : (action : Action) (o : Outcome) → IsRun action → DoesRun g a failed old back a.opened.newest o → DoesDeed g a failed old back (profile_of action).deed o
   run_does (Io beside workers mapped) o is h = h
   run_does (Sweep seed clients ops workers mapped) o is h = h
   run_does Show o is h = absurd is

@@ -15,7 +15,7 @@ use Rattle.eng_array.specs.declared.start.Start.{Start}
 use Rattle.eng_array.specs.declared.start.Start.TheVariants as start
 use Rattle.eng_cols.specs.declared.column.Column.{Column}
 use Rattle.eng_cols.specs.declared.column.Column.TheVariants as column
-use Rattle.eng_cols.specs.Cols.{ColumnState, Dead, device_set, is_set_filling, is_set_spread, passes}
+use Rattle.eng_cols.specs.Cols.{ColumnState, Dead, device_set, is_set_filling, is_set_spread, passes, HasDeviceOn}
 use Rattle.eng_cols.specs.Lost.{NotLost}
 use Rattle.eng_cols.proofs.Lists.{get_set_either, get_set_other, get_set_same}
 use Rattle.eng_cols.specs.Stripes.{states_of}
@@ -24,7 +24,6 @@ use Rattle.raid_conf.specs.Layouts.{shape_of}
 use Rattle.raid_conf.proofs.TableLaws.{shape-rows, shape-unit}
 use Rattle.top_bay.specs.Asked.{Asked}
 use Rattle.top_bay.specs.Views.{IsWithinLimits}
-use Rattle.top_close.specs.Settled.{HasDeviceOn}
 use Rattle.top_close.proofs.DyingLaws.{lost_no_less}
 use Rattle.top_open.specs.Opening.{Opened}
 use Rattle.top_duty.specs.Duty.{with_dead, with_killed}

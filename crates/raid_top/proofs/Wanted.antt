@@ -9,7 +9,7 @@ use Rattle.eng_cols.specs.declared.spot.Loss.{Loss}
 use Rattle.eng_cols.proofs.Losing.{lost-excludes}
 use Rattle.raid_conf.specs.declared.conf.Conf.{Conf}
 use Rattle.graph_mean.specs.Graph.{View}
-use Rattle.graph_text.specs.Format.{At}
+use Rattle.text_steps.specs.declared.at.At.{At}
 use Rattle.raid_text.specs.Text.{Text}
 use Rattle.top_bay.specs.Asked.{Asked, asked_in, names_for}
 use Rattle.top_fetch.specs.Told.{Told}

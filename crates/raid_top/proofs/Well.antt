@@ -29,7 +29,7 @@ use Rattle.top_duty.specs.Opening.{needs_for, needs_of}
 use Rattle.top_duty.specs.Start.{has_failed}
 use Rattle.top_run.specs.Work.{Ending}
 use Rattle.raid_top.specs.Arrays.{Renews}
-use Rattle.raid_top.specs.Does.{Does, DoesArray, DoesDeed, DoesRun, Says, SaysLabel, ShowsArray}
+use Rattle.raid_top.specs.Does.{Does, DoesDeed, DoesRun, Says, ShowsArray}
 use Rattle.raid_top.specs.Acted.{CommandEndsWell, MayEndDead, SurvivesCall}
 use Rattle.raid_top.specs.Outcome.{Outcome, Ran, Did, Looked, status_of, status_of_done}
 use Rattle.raid_top.specs.Works.{work_of}
@@ -77,7 +77,7 @@ module _ {D : Type 0} (g : Ghosts D) (command : Command) where
     renewed_well (Some l) renewal.Init e act h = done_well command e.lost act (done.Init h.2.found) refl (renewed g a taken old back read survives renewal.Init (Some l) e act h) h.2.told
     renewed_well (Some l) renewal.Rewrite e act h = done_well command e.lost act (done.Rewrite h.2.found) refl (renewed g a taken old back read survives renewal.Rewrite (Some l) e act h) h.2.told
 
-    array_well : (action : Action) (o : Outcome) → a.asked.command.action ≡ action → DoesArray g a failed old back action o → CommandEndsWell command (status_of o)
+    array_well : (action : Action) (o : Outcome) → a.asked.command.action ≡ action → DoesDeed g a failed old back (profile_of action).deed o → CommandEndsWell command (status_of o)
     array_well (Io beside workers mapped) o same h = ran_well a.opened.newest o h
     array_well (Sweep seed clients ops workers mapped) o same h = ran_well a.opened.newest o h
     array_well Init (Did act e) same h = renewed_well a.opened.newest renewal.Init e act h
@@ -105,10 +105,10 @@ module _ {D : Type 0} (g : Ghosts D) (command : Command) where
   said_well old back said (Ran action s) h = absurd h
   said_well old back said (Did act e) h = absurd h
 
-  label_well : (old back : List (Option D)) (fronts : List Front) (o : Outcome) → SaysLabel g old back fronts o → CommandEndsWell command (status_of o)
-  label_well old back [] o h = absurd h
-  label_well old back (front ∷ []) o h = said_well old back _ o h
-  label_well old back (front ∷ (other ∷ fronts)) o h = absurd h
+  label_well : (k : Asked) (old back : List (Option D)) (fronts : List Front) (o : Outcome) → Does g (OneLabel k) fronts old back o → CommandEndsWell command (status_of o)
+  label_well k old back [] o h = absurd h
+  label_well k old back (front ∷ []) o h = said_well old back _ o h
+  label_well k old back (front ∷ (other ∷ fronts)) o h = absurd h
 
   shown_well : (k : Asked) (opened : Opened) (fronts : List Front) (old back : List (Option D)) (o : Outcome) → ShowsArray g k opened fronts old back o → CommandEndsWell command (status_of o)
   shown_well k opened fronts old back o h = subst (λ (x : Outcome). CommandEndsWell command (status_of x)) (sym h.said) tt
@@ -117,5 +117,5 @@ module _ {D : Type 0} (g : Ghosts D) (command : Command) where
       → Does g duty fronts old back o → CommandEndsWell command (status_of o)
   due_well (OnArray a) fronts taken old back o read survives command_is named h = array_well a (has_failed a.start fronts) taken old back read survives command_is named a.asked.command.action o refl h
   due_well (Shows k opened) fronts taken old back o read survives command_is named h = shown_well k opened fronts old back o h
-  due_well (OneLabel k) fronts taken old back o read survives command_is named h = label_well old back fronts o h
+  due_well (OneLabel k) fronts taken old back o read survives command_is named h = label_well k old back fronts o h
   due_well (PrintConf k) fronts taken old back o read survives command_is named h = said_well old back _ o h

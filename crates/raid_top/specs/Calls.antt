@@ -2,7 +2,8 @@
 use Rattle.std.specs.Prelude.{ℕ, List, ◌++◌}
 use Rattle.top_status.specs.declared.status.Status.{Status}
 use Rattle.top_status.specs.declared.status.Status.TheVariants as status
-use Rattle.top_status.specs.Refusals.{Refused, refusal_text}
+use Rattle.top_status.specs.Dead.{dead_text}
+use Rattle.top_status.specs.Refusals.{Refused}
 use Rattle.top_status.specs.Status.{status_text}
 use Rattle.raid_top.specs.Outcome.{Outcome, outcome_text, status_of}
 
@@ -28,4 +29,4 @@ call_text (OfArray o) = outcome_text o
 call_text (OfScan text) = text ++ status_text status.Ok
 call_text (OfSimulation text) = text ++ status_text status.Ok
 call_text (OfTopic text) = text
-call_text (Refuses r) = refusal_text r
+call_text (Refuses r) = dead_text r.dead ++ status_text r.status

@@ -14,7 +14,7 @@ use Rattle.top_acts.specs.Labelled.{IsFirstLabelled}
 use Rattle.top_acts.specs.declared.done.Done.TheVariants as done
 use Rattle.top_acts.specs.declared.sweeping.Renewal.TheVariants as renewal
 use Rattle.top_open.specs.declared.fronts.Front.{Front}
-use Rattle.top_words.specs.Asked.{Action, profile_of}
+use Rattle.top_words.specs.Asked.{profile_of}
 use Rattle.top_words.specs.declared.profile.Deed.{Deed}
 use Rattle.top_words.specs.declared.profile.Deed.TheVariants as deed
 use Rattle.top_duty.specs.Duty.{Admitted, Duty, OnArray, Shows, OneLabel, PrintConf, columns_of, layout_of}
@@ -54,9 +54,6 @@ module _ {D : Type 0} (g : Ghosts D) where
         × IsFirstLabelled g (layout_of a) (first_label a.asked.conf a.opened.rows serial) next (columns_of a) e.columns old back e.lost act
     DoesDeed d o = ⊥
 
-    abbrev pub DoesArray : Action → Outcome → Type 0
-    DoesArray action o = DoesDeed (profile_of action).deed o
-
   -- something is said, and no device was called
   abbrev pub Says : (old back : List (Option D)) → List ℕ → Outcome → Type 0
   Says old back said (Looked text) = (text ≡ said) × (back ≡ old)
@@ -69,14 +66,10 @@ module _ {D : Type 0} (g : Ghosts D) where
     pub found : AreMapsFound g (shape_of k.conf opened.rows) opened.newest opened.columns after old back map
     pub said : o ≡ Looked (shown_text (profile_of k.command.action).map k.conf (record opened { columns = after }) (sizes_of g.size old) fronts map)
 
-  -- the front of the one device that was looked at
-  abbrev pub SaysLabel : (old back : List (Option D)) → List Front → Outcome → Type 0
-  SaysLabel old back (front ∷ []) o = Says old back (label_text front) o
-  SaysLabel old back fronts o = ⊥
-
-  -- what is due was done
+  -- What is due was done: for one label the front is said of the one device that was looked at.
   abbrev pub Does : Duty → List Front → (old back : List (Option D)) → Outcome → Type 0
-  Does (OnArray a) fronts old back o = DoesArray a (has_failed a.start fronts) old back a.asked.command.action o
+  Does (OnArray a) fronts old back o = DoesDeed a (has_failed a.start fronts) old back (profile_of a.asked.command.action).deed o
   Does (Shows k opened) fronts old back o = ShowsArray k opened fronts old back o
-  Does (OneLabel k) fronts old back o = SaysLabel old back fronts o
+  Does (OneLabel k) (front ∷ []) old back o = Says old back (label_text front) o
+  Does (OneLabel k) fronts old back o = ⊥
   Does (PrintConf k) fronts old back o = Says old back (conf_text k.conf) o

@@ -48,9 +48,10 @@ status_of (Looked text) = status.Ok
 abbrev pub script_text : Service → List ℕ
 script_text s = replies_text s.clients s.replies s.sectors ++ history_text s.history ++ trace_text s.trace
 
--- what is told of a run, but for its end: where clients were drawn, their sums, and nothing where the array was lost; else of a script, and behind that of a rebuild, if there was one
+-- what is told of a run, but for its end: where clients were drawn, their sums, and nothing where the array was lost; else of a script, its replies, its history, and the trace where it is kept, and behind that of a rebuild, if there was one
 abbrev pub run_text : Option Drawing → Service → List ℕ
-run_text None s = script_text s ++ rebuild_text s.line
+run_text None s = (replies_text s.clients s.replies s.sectors ++ history_text s.history ++ trace_text s.trace)
+    ++ rebuild_text s.line
 run_text (Some drawing) s = option_map_or (λ loss. []) s.ending.lost (summary_text s.clients s.replies s.sectors)
 
 -- all that is printed: what a run tells, or the line of what was done, if it has one, the columns that are dead in the end, and the status

@@ -1,5 +1,5 @@
 -- What the parity map of an array is found to be, where the array is shown.
-use Rattle.std.specs.Prelude.{◌≡◌, ℕ, List, length, Bool, true, false, Option, Some, None, count_by, nat_lt}
+use Rattle.std.specs.Prelude.{◌≡◌, ℕ, List, length, Bool, true, false, Option, Some, None, count_by, if◌then◌else◌, nat_lt}
 use Rattle.blk_disk.specs.declared.disk.Disk.{Ghosts}
 use Rattle.lay_core.specs.Layout.{Shape}
 use Rattle.eng_cols.specs.declared.column.Column.{Column}
@@ -19,19 +19,14 @@ abbrev pub IsEmptyMap : Shape → Option Label → Option Marks → Type 0
 IsEmptyMap y None map = map ≡ None
 IsEmptyMap y (Some l) map = map ≡ Some (unmarked y.stripes l.serial)
 
--- how many regions there are and how many of them are marked, where a device has a map
-abbrev pub marked_if : Bool → Marks → Option Marked
-marked_if false m = None
-marked_if true m = Some (record { regions = regions_in m.stripes; marked = count_by (λ b. b) m.marks })
-
 module _ {D : Type 0} (g : Ghosts D) where
-  -- The maps of the devices in use were read: each of these had one call more, to read its sector 1, and its column is dead where that failed; no sector has changed. Into a map that had no marks came what the union of the maps marks, and it is told how much that is, unless no device has a map.
+  -- The maps of the devices in use were read: each of these had one call more, to read its sector 1, and its column is dead where that failed; no sector has changed. Into a map that had no marks came what the union of the maps marks, and it is told how many regions there are and how many of them are marked, unless no device has a map.
   pub record IsUnionFound (map : Marks) (columns after : List Column) (old new : List (Option D)) (found : Option Marked) : Type 0 where
     pub marks : Marks
     pub any : Bool
     pub read : AreRead g (length columns) columns after old new
     pub union : g.tells → (y : Shape) → y.stripes ≡ map.stripes → IsUnion g y after new map marks any
-    pub found_is : found ≡ marked_if any marks
+    pub found_is : found ≡ (if any then Some (record { regions = regions_in marks.stripes; marked = count_by (λ b. b) marks.marks }) else None)
 
   -- the same where there is a map to read them into; else no device was called
   abbrev pub MapIs : Option Marks → List Column → List Column → List (Option D) → List (Option D) → Option Marked → Type 0

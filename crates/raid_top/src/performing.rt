@@ -12,7 +12,7 @@ ghost use Rattle.top_status.specs.Refusals.{only};
 ghost use Rattle.top_open.specs.declared.fronts.Front.{Front};
 ghost use Rattle.top_words.specs.Asked.{Init, profile_of};
 ghost use Rattle.top_words.specs.Views.{action_seen};
-ghost use Rattle.raid_top.specs.Does.{Does, DoesArray, DoesRun, ShowsArray};
+ghost use Rattle.raid_top.specs.Does.{Does, DoesDeed, DoesRun, ShowsArray};
 ghost use Rattle.raid_top.specs.Orders.{order_for};
 ghost use Rattle.raid_top.specs.Served.{IsMemory, IsRun};
 ghost use Rattle.raid_top.specs.Views.{CanBePrinted, PrintsConf, outcome_seen};
@@ -116,9 +116,10 @@ fn alter_array<'a, D: StopDisk + Drop, P: Progress>(
         ready.opened.newest asked.conf ready.opened.rows ≡ Some order }
     ensures action { result.action ≡ asked.entry.command.action }
     ensures conf { result.conf ≡ asked.entry.conf }
-    ensures does { IfOk result.served.came (λ came. DoesArray D.Disk
+    ensures does { IfOk result.served.came (λ came. DoesDeed D.Disk
         (admitted_by (asked_seen asked.entry) ready)
-        ready.failed devices.items result.served.devices.items (action_seen result.action)
+        ready.failed devices.items result.served.devices.items
+        (profile_of (action_seen result.action)).deed
         (outcome_seen (action_seen result.action) result.conf came)) }
     ensures printed { IfOk result.served.came CanBePrinted }
     ensures memory { IfErr result.served.came (λ r. r ≡ beside_dead
@@ -152,9 +153,10 @@ fn act_on_array<'a, D: StopDisk + Drop + Send, R: Threads + Wait + Sync, P: Prog
     requires many { length devices.items ≡ length (names_of asked.conf) }
     ensures action { result.action ≡ asked.entry.command.action }
     ensures conf { result.conf ≡ asked.entry.conf }
-    ensures does { IfOk result.served.came (λ came. DoesArray D.Disk
+    ensures does { IfOk result.served.came (λ came. DoesDeed D.Disk
         (admitted_by (asked_seen asked.entry) ready)
-        ready.failed devices.items result.served.devices.items (action_seen result.action)
+        ready.failed devices.items result.served.devices.items
+        (profile_of (action_seen result.action)).deed
         (outcome_seen (action_seen result.action) result.conf came)) }
     ensures printed { IfOk result.served.came CanBePrinted }
     ensures memory { IfErr result.served.came (λ r. r ≡ beside_dead

@@ -4,9 +4,10 @@ use Rattle.blk_disk.specs.declared.disk.Disk.{Ghosts}
 use Rattle.eng_cols.specs.declared.column.Column.{Column}
 use Rattle.eng_cols.specs.declared.column.Column.TheVariants as column
 use Rattle.blk_disk.specs.Devices.{device_at, size_of}
-use Rattle.raid_map.specs.Marking.{CanBeMarked, IsOn}
+use Rattle.raid_map.specs.Marking.{CanBeMarked}
+use Rattle.eng_cols.specs.Cols.{HasDeviceOn}
 
-only : (c d : ℕ) → IsOn (column.Live 0 ∷ []) c d → (c ≡ 0) × (0 ≡ d)
+only : (c d : ℕ) → HasDeviceOn (column.Live 0 ∷ []) c d → (c ≡ 0) × (0 ≡ d)
 only zero d on = (refl, (let same : 0 ≡ d = cc in same))
 only (suc c) d on = absurd (let u : ⊥ = cc in u)
 

@@ -5,9 +5,10 @@ use Rattle.blk_plain.specs.declared.op.Op.TheVariants.{Write, Writes, Read, Rebu
 use Rattle.sim_queue.specs.declared.request.Request.{Request}
 use Rattle.sim_queue.specs.declared.request.Served.{Served}
 use Rattle.sim_queue.specs.declared.request.Queue.{Queue}
-use Rattle.sim_queue.specs.Service.{Moment, IsServed, AreServed, after, after_all, span_of, IsTransfer}
+use Rattle.sim_queue.specs.Service.{Moment, IsServed, after, span_of, IsTransfer}
+use Rattle.sim_queue.proofs.Words.{after_all, AreNext}
 
-pub push_served : (requests : List Request) (queue : Queue) (m : Moment) (ss : List Served) (s : Served) → AreServed requests queue m ss → IsServed requests queue (after_all requests queue m ss) s → AreServed requests queue m (ss ++ s ∷ [])
+pub push_served : (requests : List Request) (queue : Queue) (m : Moment) (ss : List Served) (s : Served) → AreNext requests queue m ss → IsServed requests queue (after_all requests queue m ss) s → AreNext requests queue m (ss ++ s ∷ [])
 push_served requests queue m [] s are is = (is, tt)
 push_served requests queue m (t ∷ ts) s are is = (are.0, push_served requests queue (after requests queue m t) ts s are.1 is)
 

@@ -11,7 +11,8 @@ use Rattle.blk_plain.specs.Laws.{length-after}
 use Rattle.sim_queue.specs.declared.request.Request.{Request}
 use Rattle.sim_queue.specs.declared.request.Served.{Served}
 use Rattle.sim_queue.specs.Service.{request_at, IsTransfer}
-use Rattle.sim_queue.specs.Replies.{AreApart, AreKnown, AreWithin, before, read_from, reply_at, service_at}
+use Rattle.sim_queue.specs.Replies.{AreApart, AreKnown, AreWithin, read_from, reply_at, service_at}
+use Rattle.sim_queue.proofs.Words.{before}
 
 -- the replies of the services before a place, and the blocks there
 pub record Told (sectors : ℕ) (requests : List Request) (services : List Served) (place : ℕ) (blocks : List (List ℕ)) (rows : List (List (List ℕ))) : Type 0 where
@@ -28,7 +29,7 @@ in_range sectors (Rebuild stripe) h = absurd h
 in_range sectors (Sync stripe) h = absurd h
 
 pub told_first : (sectors : ℕ) (requests : List Request) (services : List Served) (blocks : List (List ℕ)) (rows : List (List (List ℕ))) → blocks ≡ zero_blocks sectors → rows ≡ replicate (length requests) [] → Told sectors requests services 0 blocks rows
-unfolding before zero_sector
+unfolding zero_sector
 told_first sectors requests services blocks rows zeros none = record {
   now = zeros;
   count = ap length zeros ∙ length-replicate sectors zero_sector;
@@ -38,7 +39,7 @@ told_first sectors requests services blocks rows zeros none = record {
 
 before_more : (sectors : ℕ) (requests : List Request) (services : List Served) (place : ℕ) → place < length services → (service_at services place).request < length requests
     → before sectors requests services (place + 1) ≡ after (request_at requests (service_at services place).request).op (before sectors requests services place)
-unfolding before service_at request_at
+unfolding service_at request_at
 before_more sectors requests services place within known =
     let order : List ℕ = map (λ (s : Served). s.request) services in
     let ops : List Op = map (λ (r : Request). r.op) requests in

@@ -1,8 +1,8 @@
 -- What the reads of a service are replied, by the plain machine over a disk of zeros.
-use Rattle.std.specs.Prelude.{◌≡◌, ◌≢◌, ℕ, ◌<◌, List, [], length, map, take, drop, slice_index_or}
+use Rattle.std.specs.Prelude.{◌≡◌, ◌≢◌, ℕ, ◌<◌, List, [], length, map, replicate, take, drop, slice_index_or}
 use Rattle.blk_plain.specs.declared.op.Op.{Op}
 use Rattle.blk_plain.specs.declared.op.Op.TheVariants.{Write, Writes, Read, Rebuild, Sync}
-use Rattle.blk_plain.specs.Plain.{replayed, zero_blocks}
+use Rattle.blk_plain.specs.Plain.{replayed, zero_sector}
 use Rattle.sim_queue.specs.declared.request.Request.{Request}
 use Rattle.sim_queue.specs.declared.request.Served.{Served}
 use Rattle.sim_queue.specs.Service.{request_at, IsTransfer}
@@ -15,17 +15,15 @@ read_from (Writes patches) blocks = []
 read_from (Rebuild stripe) blocks = []
 read_from (Sync stripe) blocks = []
 
--- the blocks before the service at a place: the replay of the operations served before it
-unfoldable pub before : ℕ → List Request → List Served → ℕ → List (List ℕ)
-before sectors requests services place = replayed (map (λ r. r.op) requests) (take place (map (λ s. s.request) services)) (zero_blocks sectors)
-
 -- the service at a place
 unfoldable pub service_at : List Served → ℕ → Served
 service_at services place = slice_index_or services place (record { request = 0; start = 0; end = 0 })
 
--- the reply of the request that is served at a place
+-- the reply of the request that is served at a place, from the blocks there: a disk of zeros after the operations that are served before it
 unfoldable pub reply_at : ℕ → List Request → List Served → ℕ → List (List ℕ)
-reply_at sectors requests services place = read_from (request_at requests (service_at services place).request).op (before sectors requests services place)
+reply_at sectors requests services place =
+    read_from (request_at requests (service_at services place).request).op
+    (replayed (map (λ r. r.op) requests) (take place (map (λ s. s.request) services)) (replicate sectors zero_sector))
 
 -- these are the replies: each request that is served has that of its place
 abbrev pub AreReplies : ℕ → List Request → List Served → List (List (List ℕ)) → Type 0

@@ -67,10 +67,6 @@ pub record Moment : Type 0 where
   pub tick : ℕ
   pub up : Bool
 
--- before the first
-abbrev pub beginning : List Request → Moment
-beginning requests = record { left = range_with_len 0 (length requests); head = 0; tick = 0; up = true }
-
 -- a sector isn't behind the head in this direction
 abbrev pub is_onward : Bool → ℕ → ℕ → Bool
 is_onward up head first = if up then nat_le head first else nat_le first head
@@ -79,20 +75,21 @@ module _ (requests : List Request) where
   -- the tick at which the next service begins: the present one, or the least of those left where that is later
   unfoldable pub start_of : Moment → ℕ
   start_of m =
-      if list_any (λ j. nat_le (tick_at requests j) m.tick) m.left then m.tick
-      else least (map (tick_at requests) m.left)
+      if list_any (λ j. nat_le (request_at requests j).tick m.tick) m.left then m.tick
+      else least (map (λ j. (request_at requests j).tick) m.left)
 
   -- the requests left that have arrived by then
   unfoldable pub arrived : Moment → List ℕ
-  arrived m = filter (λ j. nat_le (tick_at requests j) (start_of m)) m.left
+  arrived m = filter (λ j. nat_le (request_at requests j).tick (start_of m)) m.left
 
   -- how far a request's first sector is from the head
   abbrev pub way_to : Moment → ℕ → ℕ
-  way_to m j = distance (first_at requests j) m.head
+  way_to m j = (first_at requests j - m.head) + (m.head - first_at requests j)
 
   -- the request's first sector isn't behind the head in this direction
   abbrev pub is_ahead : Moment → Bool → ℕ → Bool
-  is_ahead m up j = is_onward up m.head (first_at requests j)
+  is_ahead m up j =
+      if up then nat_le m.head (first_at requests j) else nat_le (first_at requests j) m.head
 
   -- the direction of a scan: it turns where none that has arrived is ahead
   unfoldable pub direction : Moment → Bool
@@ -104,8 +101,8 @@ module _ (requests : List Request) where
 
 -- the number stands in the list, with the least worth there, and is the least with it
 pub record IsLeast (worth : ℕ → ℕ) (numbers : List ℕ) (number : ℕ) : Type 0 where
-  pub is_in : has numbers number ≡ true
-  pub least : (j : ℕ) → has numbers j ≡ true
+  pub is_in : list_any (nat_eq number) numbers ≡ true
+  pub least : (j : ℕ) → list_any (nat_eq j) numbers ≡ true
       → (worth number < worth j) ⊎ ((worth number ≡ worth j) × (number ≤ j))
 
 -- the request that is served next. Of those ahead, the nearest has upwards the least first sector and downwards the
@@ -137,18 +134,13 @@ after requests queue m s = record {
   up = next_up requests queue m;
 }
 
--- these are the next services, one after another
+-- these are the next services, one after another, and behind them no request is left
 abbrev pub AreServed : List Request → Queue → Moment → List Served → Type 0
-AreServed requests queue m [] = Unit {0}
+AreServed requests queue m [] = m.left ≡ []
 AreServed requests queue m (s ∷ ss) =
     IsServed requests queue m s × AreServed requests queue (after requests queue m s) ss
 
--- after them
-abbrev pub after_all : List Request → Queue → Moment → List Served → Moment
-after_all requests queue m [] = m
-after_all requests queue m (s ∷ ss) = after_all requests queue (after requests queue m s) ss
-
--- the service of the requests: one after another from the beginning, until none is left
+-- the service of the requests: one after another until none is left, from where the head stands at sector 0 and goes up
 pub record IsService (requests : List Request) (queue : Queue) (services : List Served) : Type 0 where
-  pub served : AreServed requests queue (beginning requests) services
-  pub all : (after_all requests queue (beginning requests) services).left ≡ []
+  pub served : AreServed requests queue
+      (record { left = range_with_len 0 (length requests); head = 0; tick = 0; up = true }) services

@@ -1,5 +1,5 @@
 //! The service of all requests, one after another.
-ghost use Rattle.std.specs.Prelude.{◌≡◌, ◌+◌, ◌-◌, ◌/◌, ◌^◌, ◌<◌, ◌≤◌, IfOk};
+ghost use Rattle.std.specs.Prelude.{◌≡◌, ◌+◌, ◌-◌, ◌/◌, ◌^◌, ◌<◌, IfOk};
 ghost use Rattle.sim_queue.specs.Service.{IsAsked, IsService, distance};
 ghost use Rattle.sim_queue.specs.Waiting.{queue_of};
 ghost use Rattle.sim_queue.specs.declared.request.Queue.TheVariants.{Fifo};

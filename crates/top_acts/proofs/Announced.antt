@@ -8,22 +8,23 @@ use Rattle.eng_cols.specs.declared.column.Column.{Column}
 use Rattle.eng_cols.specs.declared.spot.Loss.{Loss}
 use Rattle.raid_label.specs.declared.label.Label.{Label}
 use Rattle.raid_map.specs.Regions.{Marks as Map, IsBytesOf}
-use Rattle.top_close.specs.Settled.{HasDeviceOn}
 use Rattle.top_close.specs.Stage.{DiesIn, IsGivenUpIn, IsStage, IsUncalled}
 use Rattle.top_close.proofs.StageLaws.{live_before, stage-then, stage_as}
 use Rattle.top_rounds.specs.Calls.{IsLabelWrite}
 use Rattle.top_rounds.specs.Labels.{seating_in, with_round}
-use Rattle.top_rounds.specs.Passes.{HoldsLabel, IsFirstInUse}
+use Rattle.top_rounds.specs.Passes.{HoldsLabel, IsKeptInUse}
 use Rattle.top_rounds.specs.Rounds.{CountsRounds, HaveRounds}
 use Rattle.top_rounds.proofs.RoundLaws.{counts-none, counts-then, counts_as, counts_few, stage_of_rounds}
 use Rattle.top_acts.specs.Begun.{AreLast, HasSeats, Opens}
 use Rattle.top_acts.specs.Failed.{IsLeftLost}
-use Rattle.top_acts.specs.Marking.{AreNotice, HoldsMap, IsKeptInUse, MarksAll}
+use Rattle.top_acts.specs.Marking.{AreNotice, HoldsMap, MarksAll}
 use Rattle.top_acts.specs.Sweeps.{Notice, Round, Marks, rounds_for, wrote_round}
 use Rattle.top_acts.proofs.Ended.{no_loss, rounds_of}
 use Rattle.top_acts.proofs.Marked.{IsMarkCall, marks_stage, marks_uncalled}
 use Rattle.top_acts.proofs.Seated.{seats-then, seats_of_rounds}
 use Rattle.top_acts.proofs.Staged.{none_last}
+use Rattle.top_rounds.proofs.Words.{IsFirstInUse}
+use Rattle.eng_cols.specs.Cols.{HasDeviceOn}
 
 pub no_bool : {A : Type 0} → true ≡ false → A
 no_bool h = absurd (let u : ⊥ = cc in u)
@@ -122,7 +123,7 @@ module _ {D : Type 0} (g : Ghosts D) where
       let before = λ (c d : ℕ) (live : HasDeviceOn mid c d). live_before (DiesIn g None columns old dev) columns mid c d was.dies live in
       let stage = stage-then g (IsKeptInUse true columns) (IsFirstInUse mid) (MayAnnounce (Marks map) columns) (λ d. All IsMarkCall) (λ d. All IsLabelWrite) (λ d. AreAnnounced (Marks map) (Some loss)) (Some loss) columns mid after old dev new
       was (stage_of_rounds g (Some loss) label next mid left.rounds.0 after dev new r)
-      (λ d n f. f) (λ d n f. record { col = f.col; live = before f.col d f.live; kept = inl f.first })
+      (λ d n f. f) (λ d n f. record { col = f.col; live = before f.col d f.live; kept = inl f.kept })
       (λ d xs ys one two. record { front = xs; back = ys; all = refl; at_first = one; at_last = two }) in
       record {
         rounds = 1;
@@ -138,7 +139,7 @@ module _ {D : Type 0} (g : Ghosts D) where
         same = λ wrote. no_bool wrote;
         mapped = λ other e c d live told.
             let dies = (stage_of_rounds g (Some loss) label next mid left.rounds.0 after dev new r).dies in
-            subst (IsBytesOf other) (sym (changes_sector g (IsFirstInUse mid) dev new d 1 r.frame told (λ f. omega (arith, f.first))))
+            subst (IsBytesOf other) (sym (changes_sector g (IsFirstInUse mid) dev new d 1 r.frame told (λ f. omega (arith, f.kept))))
             (subst (λ k. HoldsMap g dev k d) (map_is map other e) (m.held c d (live_before (DiesIn g (Some loss) mid dev new) mid after c d dies live)) told);
         others = λ d none. r.others d (λ c live. none c (before c d live)) ∙ marks_uncalled g map columns mid old dev m d none;
         opens = (mid, dev, m, left);

@@ -8,7 +8,7 @@ use Rattle.blk_disk.proofs.DeviceLaws.{changes-more, changes-refl, changes_secto
 use Rattle.lay_core.specs.Layout.{Shape, IsLayout}
 use Rattle.eng_cols.specs.declared.column.Column.{Column}
 use Rattle.eng_cols.specs.declared.spot.Loss.{Loss}
-use Rattle.eng_cols.specs.Cols.{InOrder, is_set_filling}
+use Rattle.eng_cols.specs.Cols.{InOrder, is_set_filling, HasDeviceOn}
 use Rattle.eng_cols.specs.Deaths.{Dies}
 use Rattle.eng_cols.specs.Lost.{NotLost}
 use Rattle.raid_label.specs.declared.label.Label.{Label}
@@ -16,10 +16,8 @@ use Rattle.eng_cols.specs.Stripes.{states_of}
 use Rattle.raid_map.specs.Regions.{IsBytesOf}
 use Rattle.top_rounds.specs.Calls.{IsLabelWrite}
 use Rattle.top_rounds.specs.Labels.{seating_in, with_round}
-use Rattle.top_rounds.specs.Passes.{IsFirstInUse}
 use Rattle.raid_recon.proofs.Backs.{Back}
 use Rattle.top_close.specs.Ended.{IsLossBy}
-use Rattle.top_close.specs.Settled.{HasDeviceOn}
 use Rattle.top_close.specs.Stage.{DiesIn, IsGivenUpIn, IsStage}
 use Rattle.top_rounds.specs.Rounds.{CountsRounds, HaveRounds, clean_in_end}
 use Rattle.top_close.proofs.StageLaws.{live_before, stage-then, stage_as, told-others}
@@ -40,6 +38,7 @@ use Rattle.top_acts.proofs.Named.{apart_in, loses_of, only_lose}
 use Rattle.top_acts.proofs.Seated.{seats-kept, seats-then, seats_of_rounds}
 use Rattle.top_acts.proofs.Staged.{AreNone, staged-around, staged-as, staged-before, staged-more}
 use Rattle.top_acts.proofs.Swept.{DidSweep, sweep_stage}
+use Rattle.top_rounds.proofs.Words.{IsFirstInUse}
 
 pub no_none : {A X : Type 0} {x : X} → Some x ≡ None → A
 no_none h = absurd (let u : ⊥ = cc in u)
@@ -66,7 +65,7 @@ module _ {D : Type 0} (g : Ghosts D) (y : Shape) where
 
   -- labels are written to sector 0 alone
   pub quiet_in_use : (columns : List Column) (old new : List (Option D)) → Changes g (IsFirstInUse columns) old new → Quiet g y old new
-  quiet_in_use columns old new h = changes-more g (IsFirstInUse columns) (λ d n. n < 64) old new (λ d n f. omega (arith, f.first)) h
+  quiet_in_use columns old new h = changes-more g (IsFirstInUse columns) (λ d n. n < 64) old new (λ d n f. omega (arith, f.kept)) h
 
   -- behind which the array isn't lost
   pub sweeps_kept : (sweep : Sweeps) (label : Label) (columns after : List Column) (old new : List (Option D)) (lost : Option Loss) (n : ℕ) → lost ≡ None → IsLossBy y None (states_of y after) lost → DoesSweeps g sweep y columns after old new n → DidSweep g y sweep columns after old new n
@@ -111,7 +110,7 @@ module _ {D : Type 0} (g : Ghosts D) (y : Shape) where
         stage = stage-then g (MaySweep g sweep y columns old) (IsFirstInUse mid) (MayBegin g Round sweep y columns old)
             (λ d. AreStaged AreNone AreNone sweep y (states_of y columns) d) (λ d. All IsLabelWrite) (λ d. AreStaged AreNone (AreLast (Some loss)) sweep y (states_of y columns) d)
             (Some loss) columns mid after old dev new (sweep_stage g y sweep None columns mid old dev n s) (stage_of_rounds g (Some loss) label next mid h.0 after dev new r)
-            (λ d m f. inr f) (λ d m f. inl (record { col = f.col; live = live_before (DiesIn g None columns old dev) columns mid f.col d dies f.live; first = f.first }))
+            (λ d m f. inr f) (λ d m f. inl (record { col = f.col; live = live_before (DiesIn g None columns old dev) columns mid f.col d dies f.live; kept = f.kept }))
             (λ d xs ys s w. staged-more AreNone (AreLast (Some loss)) sweep y (states_of y columns) d xs ys s w);
         counter = counts-then 0 1 label label next [] r.rises (counts-none label label refl) (record { least = r.least; most = r.most });
         label_is = is;
@@ -132,7 +131,7 @@ module _ {D : Type 0} (g : Ghosts D) (y : Shape) where
   unswept (Marked marks) columns after old new e = absurd (let u : ⊥ = cc in u)
 
   low_announced : (notice : Notice) (columns : List Column) (d n : ℕ) → MayAnnounce notice columns d n → n < 64
-  low_announced Round columns d n f = omega (arith, f.first)
+  low_announced Round columns d n f = omega (arith, f.kept)
   low_announced (Marks map) columns d n f = elim f.kept [ inl zero ↦ omega (arith, zero) | inr one ↦ omega (arith, one) ]
 
   announced_may : (notice : Notice) (sweep : Sweeps) (columns : List Column) (old : List (Option D)) (d n : ℕ) → MayAnnounce notice columns d n → MayBegin g notice sweep y columns old d n
@@ -203,13 +202,13 @@ module _ {D : Type 0} (g : Ghosts D) (y : Shape) where
 
     -- which sectors the sweep, and a round behind it, may have changed
     second : (m : Notice) (d k : ℕ) → MayBegin g Round sweep y mid dev d k → MayBegin g m sweep y columns old d k
-    second Round d k (inl used) = inl (record { col = used.col; live = live used.col d used.live; first = used.first })
+    second Round d k (inl used) = inl (record { col = used.col; live = live used.col d used.live; kept = used.kept })
     second Round d k (inr may) = inr (sweep_was g y columns mid old dev back quiet sweep d k may)
-    second (Marks map) d k (inl used) = inl (record { col = used.col; live = live used.col d used.live; kept = inl used.first })
+    second (Marks map) d k (inl used) = inl (record { col = used.col; live = live used.col d used.live; kept = inl used.kept })
     second (Marks map) d k (inr may) = inr (sweep_was g y columns mid old dev back quiet sweep d k may)
 
     swept_low : (d k : ℕ) → MayBegin g Round sweep y mid dev d k → IsSwept g y columns mid old dev back quiet sweep d k
-    swept_low d k (inl used) = inl (omega (arith, used.first))
+    swept_low d k (inl used) = inl (omega (arith, used.kept))
     swept_low d k (inr may) = inr may
 
     has : SweepHas g sweep y columns after old new n
@@ -220,7 +219,7 @@ module _ {D : Type 0} (g : Ghosts D) (y : Shape) where
     MayFollow d k = ((is_some lost ≡ true) × (k ≡ 0)) ⊎ MaySweep g sweep y columns old d k
 
     follow : is_some lost ≡ true → (d k : ℕ) → MayBegin g Round sweep y mid dev d k → MayFollow d k
-    follow some d k (inl used) = inl (some, used.first)
+    follow some d k (inl used) = inl (some, used.kept)
     follow some d k (inr may) = inr (sweep_was g y columns mid old dev back quiet sweep d k may)
 
     -- labels are written behind the sweep where it lost the array
@@ -230,7 +229,7 @@ module _ {D : Type 0} (g : Ghosts D) (y : Shape) where
 
     -- sector 1 isn't one of those
     no_second : (d : ℕ) → MayBegin g Round sweep y mid dev d 1 → ⊥
-    no_second d (inl used) = omega (arith, used.first)
+    no_second d (inl used) = omega (arith, used.kept)
     no_second d (inr may) = omega (arith, sweep_high g y sweep mid dev d 1 may)
 
     front_alone : (xs : List Call) (h : AreAnnounced notice None xs) → xs ≡ h.front

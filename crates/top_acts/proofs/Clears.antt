@@ -11,7 +11,7 @@ use Rattle.blk_disk.proofs.DeviceLaws.{changes-refl, changes_sector, changes_siz
 use Rattle.lay_core.specs.Layout.{Shape}
 use Rattle.eng_cols.specs.declared.column.Column.{Column}
 use Rattle.eng_cols.specs.declared.spot.Loss.{Loss}
-use Rattle.eng_cols.specs.Cols.{ColumnState, device_set}
+use Rattle.eng_cols.specs.Cols.{ColumnState, device_set, HasDeviceOn}
 use Rattle.eng_cols.specs.Deaths.{Dies}
 use Rattle.eng_cols.specs.Stripes.{states_of}
 use Rattle.raid_label.specs.declared.label.Label.{Label}
@@ -19,30 +19,32 @@ use Rattle.raid_map.specs.Marking.{CanBeMarked, IsMapSector, MarksOn}
 use Rattle.raid_map.specs.Regions.{Marks as Map, IsBytesOf}
 use Rattle.top_close.specs.Calls.{EndsSettled, MoreOn}
 use Rattle.top_close.specs.Ended.{IsLossBy}
-use Rattle.top_close.specs.Settled.{AreSettled, HasDeviceOn, LosesDevice}
+use Rattle.top_close.specs.Settled.{AreSettled, LosesDevice}
 use Rattle.top_close.specs.Stage.{DiesIn, IsGivenUp, IsGivenUpIn, IsInUse, IsStage, IsUncalled, device_count}
 use Rattle.top_close.proofs.CallLaws.{more-then}
 use Rattle.top_close.proofs.SettledLaws.{device_within}
 use Rattle.top_close.proofs.StageLaws.{live_before, live_less, stage-then, stage_as}
 use Rattle.top_rounds.specs.Calls.{WritesSome, WritesWithin}
 use Rattle.top_rounds.specs.Labels.{seating_in, seating_of, with_round}
-use Rattle.top_rounds.specs.Passes.{HoldsLabel, IsFirstInUse}
+use Rattle.top_rounds.specs.Passes.{HoldsLabel, IsKeptInUse}
 use Rattle.top_rounds.specs.Rounds.{CountsRounds, HoldsTried, clean_in_end}
 use Rattle.top_rounds.proofs.CallLaws.{some-before, some-behind, within-then}
 use Rattle.top_rounds.proofs.RoundLaws.{any_death, counts-none, counts-then, counts_few, given_kept, round_again, tried-then}
 use Rattle.top_acts.specs.Begun.{HasSeats}
-use Rattle.top_acts.specs.Cleared.{ClearsIn, EndCleared, EndingCalls, EndsInSteps, EndsMapped, EndsMappedSettled, HoldsOr, IsEndingCall, TriesToClear}
+use Rattle.top_acts.specs.Cleared.{ClearsIn, EndsInSteps, EndsMapped, EndsMappedSettled, IsEndingCall, TriesToClear}
 use Rattle.top_acts.specs.Closed.{ClosesLabelled, ClosesSettled, settled_in_end}
 use Rattle.top_acts.specs.Failed.{IsLeftLost}
-use Rattle.top_acts.specs.Marking.{HoldsMap, IsKeptInUse, MarksAll}
+use Rattle.top_acts.specs.Marking.{HoldsMap, MarksAll}
 use Rattle.top_acts.specs.Stages.{IsClosing}
-use Rattle.top_acts.proofs.Endings.{calls_ending, endings-then, marked_ending}
+use Rattle.top_acts.proofs.Endings.{calls_ending, ending_calls, endings-then, marked_ending}
 use Rattle.top_acts.proofs.InTurn.{AreApart}
 use Rattle.top_acts.proofs.Marked.{IsMarkCall, marks_dies, marks_second, marks_stage, marks_times, marks_uncalled}
 use Rattle.top_acts.proofs.Seated.{seats-kept, seats-then}
 use Rattle.top_acts.proofs.Ended.{no_loss}
 use Rattle.top_acts.proofs.Settled.{Death, death_of}
 use Rattle.top_acts.proofs.Tried.{strict}
+use Rattle.top_rounds.proofs.Words.{IsFirstInUse}
+use Rattle.top_acts.proofs.Words.{EndCleared, HoldsOr, EndingCalls}
 
 -- a label write, a write of a map or a settle
 any_mark : (call : Call) → IsMarkCall call → IsEndingCall true call
@@ -82,12 +84,12 @@ module _ {D : Type 0} (g : Ghosts D) where
 
   -- labels alone are written
   same_second : (was : Bool) (label next : Label) (columns after : List Column) (old new : List (Option D)) (lost : Option Loss) → ClosesLabelled g was label next columns after old new lost → g.tells → (d : ℕ) → sector_of g new d 1 ≡ sector_of g old d 1
-  same_second was label next columns after old new lost k told d = changes_sector g (IsFirstInUse columns) old new d 1 k.counted.stage.frame told (λ f. omega (arith, f.first))
+  same_second was label next columns after old new lost k told d = changes_sector g (IsFirstInUse columns) old new d 1 k.counted.stage.frame told (λ f. omega (arith, f.kept))
 
   abbrev closing_stage : (was : Bool) (label next : Label) (columns after : List Column) (old new : List (Option D)) (lost : Option Loss) → ClosesLabelled g was label next columns after old new lost → IsStage g (IsKeptInUse true columns) (λ d. All (IsEndingCall true)) lost columns after old new
   closing_stage was label next columns after old new lost k =
       stage_as g (IsFirstInUse columns) (IsKeptInUse true columns) (λ d. All IsClosing) (λ d. All (IsEndingCall true)) lost columns after old new
-      (λ d n f. record { col = f.col; live = f.live; kept = inl f.first }) (λ d calls. All-weaker IsClosing (IsEndingCall true) (λ c h. inl h) calls) k.counted.stage
+      (λ d n f. record { col = f.col; live = f.live; kept = inl f.kept }) (λ d calls. All-weaker IsClosing (IsEndingCall true) (λ c h. inl h) calls) k.counted.stage
 
   pub ends_closed : (blank : Map) (was : Bool) (label next : Label) (columns after : List Column) (old new : List (Option D)) (lost : Option Loss) → ClosesLabelled g was label next columns after old new lost → Ends blank was label next columns after old new lost
   ends_closed blank was label next columns after old new lost k = record {
@@ -126,6 +128,20 @@ module _ {D : Type 0} (g : Ghosts D) where
     maps = λ told d quiet. inl (same_second was label next columns after old new lost k told d);
     cleared = λ blank e. absurd (let u : ⊥ = cc in u);
     called = λ some. absurd (let z : false ≡ true = some in let u : ⊥ = cc in u);
+  }
+
+  pub closed_mapped : (was : Bool) (label next : Label) (columns after : List Column) (old new : List (Option D)) (lost : Option Loss) → EndsMapped g None was label next columns after old new lost → ClosesLabelled g was label next columns after old new lost
+  closed_mapped was label next columns after old new lost k = record {
+    counted = record { stage = k.stage; counter = k.counter; others = k.others; times = k.times };
+    label_is = k.label_is;
+    seated = k.seated;
+    seating = k.seating;
+    given_up = k.given_up;
+    held = k.held;
+    labelled = k.labelled;
+    settled = k.settled;
+    given = k.given;
+    each = ending_calls g lost was (settled_in_end lost) columns after old new k.each;
   }
 
   -- ## Maps that are cleared
@@ -337,7 +353,7 @@ module _ {D : Type 0} (g : Ghosts D) where
     pub closed : ClosesLabelled g true label next mid after dev new lost
 
   pub retries : (blank : Map) (label next : Label) (columns after : List Column) (old new : List (Option D)) (before lost : Option Loss) → TriesToClear g blank label next columns after old new before lost false → Retries blank label next columns after old new before lost
-  retries blank label next columns after old new None lost h = record { mid = h.0; dev = h.1; none = refl; marks = h.2; fewer = h.3; closed = h.4 }
+  retries blank label next columns after old new None lost h = record { mid = h.0; dev = h.1; none = refl; marks = h.2; fewer = h.3; closed = closed_mapped true label next h.0 after h.1 new lost h.4 }
   retries blank label next columns after old new (Some loss) lost h = let z : false ≡ true = h.0 in absurd (let u : ⊥ = cc in u)
 
   -- what the tries so far have left, behind the closing

@@ -6,11 +6,9 @@ use Rattle.blk_disk.specs.Devices.{RisesOn, calls_of}
 use Rattle.blk_disk.proofs.DeviceLaws.{changes-refl, rises-wider}
 use Rattle.eng_cols.specs.declared.column.Column.{Column}
 use Rattle.eng_cols.specs.declared.spot.Loss.{Loss}
-use Rattle.eng_cols.specs.Cols.{device_set}
+use Rattle.eng_cols.specs.Cols.{device_set, HasDeviceOn}
 use Rattle.raid_label.specs.declared.label.Label.{Label}
-use Rattle.top_close.specs.Settled.{HasDeviceOn}
 use Rattle.top_rounds.specs.Labels.{seating_in, with_round}
-use Rattle.top_rounds.specs.Passes.{IsFirstInUse}
 use Rattle.top_close.specs.Stage.{DiesIn, IsGivenUp}
 use Rattle.top_rounds.specs.Rounds.{HoldsTried, clean_in_end}
 use Rattle.top_close.proofs.StageLaws.{live_before}
@@ -21,6 +19,7 @@ use Rattle.top_acts.specs.Stages.{IsClosing}
 use Rattle.top_acts.proofs.Counted.{counted-then}
 use Rattle.top_acts.proofs.InTurn.{AreApart, in_turn-then}
 use Rattle.top_acts.proofs.Seated.{seats-then}
+use Rattle.top_rounds.proofs.Words.{IsFirstInUse}
 
 module _ {D : Type 0} (g : Ghosts D) where
   -- no counter is greater than before by more than there were columns

@@ -7,16 +7,16 @@ use Rattle.blk_disk.specs.Devices.{calls_of}
 use Rattle.eng_cols.specs.declared.column.Column.{Column}
 use Rattle.eng_cols.specs.declared.spot.Loss.{Loss}
 use Rattle.raid_label.specs.declared.label.Label.{Label}
-use Rattle.top_close.specs.Settled.{HasDeviceOn}
 use Rattle.top_close.specs.Stage.{DiesIn, IsStage, IsUncalled}
 use Rattle.top_close.proofs.StageLaws.{live_before, stage-none, stage-then, stage_as}
 use Rattle.top_rounds.specs.Calls.{IsLabelWrite, WritesWithin}
-use Rattle.top_rounds.specs.Passes.{IsFirstInUse}
 use Rattle.top_rounds.specs.Rounds.{AreRounds, CountsRounds}
 use Rattle.top_rounds.proofs.CallLaws.{within-none, within-then}
 use Rattle.top_rounds.proofs.RoundLaws.{counts-none, stage_of_rounds}
 use Rattle.top_acts.specs.Closed.{AreCounted}
 use Rattle.top_acts.specs.Stages.{IsClosing}
+use Rattle.top_rounds.proofs.Words.{IsFirstInUse}
+use Rattle.eng_cols.specs.Cols.{HasDeviceOn}
 
 module _ {D : Type 0} (g : Ghosts D) where
   -- nothing was done
@@ -47,7 +47,7 @@ module _ {D : Type 0} (g : Ghosts D) where
     abbrev pub counted-then : (named : ℕ) → CountsRounds named label next (length (was.stage.rises ++ is.rises)) → AreCounted g lost named label next columns after old new
     counted-then named counter = record {
       stage = stage-then g (IsFirstInUse columns) (IsFirstInUse mid) (IsFirstInUse columns) (λ d. All IsClosing) (λ d. All IsClosing) (λ d. All IsClosing) lost columns mid after old dev new was.stage is
-          (λ d m h. h) (λ d m h. record { col = h.col; live = live h.col d h.live; first = h.first }) (λ d. All-append IsClosing);
+          (λ d m h. h) (λ d m h. record { col = h.col; live = live h.col d h.live; kept = h.kept }) (λ d. All-append IsClosing);
       counter = counter;
       others = λ d none. others d (λ c h. none c (live c d h)) ∙ was.others d none;
       times = λ d. within-then label.counter before.counter next.counter (calls_of g old d) (calls_of g dev d) (calls_of g new d) (was.times d) (times d);

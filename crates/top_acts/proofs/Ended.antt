@@ -7,17 +7,16 @@ use Rattle.blk_disk.proofs.DeviceLaws.{changes-refl, rises-wider}
 use Rattle.lay_core.specs.Layout.{Shape}
 use Rattle.eng_cols.specs.declared.column.Column.{Column}
 use Rattle.eng_cols.specs.declared.spot.Loss.{Loss}
-use Rattle.eng_cols.specs.Cols.{ColumnState, device_set, is_set_filling}
+use Rattle.eng_cols.specs.Cols.{ColumnState, device_set, is_set_filling, HasDeviceOn}
 use Rattle.eng_cols.specs.Deaths.{Dies}
 use Rattle.raid_label.specs.declared.label.Label.{Label}
 use Rattle.eng_cols.specs.Fewer.{DieApart}
 use Rattle.eng_cols.specs.Stripes.{states_of}
 use Rattle.eng_cols.proofs.Lists.{count_at_most}
 use Rattle.top_close.specs.Ended.{IsLossBy}
-use Rattle.top_close.specs.Settled.{AreSettled, HasDeviceOn}
+use Rattle.top_close.specs.Settled.{AreSettled}
 use Rattle.top_close.proofs.DyingLaws.{columns_die, lost_no_less}
 use Rattle.top_rounds.specs.Labels.{seating_in, with_round}
-use Rattle.top_rounds.specs.Passes.{IsFirstInUse}
 use Rattle.top_close.specs.Stage.{DiesIn, IsGivenUp}
 use Rattle.top_rounds.specs.Rounds.{AreRounds, HaveRounds, HoldsTried, clean_in_end}
 use Rattle.top_rounds.proofs.CallLaws.{some-behind}
@@ -30,6 +29,7 @@ use Rattle.top_acts.proofs.InTurn.{AreApart, in_turn-then, in_turn-writes}
 use Rattle.top_acts.proofs.Seated.{seats-then, seats_of_rounds}
 use Rattle.top_acts.proofs.Settled.{settled, settled-times, unsettled}
 use Rattle.top_acts.proofs.Tried.{not_lost}
+use Rattle.top_rounds.proofs.Words.{IsFirstInUse}
 
 pub no_loss : {A : Type 0} → false ≡ true → A
 no_loss h = absurd (let u : ⊥ = cc in u)

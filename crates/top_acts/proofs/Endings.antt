@@ -9,17 +9,17 @@ use Rattle.eng_cols.specs.declared.column.Column.{Column}
 use Rattle.eng_cols.specs.declared.column.Column.TheVariants as column
 use Rattle.eng_cols.specs.Deaths.{Dies}
 use Rattle.eng_cols.specs.declared.spot.Loss.{Loss}
-use Rattle.eng_cols.specs.Cols.{device_set}
+use Rattle.eng_cols.specs.Cols.{device_set, HasDeviceOn, has_device}
 use Rattle.raid_map.specs.Marking.{MarkCalls, MarksOn}
 use Rattle.top_close.specs.Calls.{MoreOn}
-use Rattle.top_close.specs.Settled.{HasDeviceOn, has_device}
 use Rattle.top_close.proofs.CallLaws.{more-then, more_as}
 use Rattle.top_close.specs.Stage.{IsGivenUp, IsUncalled}
 use Rattle.top_close.proofs.StageLaws.{live_before, given_before}
-use Rattle.top_acts.specs.Cleared.{AreEndingInTurn, EndingCalls, EndsInTurn, FailsEnding}
+use Rattle.top_acts.specs.Cleared.{AreEndingInTurn, EndsInTurn}
 use Rattle.top_acts.specs.Closed.{CallInTurn}
 use Rattle.top_acts.specs.Stages.{AreInTurn, EndInTurn}
 use Rattle.top_acts.proofs.InTurn.{AreApart}
+use Rattle.top_acts.proofs.Words.{FailsEnding, EndingCalls}
 
 -- ## Lists of calls
 
@@ -38,6 +38,26 @@ fails_ending clears is call (inr s) = inr (inr s)
 end_ending : (clears stays a is : Bool) (xs : List Call) → EndInTurn stays a xs is → EndsInTurn clears stays a xs is
 end_ending clears true a is xs h = turn_ending clears a is xs h
 end_ending clears false a is xs h = (h.0, h.1, h.2, h.3, turn_ending clears a h.2 h.0 h.4, fails_ending clears h.2 h.1 h.5)
+
+-- and where no map is written they are such alone
+ending_turn : (a is : Bool) (xs : List Call) → AreEndingInTurn false a xs is → AreInTurn a xs is
+ending_turn a is [] h = h
+ending_turn a is (x ∷ xs) h = elim h [
+  | inl w ↦ inl (w.0, ending_turn false is xs w.1)
+  | inr more ↦ elim more [
+    | inl m ↦ let z : false ≡ true = m.0 in absurd (let u : ⊥ = cc in u)
+    | inr s ↦ inr (s.0, s.1, ending_turn true is xs s.2)
+  ]
+]
+
+ending_fails : (is : Bool) (call : Call) → FailsEnding false is call → (call ≡ call_of 1 0 512 false) ⊎ ((is ≡ false) × (call ≡ call_of 2 0 0 false))
+ending_fails is call (inl w) = inl w
+ending_fails is call (inr (inl m)) = let z : false ≡ true = m.0 in absurd (let u : ⊥ = cc in u)
+ending_fails is call (inr (inr s)) = inr s
+
+ending_end : (stays a is : Bool) (xs : List Call) → EndsInTurn false stays a xs is → EndInTurn stays a xs is
+ending_end true a is xs h = ending_turn a is xs h
+ending_end false a is xs h = (h.0, h.1, h.2, h.3, ending_turn a h.2 h.0 h.4, ending_fails h.2 h.1 h.5)
 
 ending-then : (clears a b e : Bool) (xs ys : List Call) → AreEndingInTurn clears a xs b → AreEndingInTurn clears b ys e → AreEndingInTurn clears a (xs ++ ys) e
 ending-then clears a b e [] ys one two = subst (λ s. AreEndingInTurn clears s ys e) (sym one) two
@@ -78,6 +98,12 @@ module _ {D : Type 0} (g : Ghosts D) where
   calls_ending clears lost a is columns after old new h c d live = elim (h c d live) [
     | inl told ↦ inl (more_as (λ more. EndInTurn (has_device (slice_get after c)) a more is) (λ more. EndsInTurn clears (has_device (slice_get after c)) a more is) (calls_of g old d) (calls_of g new d) (end_ending clears (has_device (slice_get after c)) a is) told)
     | inr given ↦ inr (given.0, (given.1.0, more_as (λ more. AreInTurn a more given.1.0) (λ more. AreEndingInTurn clears a more given.1.0) (calls_of g old d) (calls_of g new d) (turn_ending clears a given.1.0) given.1.1))
+  ]
+
+  pub ending_calls : (lost : Option Loss) (a is : Bool) (columns after : List Column) (old new : List (Option D)) → EndingCalls g false lost a is columns after old new → CallInTurn g lost a is columns after old new
+  ending_calls lost a is columns after old new h c d live = elim (h c d live) [
+    | inl told ↦ inl (more_as (λ more. EndsInTurn false (has_device (slice_get after c)) a more is) (λ more. EndInTurn (has_device (slice_get after c)) a more is) (calls_of g old d) (calls_of g new d) (ending_end (has_device (slice_get after c)) a is) told)
+    | inr given ↦ inr (given.0, (given.1.0, more_as (λ more. AreEndingInTurn false a more given.1.0) (λ more. AreInTurn a more given.1.0) (calls_of g old d) (calls_of g new d) (ending_turn a given.1.0) given.1.1))
   ]
 
   pub marked_ending : (a : Bool) (columns after : List Column) (old new : List (Option D)) → ((c d : ℕ) → HasDeviceOn columns c d → MarksOn (calls_of g old d) (calls_of g new d) (has_device (slice_get after c))) → EndingCalls g true None a true columns after old new

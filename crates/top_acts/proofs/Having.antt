@@ -7,7 +7,7 @@ use Rattle.blk_disk.specs.Devices.{Changes, device_at}
 use Rattle.lay_core.specs.Layout.{Shape}
 use Rattle.eng_cols.specs.declared.column.Column.{Column}
 use Rattle.eng_cols.specs.declared.column.Column.TheVariants as column
-use Rattle.eng_cols.specs.Cols.{HasDevice, device_set, is_set_filling, is_set_spread}
+use Rattle.eng_cols.specs.Cols.{HasDevice, device_set, is_set_filling, is_set_spread, HasDeviceOn}
 use Rattle.eng_cols.specs.Deaths.{Dies}
 use Rattle.std.specs.Prelude.{count_by}
 use Rattle.eng_cols.specs.Fewer.{DieApart}
@@ -15,7 +15,7 @@ use Rattle.eng_cols.specs.Stripes.{filled_in, states_of}
 use Rattle.eng_cols.proofs.Fewer.{states-at}
 use Rattle.raid_map.specs.Marking.{CanBeMarked}
 use Rattle.raid_recon.specs.Array.{IsArray}
-use Rattle.top_close.specs.Settled.{HaveDevices, HasDeviceOn}
+use Rattle.top_close.specs.Settled.{HaveDevices}
 use Rattle.top_rounds.proofs.RoundLaws.{any_death, can-after, settable_after}
 use Rattle.top_acts.specs.Begun.{CanAct}
 use Rattle.top_acts.proofs.Backs.{array_after}

@@ -17,7 +17,6 @@ use Rattle.top_close.specs.Ended.{IsLossBy}
 use Rattle.top_close.specs.Settled.{AreSettled}
 use Rattle.top_acts.specs.Closed.{ClosesLabelled}
 use Rattle.top_rounds.specs.Labels.{given_up}
-use Rattle.top_rounds.specs.Passes.{IsFirstInUse}
 use Rattle.top_close.specs.Stage.{DiesIn, IsGivenUp, IsGivenUpIn, IsStage}
 use Rattle.top_rounds.specs.Rounds.{in_end}
 use Rattle.top_close.proofs.StageLaws.{live_before, given_before, dies_over}
@@ -26,6 +25,8 @@ use Rattle.top_acts.specs.Killed.{ClosesUnless, EndsAlive}
 use Rattle.top_acts.specs.Stages.{IsClosing}
 use Rattle.top_acts.proofs.Ended.{no_loss, still_lost}
 use Rattle.top_acts.proofs.Settled.{settled}
+use Rattle.top_rounds.proofs.Words.{IsFirstInUse}
+use Rattle.top_acts.proofs.Clears.{mapped_closed}
 
 -- what is given up as an array is lost
 gives_in : (lost : Option Loss) (columns : List Column) → is_some lost ≡ true → Dies (IsGivenUp lost columns) columns (given_up columns)
@@ -39,7 +40,7 @@ given_in (Some loss) columns some = none_given columns
 module _ {D : Type 0} (g : Ghosts D) (y : Shape) where
   pub ends_closed : (label next : Label) (columns mid after : List Column) (old dev new : List (Option D)) (before lost : Option Loss) → AreSettled g (length columns) columns mid old dev → IsLossBy y None (states_of y mid) before → is_some before ≡ false
       → ClosesLabelled g true label next mid after dev new lost → EndsAlive g y label next columns after old new lost
-  ends_closed label next columns mid after old dev new None lost settles is none closes = record { mid = mid; dev = dev; before = None; settles = settles; lost_is = is; ends = closes }
+  ends_closed label next columns mid after old dev new None lost settles is none closes = record { mid = mid; dev = dev; before = None; settles = settles; lost_is = is; ends = mapped_closed g true label next mid after dev new lost closes }
   ends_closed label next columns mid after old dev new (Some loss) lost settles is none closes = let z : true ≡ false = none in absurd (let u : ⊥ = cc in u)
 
   -- what was lost stays so where a column is given up that was filling
@@ -71,7 +72,7 @@ module _ {D : Type 0} (g : Ghosts D) (y : Shape) where
     alive_died = by e.before e.ends
       where
         by : (before : Option Loss) → ClosesUnless g before label next e.mid after e.dev new lost → Dies (DiesIn g lost columns old new) columns after
-        by None closes = dies_over g lost columns e.mid after old e.dev new (IsFirstInUse columns) (IsFirstInUse e.mid) settles.frame closes.counted.stage.frame settles.dies closes.counted.stage.dies
+        by None closes = dies_over g lost columns e.mid after old e.dev new (IsFirstInUse columns) (IsFirstInUse e.mid) settles.frame closes.stage.frame settles.dies closes.stage.dies
         by (Some loss) left =
             subst (λ (l : List (Option D)). Dies (DiesIn g lost columns old l) columns after) (sym left.0.devices_are)
             (subst (λ (l : List Column). Dies (DiesIn g lost columns old e.dev) columns l) (sym left.0.columns_are) (left_died left.1))
@@ -88,5 +89,5 @@ module _ {D : Type 0} (g : Ghosts D) (y : Shape) where
       where
         by : (before : Option Loss) → ClosesUnless g before label next e.mid after e.dev new lost → Changes g (IsFirstInUse columns) old new
         by None closes = changes-then g (IsFirstInUse columns) old e.dev new settles.frame
-            (changes-more g (IsFirstInUse e.mid) (IsFirstInUse columns) e.dev new (λ d m h. record { col = h.col; live = live_before (DiesIn g None columns old e.dev) columns e.mid h.col d settles.dies h.live; first = h.first }) closes.counted.stage.frame)
+            (changes-more g (IsFirstInUse e.mid) (IsFirstInUse columns) e.dev new (λ d m h. record { col = h.col; live = live_before (DiesIn g None columns old e.dev) columns e.mid h.col d settles.dies h.live; kept = h.kept }) closes.stage.frame)
         by (Some loss) left = subst (λ (l : List (Option D)). Changes g (IsFirstInUse columns) old l) (sym left.0.devices_are) settles.frame

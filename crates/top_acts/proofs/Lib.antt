@@ -24,3 +24,4 @@ pub mod Swept
 pub mod Tried
 pub mod Uncalled
 pub mod Without
+pub mod Words

@@ -8,14 +8,14 @@ use Rattle.blk_disk.proofs.DeviceLaws.{changes-refl}
 use Rattle.lay_core.specs.Layout.{Shape}
 use Rattle.eng_cols.specs.declared.column.Column.{Column}
 use Rattle.eng_cols.specs.declared.spot.Loss.{Loss}
-use Rattle.eng_cols.specs.Cols.{is_set_filling, is_set_spread}
+use Rattle.eng_cols.specs.Cols.{is_set_filling, is_set_spread, has_device}
 use Rattle.eng_cols.specs.Deaths.{Dies}
 use Rattle.eng_cols.proofs.DeathLaws.{dies-more, dies-refl}
 use Rattle.raid_map.specs.Reading.{AreRead}
 use Rattle.raid_map.specs.Regions.{Marks as Map}
 use Rattle.top_close.specs.Dying.{AnyCause}
 use Rattle.top_close.specs.Calls.{MoreOn}
-use Rattle.top_close.specs.Settled.{LosesDevice, has_device}
+use Rattle.top_close.specs.Settled.{LosesDevice}
 use Rattle.top_close.specs.Stage.{DiesIn, IsGivenUp, IsStage, IsUncalled}
 use Rattle.top_close.proofs.CallLaws.{more_all-none, more_all-one}
 use Rattle.top_close.proofs.StageLaws.{dies_over, stage-plain, told-others}
@@ -24,10 +24,11 @@ use Rattle.top_rounds.specs.Labels.{given_up}
 use Rattle.top_rounds.specs.Rounds.{in_end}
 use Rattle.top_rounds.proofs.RoundLaws.{given_death, gives_up, none_given}
 use Rattle.top_acts.specs.Begun.{CanAct}
-use Rattle.top_acts.specs.Mapped.{IsMapRead, LooksAtMaps}
+use Rattle.top_acts.specs.Mapped.{LooksAtMaps}
 use Rattle.top_acts.proofs.Having.{acts_after}
 use Rattle.top_acts.proofs.Marked.{loses_marked, on_or}
 use Rattle.top_acts.proofs.Named.{apart_in}
+use Rattle.top_acts.proofs.Words.{IsMapRead}
 
 module _ {D : Type 0} (g : Ghosts D) (y : Shape) where
   -- columns whose devices failed are dead

@@ -11,21 +11,22 @@ use Rattle.blk_disk.specs.Devices.{RisesOn, StaysIf, calls_of, device_at, sector
 use Rattle.blk_disk.proofs.DeviceLaws.{changes-more}
 use Rattle.eng_cols.specs.declared.column.Column.{Column}
 use Rattle.eng_cols.specs.declared.spot.Loss.{Loss}
-use Rattle.eng_cols.specs.Cols.{device_set}
+use Rattle.eng_cols.specs.Cols.{device_set, HasDeviceOn}
 use Rattle.eng_cols.specs.Deaths.{Dies}
 use Rattle.eng_cols.proofs.DeathLaws.{dies-more}
 use Rattle.raid_map.specs.Marking as mark
 use Rattle.raid_map.specs.Marking.{AreMarked, IsMapSector, MarkCalls, MarksAtMost}
 use Rattle.raid_map.specs.Regions.{Marks as Map, IsBytesOf}
 use Rattle.top_close.specs.Calls.{IsSettle, MoreOn}
-use Rattle.top_close.specs.Settled.{HasDeviceOn, LosesDevice}
+use Rattle.top_close.specs.Settled.{LosesDevice}
 use Rattle.top_close.specs.Stage.{IsStage, IsUncalled}
 use Rattle.top_close.proofs.SettledLaws.{device_within}
 use Rattle.top_close.proofs.StageLaws.{dies_lost, live_before, stage-plain, told-others}
-use Rattle.top_rounds.specs.Calls.{WritesWithin, is_label_write}
-use Rattle.top_rounds.specs.Passes.{CanBeLabelled}
+use Rattle.top_rounds.specs.Calls.{WritesWithin}
+use Rattle.top_rounds.specs.Passes.{CanBeLabelled, IsKeptInUse}
 use Rattle.top_rounds.proofs.CallLaws.{within-other}
-use Rattle.top_acts.specs.Marking.{IsKeptInUse, IsMapWrite, MarksAll}
+use Rattle.top_acts.specs.Marking.{IsMapWrite, MarksAll}
+use Rattle.top_rounds.proofs.Words.{is_label_write}
 
 -- ## Calls
 

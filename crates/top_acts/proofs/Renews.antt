@@ -10,7 +10,7 @@ use Rattle.blk_disk.proofs.DeviceLaws.{changes-more, changes-refl, changes-then,
 use Rattle.lay_core.specs.Layout.{Shape, IsLayout}
 use Rattle.eng_cols.specs.declared.column.Column.{Column}
 use Rattle.eng_cols.specs.declared.spot.Loss.{Loss}
-use Rattle.eng_cols.specs.Cols.{InOrder, is_set_filling}
+use Rattle.eng_cols.specs.Cols.{InOrder, is_set_filling, HasDeviceOn, has_device}
 use Rattle.eng_cols.proofs.DeathLaws.{dies-more}
 use Rattle.raid_label.specs.declared.label.Label.{Label}
 use Rattle.raid_map.specs.Regions.{Marks as Map, IsBytesOf}
@@ -19,11 +19,10 @@ use Rattle.raid_recon.specs.Ends.{MayRewrite}
 use Rattle.raid_recon.proofs.Backs.{Back}
 use Rattle.top_close.specs.Calls.{EndsSettled, IsSettle, MoreOn}
 use Rattle.top_close.specs.Ended.{IsLossBy}
-use Rattle.top_close.specs.Settled.{AreSettled, HasDeviceOn, has_device, LosesDevice}
+use Rattle.top_close.specs.Settled.{AreSettled, LosesDevice}
 use Rattle.top_close.proofs.SettledLaws.{device_within}
 use Rattle.top_rounds.specs.Calls.{IsLabelWrite}
 use Rattle.top_rounds.specs.Labels.{seating_in, with_round}
-use Rattle.top_rounds.specs.Passes.{IsFirstInUse}
 use Rattle.top_close.specs.Stage.{DiesIn, IsGivenUpIn, IsStage}
 use Rattle.top_rounds.specs.Rounds.{clean_in_end}
 use Rattle.top_close.proofs.CallLaws.{more-then}
@@ -34,11 +33,11 @@ use Rattle.top_acts.specs.declared.done.Done.{Done}
 use Rattle.top_acts.specs.declared.done.Done.TheVariants as done
 use Rattle.top_acts.specs.declared.sweeping.Renewal.{Renewal}
 use Rattle.top_acts.specs.Begun.{AreLast, HasBegun, HasSwept, MayBegin, MaySweep}
-use Rattle.top_acts.specs.Cleared.{EndsInSteps, EndsMapped, EndsMappedSettled, IsEndingCall, MayEnd}
+use Rattle.top_acts.specs.Cleared.{EndsInSteps, EndsMapped, EndsMappedSettled, IsEndingCall}
 use Rattle.top_acts.specs.Done.{unless_lost}
-use Rattle.top_acts.specs.Mapped.{IsMapRead, LooksAtMaps, ReadsMap, clear_of, is_any_marked}
+use Rattle.top_acts.specs.Mapped.{LooksAtMaps, ReadsMap, is_any_marked}
 use Rattle.top_acts.specs.Marking.{AreNotice}
-use Rattle.top_acts.specs.Renewed.{IsRenewed, IsRenewedPlain, MayRenew, SettlesFirstOf, renewed}
+use Rattle.top_acts.specs.Renewed.{IsRenewed, IsRenewedPlain, SettlesFirstOf, renewed}
 use Rattle.top_acts.specs.Sweeps.{Over, Round, sweep_of}
 use Rattle.top_acts.specs.Stages.{AreStaged}
 use Rattle.top_acts.specs.Sweeping.{DoesSweep}
@@ -51,6 +50,9 @@ use Rattle.top_acts.proofs.Named.{apart_in, loses_of, only_lose}
 use Rattle.top_acts.proofs.Swept.{sweep_frame, swept_now}
 use Rattle.top_acts.proofs.Uncalled.{told-units}
 use Rattle.top_acts.proofs.Staged.{AreNone, last_ends, settles-ending, staged-as, staged-more, staged-read, staged-reads, staged-sweep}
+use Rattle.top_rounds.proofs.Words.{IsFirstInUse}
+use Rattle.top_acts.proofs.Words.{MayEnd, IsMapRead, clear_of}
+use Rattle.top_rounds.specs.Passes.{IsKeptInUse}
 
 -- the settles come first
 first_settled : {D : Type 0} (g : Ghosts D) (clear : Option Map) (label next : Label) (columns after : List Column) (old new : List (Option D)) (lost : Option Loss) → EndsMappedSettled g clear label next columns after old new lost → (c d : ℕ) → HasDeviceOn columns c d → MoreOn (SettlesFirstOf (is_some clear)) (calls_of g old d) (calls_of g new d)
@@ -59,15 +61,15 @@ first_settled g clear label next columns after old new lost s c d live =
 
 -- the sectors that an end may write, by columns of before
 end_may : (clears : Bool) (columns mid : List Column) (d n : ℕ) → ((c : ℕ) → HasDeviceOn mid c d → HasDeviceOn columns c d) → MayEnd clears mid d n → MayEnd clears columns d n
-end_may false columns mid d n live f = record { col = f.col; live = live f.col f.live; first = f.first }
+end_may false columns mid d n live f = record { col = f.col; live = live f.col f.live; kept = f.kept }
 end_may true columns mid d n live f = record { col = f.col; live = live f.col f.live; kept = f.kept }
 
 first_may : (clears : Bool) (columns mid : List Column) (d n : ℕ) → ((c : ℕ) → HasDeviceOn mid c d → HasDeviceOn columns c d) → IsFirstInUse mid d n → MayEnd clears columns d n
-first_may false columns mid d n live f = record { col = f.col; live = live f.col f.live; first = f.first }
-first_may true columns mid d n live f = record { col = f.col; live = live f.col f.live; kept = inl f.first }
+first_may false columns mid d n live f = record { col = f.col; live = live f.col f.live; kept = f.kept }
+first_may true columns mid d n live f = record { col = f.col; live = live f.col f.live; kept = inl f.kept }
 
 low_end : (clears : Bool) (columns : List Column) (d n : ℕ) → MayEnd clears columns d n → n < 64
-low_end false columns d n f = omega (arith, f.first)
+low_end false columns d n f = omega (arith, f.kept)
 low_end true columns d n f = elim f.kept [ inl zero ↦ omega (arith, zero) | inr one ↦ omega (arith, one) ]
 
 -- maps are cleared where one marks something
@@ -98,7 +100,7 @@ module _ {D : Type 0} (g : Ghosts D) (kind : Renewal) (y : Shape) (blank union :
   Calls d = AreStaged (ReadsMap (All IsLabelWrite)) (All (IsEndingCall (is_any_marked union))) (Over (sweep_of kind)) y (states_of y columns) d
 
   abbrev May : ℕ → ℕ → Type 0
-  May d n = MayRenew g (is_any_marked union) (sweep_of kind) y columns old d n
+  May d n = IsKeptInUse (is_any_marked union) columns d n ⊎ MaySweep g (Over (sweep_of kind)) y columns old d n
 
   -- the array was lost as its maps were read
   pub renewed_unread : (label : Label) (after : List Column) (lost : Option Loss) → is_some lost ≡ true → IsLossBy y None (states_of y after) lost → LooksAtMaps g y blank union columns after old looked lost → IsRenewed g kind y label label columns after old looked lost done.Nothing blank union
@@ -149,11 +151,11 @@ module _ {D : Type 0} (g : Ghosts D) (kind : Renewal) (y : Shape) (blank union :
     begin_may d n (inr m) = inr (sweep_was g y columns read old looked back_read quiet_read (Over (sweep_of kind)) d n m)
 
     swept_low : (d n : ℕ) → MayBegin g Round (Over (sweep_of kind)) y read looked d n → IsSwept g y columns read old looked back_read quiet_read (Over (sweep_of kind)) d n
-    swept_low d n (inl f) = inl (omega (arith, f.first))
+    swept_low d n (inl f) = inl (omega (arith, f.kept))
     swept_low d n (inr m) = inr m
 
     no_second : (d : ℕ) → MayBegin g Round (Over (sweep_of kind)) y read looked d 1 → ⊥
-    no_second d (inl f) = omega (arith, f.first)
+    no_second d (inl f) = omega (arith, f.kept)
     no_second d (inr m) = omega (arith, sweep_high g y (Over (sweep_of kind)) read looked d 1 m)
 
     -- what was begun, behind the reads

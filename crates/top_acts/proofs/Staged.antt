@@ -16,10 +16,11 @@ use Rattle.top_rounds.specs.Calls.{IsLabelWrite}
 use Rattle.top_close.specs.Calls.{MoreOn}
 use Rattle.top_acts.specs.Begun.{AreLast}
 use Rattle.top_acts.specs.Cleared.{IsEndingCall}
-use Rattle.top_acts.specs.Mapped.{IsMapRead, ReadsMap}
+use Rattle.top_acts.specs.Mapped.{ReadsMap}
 use Rattle.top_acts.specs.Renewed.{SettlesFirstOf}
-use Rattle.top_acts.specs.Stages.{AreStaged, AreSweep, ClosesOn, IsClosing, SettlesFirst, SettlesFirstOn, StagesOn}
+use Rattle.top_acts.specs.Stages.{AreStaged, AreSweep, ClosesOn, IsClosing, SettlesFirst, SettlesFirstOn}
 use Rattle.top_acts.specs.Sweeps.{Sweeps, Nothing, Over, Marked}
+use Rattle.top_acts.proofs.Words.{IsMapRead, StagesOn}
 
 -- ## Label writes and settles
 

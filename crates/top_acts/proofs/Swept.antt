@@ -17,12 +17,13 @@ use Rattle.raid_recon.specs.Ends.{MayRewrite}
 use Rattle.top_close.specs.Stage.{IsStage, ToldNothing}
 use Rattle.top_close.proofs.StageLaws.{stage-plain}
 use Rattle.top_acts.specs.Begun.{HasSwept, MaySweep, SweepHas}
-use Rattle.top_acts.specs.Stages.{AreStaged, StagesOn}
+use Rattle.top_acts.specs.Stages.{AreStaged}
 use Rattle.top_acts.specs.Sweeping.{DoesSweep, SweepsMarked}
 use Rattle.top_acts.specs.Sweeps.{Sweeps, Over, Marked}
 use Rattle.top_acts.proofs.Named.{loses_of}
 use Rattle.top_acts.proofs.Staged.{AreNone, staged-marked, staged-sweep}
 use Rattle.top_acts.proofs.Uncalled.{told-marked, told-units}
+use Rattle.top_acts.proofs.Words.{StagesOn}
 
 module _ {D : Type 0} (g : Ghosts D) (y : Shape) where
   -- which sectors may have changed, whose columns died, what it left, counted and called

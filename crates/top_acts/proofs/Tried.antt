@@ -10,7 +10,7 @@ use Rattle.lay_core.specs.Layout.{Shape}
 use Rattle.eng_cols.specs.declared.column.Column.{Column}
 use Rattle.eng_cols.specs.declared.column.Column.TheVariants as column
 use Rattle.eng_cols.specs.declared.spot.Loss.{Loss}
-use Rattle.eng_cols.specs.Cols.{ColumnState, device_set}
+use Rattle.eng_cols.specs.Cols.{ColumnState, device_set, HasDeviceOn, has_device}
 use Rattle.eng_cols.specs.Deaths.{Dies}
 use Rattle.eng_cols.specs.Lost.{NotLost}
 use Rattle.raid_label.specs.declared.label.Label.{Label}
@@ -18,10 +18,9 @@ use Rattle.top_close.specs.Calls.{EndsSettled, IsSettle}
 use Rattle.top_close.specs.Dying.{AnyCause}
 use Rattle.eng_cols.specs.Stripes.{states_of}
 use Rattle.top_close.specs.Ended.{IsLossBy}
-use Rattle.top_close.specs.Settled.{AreSettled, LosesDevice, HaveDevices, HasDeviceOn, has_device}
+use Rattle.top_close.specs.Settled.{AreSettled, LosesDevice, HaveDevices}
 use Rattle.top_close.proofs.SettledLaws.{device_within}
 use Rattle.top_rounds.specs.Labels.{seating_in, seating_of, with_round}
-use Rattle.top_rounds.specs.Passes.{IsFirstInUse}
 use Rattle.top_close.specs.Stage.{DiesIn, IsGivenUp, IsGivenUpIn, IsInUse, device_count, IsStage}
 use Rattle.top_rounds.specs.Rounds.{AreRounds, HoldsTried, clean_in_end}
 use Rattle.top_close.proofs.StageLaws.{live_before, live_less}
@@ -36,6 +35,7 @@ use Rattle.top_acts.proofs.Seated.{seats-kept, seats_of_rounds}
 use Rattle.top_acts.proofs.Settled.{Death, death_of, settled, settled-times, unsettled}
 use Rattle.top_acts.specs.Stages.{IsClosing}
 use Rattle.std.proofs.lemmas.List.{length-append}
+use Rattle.top_rounds.proofs.Words.{IsFirstInUse}
 
 -- ## Lost or not
 

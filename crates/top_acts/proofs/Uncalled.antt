@@ -12,9 +12,9 @@ use Rattle.eng_cols.proofs.Spots.{seat-device}
 use Rattle.eng_cols.specs.Stripes.{states_of}
 use Rattle.raid_map.specs.Sweeping.{CallsMarked, IsMarkedCall}
 use Rattle.raid_recon.specs.Ends.{CallsRows, IsRowsCall, IsUnitCall}
-use Rattle.top_close.specs.Calls.{NoCalls}
 use Rattle.top_close.specs.Stage.{ToldNothing}
 use Rattle.top_acts.proofs.Named.{live_of}
+use Rattle.top_close.proofs.Words.{NoCalls}
 
 -- calls of units that no column has
 none_of_units : (y : Shape) (cols : List ColumnState) (d : ℕ) (calls : List Call) → ((c : ℕ) → HasDevice cols c d → ⊥) → All (IsUnitCall y cols d) calls → calls ≡ []

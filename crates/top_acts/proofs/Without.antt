@@ -11,7 +11,7 @@ use Rattle.eng_cols.specs.declared.column.Column.{Column}
 use Rattle.eng_cols.specs.declared.column.Column.TheVariants as column
 use Rattle.eng_cols.specs.declared.spot.Loss.{Loss}
 use Rattle.eng_cols.specs.Changes.{killed}
-use Rattle.eng_cols.specs.Cols.{ColumnState, Columns, Live, Dead, Filling, Spread, HasDevice, IsFor, all_done, column_with, device_set, is_done, is_done_on, is_set_filling, is_set_spread, passes, state_set}
+use Rattle.eng_cols.specs.Cols.{ColumnState, Columns, Live, Dead, Filling, Spread, HasDevice, IsFor, column_with, device_set, is_done, is_done_on, is_set_filling, is_set_spread, passes, state_set, HasDeviceOn}
 use Rattle.eng_cols.specs.Lost.{NotLost}
 use Rattle.eng_cols.specs.Seats.{HasStripeLeft, IsWhole}
 use Rattle.eng_cols.specs.Settable.{IsSettable}
@@ -20,7 +20,6 @@ use Rattle.eng_cols.proofs.Lists.{count_at_most, get_set_either, get_set_other, 
 use Rattle.top_close.specs.Closes.{FillingEnds, SpreadEnds}
 use Rattle.top_close.specs.Dying.{OnlyDie}
 use Rattle.top_close.specs.Ended.{IsLossBy}
-use Rattle.top_close.specs.Settled.{HasDeviceOn}
 use Rattle.top_close.proofs.ClosingLaws.{closing_lost}
 use Rattle.top_close.proofs.Counts.{counted, nothing, one_if, some}
 use Rattle.top_close.proofs.DyingLaws.{lost_no_less}
@@ -31,6 +30,7 @@ use Rattle.top_acts.specs.Killed.{IsWithout}
 use Rattle.top_acts.proofs.Having.{has_live}
 use Rattle.top_acts.proofs.Named.{live_of}
 use Rattle.top_acts.proofs.Tried.{not_lost}
+use Rattle.eng_cols.proofs.Words.{all_done}
 
 -- ## A column as it is kept, by what it was
 

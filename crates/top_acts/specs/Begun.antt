@@ -14,20 +14,21 @@ use Rattle.eng_cols.specs.Stripes.{states_of}
 use Rattle.raid_recon.specs.Array.{IsArray}
 use Rattle.raid_recon.specs.Ends.{MayRewrite, ChecksHold, IsCounted}
 use Rattle.top_close.specs.Ended.{IsLossBy}
-use Rattle.top_close.specs.Settled.{HasDeviceOn, LosesDevice}
+use Rattle.top_close.specs.Settled.{LosesDevice}
 use Rattle.top_rounds.specs.Calls.{IsLabelWrite}
 use Rattle.top_rounds.specs.Labels.{seating_in, seating_of, with_round}
-use Rattle.top_rounds.specs.Passes.{CanBeLabelled, HoldsLabel, IsFirstInUse}
+use Rattle.top_rounds.specs.Passes.{CanBeLabelled, HoldsLabel, IsKeptInUse}
 use Rattle.top_close.specs.Stage.{DiesIn, IsGivenUpIn, IsUncalled, IsStage, ToldNothing}
 use Rattle.top_rounds.specs.Rounds.{HaveRounds, CountsRounds}
 use Rattle.raid_map.specs.Regions.{Marks as Map}
 use Rattle.raid_map.specs.Sweeping.{MayRewrite as MayRewriteMarked, IsCountedTo, UnsoundAreMarked}
 use Rattle.eng_cols.specs.Settable.{IsSettable}
 use Rattle.top_acts.specs.Failed.{IsLeftLost, StaysBegun}
-use Rattle.top_acts.specs.Marking.{AreNotice, HoldsMap, IsKeptInUse, MarksAll}
+use Rattle.top_acts.specs.Marking.{AreNotice, HoldsMap, MarksAll}
 use Rattle.top_acts.specs.Stages.{AreStaged}
 use Rattle.top_acts.specs.Sweeping.{SweepsBehind}
 use Rattle.top_acts.specs.Sweeps.{Sweeps, Nothing, Over, Marked, Notice, Round, Marks, rounds_for, wrote_round}
+use Rattle.eng_cols.specs.Cols.{HasDeviceOn}
 
 -- label writes, and none where the array isn't lost
 abbrev pub AreLast : Option Loss → List Call → Type 0
@@ -69,7 +70,7 @@ module _ {D : Type 0} (g : Ghosts D) where
 
   -- or sector 0 of a device in use; or sector 1, where maps are written
   abbrev pub MayBegin : Notice → Sweeps → Shape → List Column → List (Option D) → ℕ → ℕ → Type 0
-  MayBegin Round sweep y columns old d n = IsFirstInUse columns d n ⊎ MaySweep sweep y columns old d n
+  MayBegin Round sweep y columns old d n = IsKeptInUse false columns d n ⊎ MaySweep sweep y columns old d n
   MayBegin (Marks map) sweep y columns old d n = IsKeptInUse true columns d n ⊎ MaySweep sweep y columns old d n
 
   -- The opening round was written, whose labels aren't clean.

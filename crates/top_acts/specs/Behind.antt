@@ -7,7 +7,6 @@ use Rattle.eng_cols.specs.declared.column.Column.{Column}
 use Rattle.eng_cols.specs.declared.spot.Loss.{Loss}
 use Rattle.raid_label.specs.declared.label.Label.{Label}
 use Rattle.eng_cols.specs.Stripes.{states_of}
-use Rattle.top_close.specs.Settled.{HasDeviceOn}
 use Rattle.top_rounds.specs.Labels.{seating_in, with_round}
 use Rattle.top_rounds.specs.Passes.{HoldsLabel}
 use Rattle.top_close.specs.Stage.{IsGivenUpIn, IsStage}
@@ -16,6 +15,7 @@ use Rattle.top_acts.specs.Begun.{AreLast, HasSeats, MayBegin, MaySweep, SweepHas
 use Rattle.top_acts.specs.Sweeping.{SweepsBehind}
 use Rattle.top_acts.specs.Sweeps.{Sweeps, Round}
 use Rattle.top_acts.specs.Stages.{AreStaged}
+use Rattle.eng_cols.specs.Cols.{HasDeviceOn}
 
 module _ {D : Type 0} (g : Ghosts D) (sweep : Sweeps) (y : Shape) where
   -- What a sweep behind an opening round, or maps, has done: where the array is lost by it, one round was written, and else the labels stay as they were, and no sector has changed but those of the sweep.

@@ -1,24 +1,24 @@
 -- The labels of an array's end.
-use Rattle.std.specs.Prelude.{◌≡◌, ◌⊎◌, ◌≤◌, ◌+◌, ℕ, suc, List, length, Bool, true, false, Option, Some, None, All, slice_get}
+use Rattle.std.specs.Prelude.{◌≡◌, ◌⊎◌, ◌≤◌, ◌+◌, ℕ, suc, List, length, Bool, true, false, Option, None, All, slice_get, not, is_some}
 use Rattle.blk_disk.specs.declared.disk.Disk.{Ghosts}
 use Rattle.blk_disk.specs.Devices.{RisesOn, calls_of}
 use Rattle.eng_cols.specs.declared.column.Column.{Column}
 use Rattle.eng_cols.specs.declared.spot.Loss.{Loss}
 use Rattle.raid_label.specs.declared.label.Label.{Label}
 use Rattle.top_close.specs.Calls.{EndsSettled}
-use Rattle.top_close.specs.Settled.{AreSettled, HasDeviceOn, has_device}
+use Rattle.top_close.specs.Settled.{AreSettled}
 use Rattle.top_rounds.specs.Calls.{WritesSome, WritesWithin}
 use Rattle.top_rounds.specs.Labels.{seating_in, seating_of, with_round}
-use Rattle.top_rounds.specs.Passes.{HoldsLabel, IsFirstInUse}
+use Rattle.top_rounds.specs.Passes.{HoldsLabel, IsKeptInUse}
 use Rattle.top_close.specs.Stage.{IsGivenUp, IsGivenUpIn, IsUncalled, device_count, IsStage}
 use Rattle.top_rounds.specs.Rounds.{HoldsTried, clean_in_end, CountsRounds}
 use Rattle.top_acts.specs.Begun.{HasSeats}
 use Rattle.top_acts.specs.Stages.{InTurnOn, IsClosing}
+use Rattle.eng_cols.specs.Cols.{HasDeviceOn, has_device}
 
 -- where the array isn't lost the last call of a device in use is a settle, else a label write
 abbrev pub settled_in_end : Option Loss → Bool
-settled_in_end None = true
-settled_in_end (Some loss) = false
+settled_in_end lost = not (is_some lost)
 
 module _ {D : Type 0} (g : Ghosts D) where
   -- The calls of each device in use came in turn, none behind one that failed; the last failed exactly where its column died. In a lost array the device of a column that was filling isn't called in the last round: all its calls may have gone well, though the column is dead.
@@ -28,7 +28,7 @@ module _ {D : Type 0} (g : Ghosts D) where
 
   -- Labels were written in rounds: so many, and at most one more for each of the devices that are listed. No sector has changed but that of the label on devices that were in use; the calls are label writes and settles alone, and no other device was called. Each was written at most one label a round: as many as the counter is greater by.
   pub record AreCounted (lost : Option Loss) (rounds : ℕ) (label next : Label) (columns after : List Column) (old new : List (Option D)) : Type 0 where
-    pub stage : IsStage g (IsFirstInUse columns) (λ d. All IsClosing) lost columns after old new
+    pub stage : IsStage g (IsKeptInUse false columns) (λ d. All IsClosing) lost columns after old new
     pub counter : CountsRounds rounds label next (length stage.rises)
     pub others : IsUncalled columns old new
     pub times : (d : ℕ) → WritesWithin label.counter next.counter (calls_of g old d) (calls_of g new d)

@@ -14,16 +14,12 @@ unless_lost (Some loss) act = done.Nothing
 unfoldable pub number_line : List ℕ → ℕ → List ℕ
 number_line words n = line (words ∷ decimal n ∷ codes "\n" ∷ [])
 
--- of stripes that were tested
-abbrev pub check_text : ℕ → List ℕ
-check_text zero = codes "parity clean\n"
-check_text (suc n) = []
-
 -- the line of what was done, if it has one
 abbrev pub done_text : Done → List ℕ
 done_text done.Nothing = []
 done_text (done.Init n) = number_line (codes "parity initialised ") n
-done_text (done.Check n) = check_text n
+done_text (done.Check zero) = codes "parity clean\n"
+done_text (done.Check (suc n)) = []
 done_text (done.Rewrite n) = number_line (codes "parity rewritten ") n
 done_text (done.Killed c) = number_line (codes "failed column ") c
 done_text (done.Labelled n) = number_line (codes "labels written ") n

@@ -14,7 +14,8 @@ use Rattle.top_acts.specs.declared.done.Done.TheVariants as done
 use Rattle.top_acts.specs.Done.{unless_lost}
 use Rattle.raid_label.specs.declared.label.Label.{Label}
 use Rattle.top_rounds.specs.Labels.{given_up}
-use Rattle.top_acts.specs.Closed.{ClosesLabelled}
+use Rattle.top_acts.specs.Cleared.{EndsMapped}
+use Rattle.top_acts.specs.Failed.{StaysBegun}
 
 -- Column c is dead, and the others are kept as at the end of a run: one that is filling has those stripes done that are so with all of its stripes before them, or is live where it is whole. That changes it only where column c was spread: then it has fewer stripes.
 pub record IsWithout (y : Shape) (c : ℕ) (columns after : List Column) : Type 0 where
@@ -22,16 +23,12 @@ pub record IsWithout (y : Shape) (c : ℕ) (columns after : List Column) : Type 
   pub kept : ClosesAs y (killed (states_of y columns) c) after
 
 module _ {D : Type 0} (g : Ghosts D) where
-  -- no device was called, the label is what it was, and no column is filling any more
-  pub record StaysLost (label next : Label) (columns after : List Column) (old new : List (Option D)) : Type 0 where
-    pub label_is : next ≡ label
-    pub columns_are : after ≡ given_up columns
-    pub devices_are : new ≡ old
-
   -- An array that isn't lost was closed; one that is was left as it was, but for a column that was filling, and stays lost.
   abbrev pub ClosesUnless : Option Loss → Label → Label → List Column → List Column → List (Option D) → List (Option D) → Option Loss → Type 0
-  ClosesUnless None label next columns after old new lost = ClosesLabelled g true label next columns after old new lost
-  ClosesUnless (Some loss) label next columns after old new lost = StaysLost label next columns after old new × (is_some lost ≡ true)
+  ClosesUnless None label next columns after old new lost =
+      EndsMapped g None true label next columns after old new lost
+  ClosesUnless (Some loss) label next columns after old new lost =
+      StaysBegun g label next (given_up columns) after old new × (is_some lost ≡ true)
 
   -- First each device in use was settled, once, before any label was written; a column died whose device failed. Unless the array was lost by the columns that this left, it was then closed with them.
   pub record EndsAlive (y : Shape) (label next : Label) (columns after : List Column) (old new : List (Option D)) (lost : Option Loss) : Type 0 where

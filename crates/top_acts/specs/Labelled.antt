@@ -24,13 +24,9 @@ is_alive column.Spread = true
 abbrev pub alive : List Column → ℕ
 alive columns = count_by is_alive columns
 
--- the label of an array that was never labelled: its rounds begin at 1
-abbrev pub unlabelled : Label → Label
-unlabelled label = record label { counter = 0; clean = 0 }
-
 -- Labels were written in rounds that began at counter 1, none of them clean, and it is told how many columns aren't dead, or nothing where the array is lost.
 pub record IsFirstLabelled {D : Type 0} (g : Ghosts D) (y : Shape) (label next : Label) (columns after : List Column) (old new : List (Option D)) (lost : Option Loss) (result : Done) : Type 0 where
-  pub told : result ≡ unless_lost lost (done.Labelled (alive after))
+  pub told : result ≡ unless_lost lost (done.Labelled (count_by is_alive after))
   pub label_is : next ≡ with_round label next.counter 0 (seating_in next)
-  pub rounds : HaveRounds g lost (unlabelled label) next columns after old new
+  pub rounds : HaveRounds g lost (record label { counter = 0; clean = 0 }) next columns after old new
   pub lost_is : IsLossBy y None (states_of y after) lost

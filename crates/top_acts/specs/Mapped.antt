@@ -1,5 +1,5 @@
 -- The maps of a labelled array, and how they are read as it is begun with.
-use Rattle.std.specs.Prelude.{◌≡◌, ◌≤◌, ◌*◌, ◌++◌, ℕ, List, All, length, Bool, false, Option, Some, None, if◌then◌else◌, count_by, nat_lt, replicate}
+use Rattle.std.specs.Prelude.{◌≡◌, ◌≤◌, ◌*◌, ◌++◌, ℕ, List, All, length, Bool, false, Option, None, count_by, nat_lt, replicate}
 use Rattle.blk_disk.specs.declared.disk.Call.{Call}
 use Rattle.blk_disk.specs.Disk.{call_of}
 use Rattle.blk_disk.specs.declared.disk.Disk.{Ghosts}
@@ -23,10 +23,6 @@ unmarked stripes serial = record { stripes = stripes; serial = serial; marks = r
 -- a region is marked
 abbrev pub is_any_marked : Map → Bool
 is_any_marked m = nat_lt 0 (count_by (λ b. b) m.marks)
-
--- by which map without marks maps are cleared, if the union of those that were read has a mark
-abbrev pub clear_of : (blank union : Map) → Option Map
-clear_of blank union = if is_any_marked union then Some blank else None
 
 -- They are maps of an array of this layout, and there is room for the sweep of what is marked.
 pub record AreMaps (y : Shape) (m : Maps) : Type 0 where
@@ -63,10 +59,8 @@ pub record LooksAtMaps {D : Type 0} (g : Ghosts D) (y : Shape) (before union : M
 
 -- ## The calls
 
--- a read of sector 1 alone, whether it went well or not
-abbrev pub IsMapRead : Call → Type 0
-IsMapRead call = (good : Bool) × (call ≡ call_of 0 1 512 good)
-
 -- such reads, and behind them calls of which this is so
 abbrev pub ReadsMap : (List Call → Type 0) → List Call → Type 0
-ReadsMap P calls = (read : List Call) × (rest : List Call) × (calls ≡ read ++ rest) × All IsMapRead read × P rest
+ReadsMap P calls =
+    (read : List Call) × (rest : List Call) × (calls ≡ read ++ rest)
+    × All (λ call. (good : Bool) × (call ≡ call_of 0 1 512 good)) read × P rest

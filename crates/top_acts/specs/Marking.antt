@@ -8,10 +8,9 @@ use Rattle.eng_cols.specs.declared.column.Column.{Column}
 use Rattle.raid_map.specs.Marking.{AreMarked}
 use Rattle.raid_map.specs.Regions.{Marks as Map, IsBytesOf}
 use Rattle.top_close.specs.Calls.{IsSettle}
-use Rattle.top_close.specs.Reserved.{IsReserved}
-use Rattle.top_close.specs.Settled.{HasDeviceOn}
 use Rattle.top_rounds.specs.Calls.{IsLabelWrite}
 use Rattle.top_acts.specs.Sweeps.{Notice, Round, Marks}
+use Rattle.eng_cols.specs.Cols.{HasDeviceOn}
 
 -- a write of sector 1 alone, whether it went well or not
 abbrev pub IsMapWrite : Call → Type 0
@@ -21,12 +20,6 @@ IsMapWrite call = (good : Bool) × (call ≡ call_of 1 1 512 good)
 abbrev pub AreNotice : Notice → List Call → Type 0
 AreNotice Round calls = All IsLabelWrite calls
 AreNotice (Marks map) calls = All (λ call. IsMapWrite call ⊎ IsSettle call) calls
-
--- the sector of the label on the device of a column, or that of the map, where maps are written
-pub record IsKeptInUse (mapped : Bool) (columns : List Column) (d n : ℕ) : Type 0 where
-  pub col : ℕ
-  pub live : HasDeviceOn columns col d
-  pub kept : IsReserved mapped n
 
 module _ {D : Type 0} (g : Ghosts D) where
   -- where it is told, sector 1 of device d holds this map

@@ -1,5 +1,5 @@
 -- The check units of an array were renewed: each was rewritten, or those whose stripes weren't in sync.
-use Rattle.std.specs.Prelude.{◌≡◌, ◌⊎◌, ◌≤◌, ℕ, List, [], ◌∷◌, length, Bool, Option, Some, None, All}
+use Rattle.std.specs.Prelude.{◌≡◌, ◌⊎◌, ◌≤◌, ℕ, List, [], ◌∷◌, length, Bool, Option, Some, None, All, if◌then◌else◌}
 use Rattle.blk_disk.specs.declared.disk.Disk.{Ghosts}
 use Rattle.blk_disk.specs.declared.disk.Call.{Call}
 use Rattle.blk_disk.specs.Disk.{call_of}
@@ -11,12 +11,12 @@ use Rattle.eng_cols.specs.Deaths.{Dies}
 use Rattle.raid_label.specs.declared.label.Label.{Label}
 use Rattle.raid_recon.specs.declared.kind.Sweep.{Sweep}
 use Rattle.eng_cols.specs.Stripes.{states_of}
-use Rattle.top_close.specs.Calls.{EndsSettled, IsSettle}
+use Rattle.top_close.specs.Calls.{EndsSettled, IsSettle, MoreOn}
 use Rattle.top_close.specs.Ended.{IsLossBy}
-use Rattle.top_close.specs.Settled.{AreSettled, HasDeviceOn, LosesDevice}
+use Rattle.top_close.specs.Settled.{AreSettled, LosesDevice}
 use Rattle.top_rounds.specs.Calls.{IsLabelWrite}
 use Rattle.top_rounds.specs.Labels.{seating_in, seating_of, with_round}
-use Rattle.top_rounds.specs.Passes.{HoldsLabel}
+use Rattle.top_rounds.specs.Passes.{HoldsLabel, IsKeptInUse}
 use Rattle.top_close.specs.Stage.{IsGivenUpIn, ToldNothing, IsStage}
 use Rattle.top_rounds.specs.Rounds.{CountsRounds, clean_in_end}
 use Rattle.top_acts.specs.declared.done.Done.{Done}
@@ -27,11 +27,12 @@ use Rattle.top_acts.specs.Begun.{HasBegun, HasSwept, MaySweep}
 use Rattle.top_acts.specs.Done.{unless_lost}
 use Rattle.raid_map.specs.Regions.{Marks as Map, IsBytesOf}
 use Rattle.top_acts.specs.Failed.{StaysBegun}
-use Rattle.top_acts.specs.Cleared.{EndsInSteps, EndsMappedSettled, IsEndingCall, MayEnd}
-use Rattle.top_acts.specs.Mapped.{LooksAtMaps, ReadsMap, clear_of, is_any_marked}
-use Rattle.top_acts.specs.Stages.{StagesOn, AreStaged}
+use Rattle.top_acts.specs.Cleared.{EndsInSteps, EndsMappedSettled, IsEndingCall}
+use Rattle.top_acts.specs.Mapped.{LooksAtMaps, ReadsMap, is_any_marked}
+use Rattle.top_acts.specs.Stages.{AreStaged}
 use Rattle.top_acts.specs.Sweeping.{DoesSweep}
 use Rattle.top_acts.specs.Sweeps.{Over, Round, sweep_of}
+use Rattle.eng_cols.specs.Cols.{HasDeviceOn}
 
 -- what is said to be done, of so many check units
 abbrev pub renewed : Renewal → ℕ → Done
@@ -54,10 +55,6 @@ module _ {D : Type 0} (g : Ghosts D) where
       × HasBegun g Round (Over kind) y label first columns mid old dev before n × ClosesBegun clear y before first next mid after dev new lost
   RenewsUnless clear (Some loss) kind y label next columns after old new lost n = StaysBegun g label next columns after old new × (lost ≡ Some loss)
 
-  -- sector n of device d is that of the label on a device in use, or of the map, where maps are cleared; or one of a check unit that is renewed
-  abbrev pub MayRenew : (clears : Bool) → Sweep → Shape → List Column → List (Option D) → ℕ → ℕ → Type 0
-  MayRenew clears kind y columns old d n = MayEnd clears columns d n ⊎ MaySweep g (Over kind) y columns old d n
-
   -- Of a labelled array: its maps are read, then the opening round, the sweep, then each device in use settled, the closing round, and each settled again; and the maps are cleared, where the union of those that were read has a mark. Where the array is lost on the way, what is left of this isn't done, but for the one round of a lost array, and nothing is told; one that is lost as its maps are read is left as it is. `read`, `looked` and `unread` are the columns, the devices and the loss with which it was begun; all else is said by the columns and devices as they were before. `blank` is the map into which the maps were read, and `union` what it is then.
   pub record IsRenewed (kind : Renewal) (y : Shape) (label next : Label) (columns after : List Column) (old new : List (Option D)) (lost : Option Loss) (result : Done) (blank union : Map) : Type 0 where
     pub read : List Column
@@ -71,17 +68,22 @@ module _ {D : Type 0} (g : Ghosts D) where
     pub some : unread ≡ None → 1 ≤ rounds
     pub few : rounds ≤ 2
     pub two : lost ≡ None → rounds ≡ 2
-    pub stage : IsStage g (MayRenew (is_any_marked union) (sweep_of kind) y columns old) (λ d. AreStaged (ReadsMap (All IsLabelWrite)) (All (IsEndingCall (is_any_marked union))) (Over (sweep_of kind)) y (states_of y columns) d) lost columns after old new
+    pub stage : IsStage g (λ d n. IsKeptInUse (is_any_marked union) columns d n ⊎ MaySweep g (Over (sweep_of kind)) y columns old d n)
+        (λ d. AreStaged (ReadsMap (All IsLabelWrite)) (All (IsEndingCall (is_any_marked union))) (Over (sweep_of kind)) y (states_of y columns) d) lost columns after old new
     pub counter : CountsRounds rounds label next (length stage.rises)
     pub label_is : unread ≡ None → next ≡ with_round label next.counter (clean_in_end lost 1) (seating_in next)
     pub seating : lost ≡ None → seating_in next ≡ seating_of after
     pub given_up : IsGivenUpIn lost after
     pub held : unread ≡ None → (c d : ℕ) → HasDeviceOn after c d → HoldsLabel g new next c d
     pub settled : lost ≡ None → (c d : ℕ) → HasDeviceOn after c d → EndsSettled (calls_of g new d)
-    pub ordered : lost ≡ None → (c d : ℕ) → HasDeviceOn after c d → StagesOn (ReadsMap (All IsLabelWrite)) (SettlesFirstOf (is_any_marked union)) (Over (sweep_of kind)) y (states_of y columns) d (calls_of g old d) (calls_of g new d)
+    pub ordered : lost ≡ None → (c d : ℕ) → HasDeviceOn after c d
+        → MoreOn (AreStaged (ReadsMap (All IsLabelWrite))
+        (λ calls. (good : Bool) × (more : List Call) × (calls ≡ call_of 2 0 0 good ∷ more) × All (IsEndingCall (is_any_marked union)) more)
+        (Over (sweep_of kind)) y (states_of y columns) d)
+        (calls_of g old d) (calls_of g new d)
     pub lost_is : IsLossBy y None (states_of y after) lost
     pub map : g.tells → (d : ℕ) → (RisesOn g old new d → ⊥) → (sector_of g new d 1 ≡ sector_of g old d 1) ⊎ IsBytesOf blank (sector_of g new d 1)
-    pub renews : RenewsUnless (clear_of blank union) unread (sweep_of kind) y label next read after looked new lost found
+    pub renews : RenewsUnless (if is_any_marked union then Some blank else None) unread (sweep_of kind) y label next read after looked new lost found
 
   -- Of an array without labels: the sweep, which left columns `mid` and devices `dev`, then each device in use settled once, whether the array is lost or not.
   pub record IsRenewedPlain (kind : Renewal) (y : Shape) (columns after : List Column) (old new : List (Option D)) (lost : Option Loss) (result : Done) : Type 0 where
@@ -91,7 +93,9 @@ module _ {D : Type 0} (g : Ghosts D) where
     pub dies : Dies (LosesDevice g columns old new) columns after
     pub settled : (c d : ℕ) → HasDeviceOn after c d → EndsSettled (calls_of g new d)
     pub frame : Changes g (MaySweep g (Over (sweep_of kind)) y columns old) old new
-    pub calls : (d : ℕ) → StagesOn (λ calls. calls ≡ []) (All IsSettle) (Over (sweep_of kind)) y (states_of y columns) d (calls_of g old d) (calls_of g new d)
+    pub calls : (d : ℕ)
+        → MoreOn (AreStaged (λ calls. calls ≡ []) (All IsSettle) (Over (sweep_of kind)) y (states_of y columns) d)
+        (calls_of g old d) (calls_of g new d)
     pub uncalled : ToldNothing g columns old new
     pub lost_is : IsLossBy y None (states_of y after) lost
     pub mid : List Column

@@ -59,7 +59,3 @@ pub record AreStaged (first last : List Call → Type 0) (sweep : Sweeps) (y : S
   pub at_first : first front
   pub sweeps : AreSweep sweep y cols d swept
   pub at_last : last back
-
--- those that came are such
-abbrev pub StagesOn : (first last : List Call → Type 0) (sweep : Sweeps) (y : Shape) (cols : List ColumnState) (d : ℕ) → Option (List Call) → Option (List Call) → Type 0
-StagesOn first last sweep y cols d before now = MoreOn (AreStaged first last sweep y cols d) before now

@@ -1,5 +1,5 @@
 //! A column of a labelled array dies whose opening round has been written.
-ghost use Rattle.std.specs.Prelude.{◌≡◌, ◌<◌, ◌+◌, ◌^◌, List, None, length};
+ghost use Rattle.std.specs.Prelude.{◌<◌, ◌+◌, ◌^◌, List, None, length};
 ghost use Rattle.eng_cols.specs.Cols.{IsFor};
 ghost use Rattle.eng_cols.specs.declared.column.Column.{Column};
 ghost use Rattle.top_acts.specs.Begun.{CanAct};

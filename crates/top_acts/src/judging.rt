@@ -1,5 +1,5 @@
 //! Whether an array is lost by its columns, and what becomes of these.
-ghost use Rattle.std.specs.Prelude.{◌≡◌, ◌<◌, ◌≤◌, Some, None, length, slice_get};
+ghost use Rattle.std.specs.Prelude.{◌≡◌, ◌<◌, Some, None, length, slice_get};
 ghost use Rattle.eng_cols.specs.Cols.{IsFor};
 ghost use Rattle.eng_cols.specs.Settable.{IsSettable};
 ghost use Rattle.eng_cols.specs.Stripes.{states_of};

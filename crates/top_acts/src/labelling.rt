@@ -1,5 +1,5 @@
 //! The first labels of an array.
-ghost use Rattle.std.specs.Prelude.{◌≡◌, ◌≤◌, length, count_by, Some};
+ghost use Rattle.std.specs.Prelude.{◌≡◌, ◌≤◌, length, Some};
 ghost use Rattle.eng_cols.specs.Cols.{IsFor};
 ghost use Rattle.eng_cols.specs.Settable.{IsSettable};
 ghost use Rattle.top_acts.specs.Labelled.{IsFirstLabelled, is_alive, alive};

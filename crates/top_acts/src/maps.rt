@@ -1,9 +1,8 @@
 //! The maps of a labelled array: the memory that they take, and how they are read.
-ghost use Rattle.std.specs.Prelude.{◌≡◌, ◌≤◌, ◌*◌, IfOk};
-ghost use Rattle.lay_core.specs.Layout.{Shape};
+ghost use Rattle.std.specs.Prelude.{◌≡◌, ◌*◌, IfOk};
 ghost use Rattle.eng_cols.specs.Cols.{IsFor};
 ghost use Rattle.top_acts.specs.Begun.{CanAct};
-ghost use Rattle.top_acts.specs.Mapped.{AreMaps, AreUnmarked, LooksAtMaps};
+ghost use Rattle.top_acts.specs.Mapped.{AreUnmarked, LooksAtMaps};
 
 use crate::judging::judge_end;
 use blk_disk::Disk;

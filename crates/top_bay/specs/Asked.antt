@@ -85,7 +85,8 @@ names_by conf action = names_with conf (profile_of action).kind (profile_of acti
 
 -- the names of the devices that what is asked for goes by
 abbrev pub names_for : Asked → List Text
-names_for a = names_by a.conf a.command.action
+names_for a =
+    names_with a.conf (profile_of a.command.action).kind (profile_of a.command.action).component
 
 -- a device that isn't absent is at home
 abbrev pub is_at_home : {D : Type 0} → (Text → Option D) → Text → Bool
@@ -99,16 +100,20 @@ device_in home name = if is_at_home home name then Ok tt else Err (only (status.
 -- all devices of these names are at home, or the first that isn't is refused
 unfoldable pub devices_in : {D : Type 0} → (Text → Option D) → List Text → Result (Unit {0}) Refused
 devices_in home [] = Ok tt
-devices_in home (name ∷ names) = device_in home name then λ there. devices_in home names
+devices_in home (name ∷ names) =
+    (if is_at_home home name then Ok (tt {0}) else Err (only (status.NoFile name)))
+    then λ there. devices_in home names
 
 -- what a command and texts ask for, or the first refusal: the configuration, the component, the
 -- file of graphs, the script
 unfoldable pub texts_in : (Text → Option Text) → Command → Result Asked Refused
 texts_in texts command =
     conf_in texts command.conf then λ conf.
-    comp_in conf command.action then λ comp.
-    book_in texts (graphs_name command.action) then λ book.
-    script_in texts (script_name command.action) book conf.columns then λ script.
+    comp_named conf (profile_of command.action).component then λ comp.
+    book_in texts (option_and_then (λ beside. beside.graphs) (profile_of command.action).beside)
+    then λ book.
+    script_in texts (option_map (λ beside. beside.script) (profile_of command.action).beside) book
+    conf.columns then λ script.
     Ok (record { command = command; conf = conf; comp = comp; book = book; clients = script.clients; joins = script.joins })
 
 -- and of a bay: behind all texts come the devices, those of the columns before the spares

@@ -38,12 +38,12 @@ graph_nodes graphs n = nodes_in (slice_get graphs n)
 -- the graph of a write or read: the one that is named, or the library's
 abbrev pub run_nodes : Shape → List View → Span → Option ℕ → ℕ
 run_nodes y graphs span None = span_nodes y span
-run_nodes y graphs span (Some n) = graph_nodes graphs n
+run_nodes y graphs span (Some n) = nodes_in (slice_get graphs n)
 
 -- the graph of a write of several spans
 abbrev pub patches_nodes : Shape → List View → List AskedPatch → Option ℕ → ℕ
 patches_nodes y graphs patches None = spans_nodes y (map (λ p. p.span) patches)
-patches_nodes y graphs patches (Some n) = graph_nodes graphs n
+patches_nodes y graphs patches (Some n) = nodes_in (slice_get graphs n)
 
 -- an item's graph: that of a sync, or of a rebuild, which no script asks for, has a node for each unit of a stripe, and three
 abbrev pub item_nodes : Shape → List View → Asked → ℕ
@@ -65,7 +65,8 @@ row_sum y graphs devices items = sum_by (λ i. item_bound devices (item_nodes y 
 
 -- the sum over the items of all clients, for so many devices, columns and spares
 unfoldable pub trace_sum : Shape → List View → ℕ → List (List Asked) → ℕ
-trace_sum y graphs devices clients = sum_by (row_sum y graphs devices) clients
+trace_sum y graphs devices clients =
+    sum_by (λ items. sum_by (λ i. item_bound devices (item_nodes y graphs i)) items) clients
 
 -- and over so many rebuilds, each of which has the graph of one unit
 abbrev pub rebuilds_sum : Shape → ℕ → ℕ → ℕ

@@ -7,7 +7,7 @@ use Rattle.lay_core.specs.declared.place.Place.{Place}
 use Rattle.lay_core.specs.Layout.{Shape, Blocks}
 use Rattle.eng_cols.specs.declared.column.Column.{Column}
 use Rattle.eng_cols.specs.declared.column.Column.TheVariants as column
-use Rattle.eng_cols.specs.Cols.{ColumnState, Live, Dead, Filling, Spread, AtMostOne, device_set, is_done, is_set_filling, is_set_spread, passes, state_set}
+use Rattle.eng_cols.specs.Cols.{ColumnState, Live, Dead, Filling, Spread, AtMostOne, device_set, is_done, is_set_filling, is_set_spread, passes, state_set, HasDeviceOn}
 use Rattle.eng_cols.specs.Seats.{stands_for, spare_stands, available_on, is_available, open_on, spare_open, seat_on, seat}
 use Rattle.eng_cols.specs.Lost.{NotLost}
 use Rattle.eng_cols.specs.Contents.{Contents, Agrees, sector_at}
@@ -16,7 +16,6 @@ use Rattle.eng_cols.proofs.Fewer.{states-die}
 use Rattle.eng_cols.proofs.Spots.{seat-device}
 use Rattle.top_close.proofs.Counts.{none_passes}
 use Rattle.top_close.specs.Dying.{OnlyDie, HoldSame}
-use Rattle.top_close.specs.Settled.{HasDeviceOn}
 use Rattle.eng_cols.specs.Stripes.{filled_in, spreads, states_of}
 use Rattle.eng_cols.specs.Fewer.{DieApart}
 

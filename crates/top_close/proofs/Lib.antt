@@ -7,3 +7,4 @@ pub mod ClosingLaws
 pub mod LackingLaws
 pub mod StageLaws
 mod LiveLaws
+pub mod Words

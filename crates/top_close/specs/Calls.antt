@@ -1,5 +1,5 @@
 -- Calls that came between two moments, and those by which a device is settled.
-use Rattle.std.specs.Prelude.{◌≡◌, List, [], ◌∷◌, ◌++◌, All, Bool, true, Option, Some, None}
+use Rattle.std.specs.Prelude.{◌≡◌, List, [], ◌∷◌, ◌++◌, Bool, true, Option, Some, None}
 use Rattle.blk_disk.specs.declared.disk.Call.{Call}
 use Rattle.blk_disk.specs.Disk.{call_of}
 
@@ -9,17 +9,9 @@ MoreOn P before None = Unit {0}
 MoreOn P None (Some now) = ⊥
 MoreOn P (Some before) (Some now) = (more : List Call) × (now ≡ before ++ more) × P more
 
--- none came
-abbrev pub NoCalls : Option (List Call) → Option (List Call) → Type 0
-NoCalls before now = MoreOn (λ more. more ≡ []) before now
-
 -- a call to settle, whether it went well or not
 abbrev pub IsSettle : Call → Type 0
 IsSettle call = (good : Bool) × (call ≡ call_of 2 0 0 good)
-
--- those that came are settles alone
-abbrev pub SettlesOn : Option (List Call) → Option (List Call) → Type 0
-SettlesOn before now = MoreOn (All IsSettle) before now
 
 -- the last call was to settle, and went well, where the calls are told
 abbrev pub EndsSettled : Option (List Call) → Type 0

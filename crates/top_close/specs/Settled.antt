@@ -1,21 +1,13 @@
 -- The settling of the devices in use, column by column.
-use Rattle.std.specs.Prelude.{◌≡◌, ◌≢◌, ◌<◌, ◌≤◌, ℕ, List, Bool, false, Option, Some, IsSome, is_some, slice_get, slice_set, if◌then◌else◌}
+use Rattle.std.specs.Prelude.{◌≡◌, ◌≢◌, ◌<◌, ◌≤◌, ℕ, List, Bool, false, Option, IsSome, slice_get, slice_set, if◌then◌else◌, All}
 use Rattle.blk_disk.specs.declared.disk.Disk.{Ghosts}
 use Rattle.blk_disk.specs.Disk.{Tells, call_of}
 use Rattle.blk_disk.specs.Devices.{device_at, calls_of, RisesOn, Changes}
 use Rattle.eng_cols.specs.declared.column.Column.{Column}
 use Rattle.eng_cols.specs.declared.column.Column.TheVariants as column
-use Rattle.eng_cols.specs.Cols.{device_set}
+use Rattle.eng_cols.specs.Cols.{HasDeviceOn, has_device}
 use Rattle.eng_cols.specs.Deaths.{Dies}
-use Rattle.top_close.specs.Calls.{SettlesOn}
-
--- column c has device d: it is live on it, or filling it
-abbrev pub HasDeviceOn : List Column → ℕ → ℕ → Type 0
-HasDeviceOn columns c d = device_set (slice_get columns c) ≡ Some d
-
--- there is a column there, and it has a device
-abbrev pub has_device : Option Column → Bool
-has_device o = is_some (device_set o)
+use Rattle.top_close.specs.Calls.{MoreOn, IsSettle}
 
 -- The device of each column that has one is there, and is no other's.
 pub record HaveDevices {D : Type 0} (columns : List Column) (devices : List (Option D)) : Type 0 where
@@ -51,4 +43,4 @@ module _ {D : Type 0} (g : Ghosts D) where
     pub once : (c d : ℕ) → c < n → HasDeviceOn columns c d → Tells (calls_of g old d) (calls_of g new d) (call_of 2 0 0 (has_device (slice_get after c)))
     pub others : (d : ℕ) → ((c : ℕ) → c < n → HasDeviceOn columns c d → ⊥) → device_at new d ≡ device_at old d
     pub left : (c : ℕ) → n ≤ c → slice_get after c ≡ slice_get columns c
-    pub told : (d : ℕ) → SettlesOn (calls_of g old d) (calls_of g new d)
+    pub told : (d : ℕ) → MoreOn (All IsSettle) (calls_of g old d) (calls_of g new d)

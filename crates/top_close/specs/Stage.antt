@@ -1,14 +1,14 @@
 -- What each stage of work on an array does, whichever it is: sectors that change, calls that come, columns that die.
-use Rattle.std.specs.Prelude.{◌≡◌, ◌≢◌, ◌⊎◌, ◌≤◌, ◌+◌, ℕ, List, length, true, Option, Some, None, All, AllPairs, count_by, slice_get}
+use Rattle.std.specs.Prelude.{◌≡◌, ◌≢◌, ◌⊎◌, ◌≤◌, ◌+◌, ℕ, List, length, true, Option, Some, None, All, AllPairs, count_by, slice_get, []}
 use Rattle.blk_disk.specs.declared.disk.Call.{Call}
 use Rattle.blk_disk.specs.declared.disk.Disk.{Ghosts}
 use Rattle.blk_disk.specs.Devices.{calls_of, device_at, RisesOn, Changes}
 use Rattle.eng_cols.specs.declared.column.Column.{Column}
 use Rattle.eng_cols.specs.declared.spot.Loss.{Loss}
-use Rattle.eng_cols.specs.Cols.{is_set_filling, passes}
+use Rattle.eng_cols.specs.Cols.{is_set_filling, passes, HasDeviceOn, has_device}
 use Rattle.eng_cols.specs.Deaths.{Dies}
-use Rattle.top_close.specs.Calls.{MoreOn, NoCalls}
-use Rattle.top_close.specs.Settled.{HasDeviceOn, has_device, LosesDevice}
+use Rattle.top_close.specs.Calls.{MoreOn}
+use Rattle.top_close.specs.Settled.{LosesDevice}
 
 -- ## Columns and their devices
 
@@ -47,7 +47,8 @@ module _ {D : Type 0} (g : Ghosts D) where
 
   -- a device that no column has wasn't called, as far as calls are told
   abbrev pub ToldNothing : List Column → List (Option D) → List (Option D) → Type 0
-  ToldNothing columns old new = (d : ℕ) → ((c : ℕ) → HasDeviceOn columns c d → ⊥) → NoCalls (calls_of g old d) (calls_of g new d)
+  ToldNothing columns old new = (d : ℕ) → ((c : ℕ) → HasDeviceOn columns c d → ⊥)
+      → MoreOn (λ more. more ≡ []) (calls_of g old d) (calls_of g new d)
 
   -- ## A stage
 

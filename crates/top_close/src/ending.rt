@@ -1,10 +1,10 @@
 //! The end of a run.
 ghost use Rattle.std.specs.Prelude.{ℕ, length};
 ghost use Rattle.blk_disk.specs.Devices.{calls_of};
-ghost use Rattle.eng_cols.specs.Cols.{IsFor};
+ghost use Rattle.eng_cols.specs.Cols.{IsFor, HasDeviceOn};
 ghost use Rattle.eng_cols.specs.Settable.{IsSettable};
 ghost use Rattle.top_close.specs.Calls.{EndsSettled};
-ghost use Rattle.top_close.specs.Settled.{HasDeviceOn, HaveDevices, AreSettled};
+ghost use Rattle.top_close.specs.Settled.{HaveDevices, AreSettled};
 ghost use Rattle.eng_cols.specs.Stripes.{states_of};
 ghost use Rattle.top_close.specs.Ended.{IsLossBy};
 

@@ -2,9 +2,9 @@
 ghost use Rattle.std.specs.Prelude.{◌≡◌, ◌<◌, ◌≤◌, ℕ, length, count_by, IsSome, IsTrue, true, false};
 ghost use Rattle.blk_disk.specs.Disk.{Rose, Tells, call_of};
 ghost use Rattle.blk_disk.specs.Devices.{Stays, device_at, calls_of};
-ghost use Rattle.eng_cols.specs.Cols.{is_set_filling, is_set_spread};
+ghost use Rattle.eng_cols.specs.Cols.{is_set_filling, is_set_spread, HasDeviceOn, has_device};
 ghost use Rattle.top_close.specs.Calls.{EndsSettled};
-ghost use Rattle.top_close.specs.Settled.{HasDeviceOn, has_device, HaveDevices, IsSettling, SettlesColumn, AreSettled};
+ghost use Rattle.top_close.specs.Settled.{HaveDevices, IsSettling, SettlesColumn, AreSettled};
 
 use blk_disk::{Disk, Failed};
 use eng_cols::Column;

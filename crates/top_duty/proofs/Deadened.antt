@@ -5,9 +5,8 @@ use Rattle.std.proofs.lemmas.Bool.{eqb-false, eqb-true, leb-true, ltb-true}
 use Rattle.std.proofs.lemmas.List.Sums.{sum_by-cons}
 use Rattle.eng_cols.specs.declared.column.Column.{Column}
 use Rattle.eng_cols.specs.declared.column.Column.TheVariants as column
-use Rattle.eng_cols.specs.Cols.{device_set}
+use Rattle.eng_cols.specs.Cols.{device_set, HasDeviceOn}
 use Rattle.eng_cols.proofs.Lists.{get_set_either, get_set_other, get_set_same}
-use Rattle.top_close.specs.Settled.{HasDeviceOn}
 use Rattle.top_open.specs.Seats.{is_same}
 use Rattle.top_duty.specs.Duty.{with_dead}
 use Rattle.top_open.specs.Opening.{kept_if_left}

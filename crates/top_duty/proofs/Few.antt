@@ -11,7 +11,7 @@ use Rattle.eng_array.specs.declared.start.Start.TheVariants as start
 use Rattle.eng_cols.specs.declared.column.Column.{Column}
 use Rattle.eng_cols.specs.declared.column.Column.TheVariants as column
 use Rattle.eng_cols.specs.Cols.{AtMostOne, ColumnState, Filling, Spread, is_done, is_done_on, is_set_filling, is_spread, none_done, passes}
-use Rattle.eng_cols.specs.Stripes.{are_spread, count_below, done_set, filled_in, first_done, is_stripe_by, is_stripe_of, spreads, states_of}
+use Rattle.eng_cols.specs.Stripes.{are_spread, done_set, filled_in, first_done, is_stripe_by, is_stripe_of, spreads, states_of}
 use Rattle.eng_cols.proofs.Counting.{stripe-of, stripe-same}
 use Rattle.eng_cols.proofs.Fewer.{filled-at, first-same, states-at, states-spread}
 use Rattle.eng_cols.proofs.Leading.{count-grows, count-step, first-marks}
@@ -20,6 +20,7 @@ use Rattle.eng_world.specs.Serving.{IsLeft}
 use Rattle.top_duty.specs.Duty.{left_by, rebuilds_by}
 use Rattle.top_duty.specs.Opening.{stripes_on}
 use Rattle.top_duty.proofs.Counting.{stripe_apart}
+use Rattle.lay_core.specs.Touched.{count_below}
 
 -- ## Stripes are counted
 

@@ -6,14 +6,13 @@ use Rattle.blk_disk.specs.Devices.{size_of}
 use Rattle.blk_disk.specs.declared.disk.Disk.{Ghosts}
 use Rattle.eng_cols.specs.declared.column.Column.{Column}
 use Rattle.eng_cols.specs.declared.column.Column.TheVariants as column
-use Rattle.eng_cols.specs.Cols.{device_set}
+use Rattle.eng_cols.specs.Cols.{device_set, HasDeviceOn}
 use Rattle.eng_cols.specs.Laws.{HaveSpares}
 use Rattle.raid_conf.specs.Form.{IsConf}
 use Rattle.raid_conf.specs.Layouts.{shape_of}
 use Rattle.raid_label.specs.declared.label.Label.{Label}
 use Rattle.top_bay.specs.Asked.{Asked}
 use Rattle.top_bay.specs.Views.{IsWithinLimits}
-use Rattle.top_close.specs.Settled.{HasDeviceOn}
 use Rattle.top_open.specs.declared.fronts.Front.{Front}
 use Rattle.top_open.specs.Opening.{Opened, opened_seen}
 use Rattle.top_open.specs.Plan.{sectors_for}

@@ -24,11 +24,18 @@ use Rattle.top_status.specs.Refusals.{Refused, ◌then◌, only}
 use Rattle.top_words.specs.Asked.{Action, Component, Nameless, Column, Device, profile_of}
 use Rattle.top_words.specs.declared.profile.Kind.{Kind}
 use Rattle.top_words.specs.declared.profile.Kind.TheVariants as kind
-use Rattle.top_duty.specs.Opening.{AreTableRows, as_left, as_opened, excused_by, filling_at, fronted_by, is_named, kind_of, left_at, needs_of, opened_by, plan_of, present_of, status_of, stripes_on}
+use Rattle.top_duty.specs.Opening.{AreTableRows, excused_by, filling_at, fronted_by, is_named, kind_of, left_at, needs_of, opened_by, plan_of, present_of, status_of, stripes_on, without_small}
 use Rattle.top_duty.proofs.Deadened.{left_few, left_fewer, left_get, left_length, small_fewer, small_length}
 use Rattle.top_duty.proofs.Firsts.{filling_found}
 use Rattle.top_duty.proofs.Tables.{plan_is, stripes-most}
 use Rattle.top_fetch.specs.Fetched.{or_status}
+
+-- an array as its labels are judged, without what is too small; and without a column that is filling and has all of its stripes done
+abbrev pub as_opened : Asked → List ℕ → Opened → Opened
+as_opened k sizes o = record o { columns = without_small (needs_of k).excused sizes (sectors_for (plan_of k.conf) o.rows) o.columns }
+
+abbrev pub as_left : Asked → Opened → Opened
+as_left k o = record o { columns = left_at (shape_of k.conf o.rows) o.columns (filling_at o.columns) }
 
 -- what the fronts say, of which the column that the action fails may be dead
 pub was_fronted : (k : Asked) (sizes : List ℕ) (fronts : List Front) (o : Opened) → fronted_by k sizes fronts ≡ Ok o

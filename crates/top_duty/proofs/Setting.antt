@@ -4,9 +4,8 @@ use Rattle.std.proofs.Common.{refl, ap, inl, inr, ◌∙◌}
 use Rattle.lay_core.specs.Layout.{Shape}
 use Rattle.eng_cols.specs.declared.column.Column.{Column}
 use Rattle.eng_cols.specs.declared.column.Column.TheVariants as column
-use Rattle.eng_cols.specs.Cols.{ColumnState, Live, Filling, Spread, HasDevice, device_set, is_set_filling, passes, state_set}
+use Rattle.eng_cols.specs.Cols.{ColumnState, Live, Filling, Spread, HasDevice, device_set, is_set_filling, passes, state_set, HasDeviceOn}
 use Rattle.eng_cols.specs.Stripes.{filled_in, states_of}
-use Rattle.top_close.specs.Settled.{HasDeviceOn}
 
 map_was : {X Z : Type 0} (f : X → Z) (xs : List X) (c : ℕ) (z : Z) → slice_get (map f xs) c ≡ Some z → (x : X) × (slice_get xs c ≡ Some x) × (f x ≡ z)
 map_was f [] c z e = cc e

@@ -2,14 +2,15 @@
 use Rattle.std.proofs.Common.{◌≡◌, refl, ℕ, ◌==◌, Bool, true, false, Option, Some, None, option_map}
 use Rattle.std.specs.Prelude.{if◌then◌else◌}
 use Rattle.std.proofs.lemmas.Bool.{eqb-true}
-use Rattle.raid_label.specs.Judged.{fault_in, fault_unless_same, or_fault, shape_fault}
+use Rattle.raid_label.specs.Judged.{fault_in, fault_unless_same, shape_fault}
 use Rattle.raid_label.specs.declared.fault.LabelFault.{LabelFault}
 use Rattle.raid_label.specs.declared.fault.LabelFault.TheVariants.{Serial, Column, Shape}
 use Rattle.raid_label.specs.declared.label.Label.{Label}
 use Rattle.top_open.specs.declared.fault.OpenFault.{OpenFault}
 use Rattle.top_open.specs.declared.fault.OpenFault.TheVariants as fault
 use Rattle.top_open.specs.declared.plan.Plan.{Plan}
-use Rattle.top_open.specs.Labels.{configured, shape_refusal, refusal_of}
+use Rattle.top_open.specs.Labels.{shape_refusal, refusal_of}
+use Rattle.top_open.specs.Steps.{configured}
 use Rattle.top_open.specs.Plan.{are_rows}
 use Rattle.std.specs.Option.{option_or}
 
@@ -21,7 +22,7 @@ option_none : (c : ℕ) (a : Option LabelFault) → option_map (refusal_of c) a 
 option_none c None h = refl
 option_none c (Some f) h = cc h
 
-fault_none : (a b : Option LabelFault) → or_fault a b ≡ None → a ≡ None
+fault_none : (a b : Option LabelFault) → option_or a b ≡ None → a ≡ None
 fault_none None b h = refl
 fault_none (Some f) b h = cc h
 
@@ -38,12 +39,12 @@ unfolding shape_fault
 same_columns l w h =
     same_number l.columns w.columns
     (fault_none (fault_unless_same Shape l.columns w.columns)
-    (or_fault (fault_unless_same Shape l.unit w.unit)
-    (or_fault (fault_unless_same Shape l.level w.level)
-    (or_fault (fault_unless_same Shape l.b w.b)
-    (or_fault (fault_unless_same Shape l.k w.k)
-    (or_fault (fault_unless_same Shape l.r w.r)
-    (or_fault (fault_unless_same Shape l.lambda w.lambda)
+    (option_or (fault_unless_same Shape l.unit w.unit)
+    (option_or (fault_unless_same Shape l.level w.level)
+    (option_or (fault_unless_same Shape l.b w.b)
+    (option_or (fault_unless_same Shape l.k w.k)
+    (option_or (fault_unless_same Shape l.r w.r)
+    (option_or (fault_unless_same Shape l.lambda w.lambda)
     (fault_unless_same Shape l.rows w.rows))))))) h)
 
 -- one that isn't refused is that of an array of so many columns
@@ -52,7 +53,7 @@ unfolding shape_refusal fault_in
 shape_columns p n l h =
     let w = configured p n l in
     same_columns l w
-    (fault_none (shape_fault l w) (or_fault (fault_unless_same Serial l.serial l.serial) (fault_unless_same Column l.column l.column))
-    (option_none l.column (or_fault (shape_fault l w) (or_fault (fault_unless_same Serial l.serial l.serial) (fault_unless_same Column l.column l.column)))
-    (or_none (option_map (refusal_of l.column) (or_fault (shape_fault l w) (or_fault (fault_unless_same Serial l.serial l.serial) (fault_unless_same Column l.column l.column))))
+    (fault_none (shape_fault l w) (option_or (fault_unless_same Serial l.serial l.serial) (fault_unless_same Column l.column l.column))
+    (option_none l.column (option_or (shape_fault l w) (option_or (fault_unless_same Serial l.serial l.serial) (fault_unless_same Column l.column l.column)))
+    (or_none (option_map (refusal_of l.column) (option_or (shape_fault l w) (option_or (fault_unless_same Serial l.serial l.serial) (fault_unless_same Column l.column l.column))))
     (if are_rows p l.rows then None else Some (fault.Label l.column 4 l.rows p.step)) h)))

@@ -11,13 +11,12 @@ use Rattle.eng_array.specs.declared.start.Start.{Start}
 use Rattle.eng_array.specs.declared.start.Start.TheVariants as start
 use Rattle.eng_cols.specs.declared.column.Column.{Column}
 use Rattle.eng_cols.specs.declared.column.Column.TheVariants as column
-use Rattle.eng_cols.specs.Cols.{AtMostOne, is_set_filling, is_set_spread}
+use Rattle.eng_cols.specs.Cols.{AtMostOne, is_set_filling, is_set_spread, HasDeviceOn}
 use Rattle.eng_cols.proofs.Lists.{count_at_most}
 use Rattle.raid_conf.specs.Layouts.{shape_of}
 use Rattle.raid_label.specs.declared.label.Label.{Label}
 use Rattle.top_bay.specs.Asked.{Asked}
 use Rattle.top_bay.specs.Views.{IsKnown, IsWithinLimits}
-use Rattle.top_close.specs.Settled.{HasDeviceOn}
 use Rattle.top_open.specs.declared.fronts.Front.{Front}
 use Rattle.top_open.specs.Opening.{Opened, labelled_in}
 use Rattle.top_open.specs.Plan.{sectors_for}

@@ -8,7 +8,7 @@ use Rattle.eng_cols.specs.declared.column.Column.{Column}
 use Rattle.eng_cols.specs.declared.spot.Loss.{Loss}
 use Rattle.eng_cols.specs.Stripes.{states_of}
 use Rattle.graph_mean.specs.Graph.{View}
-use Rattle.graph_text.specs.Format.{At}
+use Rattle.text_steps.specs.declared.at.At.{At}
 use Rattle.raid_conf.specs.Layouts.{shape_of}
 use Rattle.raid_script.specs.Asked.{Asked as Item}
 use Rattle.top_bound.specs.Bound.{rebuilds_sum, trace_sum}

@@ -1,10 +1,10 @@
 -- What is to be done, or which refusal comes first: by texts, names, sizes, and sector 0 of the
 -- devices.
-use Rattle.std.specs.Prelude.{◌≡◌, ◌&&◌, ◌+◌, ◌-◌, ◌++◌, ℕ, Bool, false, List, [], ◌∷◌, length, map, Option, Some, None, is_none, Result, Ok, Err, if◌then◌else◌, nat_le, nat_lt, option_map, slice_set, unwrap_or}
+use Rattle.std.specs.Prelude.{◌≡◌, ◌&&◌, ◌+◌, ◌-◌, ◌++◌, ℕ, Bool, false, List, [], ◌∷◌, length, map, Option, Some, None, is_none, Result, Ok, Err, if◌then◌else◌, nat_le, nat_lt, option_map, slice_set, unwrap_or, is_some}
 use Rattle.std.specs.Option.{option_map_or}
 use Rattle.lay_core.specs.Layout.{Shape, blocks_in}
 use Rattle.graph_mean.specs.Graph.{View}
-use Rattle.graph_text.specs.Format.{At}
+use Rattle.text_steps.specs.declared.at.At.{At}
 use Rattle.eng_array.specs.declared.start.Start.{Start}
 use Rattle.eng_array.specs.declared.start.Start.TheVariants as start
 use Rattle.eng_array.specs.Starts.{most_of}
@@ -29,14 +29,14 @@ use Rattle.top_status.specs.declared.status.Status.TheVariants as status
 use Rattle.top_status.specs.Dead.{dead_columns}
 use Rattle.top_rounds.specs.Labels.{given_up}
 use Rattle.top_status.specs.Refusals.{Refused, ◌then◌, only}
-use Rattle.top_words.specs.Asked.{Action, Command, beside_of, profile_of}
+use Rattle.top_words.specs.Asked.{Action, Command, profile_of}
 use Rattle.top_words.specs.declared.profile.Drawing.{Drawing}
 use Rattle.top_words.specs.declared.profile.Kind.{Kind}
 use Rattle.top_words.specs.declared.profile.Kind.TheVariants as kind
 use Rattle.top_words.specs.declared.profile.Rebuilding.{Rebuilding}
 use Rattle.top_words.specs.declared.profile.Rebuilding.TheVariants as rebuilding
-use Rattle.top_duty.specs.Opening.{kind_of, needs_of, opened_by, sizes_in, stripes_on}
-use Rattle.top_duty.specs.Start.{other_filling, rebuilds, start_in}
+use Rattle.top_duty.specs.Opening.{needs_of, opened_by, sizes_in, stripes_on}
+use Rattle.top_duty.specs.Start.{other_filling, rebuilds, start_with}
 
 -- ## What is admitted
 
@@ -84,7 +84,7 @@ with_killed (Some c) states = killed states c
 
 -- the columns as the action makes them, with what is done on them, by which it is judged whether the array is lost
 abbrev pub judged_states : Admitted → List ColumnState
-judged_states a = with_killed (needs_of a.asked).excused (states_in a)
+judged_states a = with_killed (needs_of a.asked).excused (states_of (layout_of a) (columns_of a))
 
 -- the items of the script, or those that are drawn for so many blocks
 abbrev pub drawn_or : Option Drawing → List (List Item) → ℕ → List (List Item)
@@ -107,14 +107,15 @@ ComesOfJoins a r = AreJoined (layout_of a) a.asked.book a.asked.clients (length 
 
 -- what is to be done by what is made of the array
 abbrev pub duty_for : Kind → Asked → List ℕ → List Front → Result Duty Refused
-duty_for kind.Array k sizes fronts = opened_by k sizes fronts then λ o. Ok (OnArray (admitted_with k o (start_in k o sizes fronts) []))
+duty_for kind.Array k sizes fronts = opened_by k sizes fronts then λ o. Ok (OnArray (admitted_with k o
+    (start_with (profile_of k.command.action).rebuild (profile_of k.command.action).limit k.comp k.conf o sizes fronts) []))
 duty_for kind.Shown k sizes fronts = opened_by k sizes fronts then λ o. Ok (Shows k o)
 duty_for kind.Label k sizes fronts = Ok (OneLabel k)
 duty_for kind.Conf k sizes fronts = Ok (PrintConf k)
 
 -- the same by what is asked, and by sizes and fronts of the devices
 unfoldable pub duty_by : Asked → List ℕ → List Front → Result Duty Refused
-duty_by k sizes fronts = duty_for (kind_of k.command.action) k sizes fronts
+duty_by k sizes fronts = duty_for (profile_of k.command.action).kind k sizes fronts
 
 -- the same, where neither texts nor names are refused
 unfoldable pub duty_in : {D : Type 0} → (D → ℕ) → Told D → Command → List Front
@@ -134,7 +135,7 @@ lost_by a loss = record { status = status.Lost loss.first loss.second loss.strip
 
 -- a column is to be rebuilt, and there is nowhere to, or nothing to go on with
 abbrev pub is_short : Admitted → Bool
-is_short a = rebuilds a.asked.command.action && is_none a.start
+is_short a = is_some (profile_of a.asked.command.action).rebuild && is_none a.start
 
 -- why: there is nowhere to rebuild to, or nothing to go on with
 abbrev pub short_status : Option Rebuilding → Status
@@ -155,7 +156,7 @@ with_joined a (Err at) = a
 
 -- whether a trace is kept
 abbrev pub traces : Action → Bool
-traces action = option_map_or (λ beside. beside.trace) (beside_of action) false
+traces action = option_map_or (λ beside. beside.trace) (profile_of action).beside false
 
 -- how many stripes of the column are left to do: all, or those that aren't done where it is filling
 abbrev pub left_by : Shape → List Column → Start → ℕ
@@ -174,7 +175,11 @@ is_past y asked graphs clients rebuilds = traces asked.command.action
     && nat_lt 1048576 (trace_sum y graphs (length (names_of asked.conf)) clients + rebuilds_sum y (length (names_of asked.conf)) rebuilds)
 
 abbrev pub is_past_bound : Admitted → Bool
-is_past_bound a = is_past (layout_of a) a.asked (graphs_of a) a.clients (rebuilds_by (layout_of a) (with_dead (needs_of a.asked).excused (columns_of a)) a.start)
+is_past_bound a = traces a.asked.command.action
+    && nat_lt 1048576
+    (trace_sum (layout_of a) (graphs_of a) (length (names_of a.asked.conf)) a.clients
+    + rebuilds_sum (layout_of a) (length (names_of a.asked.conf))
+    (rebuilds_by (layout_of a) (with_dead (needs_of a.asked).excused (columns_of a)) a.start))
 
 -- a trace that is kept has room for all events
 abbrev pub if_past : Admitted → Option Refused

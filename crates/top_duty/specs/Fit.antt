@@ -7,12 +7,11 @@ use Rattle.eng_array.specs.Starts.{begun_by, column_of, most_of}
 use Rattle.eng_array.specs.declared.start.Start.{Start}
 use Rattle.eng_array.specs.declared.start.Start.TheVariants as start
 use Rattle.eng_cols.specs.declared.column.Column.TheVariants as column
-use Rattle.eng_cols.specs.Cols.{ColumnState, is_set_filling, is_set_spread}
+use Rattle.eng_cols.specs.Cols.{ColumnState, is_set_filling, is_set_spread, HasDeviceOn}
 use Rattle.eng_cols.specs.Laws.{HaveSpares}
 use Rattle.raid_conf.specs.Layouts.{shape_of}
 use Rattle.raid_label.specs.declared.label.Label.{Label}
 use Rattle.top_bay.specs.Asked.{Asked}
-use Rattle.top_close.specs.Settled.{HasDeviceOn}
 use Rattle.top_open.specs.Opening.{Opened}
 use Rattle.top_rounds.specs.Labels.{IsLabelFor, IsNumbered}
 use Rattle.eng_cols.specs.Stripes.{states_of}

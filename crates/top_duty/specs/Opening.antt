@@ -5,10 +5,10 @@ use Rattle.blk_disk.specs.Devices.{at_home}
 use Rattle.eng_cols.specs.declared.column.Column.{Column}
 use Rattle.eng_cols.specs.declared.column.Column.TheVariants as column
 use Rattle.eng_cols.specs.Cols.{is_set_filling, passes}
-use Rattle.eng_cols.specs.Stripes.{count_below, is_stripe_of, states_of}
+use Rattle.eng_cols.specs.Stripes.{is_stripe_of, states_of}
 use Rattle.lay_core.specs.Layout.{Shape}
 use Rattle.raid_conf.specs.declared.conf.Conf.{Conf}
-use Rattle.raid_conf.specs.Layouts.{shape_of, table_rows, table_stripes}
+use Rattle.raid_conf.specs.Layouts.{shape_of, level_rows, level_stripes}
 use Rattle.raid_conf.specs.Parameters.{parameters_of}
 use Rattle.raid_text.specs.Text.{Text}
 use Rattle.top_bay.specs.Asked.{Asked}
@@ -28,6 +28,7 @@ use Rattle.top_words.specs.declared.profile.Kind.{Kind}
 use Rattle.top_words.specs.declared.profile.Rebuilding.{Rebuilding}
 use Rattle.top_words.specs.declared.profile.Rebuilding.TheVariants as rebuilding
 use Rattle.top_fetch.specs.Fetched.{or_status}
+use Rattle.lay_core.specs.Touched.{count_below}
 
 -- ## What is asked
 
@@ -65,7 +66,13 @@ needs_for action comp = record {
 }
 
 abbrev pub needs_of : Asked → Needs
-needs_of k = needs_for k.command.action k.comp
+needs_of k = record {
+  plain = (profile_of k.command.action).plain;
+  labels = (profile_of k.command.action).labels;
+  excused = excused_by (profile_of k.command.action).component k.comp;
+  own = own_by (profile_of k.command.action).rebuild;
+  writes = (profile_of k.command.action).writes;
+}
 
 -- ## What it takes of the configuration
 
@@ -79,8 +86,8 @@ plan_of conf = record {
   r = (parameters_of conf.design).r;
   lambda = (parameters_of conf.design).lambda;
   spares = conf.spares;
-  step = table_rows conf;
-  stripes = table_stripes conf;
+  step = level_rows conf.level conf.design;
+  stripes = level_stripes conf.level conf.columns conf.design;
 }
 
 -- the name isn't that of an absent disk
@@ -121,9 +128,6 @@ abbrev pub without_small : Option ℕ → List ℕ → ℕ → List Column → L
 without_small None sizes needs columns = columns
 without_small (Some c) sizes needs columns = slice_set columns c (kept_if_large sizes needs (slice_index_or columns c column.Dead))
 
-abbrev pub as_opened : Asked → List ℕ → Opened → Opened
-as_opened k sizes o = record o { columns = without_small (needs_of k).excused sizes (sectors_for (plan_of k.conf) o.rows) o.columns }
-
 -- ### The column that is filling
 
 -- how many stripes a column has
@@ -139,17 +143,14 @@ left_at y columns (Some c) = slice_set columns c (kept_if_left (stripes_on y col
 unfoldable pub filling_at : List Column → Option ℕ
 filling_at columns = first_of (λ c. passes is_set_filling (slice_get columns c)) (length columns)
 
--- a column that is filling is dead where the labels say that as many of its stripes are done as it has
-abbrev pub as_left : Asked → Opened → Opened
-as_left k o = record o { columns = left_at (shape_of k.conf o.rows) o.columns (filling_at o.columns) }
-
 -- rows, columns and the newest label by sizes and fronts of the devices, or why the array is refused; of a column that is filling it isn't judged how many stripes it has
 unfoldable pub fronted_by : Asked → List ℕ → List Front → Result Opened Refused
-fronted_by k sizes fronts = or_status status_of (opened_in (needs_of k) (plan_of k.conf) (present_of k.conf) sizes fronts) then λ o. Ok (as_opened k sizes o)
+fronted_by k sizes fronts = or_status status_of (opened_in (needs_of k) (plan_of k.conf) (present_of k.conf) sizes fronts)
+    then λ o. Ok (record o { columns = without_small (needs_of k).excused sizes (sectors_for (plan_of k.conf) o.rows) o.columns })
 
--- and with that
+-- and with that: a column that is filling is dead where the labels say that as many of its stripes are done as it has
 unfoldable pub opened_by : Asked → List ℕ → List Front → Result Opened Refused
-opened_by k sizes fronts = fronted_by k sizes fronts then λ o. Ok (as_left k o)
+opened_by k sizes fronts = fronted_by k sizes fronts then λ o. Ok (record o { columns = left_at (shape_of k.conf o.rows) o.columns (filling_at o.columns) })
 
 -- so many rows are those of whole tables of the configuration
 abbrev pub AreTableRows : Conf → ℕ → Type 0

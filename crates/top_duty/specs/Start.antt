@@ -49,7 +49,9 @@ onto_spare most c None false = None
 -- the rebuild of a column elsewhere: into spare places only without a limit
 abbrev pub rebuild_elsewhere : Option ℕ → Conf → Opened → List ℕ → List Front → Option ℕ → Option Start
 rebuild_elsewhere limit conf o sizes fronts None = None
-rebuild_elsewhere limit conf o sizes fronts (Some c) = onto_spare (unwrap_or limit 4294967295) c (free_spare conf o sizes fronts) (is_none limit && has_places conf o.columns)
+rebuild_elsewhere limit conf o sizes fronts (Some c) =
+    onto_spare (unwrap_or limit 4294967295) c (free_spare conf o sizes fronts)
+    (is_none limit && ((conf.level == 68) && not (list_any is_set_spread o.columns)))
 
 -- how the action begins a rebuild, or goes on with one, by the array as it is opened; None where it does neither, or where there is nowhere to rebuild to, or nothing to go on with
 abbrev pub start_with : Option Rebuilding → Option ℕ → Option ℕ → Conf → Opened → List ℕ → List Front → Option Start

@@ -3,7 +3,7 @@ use Rattle.std.specs.Prelude.{◌≡◌, ◌⊎◌, ◌≤◌, ◌*◌, ◌&&◌
 use Rattle.blk_disk.specs.declared.disk.Disk.{Ghosts}
 use Rattle.lay_core.specs.Layout.{Shape, blocks_in}
 use Rattle.graph_mean.specs.Graph.{Held, View}
-use Rattle.graph_text.specs.Format.{At}
+use Rattle.text_steps.specs.declared.at.At.{At}
 use Rattle.eng_array.specs.declared.start.Start.{Start}
 use Rattle.eng_cols.specs.Cols.{Columns, ColumnState, IsFor}
 use Rattle.eng_cols.specs.declared.column.Column.{Column}

@@ -21,4 +21,6 @@ there_is home name = device_named home name then λ device. Ok tt
 unfoldable pub there_are : {D : Type 0} → (List ℕ → Option D) → List (List ℕ)
     → Result (Unit {0}) Refused
 there_are home [] = Ok tt
-there_are home (name ∷ names) = there_is home name then λ there. there_are home names
+there_are home (name ∷ names) =
+    (or_refusal (home name) (status.NoFile name) then λ device. Ok (tt {0}))
+    then λ there. there_are home names

@@ -7,7 +7,8 @@ use Rattle.lay_core.specs.Layout.{Shape}
 use Rattle.lay_core.specs.Touched.{stripe_count}
 use Rattle.graph_mean.specs.Graph.{View, blank}
 use Rattle.graph_merge.proofs.Small.{joined_within}
-use Rattle.graph_text.specs.Format.{At, Named}
+use Rattle.graph_text.specs.Format.{Named}
+use Rattle.text_steps.specs.declared.at.At.{At}
 use Rattle.raid_script.specs.declared.join.Join.{Join}
 use Rattle.raid_script.specs.Asked.{Asked}
 use Rattle.top_bound.specs.Laws.{IsSmall}

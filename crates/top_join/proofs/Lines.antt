@@ -2,7 +2,8 @@
 use Rattle.std.proofs.Common.{◌≡◌, ℕ, ◌+◌, List, [], ◌∷◌, ◌++◌, Result, Ok, Err, refl, sym, ap, subst, append_assoc, append-nil}
 use Rattle.lay_core.specs.Layout.{Shape}
 use Rattle.graph_mean.specs.Graph.{View}
-use Rattle.graph_text.specs.Format.{At, Named}
+use Rattle.graph_text.specs.Format.{Named}
+use Rattle.text_steps.specs.declared.at.At.{At}
 use Rattle.raid_script.specs.declared.join.Join.{Join}
 use Rattle.raid_script.specs.Asked.{Asked}
 use Rattle.top_join.specs.declared.fault.JoinFault.{JoinFault}

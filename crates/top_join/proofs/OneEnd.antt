@@ -10,7 +10,8 @@ use Rattle.graph_merge.specs.declared.fault.MergeFault.TheVariants.{Form, Large}
 use Rattle.graph_merge.specs.Form.{IsCause, IsFirst, IsFormed, IsSecond}
 use Rattle.graph_merge.specs.Joined.{IsJoined}
 use Rattle.graph_merge.proofs.Unique.{unique}
-use Rattle.graph_text.specs.Format.{At, Named}
+use Rattle.graph_text.specs.Format.{Named}
+use Rattle.text_steps.specs.declared.at.At.{At}
 use Rattle.raid_script.specs.declared.join.Join.{Join}
 use Rattle.raid_script.specs.Asked.{Asked}
 use Rattle.top_join.specs.Joining.{AreJoined, Follows, IsInTurn, IsJoint, IsMerged, IsOver, code_of, graph_at, is_before, may_join, spans_in}

@@ -1,7 +1,7 @@
 -- What joining answers. Want of memory is free.
 use Rattle.std.specs.Prelude.{◌≡◌, ℕ, List, Result, Ok, Err}
 use Rattle.graph_mean.specs.Graph.{View}
-use Rattle.graph_text.specs.Format.{At}
+use Rattle.text_steps.specs.declared.at.At.{At}
 use Rattle.top_join.specs.declared.fault.JoinFault.{JoinFault}
 use Rattle.top_join.specs.declared.fault.JoinFault.TheVariants as fault
 

@@ -10,7 +10,8 @@ use Rattle.graph_merge.specs.declared.fault.MergeFault.{MergeFault}
 use Rattle.graph_merge.specs.declared.fault.MergeFault.TheVariants.{Form, Large}
 use Rattle.graph_merge.specs.Form.{IsCause}
 use Rattle.graph_merge.specs.Joined.{IsJoined}
-use Rattle.graph_text.specs.Format.{At, Named}
+use Rattle.graph_text.specs.Format.{Named}
+use Rattle.text_steps.specs.declared.at.At.{At}
 use Rattle.raid_script.specs.declared.join.Join.{Join}
 use Rattle.raid_script.specs.Asked.{Asked, Writes, WritesAll, Reads, Syncs, Fails, Other}
 use Rattle.std.specs.Option.{option_or}
@@ -65,14 +66,17 @@ may_join y spans = not (list_any (λ s. nat_lt (blocks_in y) (s.first + s.count)
 -- where that isn't so the graph is empty
 abbrev pub IsJoint : Shape → View → View → Span → Span → Bool → Result View ℕ → Type 0
 IsJoint y a b p q false r = r ≡ Ok blank
-IsJoint y a b p q true r = IsInTurn y a b p (is_before y p q) r
+IsJoint y a b p q true r =
+    IsInTurn y a b p (nat_lt (stripe_of y (p.first + p.count - 1)) (stripe_of y q.first)) r
 
--- so it is where there aren't two spans
+-- so it is where there aren't two spans, or one passes the end, or they touch more than 16 stripes together
 abbrev pub IsOver : Shape → View → View → Option (List Span) → Result View ℕ → Type 0
 IsOver y a b None r = r ≡ Ok blank
 IsOver y a b (Some []) r = r ≡ Ok blank
 IsOver y a b (Some (p ∷ [])) r = r ≡ Ok blank
-IsOver y a b (Some (p ∷ q ∷ [])) r = IsJoint y a b p q (may_join y (p ∷ q ∷ [])) r
+IsOver y a b (Some (p ∷ q ∷ [])) r = IsJoint y a b p q
+    (not (list_any (λ s. nat_lt (blocks_in y) (s.first + s.count)) (p ∷ q ∷ []))
+    && nat_le (stripes_among y (is_in_some (p ∷ q ∷ []))) 16) r
 IsOver y a b (Some (p ∷ q ∷ (s ∷ spans))) r = r ≡ Ok blank
 
 -- ## Join lines
@@ -100,4 +104,6 @@ module _ (y : Shape) (book : List Named) (clients : List (List Asked)) where
   -- what comes of the lines in their order, whose items name the graphs from this number on: the graphs, or the first line whose graphs can't be joined, and why
   abbrev pub AreJoined : ℕ → List Join → Result (List View) At → Type 0
   AreJoined n [] r = r ≡ Ok []
-  AreJoined n (join ∷ joins) r = (one : Result View ℕ) × IsLine n join one × Follows join (AreJoined (n + 1) joins) one r
+  AreJoined n (join ∷ joins) r = (one : Result View ℕ)
+      × IsOver y (graph_at book join.first) (graph_at book join.second) (spans_in n clients) one
+      × Follows join (AreJoined (n + 1) joins) one r

@@ -12,7 +12,7 @@ use Rattle.eng_array.specs.declared.start.Start.{Start}
 use Rattle.eng_array.specs.declared.start.Start.TheVariants as start
 use Rattle.eng_cols.specs.declared.column.Column.{Column}
 use Rattle.eng_cols.specs.declared.spot.Loss.{Loss}
-use Rattle.eng_cols.specs.Cols.{HasDevice, is_set_filling}
+use Rattle.eng_cols.specs.Cols.{HasDevice, is_set_filling, HasDeviceOn}
 use Rattle.eng_cols.specs.Deaths.{Dies}
 use Rattle.eng_cols.specs.Lost.{NotLost}
 use Rattle.eng_cols.specs.Settable.{IsSettable}
@@ -32,8 +32,8 @@ use Rattle.top_acts.specs.Cleared.{EndsInSteps}
 use Rattle.top_acts.specs.Mapped.{LooksAtMaps, is_any_marked, unmarked}
 use Rattle.top_acts.proofs.Having.{has_live}
 use Rattle.top_acts.proofs.Named.{live_of}
-use Rattle.top_close.specs.Calls.{MoreOn, NoCalls}
-use Rattle.top_close.specs.Settled.{HasDeviceOn, LosesDevice}
+use Rattle.top_close.specs.Calls.{MoreOn}
+use Rattle.top_close.specs.Settled.{LosesDevice}
 use Rattle.top_close.specs.Stage.{IsInUse}
 use Rattle.top_close.proofs.StageLaws.{live_before}
 use Rattle.top_rounds.specs.Calls.{label_writes}
@@ -64,6 +64,7 @@ use Rattle.top_labelled.proofs.Seconds.{clears-only, cleared, exact, kept-so, lo
 use Rattle.top_labelled.proofs.Turns.{in-order, same-calls}
 use Rattle.top_labelled.proofs.Uncalled.{fill-is, quiet-calls}
 use Rattle.top_labelled.proofs.Without.{began-asked, still-lives, why-unbegun}
+use Rattle.top_close.proofs.Words.{NoCalls}
 
 module _ {L D : Type 0} (lay : LayoutGhosts L) (disk : DiskGhosts D) (old : Setup L D) (asked began : Option Start) (faulty map : Bool) (devices : Vec (Option D) Global) (columns : Vec Column Global) (begun : List Column) (closed : Closed L D)
     (newest first : Label) (layout : IsLayout (lay.shape old.layout)) (can : RebuildsIf lay disk old asked)

@@ -8,13 +8,14 @@ use Rattle.lay_core.specs.Layout.{Shape}
 use Rattle.eng_cols.specs.declared.column.Column.{Column}
 use Rattle.eng_cols.specs.declared.column.Column.TheVariants as column
 use Rattle.eng_cols.specs.Changes.{killed}
-use Rattle.eng_cols.specs.Cols.{ColumnState, Dead, all_done, is_done, is_done_on, state_set}
+use Rattle.eng_cols.specs.Cols.{ColumnState, Dead, is_done, is_done_on, state_set}
 use Rattle.eng_cols.specs.Stripes.{filled_in, states_of}
 use Rattle.eng_cols.proofs.Lists.{get_set_other, get_set_same}
 use Rattle.top_acts.specs.Killed.{IsWithout}
 use Rattle.top_close.specs.Closes.{FillingEnds, SpreadEnds}
 use Rattle.top_close.proofs.SettledLaws.{set_here}
 use Rattle.top_labelled.proofs.Lists.{same-list}
+use Rattle.eng_cols.proofs.Words.{all_done}
 
 pub done-all : (n s : ℕ) → s < n → is_done (all_done n) s ≡ true
 done-all zero s lt = absurd (omega (arith, lt))

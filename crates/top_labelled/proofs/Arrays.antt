@@ -10,7 +10,7 @@ use Rattle.lay_core.specs.declared.layout.Layout.{Ghosts as LayoutGhosts}
 use Rattle.lay_core.specs.Layout.{Shape}
 use Rattle.eng_cols.specs.declared.column.Column.{Column}
 use Rattle.eng_cols.specs.declared.column.Column.TheVariants as column
-use Rattle.eng_cols.specs.Cols.{Live, Dead, Filling, Spread, all_done, passes, state_set, is_set_filling, is_set_spread}
+use Rattle.eng_cols.specs.Cols.{Live, Dead, Filling, Spread, passes, state_set, is_set_filling, is_set_spread}
 use Rattle.eng_cols.specs.Settable.{IsSettable}
 use Rattle.eng_cols.specs.Stripes.{filled_in, states_of}
 use Rattle.eng_cols.proofs.Lists.{count_at_most}
@@ -20,6 +20,7 @@ use Rattle.raid_recon.specs.Array.{IsArray}
 use Rattle.top_acts.proofs.Having.{has_live}
 use Rattle.top_rounds.specs.Labels.{IsNumbered}
 use Rattle.top_rounds.specs.Passes.{CanBeLabelled}
+use Rattle.eng_cols.proofs.Words.{all_done}
 
 -- ## What a state says of how its column is set
 

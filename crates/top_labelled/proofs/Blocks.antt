@@ -36,14 +36,14 @@ module _ {D : Type 0} (g : Ghosts D) (y : Shape) (columns : List Column) (old : 
   swept-check (Marked marks) d n h = (h.0, of_check g y (Marked marks) columns old d n h)
 
   pub may-check : (notice : Notice) (sweep : Sweeps) (d n : ℕ) → MayBegin g notice sweep y columns old d n → (n < 64) ⊎ ((y.checks ≡ 1) × OfCheck g y columns d n)
-  may-check Round sweep d n (inl first) = let e = first.first in inl (omega (arith, e))
+  may-check Round sweep d n (inl first) = let e = first.kept in inl (omega (arith, e))
   may-check Round sweep d n (inr swept) = inr (swept-check sweep d n swept)
   may-check (Marks map) sweep d n (inl kept) = inl (elim kept.kept [ inl label ↦ omega (arith, label) | inr second ↦ omega (arith, second) ])
   may-check (Marks map) sweep d n (inr swept) = inr (swept-check sweep d n swept)
 
   -- where nothing was swept
   pub may-low : (notice : Notice) (d n : ℕ) → MayBegin g notice Nothing y columns old d n → n < 64
-  may-low Round d n (inl first) = let e = first.first in omega (arith, e)
+  may-low Round d n (inl first) = let e = first.kept in omega (arith, e)
   may-low Round d n (inr never) = absurd never
   may-low (Marks map) d n (inl kept) = elim kept.kept [ inl label ↦ omega (arith, label) | inr second ↦ omega (arith, second) ]
   may-low (Marks map) d n (inr never) = absurd never

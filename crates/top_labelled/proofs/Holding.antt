@@ -1,5 +1,5 @@
 -- What an array that was begun holds.
-use Rattle.std.proofs.Common.{◌≡◌, inl, inr, ℕ, zero, suc, ◌+◌, ◌<◌, ◌≤◌, List, [], ◌∷◌, Bool, true, false, cond, length, Option, None, refl, sym, ◌∙◌, ap, subst, arith}
+use Rattle.std.proofs.Common.{◌≡◌, ◌⊎◌, inl, inr, ℕ, zero, suc, ◌+◌, ◌<◌, ◌≤◌, List, [], ◌∷◌, Bool, true, false, cond, length, Option, None, refl, sym, ◌∙◌, ap, subst, arith}
 use Rattle.std.specs.Prelude.{◌==◌, count_by, if◌then◌else◌, slice_index}
 use Rattle.std.proofs.lemmas.Bool.{cases_eq, lt-ltb}
 use Rattle.std.proofs.lemmas.List.Sums.{sum_by-cons}
@@ -47,7 +47,7 @@ use Rattle.top_close.specs.Stage.{DiesIn, IsStage}
 use Rattle.top_run.specs.Work.{Work}
 use Rattle.top_run.specs.Ran.{Opens, states_in}
 use Rattle.top_run.proofs.InTurnSame.{decode-same}
-use Rattle.top_labelled.specs.Begun.{HoldsBlocks, IsAlone, IsAnew, IsBlockOf, IsColumnWithin, IsSwept as Rewritten, WasSound, notice_in, opened_as, sweeps_in, without}
+use Rattle.top_labelled.specs.Begun.{HoldsBlocks, IsAlone, IsAnew, IsBlockOf, IsColumnWithin, WasSound, notice_in, opened_as, sweeps_in, without}
 use Rattle.top_labelled.proofs.Blocks.{MayCheck, may-check, may-low, same-blocks, swept-block}
 use Rattle.top_labelled.proofs.Looking.{back-read, begun-stage, quiet-read}
 use Rattle.top_labelled.proofs.Unmade.{unmade}
@@ -273,7 +273,7 @@ module _ {D : Type 0} (g : Ghosts D) (a : Work) (layout : IsLayout a.layout) (ne
       (changes-more g (MayBegin g notice sweep y read looked) (IsSwept g y a.columns read taken looked back quiet sweep) looked opened (low-or notice sweep) b.stage.frame) (b.swept refl))
     where
       low-or : (m : Notice) (sweep : Sweeps) (d n : ℕ) → MayBegin g m sweep y read looked d n → IsSwept g y a.columns read taken looked back quiet sweep d n
-      low-or Round sweep d n (inl f) = let e = f.first in inl (omega (arith, e))
+      low-or Round sweep d n (inl f) = let e = f.kept in inl (omega (arith, e))
       low-or Round sweep d n (inr m) = inr m
       low-or (Marks map) sweep d n (inl f) = inl (elim f.kept [ inl label ↦ omega (arith, label) | inr map ↦ omega (arith, map) ])
       low-or (Marks map) sweep d n (inr m) = inr m
@@ -283,7 +283,7 @@ module _ {D : Type 0} (g : Ghosts D) (a : Work) (layout : IsLayout a.layout) (ne
       checks-of (Over kind) some h = h.checks one tells
       checks-of (Marked marks) some h = h.checks one tells
 
-  swept-or : (sweep : Sweeps) (some : sweep ≡ Nothing → ⊥) → HasBegun g notice sweep y newest first read begun looked opened None found → Changes g (MayBegin g notice sweep y a.columns taken) taken opened → Rewritten g a newest taken union → InSync y holds mid → g.tells → (b : ℕ) → b < blocks_in y
+  swept-or : (sweep : Sweeps) (some : sweep ≡ Nothing → ⊥) → HasBegun g notice sweep y newest first read begun looked opened None found → Changes g (MayBegin g notice sweep y a.columns taken) taken opened → (newest.clean ≡ 0) ⊎ (is_any_marked union ≡ true) → InSync y holds mid → g.tells → (b : ℕ) → b < blocks_in y
       → IsBlockOf g a newest taken opened begun union start.blocks b
   swept-or sweep some h frame why sync tells b bl = elim
       (swept-block g y layout a.columns begun taken opened array die alive tells

@@ -12,12 +12,11 @@ use Rattle.blk_disk.proofs.DeviceLaws.{changes_size, device_at-get}
 use Rattle.lay_core.specs.declared.layout.Layout.{Ghosts as LayoutGhosts}
 use Rattle.eng_cols.specs.declared.column.Column.{Column}
 use Rattle.eng_cols.specs.declared.column.Column.TheVariants as column
-use Rattle.eng_cols.specs.Cols.{device_set, is_set_filling, is_set_spread, passes}
+use Rattle.eng_cols.specs.Cols.{device_set, is_set_filling, is_set_spread, passes, HasDeviceOn}
 use Rattle.eng_cols.proofs.Lists.{get_set_either, get_set_other}
 use Rattle.eng_array.specs.declared.start.Start.{Start}
 use Rattle.eng_array.specs.declared.start.Start.TheVariants as start
 use Rattle.eng_parts.specs.declared.setup.Setup.{Setup}
-use Rattle.top_close.specs.Settled.{HasDeviceOn}
 use Rattle.top_rounds.specs.Labels.{IsNumbered}
 use Rattle.top_rounds.specs.Passes.{CanBeLabelled}
 use Rattle.top_serve.specs.Served.{IsKeptAs}

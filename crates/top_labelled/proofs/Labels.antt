@@ -12,18 +12,18 @@ use Rattle.eng_cols.proofs.DeathLaws.{dies-more}
 use Rattle.raid_label.specs.Bytes.{bytes_of}
 use Rattle.raid_label.specs.declared.label.Label.{Label}
 use Rattle.eng_cols.specs.declared.spot.Loss.{Loss}
-use Rattle.eng_cols.specs.Cols.{device_set, is_set_filling}
+use Rattle.eng_cols.specs.Cols.{device_set, is_set_filling, HasDeviceOn}
 use Rattle.eng_cols.specs.Stripes.{states_of}
 use Rattle.raid_map.specs.Marking.{IsMapSector}
 use Rattle.raid_map.specs.Regions.{Marks as Map}
 use Rattle.top_acts.specs.Begun.{AreLast, HasBegun, MayBegin, MaySweep, Opens}
-use Rattle.top_acts.specs.Cleared.{EndsMapped, MayEnd}
+use Rattle.top_acts.specs.Cleared.{EndsMapped}
 use Rattle.top_acts.specs.Mapped.{LooksAtMaps, ReadsMap, unmarked}
 use Rattle.top_acts.specs.Marking.{AreNotice}
 use Rattle.top_acts.specs.Stages.{AreStaged}
 use Rattle.top_acts.specs.Sweeps.{Notice, Round, Marks, Sweeps, rounds_for, wrote_round}
 use Rattle.top_acts.proofs.Later.{sweep_high}
-use Rattle.top_close.specs.Settled.{HasDeviceOn, LosesDevice}
+use Rattle.top_close.specs.Settled.{LosesDevice}
 use Rattle.top_rounds.specs.Labels.{Seating, for_column, seating_in, with_round}
 use Rattle.top_close.specs.Stage.{DiesIn, HaveFailed, IsGivenUp, IsInUse, IsStage}
 use Rattle.top_rounds.specs.Rounds.{IsTriedOn, clean_in_end}
@@ -33,6 +33,7 @@ use Rattle.top_labelled.specs.Ran.{IsRelabelled, closing_label}
 use Rattle.top_labelled.proofs.Lists.{pairs-append, in-use-or-not}
 use Rattle.top_labelled.proofs.Looking.{begun-stage}
 use Rattle.top_labelled.proofs.Without.{some-same}
+use Rattle.top_acts.proofs.Words.{MayEnd}
 
 same-device : (o : Option Column) (d e : ℕ) → device_set o ≡ Some d → device_set o ≡ Some e → d ≡ e
 same-device o d e one two = some-same d e (sym one ∙ two)

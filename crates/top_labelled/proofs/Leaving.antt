@@ -12,7 +12,7 @@ use Rattle.lay_core.specs.Layout.{Shape, IsLayout}
 use Rattle.lay_core.specs.declared.layout.Layout.{Ghosts as LayoutGhosts}
 use Rattle.eng_cols.specs.declared.column.Column.{Column}
 use Rattle.eng_cols.specs.declared.spot.Loss.{Loss}
-use Rattle.eng_cols.specs.Cols.{HasDevice, device_set, is_set_filling}
+use Rattle.eng_cols.specs.Cols.{HasDevice, device_set, is_set_filling, HasDeviceOn, has_device}
 use Rattle.eng_cols.specs.Deaths.{Dies}
 use Rattle.eng_cols.specs.Stripes.{states_of}
 use Rattle.eng_cols.proofs.DeathLaws.{dies-more}
@@ -28,7 +28,7 @@ use Rattle.raid_map.specs.Regions.{Marks as Map}
 use Rattle.raid_recon.specs.Array.{IsCheckSector}
 use Rattle.raid_recon.proofs.Frames.{last-unit}
 use Rattle.top_acts.specs.Begun.{AreLast, MayBegin, MaySweep}
-use Rattle.top_acts.specs.Cleared.{AreEndingInTurn, EndsInTurn, FailsEnding, MayEnd}
+use Rattle.top_acts.specs.Cleared.{AreEndingInTurn, EndsInTurn}
 use Rattle.top_acts.specs.Closed.{settled_in_end}
 use Rattle.top_acts.specs.Mapped.{ReadsMap, unmarked}
 use Rattle.top_acts.specs.Marking.{AreNotice}
@@ -42,7 +42,7 @@ use Rattle.top_acts.proofs.Staged.{settles-ending}
 use Rattle.top_close.specs.Calls.{MoreOn}
 use Rattle.top_rounds.specs.Calls.{IsLabelWrite}
 use Rattle.top_close.specs.Reserved.{IsReserved}
-use Rattle.top_close.specs.Settled.{HasDeviceOn, LosesDevice, has_device}
+use Rattle.top_close.specs.Settled.{LosesDevice}
 use Rattle.top_close.proofs.SettledLaws.{device_within}
 use Rattle.top_close.specs.Stage.{DiesIn, IsGivenUp, IsInUse, IsStage}
 use Rattle.top_close.proofs.StageLaws.{live_before}
@@ -60,6 +60,7 @@ use Rattle.top_labelled.proofs.Kept.{FillsOn, had-started, kept-device}
 use Rattle.top_labelled.proofs.Looking.{begins-stage}
 use Rattle.top_labelled.proofs.Restart.{target-alone}
 use Rattle.top_labelled.proofs.Without.{began-asked, not-some, still-lives, without-dies}
+use Rattle.top_acts.proofs.Words.{MayEnd, FailsEnding}
 
 -- ## Calls
 
@@ -102,8 +103,8 @@ none-behind g (Some before) calls told are is = let z : Some before ≡ Some tol
 
 -- which sectors it may write
 pub end-reserved : (clears mapped : Bool) → (clears ≡ true → mapped ≡ true) → (columns : List Column) (d n : ℕ) → MayEnd clears columns d n → ((c : ℕ) × HasDeviceOn columns c d) × IsReserved mapped n
-end-reserved false false wide columns d n on = ((on.col, on.live), on.first)
-end-reserved false true wide columns d n on = ((on.col, on.live), inl on.first)
+end-reserved false false wide columns d n on = ((on.col, on.live), on.kept)
+end-reserved false true wide columns d n on = ((on.col, on.live), inl on.kept)
 end-reserved true mapped wide columns d n on = ((on.col, on.live), subst (λ b. IsReserved b n) (sym (wide refl)) on.kept)
 
 -- what was closed has ended, as a run does
@@ -147,8 +148,8 @@ notice-maps false marks union h = let z : false ≡ true = h in absurd (let u : 
 -- a sector of those that stand before the rows, of a device in use, or one of the rows
 pub begun-where : {D : Type 0} (g : DiskGhosts D) (y : Shape) (layout : IsLayout y) (notice : Notice) (sweep : Sweeps) (mapped : Bool) → (marks_maps notice ≡ true → mapped ≡ true) → (columns : List Column) (old : List (Option D)) (d n : ℕ) → MayBegin g notice sweep y columns old d n
     → ((c : ℕ) × HasDevice (states_of y columns) c d) × (IsReserved mapped n ⊎ IsInRows y n)
-begun-where g y layout Round sweep false wide columns old d n (inl on) = ((on.col, has_live y columns on.col d on.live), inl on.first)
-begun-where g y layout Round sweep true wide columns old d n (inl on) = ((on.col, has_live y columns on.col d on.live), inl (inl on.first))
+begun-where g y layout Round sweep false wide columns old d n (inl on) = ((on.col, has_live y columns on.col d on.live), inl on.kept)
+begun-where g y layout Round sweep true wide columns old d n (inl on) = ((on.col, has_live y columns on.col d on.live), inl (inl on.kept))
 begun-where g y layout Round sweep mapped wide columns old d n (inr swept) = let h = swept-in-rows g y layout sweep columns old d n swept in (h.0, inr h.1)
 begun-where g y layout (Marks map) sweep mapped wide columns old d n (inl on) = ((on.col, has_live y columns on.col d on.live), inl (subst (λ b. IsReserved b n) (sym (wide refl)) on.kept))
 begun-where g y layout (Marks map) sweep mapped wide columns old d n (inr swept) = let h = swept-in-rows g y layout sweep columns old d n swept in (h.0, inr h.1)

@@ -4,10 +4,9 @@ use Rattle.std.specs.Prelude.{AllPairs, count_by, slice_set}
 use Rattle.std.proofs.lemmas.Bool.{cases_eq, cases_lt, cond-false}
 use Rattle.std.proofs.lemmas.List.{get_or_append_left, get_or-append_right, length-append}
 use Rattle.std.proofs.lemmas.List.Sums.{sum_by-cons}
-use Rattle.eng_cols.specs.Cols.{device_set, passes}
+use Rattle.eng_cols.specs.Cols.{device_set, passes, HasDeviceOn}
 use Rattle.eng_cols.specs.declared.column.Column.{Column}
 use Rattle.eng_cols.specs.declared.column.Column.TheVariants as column
-use Rattle.top_close.specs.Settled.{HasDeviceOn}
 
 -- pairs of two lists are those of each, and those across
 pub pairs-append : {X : Type 0} (R : X → X → Type 0) (xs ys : List X) → AllPairs R xs → AllPairs R ys

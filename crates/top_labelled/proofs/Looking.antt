@@ -9,20 +9,19 @@ use Rattle.blk_disk.proofs.DeviceLaws.{changes-more, changes-then}
 use Rattle.lay_core.specs.Layout.{Shape}
 use Rattle.eng_cols.specs.declared.column.Column.{Column}
 use Rattle.eng_cols.specs.declared.spot.Loss.{Loss}
-use Rattle.eng_cols.specs.Cols.{is_set_filling}
+use Rattle.eng_cols.specs.Cols.{is_set_filling, HasDeviceOn}
 use Rattle.eng_cols.specs.Deaths.{Dies}
 use Rattle.eng_cols.specs.Stripes.{states_of}
 use Rattle.raid_label.specs.declared.label.Label.{Label}
 use Rattle.raid_map.specs.Regions.{Marks as Map}
 use Rattle.raid_recon.proofs.Backs.{Back}
 use Rattle.top_close.specs.Calls.{IsSettle}
-use Rattle.top_close.specs.Settled.{HasDeviceOn}
 use Rattle.top_close.specs.Stage.{DiesIn, IsGivenUpIn, IsStage}
 use Rattle.top_close.proofs.StageLaws.{dies_over, live_before, stage-then, stage_as}
 use Rattle.top_rounds.specs.Calls.{IsLabelWrite}
 use Rattle.top_rounds.proofs.RoundLaws.{none_given_in}
 use Rattle.top_acts.specs.Begun.{AreLast, HasBegun, MayBegin}
-use Rattle.top_acts.specs.Mapped.{IsMapRead, LooksAtMaps, ReadsMap}
+use Rattle.top_acts.specs.Mapped.{LooksAtMaps, ReadsMap}
 use Rattle.top_acts.specs.Marking.{AreNotice, IsMapWrite}
 use Rattle.top_acts.specs.Stages.{AreStaged}
 use Rattle.top_acts.specs.Sweeps.{Notice, Round, Marks, Sweeps}
@@ -32,6 +31,7 @@ use Rattle.top_acts.proofs.Looked.{looks_dies, looks_stage}
 use Rattle.top_acts.proofs.Named.{apart_in}
 use Rattle.top_acts.proofs.Staged.{none_last, staged-read, staged-reads}
 use Rattle.top_labelled.specs.Begun.{BeginsUnless}
+use Rattle.top_acts.proofs.Words.{IsMapRead}
 
 none-announced : (notice : Notice) → AreNotice notice []
 none-announced Round = All-nil IsLabelWrite
@@ -54,7 +54,7 @@ module _ {D : Type 0} (g : Ghosts D) (y : Shape) (notice : Notice) (sweep : Swee
   quiet-read = changes-more g (λ _ _. ⊥) (λ d n. n < 64) taken looked (λ d n f. absurd f) reads.frame
 
   pub may-before : (m : Notice) (d n : ℕ) → MayBegin g m sweep y read looked d n → MayBegin g m sweep y columns taken d n
-  may-before Round d n (inl f) = inl (record { col = f.col; live = live-read f.col d f.live; first = f.first })
+  may-before Round d n (inl f) = inl (record { col = f.col; live = live-read f.col d f.live; kept = f.kept })
   may-before Round d n (inr m) = inr (sweep_was g y columns read taken looked back-read quiet-read sweep d n m)
   may-before (Marks map) d n (inl f) = inl (record { col = f.col; live = live-read f.col d f.live; kept = f.kept })
   may-before (Marks map) d n (inr m) = inr (sweep_was g y columns read taken looked back-read quiet-read sweep d n m)

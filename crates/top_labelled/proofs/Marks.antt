@@ -8,7 +8,7 @@ use Rattle.lay_core.specs.Layout.{Shape}
 use Rattle.item_list.specs.ItemList.{ItemList}
 use Rattle.eng_array.specs.declared.start.Start.{Start}
 use Rattle.eng_cols.specs.declared.column.Column.{Column}
-use Rattle.eng_cols.specs.Stripes.{are_spread, count_below, is_stripe_by, is_stripe_of, spreads, states_of}
+use Rattle.eng_cols.specs.Stripes.{are_spread, is_stripe_by, is_stripe_of, spreads, states_of}
 use Rattle.eng_cols.proofs.Counting.{count-more, count-same, stripe-same}
 use Rattle.eng_cols.proofs.Fewer.{states-spread}
 use Rattle.raid_map.specs.Asking.{MarksAlso, ScriptMayWrite}
@@ -16,6 +16,7 @@ use Rattle.raid_map.specs.Regions.{Adds, IsBytesOf, IsMapOf, Marks as Map, bit_a
 use Rattle.raid_map.proofs.Spans.{also-none, also-same, also-then}
 use Rattle.raid_map.proofs.Unions.{regions-few}
 use Rattle.top_labelled.specs.Marked.{MarksAsked, MarksOf, RebuildMayWrite, StripesFrom}
+use Rattle.lay_core.specs.Touched.{count_below}
 
 -- ## Another map
 

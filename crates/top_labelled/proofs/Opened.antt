@@ -14,7 +14,7 @@ use Rattle.eng_cols.specs.Stripes.{states_of}
 use Rattle.eng_cols.proofs.DeathLaws.{dies-more, dies-refl, dies-then}
 use Rattle.lay_core.specs.Layout.{Shape}
 use Rattle.raid_label.specs.declared.label.Label.{Label}
-use Rattle.eng_cols.specs.Cols.{is_set_filling}
+use Rattle.eng_cols.specs.Cols.{is_set_filling, HasDeviceOn}
 use Rattle.raid_map.specs.Regions.{Marks as Map}
 use Rattle.top_acts.specs.Begun.{AreLast, MayBegin}
 use Rattle.top_acts.specs.Mapped.{LooksAtMaps, ReadsMap}
@@ -25,8 +25,6 @@ use Rattle.top_acts.specs.Failed.{EndsFailed, StaysBegun}
 use Rattle.top_acts.proofs.Counted.{counted_rounds}
 use Rattle.top_acts.proofs.Named.{apart_in}
 use Rattle.top_close.specs.Dying.{AnyCause}
-use Rattle.top_close.specs.Settled.{HasDeviceOn}
-use Rattle.top_rounds.specs.Passes.{IsFirstInUse}
 use Rattle.top_close.specs.Stage.{DiesIn, IsGivenUp, IsGivenUpIn, IsStage}
 use Rattle.top_close.proofs.StageLaws.{live_before, given_before}
 use Rattle.top_rounds.proofs.RoundLaws.{given_after}
@@ -35,6 +33,7 @@ use Rattle.top_labelled.specs.Between.{HasOpened}
 use Rattle.top_labelled.specs.declared.opening.AskedOpening.{AskedOpening}
 use Rattle.top_labelled.proofs.Looking.{begins-given, begins-stage}
 use Rattle.top_labelled.proofs.Without.{alone-later, apart-then, without-apart, without-dead, without-dies}
+use Rattle.top_rounds.proofs.Words.{IsFirstInUse}
 
 -- ## Where no column dies
 
@@ -114,11 +113,11 @@ module _ {D : Type 0} (g : Ghosts D) (y : Shape) (asked : AskedOpening) (notice 
 
   first-may : (m : Notice) (d n : ℕ) → IsFirstInUse columns d n → MayBegin g m (sweeps_in newest union) y columns taken d n
   first-may Round d n on = inl on
-  first-may (Marks map) d n on = inl (record { col = on.col; live = on.live; kept = inl on.first })
+  first-may (Marks map) d n on = inl (record { col = on.col; live = on.live; kept = inl on.kept })
 
   -- a device that is in use behind the death was in use
   was-first : (d n : ℕ) → IsFirstInUse (without start h.begun) d n → Begun d n
-  was-first d n on = first-may notice d n (record { col = on.col; live = had-first on.col d (had-begun on.col d on.live); first = on.first })
+  was-first d n on = first-may notice d n (record { col = on.col; live = had-first on.col d (had-begun on.col d on.live); kept = on.kept })
 
   pub moved-first : Changes g (IsFirstInUse (without start h.begun)) h.opened new
   moved-first = fails-moved g h.first next (without start h.begun) after h.opened new h.before lost h.fails

@@ -11,10 +11,10 @@ use Rattle.raid_map.specs.Marking.{MarkCalls, MarksOn}
 use Rattle.top_close.specs.Calls.{IsSettle, MoreOn}
 use Rattle.top_close.proofs.CallLaws.{more-then}
 use Rattle.top_rounds.specs.Calls.{IsLabelWrite}
-use Rattle.top_acts.specs.Cleared.{EndCleared, IsEndingCall}
-use Rattle.top_acts.specs.Mapped.{IsMapRead}
+use Rattle.top_acts.specs.Cleared.{IsEndingCall}
 use Rattle.top_acts.specs.Marking.{IsMapWrite}
 use Rattle.top_labelled.specs.Maps.{ClearsLast, MarksFirst, WritesMap, WritesRows}
+use Rattle.top_acts.proofs.Words.{EndCleared, IsMapRead}
 
 -- ## Lists
 

@@ -7,7 +7,7 @@ use Rattle.lay_core.specs.Layout.{blocks_in}
 use Rattle.eng_cols.specs.declared.column.Column.{Column}
 use Rattle.eng_array.specs.declared.start.Start.{Start}
 use Rattle.eng_cols.specs.declared.spot.Loss.{Loss}
-use Rattle.eng_cols.specs.Cols.{is_set_filling, passes}
+use Rattle.eng_cols.specs.Cols.{is_set_filling, passes, HasDeviceOn}
 use Rattle.eng_cols.specs.Deaths.{Dies}
 use Rattle.eng_cols.proofs.DeathLaws.{dies-more, dies-then}
 use Rattle.eng_cols.proofs.Losing.{lost-excludes}
@@ -19,7 +19,7 @@ use Rattle.raid_script.proofs.DrawnShares.{drawn_apart}
 use Rattle.top_acts.specs.Mapped.{unmarked}
 use Rattle.top_acts.proofs.Having.{has_live}
 use Rattle.top_acts.proofs.Named.{live_of, only_lose}
-use Rattle.top_close.specs.Settled.{HasDeviceOn, LosesDevice}
+use Rattle.top_close.specs.Settled.{LosesDevice}
 use Rattle.top_close.specs.Stage.{DiesIn}
 use Rattle.top_close.proofs.StageLaws.{live_before}
 use Rattle.top_run.specs.Work.{Ending, Service, Work}

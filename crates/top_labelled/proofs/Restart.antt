@@ -12,7 +12,7 @@ use Rattle.lay_core.specs.Layout.{Shape}
 use Rattle.lay_core.specs.declared.layout.Layout.{Ghosts as LayoutGhosts}
 use Rattle.eng_cols.specs.declared.column.Column.{Column}
 use Rattle.eng_cols.specs.declared.column.Column.TheVariants as column
-use Rattle.eng_cols.specs.Cols.{ColumnState, Dead, Filling, Spread, AtMostOne, device_set, is_done_on, is_set_filling, is_spread, none_done, passes, state_set}
+use Rattle.eng_cols.specs.Cols.{ColumnState, Dead, Filling, Spread, AtMostOne, device_set, is_done_on, is_set_filling, is_spread, none_done, passes, state_set, HasDeviceOn}
 use Rattle.eng_cols.specs.Deaths.{Dies}
 use Rattle.eng_cols.specs.Fewer.{DieApart}
 use Rattle.eng_cols.specs.Seats.{is_place_on, is_unit_of}
@@ -29,7 +29,6 @@ use Rattle.eng_array.specs.declared.start.Start.TheVariants as start
 use Rattle.eng_log.specs.Given.{items_at}
 use Rattle.eng_parts.specs.declared.setup.Setup.{Setup}
 use Rattle.top_close.specs.Dying.{AnyCause}
-use Rattle.top_close.specs.Settled.{HasDeviceOn}
 use Rattle.top_close.proofs.DyingLaws.{dies_unfilled}
 use Rattle.top_close.proofs.SettledLaws.{set_here}
 use Rattle.top_close.proofs.StageLaws.{live_before}

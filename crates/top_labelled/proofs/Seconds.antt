@@ -7,18 +7,17 @@ use Rattle.blk_disk.proofs.DeviceLaws.{changes-refl, changes_sector, changes_siz
 use Rattle.lay_core.specs.Layout.{Shape}
 use Rattle.eng_cols.specs.declared.column.Column.{Column}
 use Rattle.eng_cols.specs.declared.spot.Loss.{Loss}
-use Rattle.eng_cols.specs.Cols.{ColumnState, is_set_filling}
+use Rattle.eng_cols.specs.Cols.{ColumnState, is_set_filling, HasDeviceOn}
 use Rattle.eng_cols.specs.Stripes.{states_of}
 use Rattle.raid_label.specs.declared.label.Label.{Label}
 use Rattle.raid_map.specs.Regions.{IsBytesOf, Marks as Map}
 use Rattle.top_acts.specs.Begun.{AreLast, MayBegin}
-use Rattle.top_acts.specs.Cleared.{EndsMapped, MayEnd}
+use Rattle.top_acts.specs.Cleared.{EndsMapped}
 use Rattle.top_acts.specs.Mapped.{ReadsMap, is_any_marked, unmarked}
 use Rattle.top_acts.specs.Marking.{AreNotice}
 use Rattle.top_acts.specs.Stages.{AreStaged}
 use Rattle.top_acts.specs.Sweeps.{Notice, Sweeps}
 use Rattle.top_close.specs.Ended.{IsLossBy}
-use Rattle.top_close.specs.Settled.{HasDeviceOn}
 use Rattle.top_close.specs.Stage.{DiesIn, IsInUse, IsStage}
 use Rattle.top_close.proofs.StageLaws.{live_before}
 use Rattle.top_run.specs.Work.{Service, Work}
@@ -28,6 +27,7 @@ use Rattle.top_labelled.specs.Ran.{closing_label}
 use Rattle.top_labelled.proofs.Looking.{begins-stage}
 use Rattle.top_labelled.proofs.Unserved.{kept-clean, map-of, second-marks, second-round}
 use Rattle.top_labelled.proofs.Without.{never}
+use Rattle.top_acts.proofs.Words.{MayEnd}
 
 -- ## By which map it is cleared
 
@@ -89,7 +89,7 @@ or-neither false any one two = two
 
 -- where no map is cleared the end writes none
 no-end : (clears : Bool) → clears ≡ false → (columns : List Column) (d : ℕ) → MayEnd clears columns d 1 → ⊥
-no-end false h columns d on = let e = on.first in omega (arith, e)
+no-end false h columns d on = let e = on.kept in omega (arith, e)
 no-end true h columns d on = never h
 
 module _ {D : Type 0} (g : Ghosts D) (a : Work) (newest first last : Label) (taken opened served back : List (Option D)) (begun closed : List Column) (s : Service) (map : Bool) (before : Option Loss) (clear : Option Map)

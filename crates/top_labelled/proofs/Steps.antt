@@ -13,7 +13,7 @@ use Rattle.eng_cols.specs.Deaths.{Dies}
 use Rattle.eng_cols.proofs.DeathLaws.{dies-more}
 use Rattle.eng_cols.specs.declared.column.Column.{Column}
 use Rattle.eng_cols.specs.declared.column.Column.TheVariants as column
-use Rattle.eng_cols.specs.Cols.{AtMostOne, IsFor, is_set_filling}
+use Rattle.eng_cols.specs.Cols.{AtMostOne, IsFor, is_set_filling, HasDeviceOn}
 use Rattle.eng_cols.specs.Fewer.{DieApart}
 use Rattle.eng_cols.proofs.Lists.{count_at_most}
 use Rattle.eng_parts.specs.declared.core_room.CoreRoom.{CoreRoom}
@@ -33,7 +33,6 @@ use Rattle.top_close.specs.Ended.{IsLossBy}
 use Rattle.top_acts.proofs.Having.{has_live}
 use Rattle.top_acts.proofs.Named.{apart_in}
 use Rattle.top_rounds.specs.Passes.{CanBeLabelled}
-use Rattle.top_close.specs.Settled.{HasDeviceOn}
 use Rattle.top_close.specs.Stage.{DiesIn}
 use Rattle.eng_array.specs.Fitting.{FitsTrace}
 use Rattle.eng_array.specs.declared.start.Start.{Start}

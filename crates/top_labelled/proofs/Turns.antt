@@ -15,14 +15,14 @@ use Rattle.raid_label.specs.declared.label.Label.{Label}
 use Rattle.raid_map.specs.Marking.{MarksOn}
 use Rattle.raid_map.specs.Regions.{Marks as Map}
 use Rattle.top_acts.specs.Begun.{HasBegun, MayBegin, MaySweep, Opens}
-use Rattle.top_acts.specs.Cleared.{EndsMapped, EndsMappedSettled, IsEndingCall, MayEnd}
-use Rattle.top_acts.specs.Mapped.{IsMapRead, unmarked}
+use Rattle.top_acts.specs.Cleared.{EndsMapped, EndsMappedSettled, IsEndingCall}
+use Rattle.top_acts.specs.Mapped.{unmarked}
 use Rattle.top_acts.specs.Marking.{MarksAll}
 use Rattle.top_acts.specs.Sweeps.{Notice, Round, Marks, Sweeps}
 use Rattle.top_acts.proofs.Looked.{looks_stage}
 use Rattle.top_acts.proofs.Marked.{IsMarkCall, marks_dies, marks_stage}
-use Rattle.top_close.specs.Calls.{MoreOn, NoCalls}
-use Rattle.top_close.specs.Settled.{HasDeviceOn, LosesDevice}
+use Rattle.top_close.specs.Calls.{MoreOn}
+use Rattle.top_close.specs.Settled.{LosesDevice}
 use Rattle.top_close.specs.Stage.{DiesIn}
 use Rattle.top_close.proofs.CallLaws.{more-none, more-then}
 use Rattle.top_close.proofs.SettledLaws.{device_within}
@@ -34,6 +34,9 @@ use Rattle.top_labelled.specs.Ran.{closing_label}
 use Rattle.top_labelled.proofs.Lists.{in-use-or-not}
 use Rattle.top_labelled.proofs.Ordered.{IsMarkOrRead, came-so, still-tells, told-cleared, told-marked, told-quiet}
 use Rattle.top_labelled.proofs.Without.{never}
+use Rattle.top_acts.proofs.Words.{MayEnd, IsMapRead}
+use Rattle.eng_cols.specs.Cols.{HasDeviceOn}
+use Rattle.top_close.proofs.Words.{NoCalls}
 
 -- any sector may change
 abbrev Anywhere : ℕ → ℕ → Type 0

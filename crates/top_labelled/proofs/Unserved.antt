@@ -21,13 +21,13 @@ use Rattle.top_acts.proofs.Later.{sweep_high}
 use Rattle.top_acts.proofs.Marked.{marks_second, marks_stage}
 use Rattle.top_close.specs.Ended.{IsLossBy}
 use Rattle.top_close.specs.Stage.{DiesIn}
-use Rattle.top_rounds.specs.Passes.{IsFirstInUse}
 use Rattle.top_run.specs.Work.{Work}
 use Rattle.top_labelled.specs.Begun.{BeginsUnless, IsAnew, IsColumnWithin, is_kept, notice_in, sweeps_in, without}
 use Rattle.top_labelled.specs.Between.{HasOpened, asked_of}
 use Rattle.top_labelled.specs.Maps.{IsKeptOrMap}
 use Rattle.top_labelled.specs.Ran.{IsLostBefore}
 use Rattle.top_labelled.proofs.Opened.{moved-first, opened-dead, opened-dies, opened-moved, opened-unfilled}
+use Rattle.top_rounds.proofs.Words.{IsFirstInUse}
 
 -- ## Sector 1
 
@@ -44,7 +44,7 @@ module _ {D : Type 0} (g : Ghosts D) (y : Shape) (sweep : Sweeps) (newest first 
   second-round b tells d = changes_sector g (MayBegin g Round sweep y columns old) old new d 1 b.stage.frame tells (no-second d)
     where
       no-second : (d : ℕ) → MayBegin g Round sweep y columns old d 1 → ⊥
-      no-second d (inl f) = let e = f.first in omega (arith, e)
+      no-second d (inl f) = let e = f.kept in omega (arith, e)
       no-second d (inr m) = omega (arith, sweep_high g y sweep columns old d 1 m)
 
   -- what the maps left, and a round behind them where the array was lost
@@ -53,7 +53,7 @@ module _ {D : Type 0} (g : Ghosts D) (y : Shape) (sweep : Sweeps) (newest first 
   announced-second map None label next mid dev o tells d quiet = marks_second g map columns mid old dev o.1 tells d quiet
   announced-second map (Some loss) label next mid dev o tells d quiet =
       let far = o.3.rounds.1.frame in
-      let same : sector_of g dev d 1 ≡ sector_of g o.1 d 1 = changes_sector g (IsFirstInUse o.0) o.1 dev d 1 far tells (λ f. let e = f.first in omega (arith, e)) in
+      let same : sector_of g dev d 1 ≡ sector_of g o.1 d 1 = changes_sector g (IsFirstInUse o.0) o.1 dev d 1 far tells (λ f. let e = f.kept in omega (arith, e)) in
       let was = (marks_stage g map columns o.0 old o.1 o.2 None).frame in
       elim (marks_second g map columns o.0 old o.1 o.2 tells d (λ h. quiet (rises-wider g (λ _ _. ⊥) (IsFirstInUse o.0) old old o.1 dev d (changes-refl g (λ _ _. ⊥) old) h far))) [
         | inl kept ↦ inl (same ∙ kept)
@@ -119,7 +119,7 @@ module _ {D : Type 0} (g : Ghosts D) (a : Work) (failed map : Bool) (marks union
 
   second : g.tells → (d : ℕ) → (RisesOn g taken back d → ⊥) → IsKeptOrMap g a newest taken back d
   second tells d quiet =
-      let same : sector_of g back d 1 ≡ sector_of g h.opened d 1 = changes_sector g (IsFirstInUse (without a.start h.begun)) h.opened back d 1 behind tells (λ f. let e = f.first in omega (arith, e)) in
+      let same : sector_of g back d 1 ≡ sector_of g h.opened d 1 = changes_sector g (IsFirstInUse (without a.start h.begun)) h.opened back d 1 behind tells (λ f. let e = f.kept in omega (arith, e)) in
       let was : sector_of g looked d 1 ≡ sector_of g taken d 1 = changes_sector g (λ _ _. ⊥) taken looked d 1 looks.reads.frame tells (λ f. f) in
       elim (read-second unread (is_kept map newest) h.has tells d (λ r. quiet (rises-wider g (λ _ _. ⊥) (IsFirstInUse (without a.start h.begun)) taken looked h.opened back d looks.reads.frame r behind))) [
         | inl kept ↦ inl (inl (same ∙ (kept ∙ was)))

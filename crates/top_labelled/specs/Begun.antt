@@ -14,8 +14,7 @@ use Rattle.eng_array.specs.declared.start.Start.{Start}
 use Rattle.eng_array.specs.declared.start.Start.TheVariants as start
 use Rattle.raid_label.specs.declared.label.Label.{Label}
 use Rattle.raid_recon.specs.declared.kind.Sweep.TheVariants as sweep
-use Rattle.raid_map.specs.Regions.{Marks as Map, region_of}
-use Rattle.raid_map.specs.Sweeping.{marks_stripe}
+use Rattle.raid_map.specs.Regions.{Marks as Map, region_of, is_marked}
 use Rattle.raid_map.specs.Union.{IsUnsound, UnionMarks}
 use Rattle.top_acts.specs.Begun.{HasBegun}
 use Rattle.top_acts.specs.Failed.{StaysBegun}
@@ -31,7 +30,7 @@ use Rattle.top_run.specs.Ran.{WasInSync, states_in}
 abbrev pub sweeps_in : Label → Map → Sweeps
 sweeps_in newest union =
     if newest.clean == 0 then Over sweep.Sync
-    else (if is_any_marked union then Marked (marks_stripe union) else Nothing)
+    else (if is_any_marked union then Marked (λ s. is_marked union.marks (region_of union.stripes s)) else Nothing)
 
 -- ## A rebuild
 
@@ -127,10 +126,6 @@ module _ {D : Type 0} (g : Ghosts D) (a : Work) (newest : Label) (taken : List (
       × ((s : ℕ) → IsUnsound a.layout (states_of a.layout columns) (contents_of g taken) s
       → UnionMarks a.layout newest.serial (states_of a.layout read) (contents_of g taken) (region_of a.layout.stripes s))))
 
-  -- check units are rewritten before a core is opened
-  abbrev pub IsSwept : Map → Type 0
-  IsSwept union = (newest.clean ≡ 0) ⊎ (is_any_marked union ≡ true)
-
   module _ (opened : List (Option D)) (begun : List Column) where
     -- The array was begun: the maps of its devices were read, which left the columns `read` and the devices `looked`; unless it was lost by that, labels were written in an opening round, or, where a map is kept, each device in use got the map `marks` in the place of that; and then check units were swept: all where the newest label said that the array was in use, else those of the stripes that its maps mark. By the columns that are left the array is lost or isn't.
     pub record BeginsLabelled (keeps : Bool) (first : Label) (lost : Option Loss) : Type 0 where
@@ -155,7 +150,7 @@ module _ {D : Type 0} (g : Ghosts D) (a : Work) (newest : Label) (taken : List (
     -- the block is what the devices held as they were taken; or, where the labels said that the array was in use, or the union of its maps had marks, and the block's unit was made missing, the sum of the others of its stripe as they were held then
     abbrev pub IsBlockOf : Map → Blocks → ℕ → Type 0
     IsBlockOf union blocks b = ((k : ℕ) → k < 512 → blocks b k ≡ decode a.layout (contents_of g taken) (states_in a) b k)
-        ⊎ (IsSwept union × IsUnmade b × ((k : ℕ) → k < 512 → blocks b k ≡ sums_of_others a.layout (contents_of g taken) (states_in a) b k))
+        ⊎ (((newest.clean ≡ 0) ⊎ (is_any_marked union ≡ true)) × IsUnmade b × ((k : ℕ) → k < 512 → blocks b k ≡ sums_of_others a.layout (contents_of g taken) (states_in a) b k))
 
     -- Where it was sound by the columns that were left as maps were read, the array is in sync as the core is opened, once the column is dead that is to be rebuilt; and where it was so by all columns, its blocks are these.
     pub record HoldsBlocks (read : List Column) (union : Map) (start : Blocks) : Type 0 where

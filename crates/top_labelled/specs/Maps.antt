@@ -1,5 +1,5 @@
 -- Sector 1 of the devices of an array with labels: what it holds behind a run, and when it is written.
-use Rattle.std.specs.Prelude.{◌≡◌, ◌⊎◌, ◌≤◌, ℕ, List, ◌∷◌, ◌++◌, Bool, true, false, Option, Some, None, Contains}
+use Rattle.std.specs.Prelude.{◌≡◌, ◌⊎◌, ◌≤◌, ℕ, List, ◌∷◌, ◌++◌, Bool, true, false, Option, Some, None, Contains, slice_index}
 use Rattle.blk_disk.specs.declared.disk.Call.{Call}
 use Rattle.blk_disk.specs.declared.disk.Disk.{Ghosts}
 use Rattle.blk_disk.specs.Disk.{call_of}
@@ -9,12 +9,12 @@ use Rattle.eng_cols.specs.declared.spot.Loss.{Loss}
 use Rattle.eng_world.specs.Planning.{Graphs}
 use Rattle.eng_world.specs.World.{World}
 use Rattle.raid_label.specs.declared.label.Label.{Label}
-use Rattle.raid_map.specs.Regions.{Marks as Map, IsBytesOf, IsMapOf}
+use Rattle.raid_map.specs.Regions.{Marks as Map, IsBytesOf, IsMap}
 use Rattle.top_acts.specs.Mapped.{is_any_marked, unmarked}
-use Rattle.top_close.specs.Settled.{HasDeviceOn}
 use Rattle.top_run.specs.Work.{Service, Work}
 use Rattle.top_labelled.specs.Begun.{is_kept}
 use Rattle.top_labelled.specs.Marked.{MarksExactly}
+use Rattle.eng_cols.specs.Cols.{HasDeviceOn}
 
 -- the map by which maps are cleared, if they are to be
 abbrev pub clear_if : Bool → Map → Option Map
@@ -29,7 +29,7 @@ module _ {D : Type 0} (g : Ghosts D) (a : Work) (newest : Label) (taken : List (
   -- sector 1 of device d is what it was, or such a map; or, of an array that was closed in order, it is some map of it
   abbrev pub IsKeptOrMap : List (Option D) → ℕ → Type 0
   IsKeptOrMap back d = ((sector_of g back d 1 ≡ sector_of g taken d 1) ⊎ IsBytesOf blank (sector_of g back d 1))
-      ⊎ ((newest.clean ≡ 1) × IsMapOf blank (sector_of g back d 1))
+      ⊎ ((newest.clean ≡ 1) × ((marks : ℕ → Bool) × IsMap blank.serial blank.stripes marks (slice_index (sector_of g back d 1))))
 
   -- What sector 1 of the devices holds in the end, where it is told, and a device has one. Where no map is asked for and the union of the maps as they were read had no mark, it is what it was. Where one is kept, or the union had a mark, each device in use in the end has a map without marks, unless the array is lost. Where one is asked for, and the array was lost as the core closed, each device that is in use in the end and was as the array was opened has one map, which marks exactly what the union marked and what is asked. All other sectors, of devices whose count of faults didn't rise, are what they were, or maps of the array.
   pub record MapsEnd (s : Service) (back : List (Option D)) (map : Bool) (read : List Column) (union marks : Map) (graphs : Graphs) (now : World) : Type 0 where

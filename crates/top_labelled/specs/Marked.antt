@@ -1,22 +1,22 @@
 -- What the maps of an array are marked before clients are served.
-use Rattle.std.specs.Prelude.{◌≡◌, ◌≢◌, ◌⊎◌, ◌↔◌, ◌+◌, ◌<◌, ◌≤◌, ℕ, List, length, true, Option, Some, None, slice_get}
+use Rattle.std.specs.Prelude.{◌≡◌, ◌≢◌, ◌⊎◌, ◌↔◌, ◌+◌, ◌<◌, ◌≤◌, ℕ, List, length, true, Option, Some, None, slice_get, unwrap_or}
 use Rattle.graph_mean.specs.Graph.{View}
 use Rattle.lay_core.specs.Layout.{Shape}
 use Rattle.eng_array.specs.Starts.{column_of, most_of}
 use Rattle.eng_array.specs.declared.start.Start.{Start}
 use Rattle.eng_array.specs.declared.start.Start.TheVariants as start
 use Rattle.eng_cols.specs.declared.column.Column.{Column}
-use Rattle.eng_cols.specs.declared.column.Column.TheVariants as column
 use Rattle.eng_cols.specs.Cols.{ColumnState}
-use Rattle.eng_cols.specs.Stripes.{count_below, is_stripe_of, states_of}
+use Rattle.eng_cols.specs.Stripes.{done_at, is_stripe_of, states_of}
 use Rattle.blk_plain.specs.declared.op.Op.{Op}
 use Rattle.eng_world.specs.declared.item.Item.TheVariants as item
 use Rattle.eng_world.specs.Planning.{Graphs, InReach, Concerns}
-use Rattle.eng_world.specs.World.{World}
+use Rattle.eng_world.specs.World.{World, IsRead}
 use Rattle.item_list.specs.ItemList.{ItemList}
 use Rattle.raid_map.specs.Asking.{ScriptMayWrite}
-use Rattle.raid_map.specs.Mapped.{MayWrite}
 use Rattle.raid_map.specs.Regions.{Marks as Map, is_marked, region_of}
+use Rattle.lay_core.specs.Touched.{count_below}
+use Rattle.raid_map.specs.Mapped.{ReadWrites}
 
 -- The map marks what it marked, and what the other one marks.
 pub record MarksOf (other old new : Map) : Type 0 where
@@ -32,16 +32,9 @@ pub record StripesFrom (y : Shape) (cols : List ColumnState) (c done most s : �
   pub few : count_below (is_stripe_of y cols c) s < done + most
 
 -- how many stripes are done of the column whose rebuild goes on
-abbrev pub done_in : Option Column → ℕ
-done_in None = 0
-done_in (Some (column.Live device)) = 0
-done_in (Some column.Dead) = 0
-done_in (Some (column.Filling device done)) = done
-done_in (Some column.Spread) = 0
-
 abbrev pub done_on : Start → List Column → ℕ
 done_on (start.Fill c device most) columns = 0
-done_on (start.Resume c most) columns = done_in (slice_get columns c)
+done_on (start.Resume c most) columns = unwrap_or (done_at columns c) 0
 done_on (start.Spread c) columns = 0
 
 -- stripe s is to be rebuilt, by the columns as they are when the maps are marked
@@ -57,7 +50,7 @@ pub record IsAskedOf (y : Shape) (graphs : Graphs) (w : World) (s : ℕ) : Type 
   pub graph : Option ℕ
   pub own : client ≢ 16
   pub is : slice_get (w.clients client).items number ≡ Some (item.Run op graph)
-  pub writes : MayWrite graphs op graph
+  pub writes : (IsRead (Some op) → ⊥) ⊎ ReadWrites graphs graph
   pub reach : InReach y op
   pub concerns : Concerns y op s
 

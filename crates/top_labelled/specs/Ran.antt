@@ -11,24 +11,22 @@ use Rattle.eng_array.specs.declared.start.Start.TheVariants as start
 use Rattle.eng_cols.specs.declared.column.Column.{Column}
 use Rattle.eng_cols.specs.declared.column.Column.TheVariants as column
 use Rattle.eng_cols.specs.declared.spot.Loss.{Loss}
-use Rattle.eng_cols.specs.Cols.{HasDevice, device_set}
+use Rattle.eng_cols.specs.Cols.{HasDevice, device_set, HasDeviceOn, has_device}
 use Rattle.eng_cols.specs.Deaths.{Dies}
 use Rattle.eng_cols.specs.Lost.{IsLost, NotLost}
-use Rattle.eng_cols.specs.Stripes.{states_of, count_below, is_stripe_of}
+use Rattle.eng_cols.specs.Stripes.{states_of, is_stripe_of}
 use Rattle.eng_world.specs.World.{World}
 use Rattle.eng_world.specs.Rows.{IsInRows}
 use Rattle.raid_label.specs.declared.label.Label.{Label}
 use Rattle.raid_label.specs.Bytes.{bytes_of}
 use Rattle.top_acts.specs.Begun.{HasSeats, MayBegin}
-use Rattle.top_acts.specs.Closed.{settled_in_end}
 use Rattle.top_acts.specs.Failed.{EndsFailed}
 use Rattle.top_acts.specs.Cleared.{AreEndingInTurn, EndsInSteps, EndsInTurn}
 use Rattle.top_acts.specs.Sweeps.{Notice, rounds_for, wrote_round}
 use Rattle.top_close.specs.Calls.{EndsSettled}
 use Rattle.top_rounds.specs.Calls.{IsLabelWrite, label_writes}
 use Rattle.top_close.specs.Reserved.{IsReserved}
-use Rattle.top_close.specs.Settled.{HasDeviceOn, has_device}
-use Rattle.top_rounds.specs.Labels.{for_column, seating_in, seating_of, with_round}
+use Rattle.top_rounds.specs.Labels.{seating_in, seating_of, with_round}
 use Rattle.top_rounds.specs.Passes.{HoldsLabel}
 use Rattle.top_close.specs.Stage.{DiesIn, HaveFailed, IsGivenUp, IsGivenUpIn}
 use Rattle.top_rounds.specs.Rounds.{IsTriedOn, clean_in_end}
@@ -40,8 +38,9 @@ use Rattle.top_run.specs.Told.{IsToldUnbuilt}
 use Rattle.top_run.specs.Ran.{RisesAt, Ran, states_in}
 use Rattle.top_serve.specs.Setups.{with_start}
 use Rattle.top_serve.specs.Served.{IsKeptAs, WasFailed}
-use Rattle.top_labelled.specs.Begun.{BeginsLabelled, HoldsBlocks, IsAnew, began_of, is_kept, notice_in, opened_as, sweeps_in, without, writes_maps}
+use Rattle.top_labelled.specs.Begun.{BeginsLabelled, HoldsBlocks, IsAnew, began_of, is_kept, notice_in, sweeps_in, without, writes_maps}
 use Rattle.top_labelled.specs.Maps.{IsKeptOrMap, MapsEnd, MapsInOrder, blank, clear_if}
+use Rattle.lay_core.specs.Touched.{count_below}
 
 -- ## The line of a rebuild
 
@@ -100,7 +99,7 @@ module _ {D : Type 0} (g : Ghosts D) (a : Work) (newest : Label) (taken : List (
     pub record LeavesLabelled (mapped : Bool) (began : Option Start) (kept : List Column) (now : World) : Type 0 where
       pub contents : g.tells → (d n k : ℕ) → (IsReserved mapped n → ⊥) → k < 512 → contents_of g back d n k ≡ now.contents d n k
       pub calls : (c d : ℕ) (told : List Call) → HasDeviceOn kept c d → calls_of g back d ≡ Some told → (closing : List Call) × (told ≡ now.calls d ++ closing)
-          × (EndsInTurn mapped (has_device (slice_get s.ending.columns c)) false closing (settled_in_end s.ending.lost) ⊎ (IsGivenUp s.ending.lost kept c × ((settled : Bool) × AreEndingInTurn mapped false closing settled)))
+          × (EndsInTurn mapped (has_device (slice_get s.ending.columns c)) false closing (not (is_some s.ending.lost)) ⊎ (IsGivenUp s.ending.lost kept c × ((settled : Bool) × AreEndingInTurn mapped false closing settled)))
       pub first : now.lost ≡ None → (c d : ℕ) (told : List Call) → HasDeviceOn kept c d → calls_of g back d ≡ Some told → (good : Bool) × (more : List Call) × (told ≡ now.calls d ++ call_of 2 0 0 good ∷ more)
       pub left : (loss : Loss) → now.lost ≡ Some loss → (c d : ℕ) (told : List Call) → HasDeviceOn kept c d → calls_of g back d ≡ Some told → (closing : List Call) × (told ≡ now.calls d ++ closing) × All IsLabelWrite closing
       pub others : (d : ℕ) (told : List Call) → ((c : ℕ) → HasDeviceOn kept c d → ⊥) → calls_of g back d ≡ Some told → told ≡ now.calls d
@@ -130,7 +129,7 @@ module _ {D : Type 0} (g : Ghosts D) (a : Work) (newest : Label) (taken : List (
       pub held : (c d : ℕ) → HasDeviceOn s.ending.columns c d → HoldsLabel g back last c d
       pub rest : g.tells → (d : ℕ) → 1 ≤ size_of g taken d → ((c : ℕ) → HasDeviceOn s.ending.columns c d → ⊥) → (RisesOn g taken back d → ⊥)
           → (sector_of g back d 0 ≡ sector_of g taken d 0)
-          ⊎ (((c : ℕ) × (wrote_round notice None ≡ true) × HasDeviceOn begun c d × (sector_of g back d 0 ≡ bytes_of (for_column first c))) ⊎ ((c : ℕ) × IsGivenUp s.ending.lost kept c × HasDeviceOn kept c d × IsTriedOn g (closing_label first) last.counter back c d))
+          ⊎ (((c : ℕ) × (wrote_round notice None ≡ true) × HasDeviceOn begun c d × (sector_of g back d 0 ≡ bytes_of (record first { column = c }))) ⊎ ((c : ℕ) × IsGivenUp s.ending.lost kept c × HasDeviceOn kept c d × IsTriedOn g (closing_label first) last.counter back c d))
 
     -- the device onto which the rebuild goes was the column's own, and has failed as the array was begun
     pub record HasFailedSince (opened : List (Option D)) : Type 0 where
@@ -152,7 +151,7 @@ module _ {D : Type 0} (g : Ghosts D) (a : Work) (newest : Label) (taken : List (
       pub kept : NotLost a.layout (states_of a.layout (without a.start begun))
       pub began_is : began ≡ began_of faulty a.start a.columns begun
       pub unbegun : began ≡ None → (a.start ≡ None) ⊎ ((faulty ≡ true) ⊎ HasFailedSince opened)
-      pub run : Ran g (opened_as a (without a.start begun) began) opened s back
+      pub run : Ran g (record a { columns = without a.start begun; start = began }) opened s back
       pub line : s.line ≡ line_at_end s.ending.lost (line_kept a.layout a.start (onto a.start a.columns) run.ends.kept)
       pub holds : HoldsBlocks g a newest taken opened begun begins.read begins.union run.start.blocks
       pub leaves : LeavesLabelled (writes_maps (is_kept map newest) begins.union) began run.ends.kept run.now

@@ -9,14 +9,12 @@ use Rattle.top_open.specs.declared.fronts.Front.TheVariants.{Away, Unread, Held}
 unfoldable pub numbers_line : List ℕ → List ℕ
 numbers_line numbers = codes "label" ++ flat_map (λ number. codes " " ++ decimal number) numbers ++ codes "\n"
 
--- the fields of a label but the design's and the seats
-abbrev pub label_line : Label → List ℕ
-label_line l = numbers_line (l.version ∷ l.serial ∷ l.counter ∷ l.column ∷ l.columns ∷ l.unit ∷ l.rows ∷ l.level ∷ l.clean ∷ [])
-
--- those of what was found
+-- those of what was found: the fields of a label but the design's and the seats
 abbrev pub line_of : Option Label → List ℕ
 line_of None = codes "label none\n"
-line_of (Some l) = label_line l
+line_of (Some l) = numbers_line
+    (l.version ∷ l.serial ∷ l.counter ∷ l.column ∷ l.columns ∷ l.unit ∷ l.rows ∷ l.level ∷ l.clean
+    ∷ [])
 
 -- what sector 0 of a component holds; one without a sector has no label
 abbrev pub label_text : Front → List ℕ

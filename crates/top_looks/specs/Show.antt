@@ -14,33 +14,22 @@ use Rattle.top_open.specs.Seats.{is_unread}
 
 -- ## The columns
 
--- a device below n serves its own column, for the columns' disks are numbered as these; behind them come the spares
-unfoldable pub live_state : ℕ → ℕ → List ℕ
-live_state n device = if nat_lt device n then codes "optimal" else codes "spared " ++ decimal (device - n)
-
--- how many stripes of a column are done that is rebuilt
-unfoldable pub filling_state : ℕ → List ℕ
-filling_state done = codes "rebuilding " ++ decimal done
-
--- how a column of n is served
+-- How a column of n is served. A device below n serves its own column, for the columns' disks are
+-- numbered as these, and behind them come the spares; of one that is rebuilt it is said how many
+-- stripes are done.
 abbrev pub column_state : ℕ → Option Column → List ℕ
 column_state n None = codes "failed"
-column_state n (Some (column.Live device)) = live_state n device
+column_state n (Some (column.Live device)) =
+    if nat_lt device n then codes "optimal" else codes "spared " ++ decimal (device - n)
 column_state n (Some column.Spread) = codes "spread"
 column_state n (Some column.Dead) = codes "failed"
-column_state n (Some (column.Filling device done)) = filling_state done
+column_state n (Some (column.Filling device done)) = codes "rebuilding " ++ decimal done
 
--- `column C NAME STATE`
-unfoldable pub column_line : ℕ → ℕ → Text → Option Column → List ℕ
-column_line n c name column = line (codes "column " ∷ decimal c ∷ codes " " ∷ name ∷ codes " " ∷ column_state n column ∷ codes "\n" ∷ [])
-
--- that of column c, where the columns' disks have these names
+-- `column C NAME STATE` of column c, where the columns' disks have these names
 abbrev pub column_text : List Text → List Column → ℕ → List ℕ
-column_text disks columns c = column_line (length disks) c (disk_word (unwrap_or (slice_get disks c) [])) (slice_get columns c)
-
--- those of all columns
-unfoldable pub columns_text : List Text → List Column → List ℕ
-columns_text disks columns = flat_map (column_text disks columns) (range_with_len 0 (length disks))
+column_text disks columns c = line
+    (codes "column " ∷ decimal c ∷ codes " " ∷ disk_word (unwrap_or (slice_get disks c) [])
+    ∷ codes " " ∷ column_state (length disks) (slice_get columns c) ∷ codes "\n" ∷ [])
 
 -- ## The spares
 
@@ -58,17 +47,11 @@ spare_state unit o sizes fronts device = if list_any (is_seat_of device) o.seats
     else (if nat_lt (slice_index sizes device) (64 + o.rows * unit) then codes "small"
     else codes "free"))
 
--- `spare J NAME STATE`
-unfoldable pub spare_line : ℕ → Text → List ℕ → List ℕ
-spare_line j name state = line (codes "spare " ∷ decimal j ∷ codes " " ∷ name ∷ codes " " ∷ state ∷ codes "\n" ∷ [])
-
--- that of spare j, which is a device behind the columns' disks
+-- `spare J NAME STATE` of spare j, which is a device behind the columns' disks
 abbrev pub spare_text : Conf → Opened → List ℕ → List Front → ℕ → List ℕ
-spare_text conf o sizes fronts j = spare_line j (unwrap_or (slice_get conf.spare_names j) []) (spare_state conf.unit o sizes fronts (length conf.disks + j))
-
--- those of all spares
-unfoldable pub spares_text : Conf → Opened → List ℕ → List Front → List ℕ
-spares_text conf o sizes fronts = flat_map (spare_text conf o sizes fronts) (range_with_len 0 (length conf.spare_names))
+spare_text conf o sizes fronts j = line
+    (codes "spare " ∷ decimal j ∷ codes " " ∷ unwrap_or (slice_get conf.spare_names j) []
+    ∷ codes " " ∷ spare_state conf.unit o sizes fronts (length conf.disks + j) ∷ codes "\n" ∷ [])
 
 -- ## The whole
 
@@ -80,4 +63,6 @@ parity_line (Some l) marked = if l.clean == 1 && not marked then codes "parity c
 -- the columns, the spares and the parity of an array as it was opened, by the sizes and fronts of its devices, and by whether its parity map marks a region
 unfoldable pub show_text : Conf → Opened → List ℕ → List Front → Bool → List ℕ
 show_text conf o sizes fronts marked =
-    (columns_text conf.disks o.columns ++ spares_text conf o sizes fronts) ++ parity_line o.newest marked
+    (flat_map (column_text conf.disks o.columns) (range_with_len 0 (length conf.disks))
+    ++ flat_map (spare_text conf o sizes fronts) (range_with_len 0 (length conf.spare_names)))
+    ++ parity_line o.newest marked

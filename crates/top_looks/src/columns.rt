@@ -3,7 +3,8 @@ ghost use Rattle.std.specs.Prelude.{◌≡◌, ◌≤◌, ◌<◌, ◌+◌, ◌+
 ghost use Rattle.blk_disk.specs.Disk.{Rose};
 ghost use Rattle.raid_bay.specs.Sink.{Puts};
 ghost use Rattle.raid_conf.specs.Form.{IsDiskName, disk_word};
-ghost use Rattle.top_looks.specs.Show.{column_line, column_state, column_text, columns_text, filling_state, live_state};
+ghost use Rattle.top_looks.specs.Show.{column_state, column_text};
+ghost use Rattle.top_looks.specs.Steps.{column_line, columns_text, filling_state, live_state};
 
 use blk_disk::Failed;
 use eng_cols::Column;
@@ -22,7 +23,7 @@ fn disk_word(name: &str) -> &[u8]
 }
 
 // Adds which device serves a column of so many.
-#[tactic(auto, unfolding(crate::specs::Show::live_state))]
+#[tactic(auto, unfolding(crate::specs::Steps::live_state))]
 fn push_live(line: &mut Line, columns: u32, device: u32)
     requires { length line.old ≤ 400 }
     ensures text { line.new ≡ line.old ++ live_state columns device }
@@ -47,6 +48,7 @@ fn push_filling(line: &mut Line, done: u32)
 }
 
 // Adds how a column of so many is served.
+#[tactic(auto, unfolding(crate::specs::Steps::live_state, crate::specs::Steps::filling_state))]
 fn push_state(line: &mut Line, columns: u32, column: Option<Column>)
     requires { length line.old ≤ 400 }
     ensures text { line.new ≡ line.old ++ column_state columns column }
@@ -60,7 +62,7 @@ fn push_state(line: &mut Line, columns: u32, column: Option<Column>)
     }
 }
 
-#[tactic(auto, unfolding(crate::specs::Show::column_line))]
+#[tactic(auto, unfolding(crate::specs::Steps::column_line))]
 fn set_column(line: &mut Line, columns: u32, c: u32, name: &[u8], column: Option<Column>)
     requires { length name.now ≤ 255 }
     ensures { line.new ≡ column_line columns c name.now column }
@@ -75,7 +77,7 @@ fn set_column(line: &mut Line, columns: u32, c: u32, name: &[u8], column: Option
     line.push(b"\n");
 }
 
-#[tactic(auto, using(crate::proofs::ShortNames::disk_words_are_short))]
+#[tactic(auto, unfolding(crate::specs::Steps::column_line), using(crate::proofs::ShortNames::disk_words_are_short))]
 fn put_column<K: Sink>(disks: &Names, columns: &[Column], c: u32, out: &mut K) -> Result<(), Failed>
     requires names { All IsDiskName disks.now }
     requires within { c < length disks.now }

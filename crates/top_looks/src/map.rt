@@ -2,7 +2,8 @@
 ghost use Rattle.std.specs.Prelude.{◌≡◌, ◌≤◌, is_ok, OnErr};
 ghost use Rattle.blk_disk.specs.Disk.{Rose};
 ghost use Rattle.raid_bay.specs.Sink.{Puts};
-ghost use Rattle.top_looks.specs.Maps.{map_text, marked_line};
+ghost use Rattle.top_looks.specs.Maps.{map_text};
+ghost use Rattle.top_looks.specs.Steps.{marked_line};
 
 use blk_disk::Failed;
 use put_line::Line;
@@ -17,7 +18,7 @@ pub struct Marked {
     pub marked: u32,
 }
 
-#[tactic(auto, unfolding(crate::specs::Maps::marked_line))]
+#[tactic(auto, unfolding(crate::specs::Steps::marked_line))]
 fn set_marked(line: &mut Line, map: Marked)
     ensures { line.new ≡ marked_line map }
 {
@@ -34,6 +35,7 @@ fn set_marked(line: &mut Line, map: Marked)
 ///
 /// It is one call of the sink, and takes no memory. Failed, only where the sink's count of faults
 /// rose, has put a front of the line.
+#[tactic(auto, unfolding(crate::specs::Steps::marked_line))]
 pub fn put_map<K: Sink>(map: Option<Marked>, out: &mut K) -> Result<(), Failed>
     ensures output { K.tells → Puts (is_ok result)
         (K.output out.old) (map_text map) (K.output out.new) }

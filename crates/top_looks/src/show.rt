@@ -39,7 +39,7 @@ fn parity_line(newest: &Option<Label>, marked: bool) -> &'static [u8]
 /// Sizes and fronts are those of the columns' disks and then of the spares. One that isn't there
 /// counts as size 0, or as read. Failed, only where the sink's count of faults rose, has put a
 /// front of the text.
-#[tactic(auto, unfolding(crate::specs::Show::show_text))]
+#[tactic(auto, unfolding(crate::specs::Show::show_text, crate::specs::Steps::columns_text, crate::specs::Steps::spares_text))]
 pub fn put_show<K: Sink>(
     conf: &Conf,
     opened: &Opened,

@@ -5,7 +5,8 @@ ghost use Rattle.blk_disk.specs.Disk.{Rose};
 ghost use Rattle.raid_bay.specs.Sink.{Puts};
 ghost use Rattle.raid_conf.specs.Form.{IsConf};
 ghost use Rattle.top_open.specs.Opening.{opened_seen};
-ghost use Rattle.top_looks.specs.Show.{is_seat_of, spare_line, spare_state, spare_text, spares_text};
+ghost use Rattle.top_looks.specs.Show.{is_seat_of, spare_state, spare_text};
+ghost use Rattle.top_looks.specs.Steps.{spare_line, spares_text};
 ghost use Rattle.top_open.specs.Seats.{is_unread};
 
 use blk_disk::{DATA_SECTOR, Failed};
@@ -72,7 +73,7 @@ fn spare_state(
     }
 }
 
-#[tactic(auto, unfolding(crate::specs::Show::spare_line))]
+#[tactic(auto, unfolding(crate::specs::Steps::spare_line))]
 fn set_spare(line: &mut Line, j: u32, name: &[u8], state: &[u8])
     requires name { length name.now ≤ 255 }
     requires state { length state.now ≤ 6 }
@@ -88,7 +89,7 @@ fn set_spare(line: &mut Line, j: u32, name: &[u8], state: &[u8])
     line.push(b"\n");
 }
 
-#[tactic(auto, using(crate::proofs::ShortNames::names_are_short))]
+#[tactic(auto, unfolding(crate::specs::Steps::spare_line), using(crate::proofs::ShortNames::names_are_short))]
 fn put_spare<K: Sink>(
     conf: &Conf,
     opened: &Opened,

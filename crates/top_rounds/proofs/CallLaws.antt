@@ -7,7 +7,8 @@ use Rattle.blk_disk.specs.declared.disk.Call.{Call}
 use Rattle.blk_disk.specs.Disk.{Tells, call_of}
 use Rattle.top_close.specs.Calls.{MoreOn}
 use Rattle.top_close.proofs.CallLaws.{more-none, more-one, more-then, more_as}
-use Rattle.top_rounds.specs.Calls.{EndsBy, IsLabelled, WritesTo, WritesUntil, WritesSome, WritesWell, WritesWithin, is_label_write, label_writes}
+use Rattle.top_rounds.specs.Calls.{EndsBy, IsLabelled, WritesTo, WritesUntil, WritesSome, WritesWell, WritesWithin, label_writes}
+use Rattle.top_rounds.proofs.Words.{is_label_write}
 
 -- one write more, behind such as went well
 pub well-to : (good : Bool) (a b c : Option (List Call)) → WritesWell a b → Tells b c (call_of 1 0 512 good) → WritesTo good a c

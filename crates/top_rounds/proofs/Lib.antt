@@ -3,3 +3,4 @@ mod Devices
 pub mod PassLaws
 mod SeatLaws
 pub mod RoundLaws
+pub mod Words

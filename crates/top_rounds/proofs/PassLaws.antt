@@ -9,17 +9,18 @@ use Rattle.blk_disk.specs.Devices.{device_at, size_of, sector_of, calls_of, Chan
 use Rattle.blk_disk.proofs.DeviceLaws.{changes-more, changes-refl, changes-then, rises-wider}
 use Rattle.eng_cols.specs.declared.column.Column.{Column}
 use Rattle.eng_cols.specs.declared.column.Column.TheVariants as column
-use Rattle.eng_cols.specs.Cols.{device_set}
+use Rattle.eng_cols.specs.Cols.{device_set, HasDeviceOn, has_device}
 use Rattle.eng_cols.specs.Deaths.{Dies}
 use Rattle.eng_cols.proofs.DeathLaws.{dies-refl, dies-more, dies-then}
 use Rattle.raid_label.specs.declared.label.Label.{Label}
-use Rattle.top_close.specs.Settled.{HasDeviceOn, has_device, HaveDevices, LosesDevice}
+use Rattle.top_close.specs.Settled.{HaveDevices, LosesDevice}
 use Rattle.top_close.proofs.CallLaws.{more_all-none, more_all-one, more_all-then}
 use Rattle.top_close.proofs.SettledLaws.{device_within, if_dies, if_live, if_other, set_here}
 use Rattle.top_close.proofs.StageLaws.{live_before}
 use Rattle.top_rounds.specs.Calls.{IsLabelWrite, WritesOn, WritesWithin}
 use Rattle.top_rounds.proofs.CallLaws.{within-none, within-one}
-use Rattle.top_rounds.specs.Passes.{AreLabelled, CanBeLabelled, HoldsLabel, IsFirstInUse, IsTry, LabelsColumn}
+use Rattle.top_rounds.specs.Passes.{AreLabelled, CanBeLabelled, HoldsLabel, IsTry, LabelsColumn}
+use Rattle.top_rounds.proofs.Words.{IsFirstInUse}
 
 -- ## Lists of columns
 
@@ -73,7 +74,7 @@ module _ {D : Type 0} (g : Ghosts D) where
 
     step_frame : Changes g (IsFirstInUse columns) dev new
     unfolding d
-    step_frame = changes-more g (λ k m. (k ≡ d) × (m ≡ 0)) (IsFirstInUse columns) dev new (λ k m h. record { col = n; live = live ∙ ap (λ j. Some j) (sym h.0); first = h.1 }) step.labelling.frame
+    step_frame = changes-more g (λ k m. (k ≡ d) × (m ≡ 0)) (IsFirstInUse columns) dev new (λ k m h. record { col = n; live = live ∙ ap (λ j. Some j) (sym h.0); kept = h.1 }) step.labelling.frame
 
     frame : Changes g (IsFirstInUse columns) old new
     frame = changes-then g (IsFirstInUse columns) old dev new was.frame step_frame

@@ -15,7 +15,7 @@ use Rattle.blk_disk.proofs.DeviceLaws.{changes-more, changes-refl, changes-then,
 use Rattle.eng_cols.specs.declared.column.Column.{Column}
 use Rattle.eng_cols.specs.declared.column.Column.TheVariants as column
 use Rattle.eng_cols.specs.declared.spot.Loss.{Loss}
-use Rattle.eng_cols.specs.Cols.{ColumnState, device_set, is_set_filling, is_set_spread, passes}
+use Rattle.eng_cols.specs.Cols.{ColumnState, device_set, is_set_filling, is_set_spread, passes, HasDeviceOn, has_device}
 use Rattle.eng_cols.specs.Deaths.{Dies}
 use Rattle.eng_cols.specs.Lost.{NotLost}
 use Rattle.eng_cols.proofs.DeathLaws.{dies-more, dies-refl, dies-then}
@@ -23,18 +23,19 @@ use Rattle.raid_label.specs.declared.label.Label.{Label}
 use Rattle.lay_core.specs.Layout.{Shape}
 use Rattle.top_close.specs.Dying.{AnyCause}
 use Rattle.top_close.specs.Ended.{IsLossBy}
-use Rattle.top_close.specs.Settled.{HaveDevices, HasDeviceOn, has_device, LosesDevice}
+use Rattle.top_close.specs.Settled.{HaveDevices, LosesDevice}
 use Rattle.top_close.proofs.Counts.{counted, deaths_pass_less, nothing}
 use Rattle.top_close.proofs.CallLaws.{more_all-none, more_all-then}
 use Rattle.top_close.proofs.SettledLaws.{device_within, set_here}
 use Rattle.top_rounds.specs.Labels.{IsNumbered, Seating, given_up, seating_in, seating_of, unless_filling, with_round}
-use Rattle.top_rounds.specs.Passes.{AreLabelled, CanBeLabelled, EndsByDeath, EndsPass, IsFirstInUse}
+use Rattle.top_rounds.specs.Passes.{AreLabelled, CanBeLabelled, EndsByDeath, EndsPass}
 use Rattle.top_close.specs.Stage.{DiesIn, IsGivenUp, IsGivenUpIn, IsInUse, IsStage, IsUncalled, device_count}
-use Rattle.top_rounds.specs.Rounds.{AreRounds, AreWritten, CountsRounds, HaveRounds, HaveTried, HoldsTried, clean_in_end}
+use Rattle.top_rounds.specs.Rounds.{AreRounds, CountsRounds, HaveRounds, HaveTried, HoldsTried, clean_in_end}
 use Rattle.top_rounds.specs.Calls.{IsLabelWrite, IsLabelled, WritesOn, WritesSome, WritesTo, WritesUntil, WritesWell, WritesWithin}
 use Rattle.eng_cols.specs.Settable.{IsSettable}
 use Rattle.top_rounds.proofs.CallLaws.{some-to, to-until, well-to, within-none, within-then, within_as}
 use Rattle.top_close.proofs.StageLaws.{given_before, live_before, live_less, told-others}
+use Rattle.top_rounds.proofs.Words.{AreWritten, IsFirstInUse}
 
 -- ## Columns that die
 
@@ -209,7 +210,7 @@ module _ {D : Type 0} (g : Ghosts D) where
     was_live c d h = live_before (LosesDevice g columns old dev) columns left c d tried.dies (live_before (IsGivenUp lost left) left mid c d gave h)
 
     in_use : Changes g (IsFirstInUse columns) dev new
-    in_use = changes-more g (IsFirstInUse mid) (IsFirstInUse columns) dev new (λ d m h. record { col = h.col; live = was_live h.col d h.live; first = h.first }) pass.frame
+    in_use = changes-more g (IsFirstInUse mid) (IsFirstInUse columns) dev new (λ d m h. record { col = h.col; live = was_live h.col d h.live; kept = h.kept }) pass.frame
 
     frame : Changes g (IsFirstInUse columns) old new
     frame = changes-then g (IsFirstInUse columns) old dev new tried.frame in_use

@@ -34,13 +34,9 @@ WritesUntil false before now = WritesTo false before now
 
 -- ## How many there are
 
--- a write that begins at sector 0, whether it went well or not
-abbrev pub is_label_write : Call → Bool
-is_label_write call = (call.kind == 1) && (call.first == 0)
-
--- how many of the calls write a label
+-- how many of the calls write a label: each begins at sector 0, whether it went well or not
 unfoldable pub label_writes : List Call → ℕ
-label_writes calls = count_by is_label_write calls
+label_writes calls = count_by (λ call. (call.kind == 1) && (call.first == 0)) calls
 
 -- Of those that came no more write a label than a counter rose by, from the one number to the other.
 abbrev pub WritesWithin : (from to : ℕ) → Option (List Call) → Option (List Call) → Type 0

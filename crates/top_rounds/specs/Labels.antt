@@ -49,9 +49,9 @@ done_in (x ∷ columns) = unwrap_or (done_set x) (done_in columns)
 abbrev pub unless_filling : Column → Column
 unless_filling x = if is_set_filling x then column.Dead else x
 
--- the columns of an array that is lost: none is filling any more
+-- the columns of an array that is lost: none is filling any more, and one that was is dead
 abbrev pub given_up : List Column → List Column
-given_up columns = map unless_filling columns
+given_up columns = map (λ x. if is_set_filling x then column.Dead else x) columns
 
 -- ## The label of a round
 
@@ -65,9 +65,14 @@ pub record Seating : Type 0 where
 abbrev pub seating_in : Label → Seating
 seating_in label = record { version = label.version; seats = label.seats; filling = label.filling; done = label.done }
 
--- what a round says of them
+-- what a round says of them: a seat for each column, and 0 past them, 32 in all
 abbrev pub seating_of : List Column → Seating
-seating_of columns = record { version = 2; seats = seats_of columns; filling = filling_from columns 0; done = done_in columns }
+seating_of columns = record {
+  version = 2;
+  seats = map (seat_of (length columns)) columns ++ replicate (32 - length columns) 0;
+  filling = filling_from columns 0;
+  done = done_in columns;
+}
 
 -- the label of a round: its counter, its clean field and its seating; all else is as before
 abbrev pub with_round : Label → ℕ → ℕ → Seating → Label

@@ -9,15 +9,16 @@ use Rattle.eng_cols.specs.Deaths.{Dies}
 use Rattle.raid_label.specs.declared.label.Label.{Label}
 use Rattle.raid_label.specs.Bytes.{bytes_of}
 use Rattle.top_close.specs.Reserved.{IsReserved}
-use Rattle.top_close.specs.Settled.{HasDeviceOn, HaveDevices, has_device, LosesDevice}
+use Rattle.top_close.specs.Settled.{HaveDevices, LosesDevice}
 use Rattle.top_rounds.specs.Calls.{WritesOn, WritesWithin}
 use Rattle.top_rounds.specs.Labels.{IsNumbered, for_column}
+use Rattle.eng_cols.specs.Cols.{HasDeviceOn, has_device}
 
--- the sector of the label on the device of a column
-pub record IsFirstInUse (columns : List Column) (d n : ℕ) : Type 0 where
+-- the sector of the label on the device of a column, or of an array with maps one of the two
+pub record IsKeptInUse (mapped : Bool) (columns : List Column) (d n : ℕ) : Type 0 where
   pub col : ℕ
   pub live : HasDeviceOn columns col d
-  pub first : IsReserved false n
+  pub kept : IsReserved mapped n
 
 module _ {D : Type 0} (g : Ghosts D) where
   -- There are at most 32 columns, whose devices are theirs or at most 8 spares. The device of each column that has one is there, is no other's, and has a sector.
@@ -29,7 +30,7 @@ module _ {D : Type 0} (g : Ghosts D) where
 
   -- where it is told, sector 0 of device d holds this label of column c
   abbrev pub HoldsLabel : List (Option D) → Label → ℕ → ℕ → Type 0
-  HoldsLabel devices label c d = g.tells → sector_of g devices d 0 ≡ bytes_of (for_column label c)
+  HoldsLabel devices label c d = g.tells → sector_of g devices d 0 ≡ bytes_of (record label { column = c })
 
   -- Device d got a label, well or not, and no other was called.
   pub record IsLabelling (d : ℕ) (label : Label) (old new : List (Option D)) (good : Bool) : Type 0 where
@@ -48,7 +49,7 @@ module _ {D : Type 0} (g : Ghosts D) where
 
   -- The first n columns got their labels. No sector has changed but sector 0 of devices in use; a column has died where its device failed, and no other died; the device of each of the first n that has one had one call more, to write sector 0, and the column has it still, and the label is there, exactly where that went well; no other device was called. None got more than one label.
   pub record AreLabelled (n : ℕ) (label : Label) (columns after : List Column) (old new : List (Option D)) : Type 0 where
-    pub frame : Changes g (IsFirstInUse columns) old new
+    pub frame : Changes g (IsKeptInUse false columns) old new
     pub dies : Dies (LosesDevice g columns old new) columns after
     pub held : (c d : ℕ) → c < n → HasDeviceOn after c d → HoldsLabel new label c d
     pub once : (c d : ℕ) → c < n → HasDeviceOn columns c d → Tells (calls_of g old d) (calls_of g new d) (call_of 1 0 512 (has_device (slice_get after c)))

@@ -1,6 +1,5 @@
 -- Rounds of labels, one behind the other, until one is whole or the array is lost.
-use Rattle.std.specs.Prelude.{◌≡◌, ◌⊎◌, ◌≤◌, ◌+◌, ℕ, List, length, Option, Some, None, All, slice_get}
-use Rattle.blk_disk.specs.declared.disk.Call.{Call}
+use Rattle.std.specs.Prelude.{◌≡◌, ◌⊎◌, ◌≤◌, ◌+◌, ℕ, List, length, Option, Some, None, All, slice_get, false}
 use Rattle.blk_disk.specs.declared.disk.Disk.{Ghosts}
 use Rattle.blk_disk.specs.Devices.{sector_of, calls_of, RisesOn, Changes}
 use Rattle.eng_cols.specs.declared.column.Column.{Column}
@@ -8,11 +7,13 @@ use Rattle.eng_cols.specs.declared.spot.Loss.{Loss}
 use Rattle.eng_cols.specs.Deaths.{Dies}
 use Rattle.raid_label.specs.declared.label.Label.{Label}
 use Rattle.raid_label.specs.Bytes.{bytes_of}
-use Rattle.top_close.specs.Settled.{HasDeviceOn, has_device, LosesDevice}
-use Rattle.top_rounds.specs.Calls.{WritesOn, WritesTo, WritesUntil, WritesWell, WritesWithin}
-use Rattle.top_rounds.specs.Labels.{for_column, given_up, seating_in, seating_of, with_round}
-use Rattle.top_rounds.specs.Passes.{HoldsLabel, IsFirstInUse}
+use Rattle.top_close.specs.Settled.{LosesDevice}
+use Rattle.top_rounds.specs.Calls.{EndsBy, IsLabelWrite, IsLabelled, WritesOn, WritesUntil, WritesWithin, label_writes}
+use Rattle.top_rounds.specs.Labels.{given_up, seating_in, seating_of, with_round}
+use Rattle.top_rounds.specs.Passes.{HoldsLabel, IsKeptInUse}
 use Rattle.top_close.specs.Stage.{DiesIn, HaveFailed, IsGivenUp, IsGivenUpIn, IsInUse, IsUncalled, device_count}
+use Rattle.top_close.specs.Calls.{MoreOn}
+use Rattle.eng_cols.specs.Cols.{HasDeviceOn, has_device}
 
 -- the clean field of the last round: as it was to be, but 0 where the array is lost
 abbrev pub clean_in_end : Option Loss → ℕ → ℕ
@@ -29,10 +30,6 @@ pub record CountsRounds (rounds : ℕ) (label next : Label) (n : ℕ) : Type 0 w
   pub least : label.counter + rounds ≤ next.counter
   pub most : next.counter ≤ label.counter + rounds + n
 
--- The device of column c had some call; of these all went well but the last, which did exactly where the column has it in the end. That of a column that was filling in a lost array isn't called in the last round: there all may have gone well, or there were none.
-abbrev pub AreWritten : Option Loss → List Column → List Column → ℕ → Option (List Call) → Option (List Call) → Type 0
-AreWritten lost columns after c before now = WritesTo (has_device (slice_get after c)) before now ⊎ (IsGivenUp lost columns c × WritesWell before now)
-
 module _ {D : Type 0} (g : Ghosts D) where
   -- sector 0 of device d holds the label of column c of a round that was tried: its counter is greater than that of the label before, and less than this one
   pub record IsTriedOn (label : Label) (below : ℕ) (devices : List (Option D)) (c d : ℕ) : Type 0 where
@@ -40,7 +37,7 @@ module _ {D : Type 0} (g : Ghosts D) where
     pub newer : label.counter + 1 ≤ tried.counter
     pub older : tried.counter + 1 ≤ below
     pub label_is : tried ≡ with_round label tried.counter label.clean (seating_in tried)
-    pub holds : sector_of g devices d 0 ≡ bytes_of (for_column tried c)
+    pub holds : sector_of g devices d 0 ≡ bytes_of (record tried { column = c })
 
   -- where it is told, it holds that, or what it held
   abbrev pub HoldsTried : Label → ℕ → List (Option D) → List (Option D) → ℕ → ℕ → Type 0
@@ -54,7 +51,7 @@ module _ {D : Type 0} (g : Ghosts D) where
     pub had : All (IsInUse columns) rises
     pub gone : All (λ d. (c : ℕ) → HasDeviceOn mid c d → ⊥) rises
     pub fewer : device_count mid + length rises ≤ device_count columns
-    pub frame : Changes g (IsFirstInUse columns) old new
+    pub frame : Changes g (IsKeptInUse false columns) old new
     pub others : IsUncalled columns old new
     pub dies : Dies (LosesDevice g columns old new) columns mid
     pub told : (d : ℕ) → WritesOn (calls_of g old d) (calls_of g new d)
@@ -62,7 +59,7 @@ module _ {D : Type 0} (g : Ghosts D) where
     pub each : (c d : ℕ) → HasDeviceOn columns c d → WritesUntil (has_device (slice_get mid c)) (calls_of g old d) (calls_of g new d)
     pub holds : (c d : ℕ) → HasDeviceOn mid c d → HoldsTried label (next.counter + 1) old new c d
 
-  -- Rounds were written. The counter is greater by at least 1, and by at most 1 more for each device that was in use, whose count of faults rose, and that is no column's in the end. The last round began with the columns `mid`, and the device of each column in the end has its label. How the label writes of each device that was in use went is `AreWritten`; there is at most one a round, as many as the counter is greater by, so that where that is 1 each device in use in the end got its label once. The device of a column that was filling in a lost array, if its count of faults didn't rise, has what it had, or the label of a round before the last.
+  -- Rounds were written. The counter is greater by at least 1, and by at most 1 more for each device that was in use, whose count of faults rose, and that is no column's in the end. The last round began with the columns `mid`, and the device of each column in the end has its label. The device of each column that had one had some call; of these all went well but the last, which did exactly where the column has it in the end; that of a column that was filling in a lost array isn't called in the last round: there all may have gone well, or there were none. There is at most one a round, as many as the counter is greater by, so that where that is 1 each device in use in the end got its label once. The device of a column that was filling in a lost array, if its count of faults didn't rise, has what it had, or the label of a round before the last.
   pub record AreRounds (lost : Option Loss) (label next : Label) (columns mid after : List Column) (old new : List (Option D)) : Type 0 where
     pub rises : List ℕ
     pub failed : HaveFailed g old new rises
@@ -73,14 +70,16 @@ module _ {D : Type 0} (g : Ghosts D) where
     pub most : next.counter ≤ label.counter + 1 + length rises
     pub seating : seating_in next ≡ seating_of mid
     pub held : (c d : ℕ) → HasDeviceOn after c d → HoldsLabel g new next c d
-    pub frame : Changes g (IsFirstInUse columns) old new
+    pub frame : Changes g (IsKeptInUse false columns) old new
     pub others : IsUncalled columns old new
     pub began : Dies (DiesIn g lost columns old new) columns mid
     pub ended : Dies (LosesDevice g columns old new) mid after
     pub given_up : IsGivenUpIn lost after
-    pub told : (d : ℕ) → WritesOn (calls_of g old d) (calls_of g new d)
-    pub times : (d : ℕ) → WritesWithin label.counter next.counter (calls_of g old d) (calls_of g new d)
-    pub each : (c d : ℕ) → HasDeviceOn columns c d → AreWritten lost columns after c (calls_of g old d) (calls_of g new d)
+    pub told : (d : ℕ) → MoreOn (All IsLabelWrite) (calls_of g old d) (calls_of g new d)
+    pub times : (d : ℕ) → MoreOn (λ more. label.counter + label_writes more ≤ next.counter) (calls_of g old d) (calls_of g new d)
+    pub each : (c d : ℕ) → HasDeviceOn columns c d
+        → MoreOn (EndsBy (has_device (slice_get after c))) (calls_of g old d) (calls_of g new d)
+        ⊎ (IsGivenUp lost columns c × MoreOn (All IsLabelled) (calls_of g old d) (calls_of g new d))
     pub given : (c d : ℕ) → IsGivenUp lost columns c → HasDeviceOn columns c d → (RisesOn g old new d → ⊥) → HoldsTried label next.counter old new c d
 
   -- the last round of an array that isn't lost began with the columns of the end; that of a lost one with some that it may have left dead

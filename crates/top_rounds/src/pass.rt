@@ -1,11 +1,11 @@
 //! One round: the labels of all columns, in ascending order.
-ghost use Rattle.std.specs.Prelude.{◌≡◌, ◌<◌, ◌≤◌, ◌+◌, ℕ, length, All, IsSome, true, false};
+ghost use Rattle.std.specs.Prelude.{◌≡◌, ◌<◌, ◌≤◌, ◌+◌, length, All, IsSome, true, false};
 ghost use Rattle.blk_disk.specs.Disk.{Rose, Tells, call_of};
 ghost use Rattle.blk_disk.specs.Devices.{Stays, device_at, size_of};
 ghost use Rattle.raid_label.specs.Bytes.{IsHeld, bytes_of};
-ghost use Rattle.top_close.specs.Settled.{HasDeviceOn};
 ghost use Rattle.top_rounds.specs.Labels.{IsLabelFor, IsNumbered, given_up, seating_of, with_round};
 ghost use Rattle.top_rounds.specs.Passes.{AreLabelled, CanBeLabelled, IsLabelling, IsTry, LabelsColumn};
+ghost use Rattle.eng_cols.specs.Cols.{HasDeviceOn};
 
 use crate::seating::{filling, give_up, seats};
 use blk_disk::{Disk, Failed, SECTOR};

@@ -1,5 +1,5 @@
 //! What stands for each column in a label.
-ghost use Rattle.std.specs.Prelude.{◌≡◌, ◌<◌, ◌≤◌, ◌+◌, ℕ, length, All};
+ghost use Rattle.std.specs.Prelude.{◌≡◌, ◌<◌, ◌≤◌, ◌+◌, length, All};
 ghost use Rattle.top_rounds.specs.Labels.{IsNumbered, device_seat, done_in, filling_from, given_up, seat_of, seats_of, unless_filling};
 
 use eng_cols::Column;

@@ -1,5 +1,5 @@
 -- What was served is a run of what was asked: its opening, its rest, what it tells and what it means.
-use Rattle.std.proofs.Common.{◌≡◌, ◌≢◌, inl, inr, ℕ, zero, suc, ◌<◌, ◌≤◌, ◌+◌, ◌*◌, List, [], ◌∷◌, length, map, take, drop, get_or, Bool, true, false, Option, Some, None, refl, sym, ◌∙◌, ap, arith}
+use Rattle.std.proofs.Common.{◌≡◌, ◌≢◌, inl, inr, ℕ, zero, suc, ◌<◌, ◌≤◌, ◌+◌, ◌*◌, List, [], ◌∷◌, length, map, take, drop, get_or, Option, Some, None, refl, sym, ◌∙◌, ap, arith}
 use Rattle.std.specs.Prelude.{Vec, slice_get, slice_index_or, sum_by}
 use Rattle.std.specs.declared.alloc.Global.{Global}
 use Rattle.std.proofs.lemmas.Bool.{cases_lt}
@@ -14,7 +14,6 @@ use Rattle.eng_world.specs.declared.item.Item.{Item}
 use Rattle.eng_world.specs.declared.item.Item.TheVariants as item
 use Rattle.eng_world.specs.declared.item.Reply.{Reply}
 use Rattle.eng_world.specs.declared.item.Reply.TheVariants as reply
-use Rattle.eng_world.specs.declared.item.Traced.{Traced}
 use Rattle.item_list.specs.ItemList.{ItemList}
 use Rattle.eng_rest.specs.Left.{below}
 use Rattle.eng_log.specs.declared.region.Region.{Region}
@@ -35,7 +34,7 @@ use Rattle.top_serve.specs.Served as served
 use Rattle.top_run.specs.declared.service.Line.{Line}
 use Rattle.top_run.specs.Work.{Work, Ending, Service}
 use Rattle.top_run.specs.Works.{work_of, service_of}
-use Rattle.top_run.specs.Ran.{AreGraphsOf, trace_of, told_byte, Opens, Rests, Tells}
+use Rattle.top_run.specs.Ran.{AreGraphsOf, told_byte, Opens, Rests, Tells}
 
 -- ## Clients
 
@@ -64,10 +63,6 @@ items-alike (Some items) = refl
 replies-alike : (o : Option (Vec Reply Global)) → told.replies_in o ≡ replies_in o
 replies-alike None = refl
 replies-alike (Some replies) = refl
-
-trace-alike : (b : Bool) (events : List Traced) → served.trace_of b events ≡ trace_of b events
-trace-alike true events = refl
-trace-alike false events = refl
 
 -- the graph of this number
 drawn-at : (held : List Held) (n : ℕ) (graph : View) → slice_get (map (λ (g : Held). g.drawn) held) n ≡ Some graph → (slice_index_or held n no_graph).drawn ≡ graph
@@ -235,7 +230,7 @@ module _ {L D : Type 0} (lay : LayoutGhosts L) (disk : DiskGhosts D) (setup : Se
     rows = s.tells.rows ∙ sym s.tells.clients;
     replies = replies-told;
     history = s.tells.history;
-    trace = s.tells.trace ∙ trace-alike setup.trace s.events;
+    trace = s.tells.trace;
     stands = stands-from;
     sectors = sectors-from;
     handed = byte-from;

@@ -5,7 +5,7 @@ use Rattle.blk_disk.specs.declared.disk.Disk.{Ghosts}
 use Rattle.lay_core.specs.Layout.{Shape}
 use Rattle.eng_cols.specs.declared.column.Column.{Column}
 use Rattle.eng_cols.specs.declared.column.Column.TheVariants as set
-use Rattle.eng_cols.specs.Cols.{AtMostOne, ColumnState, HasDevice, InOrder, Live, Dead, Filling, Spread, all_done, device_set, is_filling, is_set_filling, is_set_spread, is_spread, none_done, passes, state_set}
+use Rattle.eng_cols.specs.Cols.{AtMostOne, ColumnState, HasDevice, InOrder, Live, Dead, Filling, Spread, device_set, is_filling, is_set_filling, is_set_spread, is_spread, none_done, passes, state_set, HasDeviceOn}
 use Rattle.eng_cols.specs.Stripes.{filled_in, states_of}
 use Rattle.eng_cols.proofs.Fewer.{states-spread}
 use Rattle.eng_cols.proofs.Lists.{get_set_same}
@@ -16,7 +16,6 @@ use Rattle.eng_world.proofs.Starting.{fill-order, spread-order}
 use Rattle.eng_array.specs.Starts.{event_of}
 use Rattle.eng_array.specs.declared.start.Start.{Start}
 use Rattle.eng_array.specs.declared.start.Start.TheVariants as start
-use Rattle.top_close.specs.Settled.{HasDeviceOn}
 use Rattle.top_serve.specs.Setups.{with_start}
 use Rattle.top_serve.specs.Served.{BeginsBy}
 use Rattle.top_serve.proofs.Alike.{AreBegun, bare, kind, kind-at, kind-filling, kind-live, kinds-begun, spread-kind}
@@ -28,6 +27,7 @@ use Rattle.top_run.specs.Work.{Work, Service}
 use Rattle.top_run.specs.Ran.{Ran}
 use Rattle.top_run.proofs.Columns.{device-on, kept-device, no-device, not-so}
 use Rattle.top_run.proofs.Starting.{first-step}
+use Rattle.eng_cols.proofs.Words.{all_done}
 
 -- ## By what columns are
 

@@ -7,7 +7,7 @@ use Rattle.blk_disk.specs.declared.disk.Disk.{Ghosts}
 use Rattle.lay_core.specs.Layout.{Shape, IsLayout, SparesLieByUnits}
 use Rattle.eng_cols.specs.declared.column.Column.{Column}
 use Rattle.eng_cols.specs.declared.column.Column.TheVariants as set
-use Rattle.eng_cols.specs.Cols.{ColumnState, Live, Dead, Filling, Spread, all_done, is_done, is_done_on, is_filling, is_set_filling, is_spread, passes}
+use Rattle.eng_cols.specs.Cols.{ColumnState, Live, Dead, Filling, Spread, is_done, is_done_on, is_filling, is_set_filling, is_spread, passes}
 use Rattle.eng_cols.specs.Laws.{AllAvailable, FilledAreWhole, HasSpares, OthersAvailable}
 use Rattle.eng_cols.specs.Seats.{IsStripeOf, IsWhole, is_place_on, is_unit_of}
 use Rattle.eng_cols.specs.Stripes.{filled_in}
@@ -29,6 +29,7 @@ use Rattle.top_run.specs.Ran.{Ran}
 use Rattle.top_run.specs.Rebuilding.{IsRebuilt, RebuildIsDone, IsWorth, kept_in}
 use Rattle.top_run.proofs.Columns.{kept-filling, not-so}
 use Rattle.top_run.proofs.Kept.{Begun, begun, filling-kept, kept-order, one-filling, spread-kept, spread-there, states-filling}
+use Rattle.eng_cols.proofs.Words.{all_done}
 
 all-is-done : (n s : ℕ) → s < n → is_done (all_done n) s ≡ true
 all-is-done n s within = get_or-replicate n s true false within

@@ -7,12 +7,13 @@ use Rattle.lay_core.specs.Layout.{IsLayout}
 use Rattle.lay_core.specs.declared.layout.Layout.{Ghosts as LayoutGhosts}
 use Rattle.eng_parts.specs.declared.setup.Closed.{Closed}
 use Rattle.top_close.specs.Calls.{EndsSettled}
-use Rattle.top_close.specs.Settled.{HasDeviceOn, AreSettled}
+use Rattle.top_close.specs.Settled.{AreSettled}
 use Rattle.eng_cols.specs.Stripes.{states_of}
 use Rattle.top_close.specs.Ended.{IsLossBy}
 use Rattle.top_run.specs.Work.{Service}
 use Rattle.top_run.specs.Works.{service_of}
 use Rattle.top_run.specs.Ends.{RunIsEnded}
+use Rattle.eng_cols.specs.Cols.{HasDeviceOn}
 
 -- a list that was lent whole
 pub lent-back : {X : Type 0} (old new : List X) (len : ℕ) → length new ≡ len → take len (new ++ drop (length new) old) ≡ new

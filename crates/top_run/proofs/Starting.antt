@@ -5,7 +5,7 @@ use Rattle.std.proofs.lemmas.Option.{slice_get-map}
 use Rattle.lay_core.specs.Layout.{Shape}
 use Rattle.eng_cols.specs.declared.column.Column.{Column}
 use Rattle.eng_cols.specs.declared.column.Column.TheVariants as set
-use Rattle.eng_cols.specs.Cols.{ColumnState, Live, Dead, Filling, Spread, all_done, state_set}
+use Rattle.eng_cols.specs.Cols.{ColumnState, Live, Dead, Filling, Spread, state_set}
 use Rattle.eng_cols.specs.Stripes.{filled_in, states_of}
 use Rattle.eng_world.specs.declared.item.Item.{Item}
 use Rattle.eng_world.specs.declared.item.Item.TheVariants as item
@@ -25,6 +25,7 @@ use Rattle.top_serve.specs.Served.{BeginsBy, IsRebuiltBy}
 use Rattle.top_serve.proofs.Alike.{start-other}
 use Rattle.top_serve.proofs.Behind.{IsFresh}
 use Rattle.top_serve.proofs.Between.{all-own}
+use Rattle.eng_cols.proofs.Words.{all_done}
 
 -- ## Columns
 

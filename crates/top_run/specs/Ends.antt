@@ -4,12 +4,12 @@ use Rattle.blk_disk.specs.declared.disk.Disk.{Ghosts as DiskGhosts}
 use Rattle.blk_disk.specs.Devices.{Changes, calls_of}
 use Rattle.lay_core.specs.Layout.{IsLayout}
 use Rattle.lay_core.specs.declared.layout.Layout.{Ghosts as LayoutGhosts}
-use Rattle.eng_cols.specs.Cols.{is_set_filling, is_set_spread}
+use Rattle.eng_cols.specs.Cols.{is_set_filling, is_set_spread, HasDeviceOn}
 use Rattle.eng_cols.specs.Deaths.{Dies}
 use Rattle.eng_parts.specs.declared.setup.Closed.{Closed}
 use Rattle.top_close.specs.Calls.{EndsSettled}
 use Rattle.top_close.specs.Reserved.{IsReserved}
-use Rattle.top_close.specs.Settled.{HasDeviceOn, HaveDevices, LosesDevice, AreSettled}
+use Rattle.top_close.specs.Settled.{HaveDevices, LosesDevice, AreSettled}
 use Rattle.eng_cols.specs.Stripes.{states_of}
 use Rattle.top_close.specs.Ended.{IsLossBy}
 use Rattle.top_close.specs.Stage.{IsGivenUp, IsGivenUpIn}

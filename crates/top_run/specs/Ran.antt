@@ -1,5 +1,5 @@
 -- What a run of clients is, and what it leaves.
-use Rattle.std.specs.Prelude.{◌≡◌, ◌≢◌, ◌⊎◌, ◌<◌, ◌≤◌, ◌+◌, ◌*◌, ℕ, List, [], ◌∷◌, ◌++◌, length, Bool, true, false, Option, Some, None, map, drop, reverse, slice_get, slice_index, slice_index_or, sum_by, Contains}
+use Rattle.std.specs.Prelude.{◌≡◌, ◌≢◌, ◌⊎◌, ◌<◌, ◌≤◌, ◌+◌, ◌*◌, ℕ, List, [], ◌∷◌, ◌++◌, length, true, false, Option, Some, None, map, drop, slice_get, slice_index, slice_index_or, sum_by, unwrap_or, Contains}
 use Rattle.blk_plain.specs.declared.op.Op.{Op}
 use Rattle.blk_plain.specs.declared.op.OpId.{OpId}
 use Rattle.blk_disk.specs.declared.disk.Call.{Call}
@@ -13,7 +13,7 @@ use Rattle.graph_mean.specs.Graph.{View}
 use Rattle.eng_cols.specs.declared.column.Column.{Column}
 use Rattle.eng_cols.specs.declared.column.Column.TheVariants as column
 use Rattle.eng_cols.specs.declared.spot.Loss.{Loss}
-use Rattle.eng_cols.specs.Cols.{ColumnState, HasDevice}
+use Rattle.eng_cols.specs.Cols.{ColumnState, HasDevice, HasDeviceOn, has_device}
 use Rattle.eng_cols.specs.Contents.{Agrees, AnyStripe, InSync}
 use Rattle.eng_cols.specs.Deaths.{Dies}
 use Rattle.eng_world.specs.declared.item.Reply.TheVariants as reply
@@ -27,7 +27,7 @@ use Rattle.eng_world.specs.Legal.{AreOps, RepliesFit}
 use Rattle.eng_world.specs.Invariant.{IsTold, AllReplied}
 use Rattle.eng_world.specs.Rebuilding.{SpreadAlike}
 use Rattle.eng_world.specs.Rows.{IsInRows}
-use Rattle.eng_cols.specs.Stripes.{states_of}
+use Rattle.eng_cols.specs.Stripes.{done_at, states_of}
 use Rattle.eng_state.specs.Shows.{AreTold}
 use Rattle.eng_array.specs.Starts.{column_of}
 use Rattle.eng_array.specs.declared.start.Start.{Start}
@@ -35,11 +35,10 @@ use Rattle.raid_script.specs.Asked.{Asked, Other, seen}
 use Rattle.raid_script.specs.Replies.{StandFor, item_bytes, item_sectors, items_at, no_item, replies_at, row_sectors, sectors_before}
 use Rattle.top_serve.specs.Setups.{started_from, with_start}
 use Rattle.top_serve.specs.Caused.{RestsOn, WentBadOn}
-use Rattle.top_serve.specs.Served.{BeginsBy, FillsBy, IsKeptAs, IsRebuiltBy, IsUnbuilt, SpreadsAlone, WasFailed, done_before}
+use Rattle.top_serve.specs.Served.{BeginsBy, FillsBy, IsKeptAs, IsRebuiltBy, IsUnbuilt, SpreadsAlone, WasFailed, trace_of}
 use Rattle.top_close.specs.Calls.{EndsSettled}
 use Rattle.top_close.specs.Closes.{ClosesAs}
 use Rattle.top_close.specs.Ended.{IsLossBy}
-use Rattle.top_close.specs.Settled.{HasDeviceOn, has_device}
 use Rattle.top_close.specs.Stage.{IsGivenUp, IsGivenUpIn}
 use Rattle.top_run.specs.Work.{Work, Service}
 
@@ -49,11 +48,6 @@ use Rattle.top_run.specs.Work.{Work, Service}
 pub record AreGraphsOf (views : List View) (graphs : Graphs) : Type 0 where
   pub file : (n : ℕ) (graph : View) → slice_get views n ≡ Some graph → graphs.file n ≡ graph
   pub drawn : (t : Aim) (missing : Missing) → graphs.library t missing ≡ library t missing true
-
--- the events of a run, the newest first, as a trace has them, if it is kept
-abbrev pub trace_of : Bool → List Traced → List Traced
-trace_of true events = reverse events
-trace_of false events = []
 
 -- byte k of block b of what item i of client c is handed, by what is printed
 abbrev pub told_byte : Service → ℕ → ℕ → ℕ → ℕ → ℕ
@@ -155,7 +149,7 @@ module _ {D : Type 0} (g : Ghosts D) (a : Work) (taken : List (Option D)) where
         pub count : length kept ≡ length a.columns
         pub came : (c : ℕ) → EndsAs now (slice_get (with_start a.start a.columns) c) (slice_get kept c) c
         pub paused : s.ending.lost ≡ None → (c d n most : ℕ) → FillsBy a.start c most → slice_get kept c ≡ Some (column.Filling d n) → length (now.clients 16).items ≡ most
-        pub far : s.ending.lost ≡ None → AsksAsScripts a → (c d n most : ℕ) → FillsBy a.start c most → slice_get kept c ≡ Some (column.Filling d n) → SpreadAlike (begun_in a) now.columns → n ≡ done_before a.start a.columns c + most
+        pub far : s.ending.lost ≡ None → AsksAsScripts a → (c d n most : ℕ) → FillsBy a.start c most → slice_get kept c ≡ Some (column.Filling d n) → SpreadAlike (begun_in a) now.columns → n ≡ unwrap_or (done_at (with_start a.start a.columns) c) 0 + most
         pub stopped : (start : Start) → a.start ≡ Some start → slice_get kept (column_of start) ≡ Some column.Dead → IsStoppedBy now start
         pub dies : Dies (λ c. RisesAt c ⊎ IsGivenUp s.ending.lost kept c) kept s.ending.columns
         pub given_up : IsGivenUpIn s.ending.lost s.ending.columns

@@ -12,13 +12,14 @@ use Rattle.raid_text.specs.Text.{Text, Numbered}
 use Rattle.text_steps.specs.Steps.{◌>>=◌, at_end, at_line, next_word, only_if, words_in}
 use Rattle.text_steps.specs.declared.at.At.{At}
 use Rattle.text_steps.proofs.Binds.{bind_ok, ok_same, only_ok}
-use Rattle.top_scan.specs.List.{AreApart, has_name, line_name, name_of, names_behind}
+use Rattle.top_scan.specs.List.{AreApart, name_of, names_behind}
+use Rattle.top_scan.specs.Steps.{has_name, line_name}
 
 -- the name of the next line stands behind those before it
 pub goes_on : (names : List Text) (line : Numbered) (lines : List Numbered) (name : Text) (total : Result (List Text) At)
     → line_name names line ≡ Ok name
     → names_behind names (line ∷ lines) ≡ total → names_behind (names ++ name ∷ []) lines ≡ total
-unfolding names_behind
+unfolding names_behind line_name
 goes_on names line lines name total h so_far =
     sym (ap (λ (r : Result Text ℕ). at_line line.at r >>= λ n. names_behind (names ++ n ∷ []) lines) h) ∙ so_far
 
@@ -26,7 +27,7 @@ goes_on names line lines name total h so_far =
 pub ends : (names : List Text) (code : ℕ) (line : Numbered) (lines : List Numbered) (total : Result (List Text) At)
     → line_name names line ≡ Err code
     → names_behind names (line ∷ lines) ≡ total → total ≡ Err (record { line = line.at; code = code })
-unfolding names_behind
+unfolding names_behind line_name
 ends names code line lines total h so_far =
     sym so_far ∙ ap (λ (r : Result Text ℕ). at_line line.at r >>= λ n. names_behind (names ++ n ∷ []) lines) h
 
@@ -46,7 +47,7 @@ not_true true h = cc h
 not_true false h = refl
 
 pub name_is_new : (names : List Text) (line : Numbered) (name : Text) → line_name names line ≡ Ok name → IsNew names name
-unfolding line_name name_of
+unfolding line_name name_of has_name
 name_is_new names line name h =
     let a = bind_ok (words_in line) _ name h in
     let b = bind_ok (next_word a.0) _ name a.2 in

@@ -8,7 +8,8 @@ use Rattle.std.proofs.lemmas.List.Sums.{position_or_len_is}
 use Rattle.raid_assemble.specs.declared.sets.Standing.{Standing}
 use Rattle.raid_assemble.specs.declared.sets.Standing.TheVariants.{Member, Double, Foreign, Stale, Bare}
 use Rattle.raid_text.specs.Text.{Text}
-use Rattle.top_scan.specs.Lines.{is_member_at, member_front, member_text, name_at, named_line, standing_at}
+use Rattle.top_scan.specs.Lines.{is_member_at, member_text, named_line}
+use Rattle.top_scan.specs.Steps.{member_front, name_at, standing_at}
 use Rattle.top_scan.specs.Places.{HasColumnsBelow, IsNext, NoneFrom}
 use Rattle.top_scan.specs.declared.members.Found.{Found}
 use Rattle.top_scan.proofs.Printed.{from_place, place_more, place_none, places_skip}
@@ -56,7 +57,7 @@ module _ (names : List Text) (places : List Standing) (set : ℕ) where
   pub no_text : (column : ℕ)
       → ((place : ℕ) → place < length places → standing_at places place ≡ Member set column → ⊥)
       → member_text names places set column ≡ []
-  unfolding member_text
+  unfolding member_text member_front
   no_text column none =
       let nowhere = position_none (is_member_at set column) places Bare (λ j lt. no_member set column (standing_at places j) (none j lt)) in
       ap (λ (o : Option ℕ). option_map_or (λ place. named_line (member_front column) (name_at names place)) o []) nowhere
@@ -64,7 +65,7 @@ module _ (names : List Text) (places : List Standing) (set : ℕ) where
   -- the first member of a column has its line
   pub its_text : (from : ℕ) (f : Found) → IsNext places set from (length places) f
       → member_text names places set f.column ≡ named_line (member_front f.column) (name_at names f.place)
-  unfolding member_text
+  unfolding member_text member_front
   its_text from f is =
       let here = position_at (is_member_at set f.column) places f.place Bare is.within
       (member_is set f.column (standing_at places f.place) is.member)

@@ -3,7 +3,7 @@ use Rattle.std.proofs.Common.{◌≡◌, ◌∙◌, ℕ, ◌+◌, ◌<◌, ◌�
 use Rattle.std.proofs.lemmas.Bool.{cases_lt}
 use Rattle.raid_assemble.specs.declared.sets.Standing.{Standing}
 use Rattle.raid_assemble.specs.declared.sets.Standing.TheVariants.{Member}
-use Rattle.top_scan.specs.Lines.{standing_at}
+use Rattle.top_scan.specs.Steps.{standing_at}
 use Rattle.top_scan.specs.Places.{IsNext, NoneFrom}
 use Rattle.top_scan.specs.declared.members.Found.{Found}
 

@@ -9,7 +9,7 @@ use Rattle.raid_assemble.specs.declared.sets.Standing.TheVariants.{Member, Bare}
 use Rattle.raid_label.specs.declared.label.Label.{Label}
 use Rattle.raid_text.specs.Text.{Text}
 use Rattle.top_open.specs.declared.fronts.Front.{Front}
-use Rattle.top_scan.specs.Lines.{no_set}
+use Rattle.top_scan.specs.Steps.{no_set}
 use Rattle.top_scan.specs.Places.{HaveColumnsBelow}
 use Rattle.top_scan.specs.Scanned.{IsComplete}
 use Rattle.top_open.specs.Labels.{label_of}

@@ -3,3 +3,4 @@ pub mod Looks
 pub mod Scanned
 pub mod Lines
 pub mod Places
+pub mod Steps

@@ -14,13 +14,6 @@ use Rattle.top_open.specs.declared.fronts.Front.TheVariants.{Away, Unread, Held}
 unfoldable pub named_line : List ℕ → Text → List ℕ
 named_line front name = front ++ name ++ codes "\n"
 
--- the name in a place
-abbrev pub name_at : List Text → ℕ → Text
-name_at names place = slice_index_or names place []
-
-abbrev pub standing_at : List Standing → ℕ → Standing
-standing_at places place = slice_index_or places place Bare
-
 -- set SERIAL COUNTER columns COLUMNS level NUMBER members P of W
 unfoldable pub set_line : Set → List ℕ
 set_line s = line
@@ -36,10 +29,6 @@ is_member_at set column (Double s) = false
 is_member_at set column (Foreign s) = false
 is_member_at set column (Stale s) = false
 is_member_at set column Bare = false
-
--- member COLUMN NAME
-unfoldable pub member_front : ℕ → List ℕ
-member_front column = line (codes "member " ∷ decimal column ∷ codes " " ∷ [])
 
 -- what a label is that belongs to a set and isn't its member
 abbrev pub other_front : ℕ → Standing → Option (List ℕ)
@@ -64,54 +53,41 @@ abbrev pub line_if : Option (List ℕ) → Text → List ℕ
 line_if None name = []
 line_if (Some front) name = named_line front name
 
--- a set of nothing
-abbrev pub no_set : Set
-no_set = record { serial = 0; counter = 0; columns = 0; level = 0; members = 0; wanted = 0 }
-
--- the set in a position
+-- the set in a position; a set of nothing where there is none
 abbrev pub set_at : List Set → ℕ → Set
-set_at sets position = slice_index_or sets position no_set
+set_at sets position = slice_index_or sets position
+    (record { serial = 0; counter = 0; columns = 0; level = 0; members = 0; wanted = 0 })
 
 module _ (names : List Text) (places : List Standing) where
   -- the line of a set's member for a column, if it has one
   unfoldable pub member_text : ℕ → ℕ → List ℕ
   member_text set column =
-      option_map_or (λ place. named_line (member_front column) (name_at names place))
+      option_map_or (λ place. named_line (line (codes "member " ∷ decimal column ∷ codes " " ∷ []))
+      (slice_index_or names place []))
       (position (is_member_at set column) places) []
-
-  -- the lines of its members, by column
-  abbrev pub members_text : ℕ → ℕ → List ℕ
-  members_text set columns = flat_map (member_text set) (range_with_len 0 columns)
 
   -- the line of what else belongs to it in a place
   unfoldable pub other_text : ℕ → ℕ → List ℕ
-  other_text set place = line_if (other_front set (standing_at places place)) (name_at names place)
+  other_text set place =
+      line_if (other_front set (slice_index_or places place Bare)) (slice_index_or names place [])
 
-  -- these lines, in the order of the list
-  abbrev pub others_text : ℕ → List ℕ
-  others_text set = flat_map (other_text set) (range_with_len 0 (length places))
-
-  -- the lines of a set
+  -- the lines of a set: its own, those of its members by column, and those of what else belongs to
+  -- it, in the order of the list
   unfoldable pub set_text : List Set → ℕ → List ℕ
   set_text sets set =
-      set_line (set_at sets set) ++ (members_text set (set_at sets set).columns ++ others_text set)
-
-  -- those of all sets, in their order
-  abbrev pub sets_text : List Set → List ℕ
-  sets_text sets = flat_map (set_text sets) (range_with_len 0 (length sets))
+      set_line (set_at sets set)
+      ++ (flat_map (member_text set) (range_with_len 0 (set_at sets set).columns)
+      ++ flat_map (other_text set) (range_with_len 0 (length places)))
 
   module _ (fronts : List Front) where
     -- the line of a component that has no label
     unfoldable pub bare_text : ℕ → List ℕ
     bare_text place =
-        line_if (bare_front (slice_index_or fronts place Away) (standing_at places place))
-        (name_at names place)
-
-    -- these lines, in the order of the list
-    abbrev pub bares_text : List ℕ
-    bares_text = flat_map bare_text (range_with_len 0 (length places))
+        line_if (bare_front (slice_index_or fronts place Away) (slice_index_or places place Bare))
+        (slice_index_or names place [])
 
 -- all lines of a scan: those of the sets, and behind them those of the components without a label
 abbrev pub scan_text : List Text → List Front → List Set → List Standing → List ℕ
 scan_text names fronts sets places =
-    sets_text names places sets ++ bares_text names places fronts
+    flat_map (set_text names places sets) (range_with_len 0 (length sets))
+    ++ flat_map (bare_text names places fronts) (range_with_len 0 (length places))

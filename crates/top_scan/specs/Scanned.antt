@@ -1,13 +1,13 @@
 -- What a scan finds, or how it is refused.
-use Rattle.std.specs.Prelude.{◌≡◌, ◌≤◌, ◌⊎◌, List, length, map, Option, Result, Ok}
+use Rattle.std.specs.Prelude.{◌≡◌, ◌≤◌, ◌⊎◌, List, length, map, Option, Result, Ok, []}
 use Rattle.blk_disk.specs.declared.disk.Disk.{Ghosts}
 use Rattle.raid_assemble.specs.Sets.{IsGrouping}
 use Rattle.raid_assemble.specs.declared.sets.Set.{Set}
 use Rattle.raid_assemble.specs.declared.sets.Standing.{Standing}
-use Rattle.raid_text.specs.Text.{Text}
+use Rattle.raid_text.specs.Text.{Text, lines_in}
 use Rattle.top_fetch.specs.Fetched.{there_are, or_status}
 use Rattle.top_open.specs.declared.fronts.Front.{Front}
-use Rattle.top_scan.specs.List.{list_of}
+use Rattle.top_scan.specs.List.{names_behind}
 use Rattle.top_status.specs.Refusals.{Refused, ◌then◌, text_in}
 use Rattle.top_status.specs.declared.status.Status.TheVariants as status
 use Rattle.top_open.specs.Labels.{label_of}
@@ -16,7 +16,8 @@ use Rattle.top_scan.specs.Looks.{AreLookedAt}
 -- the names of the list of this name
 unfoldable pub list_in : (Text → Option Text) → Text → Result (List Text) Refused
 list_in texts list =
-    text_in texts list then λ text. or_status (λ at. status.Conf at.line at.code) (list_of text)
+    text_in texts list then λ text.
+    or_status (λ at. status.Conf at.line at.code) (names_behind [] (lines_in text))
 
 -- those whose devices are all at home
 unfoldable pub names_in : {D : Type 0} → (Text → Option Text) → (Text → Option D) → Text

@@ -3,7 +3,8 @@ ghost use Rattle.std.specs.Prelude.{◌≡◌, ◌<◌, ◌≤◌, length, IfOk,
 ghost use Rattle.raid_text.specs.Seen.{seen, words_left};
 ghost use Rattle.raid_text.specs.Text.{is_word};
 ghost use Rattle.text_steps.specs.Answers.{Gives};
-ghost use Rattle.top_scan.specs.List.{AreApart, GivesList, has_name, line_name, list_of, name_of};
+ghost use Rattle.top_scan.specs.List.{AreApart, GivesList, name_of};
+ghost use Rattle.top_scan.specs.Steps.{has_name, line_name, list_of};
 ghost use Rattle.top_scan.specs.declared.list.ListFault.TheVariants.{Memory as NoMemory};
 
 use raid_bay::{Memory, Name};
@@ -49,7 +50,7 @@ impl<T: Drop> From<AllocFailed<T>> for ListFault {
 }
 
 // Whether one of these is this name.
-#[tactic(auto, unfolding(crate::specs::List::has_name))]
+#[tactic(auto, unfolding(crate::specs::Steps::has_name))]
 fn has_name(names: &[Name], word: &[u8]) -> bool
     ensures { result ≡ has_name names.now word.now }
 {
@@ -57,7 +58,7 @@ fn has_name(names: &[Name], word: &[u8]) -> bool
 }
 
 // The name that is alone on a line, behind these names.
-#[tactic(auto, unfolding(crate::specs::List::name_of))]
+#[tactic(auto, unfolding(crate::specs::List::name_of, crate::specs::Steps::has_name))]
 fn name_in<'a>(names: &[Name], words: &mut Words<'a>) -> Result<&'a [u8], u8>
     ensures name { Gives (λ name. name.now) result (name_of names.now (words_left words.old)) }
     ensures word { IfOk result (λ name. IsTrue (is_word name.now)) }
@@ -75,7 +76,7 @@ fn name_in<'a>(names: &[Name], words: &mut Words<'a>) -> Result<&'a [u8], u8>
 }
 
 // The name of a line, behind these names.
-#[tactic(auto, unfolding(crate::specs::List::line_name, text_steps::specs::Steps::words_in))]
+#[tactic(auto, unfolding(crate::specs::Steps::line_name, text_steps::specs::Steps::words_in))]
 fn line_name<'a>(names: &[Name], line: &Line<'a>) -> Result<&'a [u8], u8>
     ensures name { Gives (λ name. name.now) result (line_name names.now (seen line.now)) }
     ensures word { IfOk result (λ name. IsTrue (is_word name.now)) }

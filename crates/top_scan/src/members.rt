@@ -3,7 +3,8 @@ ghost use Rattle.std.specs.Prelude.{◌≡◌, ◌≤◌, ◌<◌, ◌+◌, ℕ,
 ghost use Rattle.blk_disk.specs.Disk.{Rose};
 ghost use Rattle.raid_assemble.specs.declared.sets.Standing.TheVariants.{Member};
 ghost use Rattle.raid_bay.specs.Sink.{Puts};
-ghost use Rattle.top_scan.specs.Lines.{member_front, members_text, name_at, named_line};
+ghost use Rattle.top_scan.specs.Lines.{named_line};
+ghost use Rattle.top_scan.specs.Steps.{members_text, member_front, name_at};
 ghost use Rattle.top_scan.specs.Places.{HasColumnsBelow, IsNextIn};
 
 use crate::named::{name_at, put_named};
@@ -64,7 +65,7 @@ fn next_member(places: &[Standing], set: usize, from: u64) -> Option<Found>
 }
 
 // The words before the name of a member.
-#[tactic(auto, unfolding(crate::specs::Lines::member_front))]
+#[tactic(auto, unfolding(crate::specs::Steps::member_front))]
 fn set_member(line: &mut Line, column: u32)
     ensures { line.new ≡ member_front column }
 {

@@ -32,7 +32,7 @@ pub struct Scanned {
 }
 
 // The names of the list of that name.
-#[tactic(auto, unfolding(crate::specs::Scanned::list_in))]
+#[tactic(auto, unfolding(crate::specs::Scanned::list_in, crate::specs::Steps::list_of))]
 fn open_list<B: Bay>(alloc: Global, list: &str, bay: &mut B) -> Result<Vec<Name>, Status>
     ensures answer { B.tells → AnswersAs (λ names. names.items) result
         (list_in (B.text_of bay.old) list.now) }

@@ -8,7 +8,7 @@ use Rattle.std.proofs.lemmas.Option.{slice_get_past}
 use Rattle.lay_core.specs.Layout.{Shape}
 use Rattle.eng_cols.specs.declared.column.Column.{Column}
 use Rattle.eng_cols.specs.declared.column.Column.TheVariants as set
-use Rattle.eng_cols.specs.Cols.{ColumnState, Live, Dead, Filling, Spread, AtMostOne, all_done, column_with, is_done, is_done_on, is_filling, is_set_filling, is_set_spread, is_spread, passes}
+use Rattle.eng_cols.specs.Cols.{ColumnState, Live, Dead, Filling, Spread, AtMostOne, column_with, is_done, is_done_on, is_filling, is_set_filling, is_set_spread, is_spread, passes}
 use Rattle.eng_cols.specs.Changes.{killed}
 use Rattle.eng_cols.specs.Seats.{HasStripeLeft, IsWhole}
 use Rattle.eng_cols.specs.Stripes.{leading}
@@ -21,6 +21,7 @@ use Rattle.top_serve.specs.Judged.{judged, IsFilledJudged, IsJudged, JudgedAt, J
 use Rattle.top_serve.specs.Served.{IsKeptAs}
 use Rattle.top_serve.proofs.Columns.{SetIn}
 use Rattle.top_serve.proofs.Alike.{bare, kind, kind-spread}
+use Rattle.eng_cols.proofs.Words.{all_done}
 
 no : {A : Type 0} → true ≡ false → A
 no h = absurd (let u : ⊥ = cc in u)

@@ -7,7 +7,7 @@ use Rattle.blk_plain.specs.declared.op.Op.TheVariants as op
 use Rattle.lay_core.specs.Layout.{Shape}
 use Rattle.eng_cols.specs.declared.column.Column.{Column}
 use Rattle.eng_cols.specs.declared.column.Column.TheVariants as set
-use Rattle.eng_cols.specs.Cols.{ColumnState, Live, Dead, Filling, Spread, all_done, column_with, state_set}
+use Rattle.eng_cols.specs.Cols.{ColumnState, Live, Dead, Filling, Spread, column_with, state_set}
 use Rattle.eng_cols.specs.Changes.{killed, done_on, IsEnded}
 use Rattle.eng_cols.specs.Seats.{is_unit_of}
 use Rattle.eng_cols.proofs.Lists.{get_set_either}
@@ -20,6 +20,7 @@ use Rattle.eng_world.specs.Step.{Step, EventsLead, column_begun}
 use Rattle.eng_world.proofs.Caused.{tail-has, head-has}
 use Rattle.eng_world.proofs.Moves.{Move, Moves, one, two, moves, replies, waits, takes, fires, skips, works, commits, ends, fails, anew, gives, dies, starts, home}
 use Rattle.eng_rest.specs.Left.{IsOwn}
+use Rattle.eng_cols.proofs.Words.{all_done}
 
 -- each of the events is one of an operation
 abbrev pub AreOwn : List Traced → Type 0

@@ -11,7 +11,7 @@ use Rattle.eng_cols.specs.declared.column.Column.{Column}
 use Rattle.eng_cols.specs.declared.column.Column.TheVariants as set
 use Rattle.eng_cols.specs.Cols.{AtMostOne, ColumnState, Live, Dead, Filling, Spread, is_done, is_done_on, is_set_filling, is_set_spread, is_spread, none_done, passes}
 use Rattle.eng_cols.specs.Seats.{HasStripeLeft, IsStripeOf}
-use Rattle.eng_cols.specs.Stripes.{all_done_below, are_spread, count_below, done_set, first_done, is_led, is_stripe_by, is_stripe_of, leading, spreads, states_of}
+use Rattle.eng_cols.specs.Stripes.{all_done_below, are_spread, done_set, first_done, is_stripe_by, is_stripe_of, leading, spreads, states_of}
 use Rattle.eng_cols.proofs.Counting.{leading-is, led-stays, stripe-of, stripe-same}
 use Rattle.eng_cols.proofs.Fewer.{filled-at, first-same, set-read, states-at, states-spread}
 use Rattle.eng_cols.proofs.Leading.{count-past, count-rest, first-marked, first-marks}
@@ -45,6 +45,8 @@ use Rattle.top_serve.proofs.Hands.{closes}
 use Rattle.top_serve.proofs.Meaning.{invariant}
 use Rattle.top_serve.proofs.Starting.{first_of}
 use Rattle.top_serve.proofs.Stopping.{rebuilds-it}
+use Rattle.eng_cols.proofs.Words.{is_led}
+use Rattle.lay_core.specs.Touched.{count_below}
 
 -- ## The column as it is closed
 

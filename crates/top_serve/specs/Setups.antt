@@ -7,7 +7,7 @@ use Rattle.lay_core.specs.declared.layout.Layout.{Ghosts as LayoutGhosts}
 use Rattle.eng_cols.specs.declared.column.Column.{Column}
 use Rattle.eng_cols.specs.declared.column.Column.TheVariants as column
 use Rattle.eng_cols.specs.declared.spot.Loss.{Loss}
-use Rattle.eng_cols.specs.Cols.{ColumnState, Columns, is_set_filling}
+use Rattle.eng_cols.specs.Cols.{ColumnState, Columns, is_set_filling, HasDeviceOn}
 use Rattle.eng_cols.specs.Contents.{InSync}
 use Rattle.eng_cols.specs.Lost.{NotLost, IsLost}
 use Rattle.eng_world.specs.Planning.{Graphs}
@@ -21,7 +21,6 @@ use Rattle.eng_array.specs.declared.start.Start.{Start}
 use Rattle.eng_array.specs.declared.start.Start.TheVariants as start
 use Rattle.eng_array.specs.Fitting.{FitsRebuilding}
 use Rattle.eng_array.specs.Starts.{begun_by, column_of, most_of}
-use Rattle.top_close.specs.Settled.{HasDeviceOn}
 use Rattle.top_serve.specs.declared.refused.ServeFault.{ServeFault}
 use Rattle.top_serve.specs.declared.refused.ServeFault.TheVariants as fault
 

@@ -1,12 +1,10 @@
 -- Requests to one simulated disk: what a text asks for, or the first line that is refused and the
 -- code of its refusal.
-use Rattle.std.specs.Prelude.{ℕ, ◌+◌, ◌&&◌, not, List, [], ◌∷◌, Result, Ok, Err, if◌then◌else◌, ok_or}
-use Rattle.std.specs.Prelude.{nat_eq, nat_le, nat_lt, codes}
+use Rattle.std.specs.Prelude.{ℕ, ◌+◌, ◌&&◌, not, List, [], ◌∷◌, Result, Ok, Err, if◌then◌else◌, ok_or, nat_eq, nat_le, nat_lt, codes}
 use Rattle.std.specs.Str.{bytes_eq}
 use Rattle.raid_text.specs.Pattern.{pattern_of}
 use Rattle.raid_text.specs.Text.{Text, Numbered}
-use Rattle.text_steps.specs.Steps.{◌>>=◌, after_word, at_end, at_line, next_line, next_number}
-use Rattle.text_steps.specs.Steps.{next_word, only_if, whole, words_in, Rest}
+use Rattle.text_steps.specs.Steps.{◌>>=◌, after_word, at_end, at_line, next_line, next_number, next_word, only_if, whole, words_in, Rest}
 use Rattle.text_steps.specs.declared.at.At.{At}
 use Rattle.top_sim.specs.Asked.{Asked, Reads, Transfer, Workload, Writes, read_sectors}
 
@@ -47,26 +45,19 @@ next_pattern words = do
   bytes ← ok_or (pattern_of word.0) 17
   Ok (bytes, word.1)
 
--- FIRST COUNT PATTERN
-unfoldable pub write_of : ℕ → List Text → Result Transfer ℕ
-write_of sectors words = do
-  span ← next_span sectors words
-  bytes ← next_pattern span.2
-  end ← at_end bytes.1
-  Ok (Writes span.0 span.1 bytes.0)
-
--- FIRST COUNT
-unfoldable pub read_of : ℕ → List Text → Result Transfer ℕ
-read_of sectors words = do
-  span ← next_span sectors words
-  end ← at_end span.2
-  Ok (Reads span.0 span.1)
-
--- what stands behind `write` or `read`
+-- what stands behind `write`, FIRST COUNT PATTERN, or behind `read`, FIRST COUNT
 unfoldable pub op_of : ℕ → Text → List Text → Result Transfer ℕ
 op_of sectors kind words =
-    if bytes_eq kind (codes "write") then write_of sectors words
-    else (if bytes_eq kind (codes "read") then read_of sectors words else Err 1)
+    if bytes_eq kind (codes "write") then (do
+      span ← next_span sectors words
+      bytes ← next_pattern span.2
+      end ← at_end bytes.1
+      Ok (Writes span.0 span.1 bytes.0))
+    else (if bytes_eq kind (codes "read") then (do
+      span ← next_span sectors words
+      end ← at_end span.2
+      Ok (Reads span.0 span.1))
+    else Err 1)
 
 -- ---- one request
 
@@ -79,14 +70,11 @@ request_of sectors low words = do
   transfer ← op_of sectors kind.0 kind.1
   Ok (record { tick = tick.0; transfer = transfer })
 
--- the request of a line
-unfoldable pub line_request : ℕ → ℕ → Numbered → Result Asked ℕ
-line_request sectors low line = words_in line >>= λ words. request_of sectors low words
-
--- the same behind n requests whose reads have r sectors: code 16 where they are too many with it
+-- the request of a line, behind n requests whose reads have r sectors: code 16 where they are too
+-- many with it
 unfoldable pub next_of : ℕ → ℕ → ℕ → ℕ → Numbered → Result Asked ℕ
 next_of sectors low n r line = do
-  asked ← line_request sectors low line
+  asked ← words_in line >>= λ words. request_of sectors low words
   room ← only_if (nat_lt n 4096 && nat_le (r + read_sectors asked.transfer) 262144) 16
   Ok asked
 

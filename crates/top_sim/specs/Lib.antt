@@ -4,3 +4,4 @@ pub mod Answers
 pub mod Views
 pub mod Lines
 pub mod Simulated
+pub mod Steps

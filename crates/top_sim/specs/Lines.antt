@@ -1,6 +1,5 @@
 -- The lines of a simulation.
-use Rattle.std.specs.Prelude.{ℕ, List, [], ◌∷◌, ◌++◌, length, codes, decimal, flat_map}
-use Rattle.std.specs.Prelude.{slice_index_or}
+use Rattle.std.specs.Prelude.{ℕ, List, [], ◌∷◌, ◌++◌, length, codes, decimal, flat_map, slice_index_or}
 use Rattle.std.specs.List.{range_with_len}
 use Rattle.blk_plain.specs.declared.op.Op.{Op}
 use Rattle.blk_plain.specs.declared.op.Op.TheVariants.{Write, Writes, Read, Rebuild, Sync}
@@ -15,11 +14,6 @@ unfoldable pub served_line : Served → List ℕ
 served_line s = line
     (codes "served " ∷ decimal s.request ∷ codes " " ∷ decimal s.start
     ∷ codes " " ∷ decimal s.end ∷ codes "\n" ∷ [])
-
--- reply I, and a word
-unfoldable pub reply_line : ℕ → List ℕ → List ℕ
-reply_line number word =
-    line (codes "reply " ∷ decimal number ∷ codes " " ∷ word ∷ codes "\n" ∷ [])
 
 -- the word of a reply: `data` of a read, else `done`
 abbrev pub reply_word : Op → List ℕ
@@ -39,19 +33,17 @@ data_text (Sync stripe) sectors = []
 
 -- the lines of an operation
 abbrev pub reply_text : ℕ → Op → List (List ℕ) → List ℕ
-reply_text number op sectors = reply_line number (reply_word op) ++ data_text op sectors
+reply_text number op sectors =
+    line (codes "reply " ∷ decimal number ∷ codes " " ∷ reply_word op ∷ codes "\n" ∷ [])
+    ++ data_text op sectors
 
 -- the same of the request of a number
 unfoldable pub number_text : List Request → List (List (List ℕ)) → ℕ → List ℕ
 number_text requests replies number =
     reply_text number (request_at requests number).op (slice_index_or replies number [])
 
--- of all, by number
-abbrev pub replies_text : List Request → List (List (List ℕ)) → List ℕ
-replies_text requests replies =
-    flat_map (number_text requests replies) (range_with_len 0 (length requests))
-
 -- the lines of the services, in their order, and behind them those of the requests
 abbrev pub sim_text : List Request → List Served → List (List (List ℕ)) → List ℕ
 sim_text requests services replies =
-    flat_map served_line services ++ replies_text requests replies
+    flat_map served_line services
+    ++ flat_map (number_text requests replies) (range_with_len 0 (length requests))

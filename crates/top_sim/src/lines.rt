@@ -3,7 +3,8 @@ ghost use Rattle.std.specs.Prelude.{◌≡◌, ◌<◌, ◌≤◌, flat_map, len
 ghost use Rattle.blk_disk.specs.Disk.{Rose};
 ghost use Rattle.raid_bay.specs.Sink.{Puts};
 ghost use Rattle.sim_queue.specs.Service.{request_at};
-ghost use Rattle.top_sim.specs.Lines.{data_text, number_text, replies_text, reply_line, reply_text};
+ghost use Rattle.top_sim.specs.Lines.{data_text, number_text, reply_text};
+ghost use Rattle.top_sim.specs.Steps.{replies_text, reply_line};
 ghost use Rattle.top_sim.specs.Lines.{reply_word, served_line, sim_text};
 
 use crate::simulating::Simulated;
@@ -56,7 +57,7 @@ fn reply_word(op: &Op) -> &'static [u8]
 }
 
 // The line of a reply.
-#[tactic(auto, unfolding(crate::specs::Lines::reply_line))]
+#[tactic(auto, unfolding(crate::specs::Steps::reply_line))]
 fn set_reply(line: &mut Line, number: usize, word: &[u8])
     requires { length word.now ≤ 20 }
     ensures { line.new ≡ reply_line number word.now }

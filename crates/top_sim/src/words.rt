@@ -7,8 +7,9 @@ ghost use Rattle.raid_text.specs.Seen.{seen as seen_line, words_left};
 ghost use Rattle.sim_queue.specs.Service.{IsTransfer};
 ghost use Rattle.text_steps.specs.Answers.{Gives};
 ghost use Rattle.top_sim.specs.Asked.{op_seen, read_sectors, seen};
-ghost use Rattle.top_sim.specs.Format.{disk_of, line_request, next_of, next_pattern, next_span};
-ghost use Rattle.top_sim.specs.Format.{next_tick, op_of, read_of, request_of, write_of};
+ghost use Rattle.top_sim.specs.Format.{disk_of, next_of, next_pattern, next_span};
+ghost use Rattle.top_sim.specs.Steps.{line_request, read_of, write_of};
+ghost use Rattle.top_sim.specs.Format.{next_tick, op_of, request_of};
 
 use blk_plain::{Op, Pattern, Span};
 use raid_text::{Line, Words, pattern};
@@ -93,7 +94,7 @@ fn next_pattern(words: &mut Words) -> Result<Pattern, u8>
 }
 
 // FIRST COUNT PATTERN.
-#[tactic(auto, unfolding(crate::specs::Format::write_of))]
+#[tactic(auto, unfolding(crate::specs::Steps::write_of))]
 fn write_in(sectors: u32, words: &mut Words) -> Result<Op, u8>
     ensures value { Gives op_seen result (write_of sectors (words_left words.old)) }
     ensures within { IfOk result (IsTransfer sectors) }
@@ -105,7 +106,7 @@ fn write_in(sectors: u32, words: &mut Words) -> Result<Op, u8>
 }
 
 // FIRST COUNT.
-#[tactic(auto, unfolding(crate::specs::Format::read_of))]
+#[tactic(auto, unfolding(crate::specs::Steps::read_of))]
 fn read_in(sectors: u32, words: &mut Words) -> Result<Op, u8>
     ensures value { Gives op_seen result (read_of sectors (words_left words.old)) }
     ensures within { IfOk result (IsTransfer sectors) }
@@ -116,7 +117,7 @@ fn read_in(sectors: u32, words: &mut Words) -> Result<Op, u8>
 }
 
 // What stands behind the word that says whether it is a write or a read.
-#[tactic(auto, unfolding(crate::specs::Format::op_of))]
+#[tactic(auto, unfolding(crate::specs::Format::op_of, crate::specs::Steps::write_of, crate::specs::Steps::read_of))]
 fn op_in(sectors: u32, kind: &[u8], words: &mut Words) -> Result<Op, u8>
     ensures value { Gives op_seen result (op_of sectors kind.now (words_left words.old)) }
     ensures within { IfOk result (IsTransfer sectors) }
@@ -146,7 +147,7 @@ fn request_in(sectors: u32, low: u64, words: &mut Words) -> Result<Request, u8>
 }
 
 // The request of a line.
-#[tactic(auto, unfolding(crate::specs::Format::line_request, text_steps::specs::Steps::words_in))]
+#[tactic(auto, unfolding(crate::specs::Steps::line_request, text_steps::specs::Steps::words_in))]
 fn line_request(sectors: u32, low: u64, line: &Line) -> Result<Request, u8>
     ensures value { Gives seen result (line_request sectors low (seen_line line.now)) }
     ensures within { IfOk result (λ r. IsTransfer sectors r.op) }
@@ -172,7 +173,7 @@ pub(crate) fn read_sectors(op: &Op) -> u64
 
 /// The request of a line to a disk of so many sectors, behind so many requests whose reads have so
 /// many sectors, and the last of which arrives at the tick `low`.
-#[tactic(auto, unfolding(crate::specs::Format::next_of))]
+#[tactic(auto, unfolding(crate::specs::Format::next_of, crate::specs::Steps::line_request))]
 pub(crate) fn next_request(
     sectors: u32,
     low: u64,

@@ -17,10 +17,6 @@ is_dead_column None = false
 abbrev pub dead_columns : List Column → List ℕ
 dead_columns columns = filter (λ c. is_dead_column (slice_get columns c)) (range_with_len 0 (length columns))
 
--- dead C
-unfoldable pub dead_line : ℕ → List ℕ
-dead_line c = line (codes "dead " ∷ decimal c ∷ codes "\n" ∷ [])
-
 -- the lines of these columns
 abbrev pub dead_text : List ℕ → List ℕ
-dead_text dead = flat_map dead_line dead
+dead_text dead = flat_map (λ c. line (codes "dead " ∷ decimal c ∷ codes "\n" ∷ [])) dead

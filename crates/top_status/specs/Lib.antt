@@ -1,3 +1,4 @@
 pub mod Dead
 pub mod Status
 pub mod Refusals
+pub mod Steps

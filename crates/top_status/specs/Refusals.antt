@@ -29,10 +29,8 @@ abbrev pub or_refusal : {A : Type 0} → Option A → Status → Result A Refuse
 or_refusal (Some x) status = Ok x
 or_refusal None status = Err (only status)
 
--- a text of a name, of at most 16 MiB
-abbrev pub short_text : (name text : List ℕ) → Result (List ℕ) Refused
-short_text name text = if nat_lt 16777216 (length text) then Err (only (status.LongText name)) else Ok text
-
 -- the text of a name
 unfoldable pub text_in : (List ℕ → Option (List ℕ)) → List ℕ → Result (List ℕ) Refused
-text_in texts name = or_refusal (texts name) (status.NoFile name) then short_text name
+text_in texts name =
+    or_refusal (texts name) (status.NoFile name) then λ text.
+    if nat_lt 16777216 (length text) then Err (only (status.LongText name)) else Ok text

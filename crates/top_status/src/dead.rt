@@ -2,7 +2,8 @@
 ghost use Rattle.std.specs.Prelude.{◌≡◌, ◌≤◌, is_ok, OnErr, Some, slice_get};
 ghost use Rattle.blk_disk.specs.Disk.{Rose};
 ghost use Rattle.raid_bay.specs.Sink.{Puts};
-ghost use Rattle.top_status.specs.Dead.{is_dead_column, dead_columns, dead_line, dead_text};
+ghost use Rattle.top_status.specs.Dead.{is_dead_column, dead_columns, dead_text};
+ghost use Rattle.top_status.specs.Steps.{dead_line};
 
 use blk_disk::Failed;
 use eng_cols::Column;
@@ -18,7 +19,7 @@ fn is_dead(column: Column) -> bool
     }
 }
 
-#[tactic(auto, unfolding(crate::specs::Dead::dead_line))]
+#[tactic(auto, unfolding(crate::specs::Steps::dead_line))]
 fn set_dead(line: &mut Line, column: usize)
     ensures { line.new ≡ dead_line column }
 {
@@ -32,6 +33,7 @@ fn set_dead(line: &mut Line, column: usize)
 ///
 /// It puts one line a call, and takes no memory. Failed, only where the sink's count of faults
 /// rose, has put a front of the text.
+#[tactic(auto, unfolding(crate::specs::Steps::dead_line))]
 pub fn put_dead<K: Sink>(columns: &[Column], out: &mut K) -> Result<(), Failed>
     ensures output { K.tells → Puts (is_ok result) (K.output out.old)
         (dead_text (dead_columns columns.now)) (K.output out.new) }

@@ -8,7 +8,8 @@ use Rattle.sim_queue.specs.declared.request.Queue.{Queue}
 use Rattle.top_words.specs.App.{refusals, rows_in}
 use Rattle.top_words.specs.Asked.{Action, action_in, has_one_action, is_apart}
 use Rattle.top_words.specs.Given.{Given, given_of}
-use Rattle.top_words.specs.Judged.{Invocation, Tell, OnArray, Scan, Simulate, command_in, invocation_in, invocation_of, judged, judged_if_taken, name_in, queue_of, simulation_in, taken_as, topic_in}
+use Rattle.top_words.specs.Judged.{Invocation, Tell, OnArray, Scan, Simulate, invocation_in, invocation_of, judged, judged_if_taken, name_in, queue_of, topic_in}
+use Rattle.top_words.specs.Steps.{command_in, simulation_in, taken_as}
 use Rattle.top_words.specs.declared.invocation.Topic.{Topic}
 
 simulation_not : (name word : Text) (t : Topic) → simulation_in name word ≡ Some (Tell t) → ⊥
@@ -28,7 +29,7 @@ command_not g t h = go (action_in g) h
     go (Some action) e = cc e
 
 given_not : (g : Given) (t : Topic) → invocation_in g ≡ Some (Tell t) → ⊥
-unfolding invocation_in
+unfolding invocation_in simulation_in command_in
 given_not g t h = go g.scan g.sim h
   where
     go : (scan : Bool) (sim : Option Text) → (if scan then Some (Scan (name_in g)) else option_map_or (λ word. simulation_in (name_in g) word) sim (command_in g)) ≡ Some (Tell t) → ⊥
@@ -65,5 +66,5 @@ taken_not words t h = go (refusals words) h
 
 -- no text is asked for
 pub not_told : (words : List Text) (t : Topic) → topic_in words ≡ None → invocation_of words ≡ Ok (Tell t) → ⊥
-unfolding invocation_of
+unfolding invocation_of taken_as
 not_told words t none h = taken_not words t (sym (ap (λ (o : Option Topic). option_map_or (λ x. Ok (Tell x)) o (taken_as words)) none) ∙ h)

@@ -42,20 +42,14 @@ queue_of word =
 abbrev pub name_in : Given → Text
 name_in g = unwrap_or g.conf []
 
--- requests to a simulated disk, served in this order
-unfoldable pub simulation_in : Text → Text → Option Invocation
-simulation_in name word = option_and_then (λ order. Some (Simulate name order)) (queue_of word)
-
--- an action on the array of a configuration
-unfoldable pub command_in : Given → Option Invocation
-command_in g = option_and_then
-    (λ action. Some (OnArray (record { conf = name_in g; action = action }))) (action_in g)
-
--- what is given, where its values are allowed
+-- what is given, where its values are allowed; its first word names what is read
 unfoldable pub invocation_in : Given → Option Invocation
 invocation_in g =
-    if g.scan then Some (Scan (name_in g))
-    else option_map_or (λ word. simulation_in (name_in g) word) g.sim (command_in g)
+    if g.scan then Some (Scan (unwrap_or g.conf []))
+    else option_map_or
+    (λ word. option_and_then (λ order. Some (Simulate (unwrap_or g.conf []) order)) (queue_of word)) g.sim
+    (option_and_then (λ action. Some (OnArray (record { conf = unwrap_or g.conf []; action = action })))
+    (action_in g))
 
 -- what is given, judged: not one action, an option apart from its action, a value that isn't allowed
 unfoldable pub judged : Given → Result Invocation ℕ
@@ -68,10 +62,6 @@ judged g =
 abbrev pub judged_if_taken : Kinds → Given → Result Invocation ℕ
 judged_if_taken [] g = judged g
 judged_if_taken (kind ∷ kinds) g = Err 0
-
--- what the words ask for that name none of the program's own texts, or the first case of Usage
-unfoldable pub taken_as : List Text → Result Invocation ℕ
-taken_as words = judged_if_taken (refusals words) (given_of (rows_in words))
 
 -- ## The program's own texts
 
@@ -89,4 +79,5 @@ topic_in words =
 
 -- what the words ask for, or the first case of Usage
 unfoldable pub invocation_of : List Text → Result Invocation ℕ
-invocation_of words = option_map_or (λ t. Ok (Tell t)) (topic_in words) (taken_as words)
+invocation_of words = option_map_or (λ t. Ok (Tell t)) (topic_in words)
+    (judged_if_taken (refusals words) (given_of (rows_in words)))

@@ -1,6 +1,6 @@
 //! What an action is: one table, with a row for each.
-ghost use Rattle.std.specs.Prelude.{◌≡◌, option_map};
-ghost use Rattle.top_words.specs.Asked.{beside_of, looking, profile_of, rebuilding_of};
+ghost use Rattle.std.specs.Prelude.{◌≡◌, false, if◌then◌else◌, option_map};
+ghost use Rattle.top_words.specs.Asked.{beside_of, profile_of, row};
 ghost use Rattle.top_words.specs.Profiled.{profile_seen};
 ghost use Rattle.top_words.specs.Views.{action_seen, beside_seen};
 
@@ -106,7 +106,7 @@ pub struct Profile<'a> {
 
 // The array is looked at, and nothing else is asked.
 fn looking<'a>(kind: Kind) -> Profile<'a>
-    ensures { profile_seen result ≡ looking kind }
+    ensures { profile_seen result ≡ row kind Deed.Looks false }
 {
     Profile {
         kind,
@@ -127,7 +127,7 @@ fn looking<'a>(kind: Kind) -> Profile<'a>
 
 // Something is done with the array.
 fn doing<'a>(deed: Deed, writes: bool) -> Profile<'a>
-    ensures { profile_seen result ≡ record (looking Kind.Array) { deed = deed; writes = writes } }
+    ensures { profile_seen result ≡ row Kind.Array deed writes }
 {
     Profile {
         deed,
@@ -137,7 +137,7 @@ fn doing<'a>(deed: Deed, writes: bool) -> Profile<'a>
 }
 
 fn onto(in_place: bool) -> Rebuilding
-    ensures { result ≡ rebuilding_of in_place }
+    ensures { result ≡ (if in_place then Rebuilding.InPlace else Rebuilding.Elsewhere) }
 {
     if in_place {
         Rebuilding::InPlace

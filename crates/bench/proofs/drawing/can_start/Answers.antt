@@ -4,9 +4,10 @@ use Rattle.std.proofs.lemmas.List.{take_all}
 use Rattle.std.proofs.lemmas.List.Sums.{sum_by_more}
 use Rattle.std.proofs.lemmas.List.Elements.{All-contains}
 use Rattle.std.specs.List.{sum_by}
-use Rattle.graph_mean.specs.Graph.{Vertex, IsAnte, no_vertex, vertex_at}
+use Rattle.graph_mean.specs.Graph.{Vertex, IsAnte, vertex_at}
 use Rattle.eng_one.proofs.Starting.{ante-below}
 use Rattle.bench.proofs.drawing.can_start.Goals as goal
+use Rattle.graph_mean.proofs.Words.{no_vertex}
 
 pub loop-n-preserved : goal.loop-n-preserved
 loop-n-preserved c =

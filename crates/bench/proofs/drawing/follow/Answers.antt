@@ -1,7 +1,8 @@
 use Rattle.std.proofs.Common.{◌-◌, ◌++◌, ◌∷◌, [], ap, arith, length, length-append}
 use Rattle.std.proofs.lemmas.List.Sums.{sum_by-set}
-use Rattle.graph_mean.specs.Graph.{Held, Vertex, edges_at, edge_count, last_vertex, no_vertex}
+use Rattle.graph_mean.specs.Graph.{Held, Vertex, edges_at, edge_count, last_vertex}
 use Rattle.bench.proofs.drawing.follow.Goals as goal
+use Rattle.graph_mean.proofs.Words.{no_vertex}
 
 pub returns-clause-edges : goal.returns-clause-edges
 returns-clause-edges c =

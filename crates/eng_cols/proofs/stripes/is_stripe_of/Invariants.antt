@@ -1,6 +1,7 @@
 use Rattle.std.proofs.Common.{◌≡◌, false}
-use Rattle.eng_cols.specs.Stripes.{any_below, is_unit_by, spreads}
+use Rattle.eng_cols.specs.Stripes.{is_unit_by, spreads}
 use Rattle.eng_cols.proofs.stripes.is_stripe_of.Given as goal
+use Rattle.lay_core.specs.Touched.{any_below}
 
 -- none of the units so far is one of the column's
 abbrev pub invariant-loop-unit : goal.invariant-loop-unit

@@ -1,6 +1,7 @@
 use Rattle.std.proofs.Common.{◌≡◌, ◌-◌}
-use Rattle.eng_cols.specs.Stripes.{count_below, first_done, is_stripe_by, spreads}
+use Rattle.eng_cols.specs.Stripes.{first_done, is_stripe_by, spreads}
 use Rattle.eng_cols.proofs.stripes.mark_first.Given as goal
+use Rattle.lay_core.specs.Touched.{count_below}
 
 -- of the stripes so far the first are marked, and so many are left
 abbrev pub invariant-loop-stripe : goal.invariant-loop-stripe

@@ -1,10 +1,11 @@
 use Rattle.std.proofs.Common.{◌≡◌, ◌&&◌, not, ℕ, false}
 use Rattle.graph_mean.specs.Graph.{kind_at}
-use Rattle.graph_mean.specs.Steps.{any_below, reads, is_good}
+use Rattle.graph_mean.specs.Steps.{reads, is_good}
 use Rattle.eng_one.specs.Control.{mark_of}
 use Rattle.eng_clients.specs.Desk.{desk_at}
 use Rattle.eng_state.specs.Failing.{dying}
 use Rattle.eng_fails.proofs.fails.still_reads.Given as goal
+use Rattle.lay_core.specs.Touched.{any_below}
 
 -- none of the nodes so far does
 abbrev pub invariant-loop-node : goal.invariant-loop-node

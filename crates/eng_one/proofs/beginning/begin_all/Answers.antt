@@ -3,7 +3,8 @@ use Rattle.std.specs.Prelude.{◌==◌, nat_lt}
 use Rattle.std.proofs.lemmas.Bool.{cases_eq, cond-false, le-ltb}
 use Rattle.std.proofs.lemmas.List.{get_or_past, length_push}
 use Rattle.std.proofs.lemmas.List.Sums.{sum_by_more}
-use Rattle.graph_mean.specs.Graph.{Vertex, vertex_at, no_vertex}
+use Rattle.graph_mean.specs.Graph.{Vertex, vertex_at}
+use Rattle.graph_mean.proofs.Words.{no_vertex}
 use Rattle.eng_one.specs.Bits.{has}
 use Rattle.eng_one.specs.Followers.{followers_in}
 use Rattle.eng_one.specs.Counts.{times}

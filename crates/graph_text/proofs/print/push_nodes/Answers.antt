@@ -1,10 +1,11 @@
 use Rattle.std.proofs.Common.{◌≡◌, ◌<◌, ◌^◌, All, List, ℕ, false, [], refl, arith, below_more, subst}
 use Rattle.std.proofs.lemmas.List.Elements.{All-from_get_or}
 use Rattle.graph_mean.specs.declared.graph.Node.{Node}
-use Rattle.graph_mean.specs.Graph.{Vertex, is_xor, no_vertex, vertex_at}
+use Rattle.graph_mean.specs.Graph.{Vertex, is_xor, vertex_at}
 use Rattle.graph_text.specs.FormatForm.{IsWordKind, IsWordNode}
 use Rattle.graph_text.proofs.PrintedLines.{nodes_more, no_nodes, one_more, all_done}
 use Rattle.graph_text.proofs.print.push_nodes.Goals as goal
+use Rattle.graph_mean.proofs.Words.{no_vertex}
 
 vertex_is : (v : Vertex) (kind : Node) (sources antes : List ℕ) → kind ≡ v.kind → sources ≡ v.sources → antes ≡ v.antes → record { kind = kind; sources = sources; antes = antes } ≡ v
 vertex_is v kind sources antes a b c = rw (a, b, c) refl

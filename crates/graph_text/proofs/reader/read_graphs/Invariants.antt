@@ -1,7 +1,8 @@
 use Rattle.std.proofs.Common.{◌≡◌, length}
 use Rattle.raid_text.specs.Seen.{left, line_count}
 use Rattle.raid_text.specs.Text.{lines_in, raw_lines}
-use Rattle.graph_text.specs.Format.{after_lines, nothing_read}
+use Rattle.graph_text.specs.Format.{after_lines}
+use Rattle.graph_text.specs.Steps.{nothing_read}
 use Rattle.graph_text.proofs.reader.read_graphs.Given as goal
 
 abbrev pub decreases-loop-line : goal.decreases-loop-line

@@ -1,7 +1,7 @@
 use Rattle.std.proofs.Common.{arith}
 use Rattle.std.specs.Str.{bytes_eq}
 use Rattle.std.proofs.lemmas.List.Folds.{list_any-append}
-use Rattle.raid_conf.specs.Sections.{has_name}
+use Rattle.raid_conf.specs.Steps.{has_name}
 use Rattle.raid_conf.proofs.name_lines.has_either.Goals as goal
 
 pub returns-then-has : goal.returns-then-has

@@ -1,7 +1,7 @@
 use Rattle.std.proofs.Common.{◌≡◌, ◌∙◌, sym, ap, subst, length, arith}
 use Rattle.std.proofs.lemmas.Option.{slice_get-get_or}
-use Rattle.eng_cols.specs.Cols.{device_set}
-use Rattle.raid_map.specs.Marking.{IsOn, AreMarked}
+use Rattle.eng_cols.specs.Cols.{device_set, HasDeviceOn}
+use Rattle.raid_map.specs.Marking.{AreMarked}
 use Rattle.raid_map.proofs.MarkOne.{sized_within}
 use Rattle.raid_map.proofs.MarkLaws.{marked-skip, marked-more, still_sized, if_length, not_on}
 use Rattle.raid_map.proofs.marking.mark_each.Goals.{in-Some, in-None}
@@ -13,13 +13,13 @@ mark_column-requires-clause-on g c =
 
 pub mark_column-requires-clause-within : goal.mark_column-requires-clause-within
 mark_column-requires-clause-within g c =
-    let on : IsOn c.loop-column.columns c.loop-column.column c.in-Some.device =
+    let on : HasDeviceOn c.loop-column.columns c.loop-column.column c.in-Some.device =
     ap device_set (slice_get-get_or c.loop-column.columns c.loop-column.column _ (omega (arith, c.loop-column-test.true, c.loop-column.invariant.1))) ∙ (sym c.device.ensures ∙ c.in-Some.is) in
     sized_within g.D.Disk c.loop-column.devices c.in-Some.device (still_sized g.D.Disk c.args.sector.now c.loop-column.column c.in-Some.device c.args.columns.now c.loop-column.columns c.args.devices.now c.loop-column.devices c.requires.can c.loop-column.invariant.0 on)
 
 pub mark_column-requires-clause-sized : goal.mark_column-requires-clause-sized
 mark_column-requires-clause-sized g c =
-    let on : IsOn c.loop-column.columns c.loop-column.column c.in-Some.device =
+    let on : HasDeviceOn c.loop-column.columns c.loop-column.column c.in-Some.device =
     ap device_set (slice_get-get_or c.loop-column.columns c.loop-column.column _ (omega (arith, c.loop-column-test.true, c.loop-column.invariant.1))) ∙ (sym c.device.ensures ∙ c.in-Some.is) in
     still_sized g.D.Disk c.args.sector.now c.loop-column.column c.in-Some.device c.args.columns.now c.loop-column.columns c.args.devices.now c.loop-column.devices c.requires.can c.loop-column.invariant.0 on
 

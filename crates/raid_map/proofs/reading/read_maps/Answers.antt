@@ -1,7 +1,6 @@
 use Rattle.std.proofs.Common.{◌≡◌, ◌∙◌, length, sym, ap, subst, Some, None, arith}
 use Rattle.std.proofs.lemmas.Option.{slice_get-get_or}
-use Rattle.eng_cols.specs.Cols.{device_set}
-use Rattle.raid_map.specs.Marking.{IsOn}
+use Rattle.eng_cols.specs.Cols.{device_set, HasDeviceOn}
 use Rattle.raid_map.specs.Reading.{AreRead}
 use Rattle.raid_map.proofs.MarkOne.{sized_within}
 use Rattle.raid_map.proofs.ReadLaws.{SaidTo, read-skip, read-more, read-sized, said-skip, said-no, said-yes, union-is}
@@ -10,13 +9,13 @@ use Rattle.raid_map.proofs.reading.read_maps.Goals as goal
 
 pub read_column-requires-clause-within : goal.read_column-requires-clause-within
 read_column-requires-clause-within g c =
-    let on : IsOn c.loop-column.columns c.loop-column.column c.in-Some.device =
+    let on : HasDeviceOn c.loop-column.columns c.loop-column.column c.in-Some.device =
     ap device_set (slice_get-get_or c.loop-column.columns c.loop-column.column _ (omega (arith, c.loop-column-test.true, c.loop-column.invariant.0.dies.count))) ∙ (sym c.device.ensures ∙ c.in-Some.is) in
     sized_within g.D.Disk c.loop-column.devices c.in-Some.device (read-sized g.D.Disk c.loop-column.column c.in-Some.device c.args.columns.now c.loop-column.columns c.args.devices.now c.loop-column.devices c.requires c.loop-column.invariant.0 on)
 
 pub read_column-requires-clause-sized : goal.read_column-requires-clause-sized
 read_column-requires-clause-sized g c =
-    let on : IsOn c.loop-column.columns c.loop-column.column c.in-Some.device =
+    let on : HasDeviceOn c.loop-column.columns c.loop-column.column c.in-Some.device =
     ap device_set (slice_get-get_or c.loop-column.columns c.loop-column.column _ (omega (arith, c.loop-column-test.true, c.loop-column.invariant.0.dies.count))) ∙ (sym c.device.ensures ∙ c.in-Some.is) in
     read-sized g.D.Disk c.loop-column.column c.in-Some.device c.args.columns.now c.loop-column.columns c.args.devices.now c.loop-column.devices c.requires c.loop-column.invariant.0 on
 

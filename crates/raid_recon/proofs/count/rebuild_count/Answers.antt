@@ -1,8 +1,9 @@
 use Rattle.std.proofs.Common.{◌≡◌, ◌∙◌, ap, arith, sym}
-use Rattle.eng_cols.specs.Stripes.{are_spread, count_below, is_stripe_by, is_stripe_of, spreads, states_of}
+use Rattle.eng_cols.specs.Stripes.{are_spread, is_stripe_by, is_stripe_of, spreads, states_of}
 use Rattle.eng_cols.proofs.Counting.{count-few, count-same, stripe-of, stripe-same}
 use Rattle.eng_cols.proofs.Fewer.{states-spread}
 use Rattle.raid_recon.proofs.count.rebuild_count.Goals as goal
+use Rattle.lay_core.specs.Touched.{count_below}
 
 pub overflow_add-count : goal.overflow_add-count
 overflow_add-count g c =

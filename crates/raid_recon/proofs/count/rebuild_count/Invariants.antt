@@ -1,6 +1,7 @@
 use Rattle.std.proofs.Common.{◌≡◌}
-use Rattle.eng_cols.specs.Stripes.{count_below, is_stripe_by, spreads}
+use Rattle.eng_cols.specs.Stripes.{is_stripe_by, spreads}
 use Rattle.raid_recon.proofs.count.rebuild_count.Given as goal
+use Rattle.lay_core.specs.Touched.{count_below}
 
 -- those of the stripes so far are counted
 abbrev pub invariant-loop-stripe : goal.invariant-loop-stripe

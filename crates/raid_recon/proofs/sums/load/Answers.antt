@@ -3,13 +3,14 @@ use Rattle.std.proofs.Math.Nat.{mul-le-mul_left, mul-le-mul_right, mul-add, mul-
 use Rattle.std.specs.Prelude.{min}
 use Rattle.eng_cols.specs.Seats.{seat}
 use Rattle.eng_cols.proofs.Spots.{seat-device, seat-within}
-use Rattle.raid_recon.specs.Ahead.{rows_at, rows_from, is_at_hand, window_at}
+use Rattle.raid_recon.specs.Ahead.{rows_at, is_at_hand, window_at}
 use Rattle.raid_recon.specs.Units.{IsReadInto}
 use Rattle.raid_recon.proofs.AtHand.{at_hand-is, hands-set}
 use Rattle.raid_recon.proofs.Loads.{hit-loads, miss-loads}
 use Rattle.raid_recon.proofs.Places.{spot-seat}
 use Rattle.raid_recon.proofs.OneCall.{some_device}
 use Rattle.raid_recon.proofs.sums.load.Goals as goal
+use Rattle.raid_recon.proofs.Words.{rows_from}
 
 pub returns-then-is_at_hand-clause-loads : goal.returns-then-is_at_hand-clause-loads
 returns-then-is_at_hand-clause-loads g c rows h =

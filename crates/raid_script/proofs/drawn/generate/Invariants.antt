@@ -1,6 +1,6 @@
 use Rattle.std.proofs.Common.{◌≡◌, ◌*◌, map}
 use Rattle.raid_script.specs.Asked.{seen}
-use Rattle.raid_script.specs.Drawn.{after, rows_from, seeded}
+use Rattle.raid_script.specs.DrawnParts.{after, rows_from, seeded}
 use Rattle.raid_script.proofs.drawn.generate.Given as goal
 
 abbrev pub invariant-loop-client : goal.invariant-loop-client

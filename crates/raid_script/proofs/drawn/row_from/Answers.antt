@@ -1,7 +1,7 @@
 use Rattle.std.proofs.Common.{◌≡◌, ◌∙◌, ℕ, ◌+◌, ◌*◌, sym, ap, arith}
 use Rattle.std.proofs.lemmas.List.{map_push}
 use Rattle.raid_script.specs.Asked.{seen}
-use Rattle.raid_script.specs.Drawn.{after}
+use Rattle.raid_script.specs.DrawnParts.{after}
 use Rattle.raid_script.proofs.DrawnWords.{after_more, after_none, row_more, row_none}
 use Rattle.raid_script.proofs.drawn.row_from.Goals as goal
 

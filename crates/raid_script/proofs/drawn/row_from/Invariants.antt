@@ -1,6 +1,6 @@
 use Rattle.std.proofs.Common.{◌≡◌, ◌*◌, map}
 use Rattle.raid_script.specs.Asked.{seen}
-use Rattle.raid_script.specs.Drawn.{after, row_from}
+use Rattle.raid_script.specs.DrawnParts.{after, row_from}
 use Rattle.raid_script.proofs.drawn.row_from.Given as goal
 
 abbrev pub invariant-loop-i : goal.invariant-loop-i

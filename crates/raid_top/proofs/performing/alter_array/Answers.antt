@@ -5,9 +5,10 @@ use Rattle.top_bay.specs.Views.{asked_seen}
 use Rattle.top_duty.specs.Views.{admitted_by}
 use Rattle.top_duty.proofs.Fits.{fit_labelled}
 use Rattle.top_open.specs.Opening.{opened_seen}
+use Rattle.top_words.specs.Asked.{profile_of}
 use Rattle.top_words.specs.Views.{action_seen}
 use Rattle.raid_top.specs.Arrays.{MayDo}
-use Rattle.raid_top.specs.Does.{DoesArray}
+use Rattle.raid_top.specs.Does.{DoesDeed}
 use Rattle.raid_top.specs.Served.{ComesOfOrder}
 use Rattle.raid_top.specs.Views.{outcome_seen}
 use Rattle.raid_top.proofs.Orders.{may_do, order_does}
@@ -38,9 +39,9 @@ returns-clause-does g c =
     let back = c.change-came.result.1 in
     let s = c.say-2.ensures in
     let r = c.say-2.result in
-    subst (λ x. IfOk x (λ came. DoesArray g.D.Disk a failed old r.served.devices.items (action_seen r.action) (outcome_seen (action_seen r.action) r.conf came))) (sym s.came)
-    (subst (λ ds. DoesArray g.D.Disk a failed old ds.items (action_seen r.action) (outcome_seen (action_seen r.action) r.conf came)) (sym s.devices)
-    (subst (λ act. DoesArray g.D.Disk a failed old back.items (action_seen act) (outcome_seen (action_seen act) r.conf came)) (sym s.action)
-    (subst (λ conf. DoesArray g.D.Disk a failed old back.items k.command.action (outcome_seen k.command.action conf came)) (sym s.conf)
+    subst (λ x. IfOk x (λ came. DoesDeed g.D.Disk a failed old r.served.devices.items (profile_of (action_seen r.action)).deed (outcome_seen (action_seen r.action) r.conf came))) (sym s.came)
+    (subst (λ ds. DoesDeed g.D.Disk a failed old ds.items (profile_of (action_seen r.action)).deed (outcome_seen (action_seen r.action) r.conf came)) (sym s.devices)
+    (subst (λ act. DoesDeed g.D.Disk a failed old back.items (profile_of (action_seen act)).deed (outcome_seen (action_seen act) r.conf came)) (sym s.action)
+    (subst (λ conf. DoesDeed g.D.Disk a failed old back.items (profile_of k.command.action).deed (outcome_seen k.command.action conf came)) (sym s.conf)
     (order_does g.D.Disk a failed old back.items k.command.action k.conf c.args.order came c.requires.order
     (subst (λ y. ComesOfOrder g.D.Disk y o.columns old back.items c.args.order came) c.requires.ready.1.made.shape c.change-came.ensures)))))

@@ -3,10 +3,10 @@ use Rattle.eng_cols.specs.Stripes.{states_of}
 use Rattle.top_close.specs.Stage.{DiesIn}
 use Rattle.top_close.proofs.StageLaws.{live_less}
 use Rattle.top_rounds.proofs.RoundLaws.{any_death, can-after, settable_after}
-use Rattle.top_acts.specs.Marking.{IsKeptInUse}
-use Rattle.top_acts.proofs.Clears.{behind_closed, behind_last, behind_retried, ends_closed, ends_few, ends_last, ends_retried, kept_by, left_last, lost_anew, lost_last, marked_after, retries}
+use Rattle.top_acts.proofs.Clears.{behind_closed, behind_last, behind_retried, ends_closed, ends_few, ends_last, ends_retried, kept_by, left_last, lost_anew, lost_last, marked_after, retries, mapped_closed}
 use Rattle.top_acts.proofs.Begins.{no_none}
 use Rattle.top_acts.proofs.clearing.end_and_clear.Goals as goal
+use Rattle.top_rounds.specs.Passes.{IsKeptInUse}
 
 pub loop-init : goal.loop-init
 loop-init g c =
@@ -18,7 +18,7 @@ loop-init g c =
       ends = ends_closed g.D.Disk c.args.blank.now false label e.new.label columns e.new.hand.ending.columns.items old e.new.devices e.new.hand.ending.lost e.ensures.closed;
       first = λ none. behind_closed g.D.Disk c.args.blank.now label e.new.label columns e.new.hand.ending.columns.items old e.new.devices e.new.hand.ending.lost c.requires.array.have.apart (e.ensures.first none);
       left = e.ensures.left;
-      steps = λ n next after new lost h. record { mid = e.new.hand.ending.columns.items; dev = e.new.devices; first = e.new.label; behind = e.new.hand.ending.lost; closes = e.ensures.closed; behind_is = e.ensures.lost; clears = (n, h) };
+      steps = λ n next after new lost h. record { mid = e.new.hand.ending.columns.items; dev = e.new.devices; first = e.new.label; behind = e.new.hand.ending.lost; closes = mapped_closed g.D.Disk false label e.new.label columns e.new.hand.ending.columns.items old e.new.devices e.new.hand.ending.lost e.ensures.closed; behind_is = e.ensures.lost; clears = (n, h) };
       lost = e.ensures.lost;
       held = e.ensures.held;
       judge = e.ensures.judge;

@@ -36,4 +36,4 @@ pub returns-in-None-clause-steps : goal.returns-in-None-clause-steps
 returns-in-None-clause-steps g c =
     let e = c.end_labelled in
     subst (λ o. EndsInSteps g.D.Disk (option_map (λ m. m.now) o) (g.L.Layout.shape c.args.layout.now) c.args.hand.now.ending.lost c.args.label.now e.new.label c.args.hand.now.ending.columns.items e.new.hand.ending.columns.items c.args.devices.now e.new.devices e.new.hand.ending.lost) (sym c.in-None.is)
-    (record { mid = e.new.hand.ending.columns.items; dev = e.new.devices; first = e.new.label; behind = e.new.hand.ending.lost; closes = e.ensures.closed; behind_is = e.ensures.lost; clears = (refl, refl, refl, refl) })
+    (record { mid = e.new.hand.ending.columns.items; dev = e.new.devices; first = e.new.label; behind = e.new.hand.ending.lost; closes = mapped_closed g.D.Disk false c.args.label.now e.new.label c.args.hand.now.ending.columns.items e.new.hand.ending.columns.items c.args.devices.now e.new.devices e.new.hand.ending.lost e.ensures.closed; behind_is = e.ensures.lost; clears = (refl, refl, refl, refl) })

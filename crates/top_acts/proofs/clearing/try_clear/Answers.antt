@@ -4,7 +4,7 @@ use Rattle.top_close.specs.Settled.{LosesDevice}
 use Rattle.top_close.specs.Stage.{device_count}
 use Rattle.top_rounds.proofs.RoundLaws.{any_death, can-after, settable_after, whole_slice}
 use Rattle.top_acts.specs.Cleared.{TriesToClear}
-use Rattle.top_acts.proofs.Clears.{marks_fewer, marks_same}
+use Rattle.top_acts.proofs.Clears.{marks_fewer, marks_same, mapped_closed}
 use Rattle.top_acts.proofs.Marked.{marks_all, marks_dies}
 use Rattle.top_acts.proofs.Tried.{none_of}
 use Rattle.top_acts.proofs.clearing.try_clear.Goals as goal
@@ -72,4 +72,4 @@ returns-clause-tried g c =
     let none : c.args.hand.now.ending.lost ≡ None = none_of c.args.hand.now.ending.lost (sym c.is_some.ensures ∙ c.if-is_some.false) in
     let a = c.close_anew in
     let fewer = marks_fewer g.D.Disk c.args.blank.now columns mid old m.new.devices marks (λ same. omega (arith, same, c.if-count_devices-had.false, c.count_devices.ensures, c.count_devices-had.ensures, ap device_count c.deref.ensures.value, ap device_count c.deref-2.ensures.value)) in
-    subst (λ o. TriesToClear g.D.Disk c.args.blank.now c.args.label.now a.new.label columns a.new.hand.ending.columns.items old a.new.devices o a.new.hand.ending.lost false) (sym none) (mid, m.new.devices, marks, fewer, a.ensures.closed)
+    subst (λ o. TriesToClear g.D.Disk c.args.blank.now c.args.label.now a.new.label columns a.new.hand.ending.columns.items old a.new.devices o a.new.hand.ending.lost false) (sym none) (mid, m.new.devices, marks, fewer, mapped_closed g.D.Disk true c.args.label.now a.new.label mid a.new.hand.ending.columns.items m.new.devices a.new.devices a.new.hand.ending.lost a.ensures.closed)

@@ -1,13 +1,13 @@
 use Rattle.std.proofs.Common.{◌∙◌, ap, refl, true, None, inl, arith}
 use Rattle.raid_label.specs.declared.label.Label.{Label}
 use Rattle.top_rounds.specs.Labels.{seating_in, with_round}
-use Rattle.top_rounds.specs.Passes.{IsFirstInUse}
 use Rattle.top_close.specs.Stage.{DiesIn}
 use Rattle.top_rounds.proofs.RoundLaws.{any_death, can-after, settable_after}
 use Rattle.top_acts.proofs.Closes.{broken_again, closed_then, few, holds_again, label_again, turns_again}
 use Rattle.top_acts.proofs.Counted.{counted-none}
 use Rattle.top_acts.proofs.InTurn.{in_turn-none}
 use Rattle.top_acts.proofs.closing.close.Goals as goal
+use Rattle.top_rounds.proofs.Words.{IsFirstInUse}
 
 pub loop-init : goal.loop-init
 loop-init g c = record { counted = counted-none g.D.Disk c.args.label.now c.args.hand.now.ending.columns.items c.args.devices.now; each = in_turn-none g.D.Disk true c.args.hand.now.ending.columns.items c.args.devices.now; holds = λ k d live tells. inl refl; same = refl; held = c.requires.held; judge = c.requires.judge }

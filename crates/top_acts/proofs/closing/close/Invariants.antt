@@ -1,7 +1,6 @@
 use Rattle.std.proofs.Common.{◌≡◌, ◌+◌, ℕ, true, None}
-use Rattle.eng_cols.specs.Cols.{IsFor}
+use Rattle.eng_cols.specs.Cols.{IsFor, HasDeviceOn}
 use Rattle.top_rounds.specs.Labels.{IsLabelFor, seating_in, with_round}
-use Rattle.top_close.specs.Settled.{HasDeviceOn}
 use Rattle.top_close.specs.Stage.{device_count}
 use Rattle.top_rounds.specs.Rounds.{HoldsTried}
 use Rattle.top_acts.specs.Closed.{AreCounted, CallInTurn}

@@ -3,7 +3,6 @@ use Rattle.std.proofs.lemmas.Bool.{eqb-true, eq-eqb}
 use Rattle.eng_cols.specs.Stripes.{states_of}
 use Rattle.top_close.specs.Ended.{IsLossBy}
 use Rattle.top_rounds.specs.Labels.{seating_in, with_round}
-use Rattle.top_rounds.specs.Passes.{IsFirstInUse}
 use Rattle.top_close.specs.Stage.{DiesIn, device_count}
 use Rattle.top_rounds.specs.Rounds.{HaveRounds, clean_in_end}
 use Rattle.top_rounds.proofs.RoundLaws.{can-after}
@@ -13,6 +12,7 @@ use Rattle.top_acts.proofs.Held.{held_after}
 use Rattle.top_acts.proofs.InTurn.{in_turn-none}
 use Rattle.top_acts.proofs.Tried.{none_of, tried}
 use Rattle.top_acts.proofs.closing.try_close.Goals as goal
+use Rattle.top_rounds.proofs.Words.{IsFirstInUse}
 
 pub returns-clause-tried : goal.returns-clause-tried
 returns-clause-tried g c =

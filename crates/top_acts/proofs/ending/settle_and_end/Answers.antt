@@ -1,7 +1,6 @@
 use Rattle.std.proofs.Common.{refl, inl, true, false, None}
 use Rattle.blk_disk.proofs.DeviceLaws.{changes_sector}
 use Rattle.top_close.proofs.SettledLaws.{device_within}
-use Rattle.top_rounds.specs.Passes.{IsFirstInUse}
 use Rattle.top_close.specs.Stage.{DiesIn}
 use Rattle.top_rounds.proofs.RoundLaws.{can-after}
 use Rattle.top_acts.proofs.Closes.{closed_then}
@@ -10,6 +9,7 @@ use Rattle.top_acts.proofs.Ended.{closed_lost, counted_settled}
 use Rattle.top_acts.proofs.Held.{held_after}
 use Rattle.top_acts.proofs.InTurn.{in_turn-none, in_turn-settles}
 use Rattle.top_acts.proofs.ending.settle_and_end.Goals as goal
+use Rattle.top_rounds.proofs.Words.{IsFirstInUse}
 
 pub write_lost-requires-clause-array : goal.write_lost-requires-clause-array
 write_lost-requires-clause-array g c =

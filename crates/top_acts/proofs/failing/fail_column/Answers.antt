@@ -3,7 +3,6 @@ use Rattle.eng_cols.specs.declared.column.Column.{Column}
 use Rattle.eng_cols.specs.Settable.{IsSettable}
 use Rattle.eng_cols.specs.Stripes.{states_of}
 use Rattle.top_close.specs.Ended.{IsLossBy}
-use Rattle.top_rounds.specs.Passes.{IsFirstInUse}
 use Rattle.top_close.specs.Stage.{DiesIn}
 use Rattle.top_rounds.proofs.RoundLaws.{any_death}
 use Rattle.top_acts.specs.Failed.{EndsFailed}
@@ -17,6 +16,7 @@ use Rattle.top_acts.proofs.Tried.{none_of}
 use Rattle.top_acts.proofs.Without.{acts}
 use Rattle.top_acts.proofs.failing.fail_column.Goals as goal
 use Rattle.top_acts.proofs.failing.fail_column.Goals.{else-not-before-via-then-not-before+else-is_some, else-not-before-via-else-not-before}
+use Rattle.top_rounds.proofs.Words.{IsFirstInUse}
 
 pub loss_of-hand-requires-clause-columns : goal.loss_of-hand-requires-clause-columns
 loss_of-hand-requires-clause-columns g c =

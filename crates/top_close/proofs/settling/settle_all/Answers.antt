@@ -1,10 +1,10 @@
 use Rattle.std.proofs.Common.{◌≡◌, ◌∙◌, length, refl, sym, ap, subst, Some, None, arith}
 use Rattle.std.proofs.lemmas.Option.{slice_get-get_or}
-use Rattle.eng_cols.specs.Cols.{device_set, is_set_filling, is_set_spread}
+use Rattle.eng_cols.specs.Cols.{device_set, is_set_filling, is_set_spread, HasDeviceOn}
 use Rattle.top_close.proofs.Settles.{there_within}
 use Rattle.top_close.proofs.SettledLaws.{settled-skip, settled-more, settled_last, still_there}
 use Rattle.top_close.proofs.Counts.{deaths_pass_less}
-use Rattle.top_close.specs.Settled.{AreSettled, HasDeviceOn}
+use Rattle.top_close.specs.Settled.{AreSettled}
 use Rattle.top_close.proofs.settling.settle_all.Goals as goal
 use Rattle.top_close.proofs.settling.settle_all.Goals.{in-Some, in_default}
 

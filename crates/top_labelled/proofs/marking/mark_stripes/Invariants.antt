@@ -1,7 +1,8 @@
-use Rattle.eng_cols.specs.Stripes.{count_below, is_stripe_by, spreads}
+use Rattle.eng_cols.specs.Stripes.{is_stripe_by, spreads}
 use Rattle.raid_map.specs.Asking.{MarksAlso}
 use Rattle.top_labelled.proofs.Marks.{AreCounted, FromBelow}
 use Rattle.top_labelled.proofs.marking.mark_stripes.Given as goal
+use Rattle.lay_core.specs.Touched.{count_below}
 
 -- of the column's stripes so far those are counted that were passed over and marked, and these are marked
 abbrev pub invariant-loop-stripe : goal.invariant-loop-stripe

@@ -1,7 +1,7 @@
 use Rattle.std.proofs.Common.{◌∙◌, ◌++◌, ℕ, List, [], ◌∷◌, ap, arith, length}
 use Rattle.std.specs.Prelude.{decimal}
 use Rattle.std.proofs.lemmas.List.{append_assoc, length-append}
-use Rattle.top_looks.specs.Show.{filling_state}
+use Rattle.top_looks.specs.Steps.{filling_state}
 use Rattle.top_looks.proofs.columns.push_filling.Goals as goal
 
 pub returns-clause-text : goal.returns-clause-text

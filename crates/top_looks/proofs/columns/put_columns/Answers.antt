@@ -1,6 +1,7 @@
 use Rattle.std.proofs.Common.{true, false, length, arith}
 use Rattle.std.proofs.lemmas.Result.{err_from_is_err_and}
-use Rattle.top_looks.specs.Show.{column_text, columns_text}
+use Rattle.top_looks.specs.Show.{column_text}
+use Rattle.top_looks.specs.Steps.{columns_text}
 use Rattle.top_looks.proofs.LinesFrom.{line_cut, line_first, line_none, line_put}
 use Rattle.top_looks.proofs.columns.put_columns.Goals as goal
 

@@ -1,6 +1,7 @@
 use Rattle.std.proofs.Common.{◌≤◌, List, ℕ, Bool, length}
 use Rattle.raid_bay.specs.Sink.{Puts}
-use Rattle.top_looks.specs.Show.{column_text, columns_text}
+use Rattle.top_looks.specs.Show.{column_text}
+use Rattle.top_looks.specs.Steps.{columns_text}
 use Rattle.top_looks.proofs.LinesFrom.{lines_from}
 use Rattle.top_looks.proofs.columns.put_columns.Given as goal
 

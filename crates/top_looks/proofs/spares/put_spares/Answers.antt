@@ -1,7 +1,8 @@
 use Rattle.std.proofs.Common.{true, false, length, arith}
 use Rattle.std.proofs.lemmas.Result.{err_from_is_err_and}
 use Rattle.top_open.specs.Opening.{opened_seen}
-use Rattle.top_looks.specs.Show.{spare_text, spares_text}
+use Rattle.top_looks.specs.Show.{spare_text}
+use Rattle.top_looks.specs.Steps.{spares_text}
 use Rattle.top_looks.proofs.LinesFrom.{line_cut, line_first, line_none, line_put}
 use Rattle.top_looks.proofs.spares.put_spares.Goals as goal
 

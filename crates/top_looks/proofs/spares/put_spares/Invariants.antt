@@ -1,7 +1,8 @@
 use Rattle.std.proofs.Common.{◌≤◌, List, ℕ, Bool, length}
 use Rattle.raid_bay.specs.Sink.{Puts}
 use Rattle.top_open.specs.Opening.{opened_seen}
-use Rattle.top_looks.specs.Show.{spare_text, spares_text}
+use Rattle.top_looks.specs.Show.{spare_text}
+use Rattle.top_looks.specs.Steps.{spares_text}
 use Rattle.top_looks.proofs.LinesFrom.{lines_from}
 use Rattle.top_looks.proofs.spares.put_spares.Given as goal
 

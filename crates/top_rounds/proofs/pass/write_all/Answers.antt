@@ -1,7 +1,6 @@
 use Rattle.std.proofs.Common.{◌≡◌, ◌∙◌, length, ap, sym, subst, Some, None, arith}
 use Rattle.std.proofs.lemmas.Option.{slice_get-get_or}
-use Rattle.eng_cols.specs.Cols.{device_set}
-use Rattle.top_close.specs.Settled.{HasDeviceOn}
+use Rattle.eng_cols.specs.Cols.{device_set, HasDeviceOn}
 use Rattle.top_rounds.specs.Passes.{AreLabelled}
 use Rattle.top_rounds.proofs.Devices.{there_within}
 use Rattle.top_rounds.proofs.PassLaws.{labelled-more, labelled-none, labelled-skip, still_there}

@@ -6,10 +6,10 @@ use Rattle.top_rounds.specs.Labels.{given_up, seating_in, unless_filling}
 use Rattle.eng_cols.specs.declared.spot.Loss.{Loss}
 use Rattle.eng_cols.specs.Stripes.{states_of}
 use Rattle.top_close.specs.Ended.{IsLossBy}
-use Rattle.top_close.specs.Settled.{HasDeviceOn}
 use Rattle.top_rounds.specs.Rounds.{AreRounds, HaveRounds}
 use Rattle.top_rounds.proofs.RoundLaws.{gives_up, no_loss_of, none_given_in, rounds_are, rounds_there, tried-none, whole_slice}
 use Rattle.top_rounds.proofs.rounds.round.Goals as goal
+use Rattle.eng_cols.specs.Cols.{HasDeviceOn}
 
 pub returns-then-is_some-clause-rounds : goal.returns-then-is_some-clause-rounds
 returns-then-is_some-clause-rounds g c =

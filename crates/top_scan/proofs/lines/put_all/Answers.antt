@@ -1,7 +1,7 @@
 use Rattle.std.proofs.Common.{is_ok}
 use Rattle.std.proofs.lemmas.Result.{err_from_is_err_and}
 use Rattle.raid_bay.specs.SinkLaws.{puts_cut, puts_then}
-use Rattle.top_scan.specs.Lines.{bares_text, sets_text}
+use Rattle.top_scan.specs.Steps.{bares_text, sets_text}
 use Rattle.top_scan.proofs.OwnColumns.{a_name_each, a_place_each, have_columns_below}
 use Rattle.top_scan.proofs.lines.put_all.Goals as goal
 

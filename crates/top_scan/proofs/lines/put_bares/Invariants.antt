@@ -1,6 +1,7 @@
 use Rattle.std.proofs.Common.{◌≤◌, Bool, List, ℕ, length}
 use Rattle.raid_bay.specs.Sink.{Puts}
-use Rattle.top_scan.specs.Lines.{bare_text, bares_text}
+use Rattle.top_scan.specs.Lines.{bare_text}
+use Rattle.top_scan.specs.Steps.{bares_text}
 use Rattle.top_scan.proofs.Printed.{from_place}
 use Rattle.top_scan.proofs.lines.put_bares.Given as goal
 

@@ -1,6 +1,6 @@
 use Rattle.std.proofs.Common.{◌≡◌, ◌∙◌, ◌++◌, ◌∷◌, [], ℕ, List, length, refl, ap, arith, length-append}
 use Rattle.raid_text.specs.Seen.{left, seen}
-use Rattle.top_scan.specs.List.{list_of}
+use Rattle.top_scan.specs.Steps.{list_of}
 use Rattle.top_scan.proofs.ListInTurn.{apart_more, ends, goes_on, is_done, name_is_new, none_apart}
 use Rattle.top_scan.proofs.list.read_list.Goals as goal
 

@@ -1,6 +1,7 @@
 use Rattle.std.proofs.Common.{◌≡◌, ◌≤◌, length}
 use Rattle.raid_text.specs.Seen.{left}
-use Rattle.top_scan.specs.List.{AreApart, list_of, names_behind}
+use Rattle.top_scan.specs.List.{AreApart, names_behind}
+use Rattle.top_scan.specs.Steps.{list_of}
 use Rattle.top_scan.proofs.list.read_list.Given as goal
 
 abbrev pub decreases-loop-line : goal.decreases-loop-line

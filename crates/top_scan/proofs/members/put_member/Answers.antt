@@ -1,6 +1,7 @@
 use Rattle.std.proofs.Common.{◌≡◌, ◌∙◌, ℕ, List, is_ok, sym, subst, ap}
 use Rattle.raid_bay.specs.Sink.{Puts}
-use Rattle.top_scan.specs.Lines.{member_front, named_line}
+use Rattle.top_scan.specs.Lines.{named_line}
+use Rattle.top_scan.specs.Steps.{member_front}
 use Rattle.top_scan.proofs.Here.{name_is}
 use Rattle.top_scan.proofs.members.put_member.Goals as goal
 

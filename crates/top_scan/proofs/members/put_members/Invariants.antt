@@ -1,6 +1,7 @@
 use Rattle.std.proofs.Common.{◌≤◌, ◌-◌, Bool, List, ℕ}
 use Rattle.raid_bay.specs.Sink.{Puts}
-use Rattle.top_scan.specs.Lines.{member_text, members_text}
+use Rattle.top_scan.specs.Lines.{member_text}
+use Rattle.top_scan.specs.Steps.{members_text}
 use Rattle.top_scan.proofs.Printed.{from_place}
 use Rattle.top_scan.proofs.members.put_members.Given as goal
 

@@ -3,7 +3,7 @@ use Rattle.std.proofs.lemmas.Result.{err_from_is_err_and}
 use Rattle.std.proofs.lemmas.List.{get_or_default}
 use Rattle.raid_bay.specs.SinkLaws.{puts_cut, puts_then}
 use Rattle.raid_assemble.specs.declared.sets.Set.{Set}
-use Rattle.top_scan.specs.Lines.{no_set}
+use Rattle.top_scan.specs.Steps.{no_set}
 use Rattle.top_scan.specs.Places.{HasColumnsBelow}
 use Rattle.top_scan.proofs.Here.{set_is}
 use Rattle.top_scan.proofs.Printed.{puts_off, puts_on}

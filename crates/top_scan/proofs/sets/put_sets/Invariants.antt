@@ -1,6 +1,7 @@
 use Rattle.std.proofs.Common.{◌≤◌, Bool, List, ℕ, length}
 use Rattle.raid_bay.specs.Sink.{Puts}
-use Rattle.top_scan.specs.Lines.{set_text, sets_text}
+use Rattle.top_scan.specs.Lines.{set_text}
+use Rattle.top_scan.specs.Steps.{sets_text}
 use Rattle.top_scan.proofs.Printed.{from_place}
 use Rattle.top_scan.proofs.sets.put_sets.Given as goal
 

@@ -1,7 +1,8 @@
 use Rattle.std.proofs.Common.{◌≤◌, List, ℕ, Bool, length}
 use Rattle.raid_bay.specs.Sink.{Puts}
 use Rattle.raid_script.proofs.Printed.{from_place}
-use Rattle.top_sim.specs.Lines.{number_text, replies_text}
+use Rattle.top_sim.specs.Lines.{number_text}
+use Rattle.top_sim.specs.Steps.{replies_text}
 use Rattle.top_sim.proofs.lines.put_replies.Given as goal
 
 -- whatever comes of the requests that are left comes of all of them

@@ -1,7 +1,8 @@
 use Rattle.std.proofs.Common.{flat_map, is_ok}
 use Rattle.std.proofs.lemmas.Result.{err_from_is_err_and}
 use Rattle.raid_bay.specs.SinkLaws.{puts_then, puts_cut}
-use Rattle.top_sim.specs.Lines.{replies_text, served_line}
+use Rattle.top_sim.specs.Lines.{served_line}
+use Rattle.top_sim.specs.Steps.{replies_text}
 use Rattle.top_sim.proofs.lines.put_simulated.Goals as goal
 
 pub returns-in_err-put_services-clause-output : goal.returns-in_err-put_services-clause-output

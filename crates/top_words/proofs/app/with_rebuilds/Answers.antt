@@ -2,7 +2,7 @@ use Rattle.std.proofs.Common.{◌∙◌, ap}
 use Rattle.std.specs.Prelude.{codes}
 use Rattle.clap.specs.Words.{App, with_rule}
 use Rattle.std.proofs.lemmas.Result.{IfOk-weaker}
-use Rattle.top_words.specs.App.{flag_rule, option_rule, valued_rule}
+use Rattle.top_words.specs.Adding.{flag_rule, option_rule, valued_rule}
 use Rattle.top_words.proofs.app.with_rebuilds.Goals as goal
 
 pub returns : goal.returns

@@ -1,9 +1,10 @@
 use Rattle.std.proofs.Common.{◌+◌, slice_get, refl, sym, ap, ◌∙◌, arith}
 use Rattle.eng_cols.specs.Cols.{is_done_on}
-use Rattle.eng_cols.specs.Stripes.{is_led, is_stripe_of}
+use Rattle.eng_cols.specs.Stripes.{is_stripe_of}
 use Rattle.eng_cols.proofs.Counting.{count-few, led-none, led-one, led-skip, led-stays, leading-is}
 use Rattle.eng_cols.proofs.cols.Cols.leading.Goals as goal
 use Rattle.eng_cols.proofs.cols.Cols.leading.Goals.{then-is_stripe_of+else-not-is_done, else-is_stripe_of}
+use Rattle.eng_cols.proofs.Words.{is_led}
 
 pub loop-stripe-init : goal.loop-stripe-init
 loop-stripe-init g c = (led-none (is_stripe_of (g.L.Layout.shape c.args.layout.now) c.args.self.now.states c.args.column) (is_done_on (slice_get c.args.self.now.states c.args.column)), refl)

@@ -3,10 +3,11 @@ use Rattle.std.specs.Prelude.{◌||◌}
 use Rattle.std.specs.List.{list_any}
 use Rattle.std.proofs.lemmas.List.{take_all}
 use Rattle.std.proofs.lemmas.List.Folds.{list_any_more}
-use Rattle.graph_mean.specs.Graph.{no_buf, buf_at}
+use Rattle.graph_mean.specs.Graph.{buf_at}
 use Rattle.graph_check.specs.Pieces.{buf_cuts, cut_place}
 use Rattle.graph_check.proofs.Cutting.{cuts-more}
 use Rattle.graph_check.proofs.tables.cuts.note_bufs.Goals as goal
+use Rattle.graph_mean.proofs.Words.{no_buf}
 
 pub loop-b-preserved : goal.loop-b-preserved
 loop-b-preserved c = λ s o l m.

@@ -1,0 +1,13 @@
+-- Words that proofs go by, for what the specifications spell out.
+use Rattle.std.specs.Prelude.{ℕ, ◌+◌, ◌*◌, Bool, ◌-◌, min}
+use Rattle.blk_disk.specs.declared.disk.Call.{Call}
+use Rattle.lay_core.specs.Layout.{Shape}
+use Rattle.eng_cols.specs.declared.spot.Spot.{Spot}
+
+-- how many rows a call reads that begins with this one: so many, as far as there are
+abbrev pub rows_from : Shape → ℕ → ℕ → ℕ
+rows_from y most row = min most (y.rows - row)
+
+-- the call by which a unit is read that isn't at hand, with the rows behind it
+abbrev pub ahead_call : Shape → ℕ → Spot → Bool → Call
+ahead_call y most at good = record { kind = 0; first = 64 + at.row * y.unit_sectors; count = rows_from y most at.row * y.unit_sectors; good = good }
