@@ -1,5 +1,5 @@
 //! The events of one turn, and what they give to do outside.
-ghost use Rattle.std.specs.Prelude.{◌≡◌, ◌⊎◌, None};
+ghost use Rattle.std.specs.Prelude.{◌≡◌, ◌⊎◌, true, None};
 ghost use Rattle.eng_array.specs.Progress.{Falls};
 ghost use Rattle.eng_array.specs.Steady.{IsSteady};
 ghost use Rattle.eng_crew.specs.Idle.{IsIdle};
@@ -35,13 +35,41 @@ fn without_event<L: Layout, D: Disk>(core: &Core<L, D>) -> Found
     }
 }
 
+// One event, if there is one but the end of a job, and the end of the node that it fired; and whether there was one. The
+// clients are tried from one on.
+fn make_one<L: Layout, D: Disk>(core: &mut Core<L, D>, from: u32) -> bool
+    requires { IsSteady L.Layout D.Disk core.old.array }
+    ensures turned { TurnsTo L.Layout D.Disk core.old None core.new None }
+    ensures steady { IsSteady L.Layout D.Disk core.new.array }
+    ensures idle { (result ≡ true) ⊎ IsIdle L.Layout core.new.array }
+{
+    let Some(Chosen { event, at }) = core.choose_from(from) else {
+        return false
+    };
+    make(core, event, at);
+    true
+}
+
+// So many events with the ends of their nodes, as long as there are any; and whether there were.
+fn make_some<L: Layout, D: Disk>(core: &mut Core<L, D>, from: u32, count: u32) -> bool
+    requires { IsSteady L.Layout D.Disk core.old.array }
+    ensures turned { TurnsTo L.Layout D.Disk core.old None core.new None }
+    ensures steady { IsSteady L.Layout D.Disk core.new.array }
+    ensures idle { (result ≡ true) ⊎ IsIdle L.Layout core.new.array }
+{
+    let mut left = count;
+    while left != 0 {
+        if !make_one(core, from) {
+            return false;
+        }
+        left -= 1;
+    }
+    true
+}
+
 // One event, if there is one but the end of a job; and the end of the node that it fired, where that calls no device and
-// sums little, or is to be performed at once. Else its job. The clients are tried from one on.
-fn go_by<L: Layout, D: Disk>(
-    core: &mut Core<L, D>,
-    from: u32,
-    at_once: bool,
-) -> (Found, Option<Job<D>>)
+// sums little. Else its job. The clients are tried from one on.
+fn send_one<L: Layout, D: Disk>(core: &mut Core<L, D>, from: u32) -> (Found, Option<Job<D>>)
     requires { IsSteady L.Layout D.Disk core.old.array }
     ensures turned { TurnsTo L.Layout D.Disk core.old None core.new result.1 }
     ensures steady { IsSteady L.Layout D.Disk core.new.array }
@@ -51,18 +79,14 @@ fn go_by<L: Layout, D: Disk>(
     let Some(Chosen { event, at }) = core.choose_from(from) else {
         return (without_event(core), None)
     };
-    if at_once {
-        make(core, event, at);
-        return (Found::Event, None);
-    }
     let job = send(core, event, at);
     (Found::Event, job)
 }
 
-/// Events, one after another, until a node is fired that calls a device or sums much, or there is no event but the end of
-/// a job; and the job of that node. As often as is said, such a job is performed at once, and the node ends. The clients are
-/// tried from the same one on each time, so that a worker goes on with a client's operation while it can: what it works on
-/// is near it.
+/// So many events at once, each with the end of the node that it fires; then events, one after another, until a node is
+/// fired that calls a device or sums much, and the job of that node. Or until there is no event but the end of a job. The
+/// clients are tried from the same one on each time, so that a worker goes on with a client's operation while it can: what
+/// it works on is near it.
 pub(crate) fn go_far<L: Layout, D: Disk + Drop>(
     core: &mut Core<L, D>,
     from: u32,
@@ -72,10 +96,12 @@ pub(crate) fn go_far<L: Layout, D: Disk + Drop>(
     ensures turned { TurnsTo L.Layout D.Disk core.old None core.new result.1 }
     ensures idle { (result.0 ≡ Found.Event) ⊎ ((result.1 ≡ None) × IsIdle L.Layout core.new.array) }
 {
-    let mut left = at_once;
+    if !make_some(core, from, at_once) {
+        return (without_event(core), None);
+    }
     loop {
-        match go_by(core, from, left != 0) {
-            (Found::Event, None) => left = left.saturating_sub(1),
+        match send_one(core, from) {
+            (Found::Event, None) => {}
             (found, ticket) => return (found, ticket),
         }
     }

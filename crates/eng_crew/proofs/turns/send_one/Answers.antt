@@ -1,19 +1,10 @@
 use Rattle.std.proofs.Common.{None, refl}
 use Rattle.eng_array.specs.Tickets.{nothing}
 use Rattle.eng_crew.proofs.Keeps.{turns-once}
-use Rattle.eng_crew.proofs.turns.go_by.Goals as goal
+use Rattle.eng_crew.proofs.turns.send_one.Goals as goal
 
 pub returns-in_default-clause-turned : goal.returns-in_default-clause-turned
 returns-in_default-clause-turned g c = turns-once g.L.Layout g.D.Disk c.args.core.now c.choose_from.new.self None None (nothing (c.choose_from.ensures.none c.in_default.is) refl)
-
-pub returns-then-at_once-clause-turned : goal.returns-then-at_once-clause-turned
-returns-then-at_once-clause-turned g c = (c.make.ensures c.args.core.now c.choose_from.ensures.quiet c.requires).turned
-
-pub returns-then-at_once-clause-steady : goal.returns-then-at_once-clause-steady
-returns-then-at_once-clause-steady g c = (c.make.ensures c.args.core.now c.choose_from.ensures.quiet c.requires).steady
-
-pub returns-then-at_once-clause-event : goal.returns-then-at_once-clause-event
-returns-then-at_once-clause-event g c is = (c.make.ensures c.args.core.now c.choose_from.ensures.quiet c.requires).falls
 
 pub returns-clause-turned : goal.returns-clause-turned
 returns-clause-turned g c = (c.send-job.ensures c.args.core.now c.choose_from.ensures.quiet c.requires).turned

@@ -1,0 +1,13 @@
+use Rattle.std.proofs.Common.{None, refl}
+use Rattle.eng_array.specs.Tickets.{nothing}
+use Rattle.eng_crew.proofs.Keeps.{turns-once}
+use Rattle.eng_crew.proofs.turns.make_one.Goals as goal
+
+pub returns-in_default-clause-turned : goal.returns-in_default-clause-turned
+returns-in_default-clause-turned g c = turns-once g.L.Layout g.D.Disk c.args.core.now c.choose_from.new.self None None (nothing (c.choose_from.ensures.none c.in_default.is) refl)
+
+pub returns-clause-turned : goal.returns-clause-turned
+returns-clause-turned g c = (c.make.ensures c.args.core.now c.choose_from.ensures.quiet c.requires).turned
+
+pub returns-clause-steady : goal.returns-clause-steady
+returns-clause-steady g c = (c.make.ensures c.args.core.now c.choose_from.ensures.quiet c.requires).steady
