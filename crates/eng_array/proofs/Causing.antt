@@ -15,7 +15,7 @@ use Rattle.eng_world.specs.declared.item.Traced.TheVariants as event
 use Rattle.eng_world.specs.World.{World, item_now}
 use Rattle.eng_world.specs.Planning.{Graphs}
 use Rattle.eng_world.specs.Failing.{FailsColumn, Loses, Survives, device_on}
-use Rattle.eng_world.specs.Serving.{Begun, Takes, Refuses, BackBy}
+use Rattle.eng_world.specs.Serving.{Begun, Takes, Refuses}
 use Rattle.eng_world.specs.Nodes.{Works, Commits, Terminates}
 use Rattle.eng_world.specs.Causes.{ItemAt}
 use Rattle.eng_world.specs.Legal.{ReplyOf}
@@ -26,6 +26,7 @@ use Rattle.eng_world.proofs.Moves.{Move, Moves, one, two, moves, replies, waits,
 use Rattle.eng_array.specs.Tickets.{IsBad}
 use Rattle.eng_array.proofs.Blaming.{has-of}
 use Rattle.eng_array.proofs.OnSeats.{after-back}
+use Rattle.eng_world.proofs.Words.{BackBy}
 
 -- ## Which devices a column has had
 
@@ -128,7 +129,7 @@ module _ (y : Shape) (graphs : Graphs) (old new : World) (d : ℕ) (before : old
   good-fails c n (inr (inr f)) = same-not (f.failed d)
 
   in-fails : (e : Traced) → StepIn y graphs e old new → FailsBy e old new d
-  in-fails (event.Begin id) h = begun-fails id h.0 h.1.can.item h.1.can.next h.1.begun
+  in-fails (event.Begin id) h = begun-fails id h.0 h.1.0.item h.1.0.next h.1.1
   in-fails (event.Take id) h = taken-fails id.client h.1
   in-fails (event.Fire id n) h = same-not (h.1.only.columns.failed d)
   in-fails (event.Skip id n) h = same-not (h.1.only.columns.failed d)
@@ -136,7 +137,7 @@ module _ (y : Shape) (graphs : Graphs) (old new : World) (d : ℕ) (before : old
   in-fails (event.Bad id n) h = by_node tt
   in-fails (event.Back id) h = back h.1.graph h.1.back
     where
-      back : (g : Option ℕ) → BackBy y graphs id.client h.1.op g h.1.can.was old new → FailsBy (event.Back id) old new d
+      back : (g : Option ℕ) → BackBy y graphs id.client h.1.op g h.1.was old new → FailsBy (event.Back id) old new d
       back None b = same-not (b.only.columns.failed d)
       back (Some n) b = same-not (b.only.columns.failed d)
   in-fails (event.Fail c) h = by_call c refl (column-had y c old new h.2 d before after)

@@ -3,7 +3,7 @@ use Rattle.std.proofs.Common.{◌≡◌, ◌≤◌, ℕ, zero, suc, List, [], �
 use Rattle.std.specs.Prelude.{set, slice_index_or}
 use Rattle.std.proofs.Math.Seq.{map-set_same}
 use Rattle.std.proofs.lemmas.List.{map-set, length-map}
-use Rattle.blk_disk.specs.Devices.{device_at, TellsOn, StaysIf}
+use Rattle.blk_disk.specs.Devices.{device_at, StaysIf}
 use Rattle.blk_disk.specs.declared.disk.Disk.{Ghosts as DiskGhosts}
 use Rattle.blk_disk.proofs.DeviceLaws.{changes-refl, changes-set}
 use Rattle.eng_cols.specs.declared.spot.Spot.{Spot}
@@ -11,6 +11,7 @@ use Rattle.eng_parts.specs.Shelf.{Seen, Shelved, IsAway, come_home}
 use Rattle.eng_state.specs.Moves.{DeviceLeft}
 use Rattle.eng_state.proofs.Leaving.{seen-below}
 use Rattle.eng_array.specs.Tickets.{device_of, size_in, faults_in, DevicesGoOn}
+use Rattle.blk_disk.proofs.Words.{TellsOn}
 
 -- the device of a slot
 pub slot-device : {D : Type 0} → (slots : List (Option (Seen D))) (d : ℕ) → device_at (map device_of slots) d ≡ device_of (slice_index_or slots d None)

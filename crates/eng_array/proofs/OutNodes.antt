@@ -14,11 +14,11 @@ use Rattle.eng_world.specs.declared.item.Item.TheVariants as item
 use Rattle.eng_world.specs.declared.item.Reply.{Reply}
 use Rattle.eng_world.specs.declared.item.Traced.{Traced}
 use Rattle.eng_world.specs.declared.item.Traced.TheVariants as event
-use Rattle.eng_world.specs.World.{Running, Current, Nothing, Waits, Runs, Client, World, RunsAs, OtherClients, Goes, Replied}
+use Rattle.eng_world.specs.World.{Running, Current, Nothing, Waits, Runs, Client, World, RunsAs, Goes, Replied}
 use Rattle.eng_world.specs.Planning.{Graphs}
 use Rattle.eng_world.specs.Pool.{job_of}
-use Rattle.eng_world.specs.Failing.{SuffersIf, OutlivesIf, Loses, Survives, FailsColumn, FailsIfAlive, device_on}
-use Rattle.eng_world.specs.Serving.{Begun, Takes, Refuses, Backs, BackBy, StartsRebuild}
+use Rattle.eng_world.specs.Failing.{Loses, Survives, FailsColumn, FailsIfAlive, device_on}
+use Rattle.eng_world.specs.Serving.{Begun, Takes, Refuses, Backs, StartsRebuild}
 use Rattle.eng_world.specs.Nodes.{Finishes, Works, Commits, Terminates}
 use Rattle.eng_world.specs.Invariant.{IsServed, Invariant}
 use Rattle.eng_world.specs.Step.{StepIn, StepLost, StepBy, Step}
@@ -28,6 +28,7 @@ use Rattle.eng_world.proofs.Walking.{walks-inv}
 use Rattle.eng_world.proofs.Settling.{undone-none, none-out-not}
 use Rattle.eng_world.proofs.Open.{IsOpen}
 use Rattle.eng_array.specs.Tickets.{is_node}
+use Rattle.eng_world.proofs.Words.{OtherClients, BackBy, SuffersIf, OutlivesIf}
 
 -- 1 where node n of what a client does is out, else 0
 abbrev pub node_out : Current → ℕ → ℕ
@@ -241,16 +242,16 @@ module _ (y : Shape) (graphs : Graphs) (in_sync : Type 0) (start : Blocks) (old 
       where
         none : (m : ℕ) → node_at old c m ≡ 0
         none m =
-            now-out old c f.can.was f.can.runs m
-            ∙ job-none (f.can.was.node m) (λ out.
-            none-out-not f.can.was.node (length f.can.was.plan.graph.nodes) (undone-none y old.columns f.can.was (known.walks c f.can.was f.can.runs) f.can.undone) m (opens.below c m f.can.was f.can.runs out) out)
+            now-out old c f.was f.runs m
+            ∙ job-none (f.was.node m) (λ out.
+            none-out-not f.was.node (length f.was.plan.graph.nodes) (undone-none y old.columns f.was (known.walks c f.was f.runs) f.undone) m (opens.below c m f.was f.runs out) out)
 
-        go : (g : Option ℕ) → BackBy y graphs c f.op g f.can.was old new → SameOut old new
+        go : (g : Option ℕ) → BackBy y graphs c f.op g f.was old new → SameOut old new
         go None b = goes-same c (Runs b.next) old new b.goes none (λ m. ap job_of (b.is_fresh.node m))
         go (Some n) b = replied-same c _ old new b.replied none
 
     in-out : (e : Traced) → StepIn y graphs e old new → OutAfter e old new
-    in-out (event.Begin id) h = begun-same id.client h.1.can.item h.1.can.nothing h.1.begun
+    in-out (event.Begin id) h = begun-same id.client h.1.0.item h.1.0.nothing h.1.1
     in-out (event.Take id) h = taken-same id.client h.1
     in-out (event.Fire id n) h =
         let f = h.1 in

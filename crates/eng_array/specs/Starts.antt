@@ -1,9 +1,8 @@
 -- How a rebuild starts: onto a device, or into the spare places.
-use Rattle.std.specs.Prelude.{◌≡◌, ℕ, List}
+use Rattle.std.specs.Prelude.{◌≡◌, ℕ, List, slice_set, replicate, false}
 use Rattle.blk_disk.specs.declared.disk.Disk.{Ghosts as DiskGhosts}
 use Rattle.lay_core.specs.declared.layout.Layout.{Ghosts as LayoutGhosts}
-use Rattle.eng_cols.specs.Cols.{Columns, ColumnState}
-use Rattle.eng_cols.specs.Changes.{begun_filling, begun_spreading}
+use Rattle.eng_cols.specs.Cols.{Columns, ColumnState, Filling, Spread}
 use Rattle.eng_world.specs.declared.item.Traced.{Traced}
 use Rattle.eng_world.specs.declared.item.Traced.TheVariants as event
 use Rattle.eng_state.specs.declared.array.Array.{Array}
@@ -33,11 +32,11 @@ event_of (start.Fill column device most) n = event.Fill column device n
 event_of (start.Resume column most) n = event.Resume column n
 event_of (start.Spread column) n = event.Spread column
 
--- the columns behind it
+-- the columns behind it: one that it begins has no stripe done
 abbrev pub begun_by : Columns → Start → List ColumnState
-begun_by cols (start.Fill column device most) = begun_filling cols column device
+begun_by cols (start.Fill column device most) = slice_set cols.states column (Filling device (replicate cols.stripes false))
 begun_by cols (start.Resume column most) = cols.states
-begun_by cols (start.Spread column) = begun_spreading cols column
+begun_by cols (start.Spread column) = slice_set cols.states column (Spread (replicate cols.stripes false))
 
 -- it may be made
 abbrev pub CanStart : {L D : Type 0} → LayoutGhosts L → DiskGhosts D → Array L D → Start → Type 0

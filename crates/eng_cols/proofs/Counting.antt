@@ -7,8 +7,8 @@ use Rattle.lay_core.specs.Layout.{Shape}
 use Rattle.eng_cols.specs.declared.column.Column.{Column}
 use Rattle.eng_cols.specs.Cols.{ColumnState, is_done_on, none_done}
 use Rattle.eng_cols.specs.Seats.{is_place_on, is_unit_of, IsStripeOf}
-use Rattle.eng_cols.specs.Stripes.{all_done_below, done_at, done_set, filled_from, filled_in, first_done, first_or, is_stripe_by, is_stripe_of, is_unit_by, leading, spreads}
-use Rattle.eng_cols.proofs.Words.{is_led}
+use Rattle.eng_cols.specs.Stripes.{all_done_below, done_at, done_set, filled_from, filled_in, first_done, is_stripe_by, is_stripe_of, is_unit_by, leading, spreads}
+use Rattle.eng_cols.proofs.Words.{is_led, first_or}
 use Rattle.lay_core.specs.Touched.{count_below, any_below}
 
 -- ## Numbers that pass

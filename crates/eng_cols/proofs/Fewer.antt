@@ -9,13 +9,13 @@ use Rattle.eng_cols.specs.declared.column.Column.{Column}
 use Rattle.eng_cols.specs.declared.column.Column.TheVariants as column
 use Rattle.eng_cols.specs.declared.spot.Spot.{Spot}
 use Rattle.eng_cols.specs.Cols.{ColumnState, Live, Dead, Filling, Spread, AtMostOne, is_done, is_done_on, is_set_filling, is_set_spread, is_spread, passes, state_set}
-use Rattle.eng_cols.specs.Seats.{stands_for, spare_stands, available_on, is_available, open_on, spare_open, seat_on, seat, IsStripeOf, IsWhole, is_place_on}
-use Rattle.eng_cols.specs.Stripes.{are_spread, done_set, filled_from, filled_in, first_done, first_or, is_stripe_by, is_stripe_of, leading, spreads, states_of}
+use Rattle.eng_cols.specs.Seats.{stands_for, spare_stands, available_on, is_available, open_on, seat_on, seat, IsStripeOf, IsWhole, is_place_on}
+use Rattle.eng_cols.specs.Stripes.{are_spread, done_set, filled_from, filled_in, first_done, is_stripe_by, is_stripe_of, leading, spreads, states_of}
 use Rattle.eng_cols.specs.Fewer.{IsFewerOn, AreFewer, IsReadOn, AreRead, DieApart}
 use Rattle.eng_cols.proofs.Counting.{filled-all, filled-step, leading-is, stripe-of, stripe-same}
 use Rattle.eng_cols.proofs.Leading.{all-led, each-done, first-marked, led-all, led-done, led-few, led-first}
 use Rattle.eng_cols.proofs.Wholes.{lies-on}
-use Rattle.eng_cols.proofs.Words.{is_led}
+use Rattle.eng_cols.proofs.Words.{is_led, spare_open, first_or}
 use Rattle.lay_core.specs.Touched.{count_below}
 
 no : {A : Type 0} → false ≡ true → A

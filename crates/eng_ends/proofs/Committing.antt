@@ -18,7 +18,7 @@ use Rattle.eng_cols.specs.declared.spot.Spot.{Spot}
 use Rattle.eng_cols.specs.declared.spot.Loss.{Loss}
 use Rattle.eng_world.specs.declared.item.Traced.TheVariants as event
 use Rattle.eng_world.specs.World.{Running, Client, World, Runs as IsRunning}
-use Rattle.eng_world.specs.Nodes.{Commits, Told, MakesOrUses}
+use Rattle.eng_world.specs.Nodes.{Commits, MakesOrUses}
 use Rattle.eng_world.specs.Plain.{apply}
 use Rattle.eng_world.specs.declared.item.Item.{Item}
 use Rattle.eng_world.specs.World.{op_now, op_of}
@@ -44,6 +44,7 @@ use Rattle.eng_state.proofs.Running.{runs_below}
 use Rattle.eng_state.proofs.Shown.{unlost, shown-running, shown-put}
 use Rattle.eng_state.proofs.Putting.{out-below, list-out}
 use Rattle.eng_state.proofs.Handing.{hands-on}
+use Rattle.eng_world.proofs.Words.{Told}
 
 -- a commit takes no buffer
 takes-none : (g : View) (n b : ℕ) → kind_at g n ≡ Cmt → MakesOrUses g n b → ⊥

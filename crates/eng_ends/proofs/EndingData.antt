@@ -22,7 +22,7 @@ use Rattle.eng_world.specs.declared.item.Reply.{Reply}
 use Rattle.eng_world.specs.declared.item.Reply.TheVariants as reply
 use Rattle.eng_world.specs.declared.item.Traced.TheVariants as event
 use Rattle.eng_world.specs.World.{Running, Client, World, Replied, Runs as IsRunning}
-use Rattle.eng_world.specs.Nodes.{Terminates, RepliesTo, ColumnsAfter, HandsOut}
+use Rattle.eng_world.specs.Nodes.{Terminates, RepliesTo, ColumnsAfter}
 use Rattle.eng_world.specs.Step.{StepBy, Step}
 use Rattle.eng_state.specs.declared.array.Array.{Array}
 use Rattle.eng_clients.specs.Desk.{Desk, desk_at, item_at}
@@ -38,6 +38,7 @@ use Rattle.eng_ends.proofs.Handouts.{op-is, in-span, hit-covers, covers-hit, hit
 use Rattle.eng_ends.proofs.Over as over
 use Rattle.eng_state.proofs.Put.{put-same, put-other}
 use Rattle.eng_state.proofs.Shown.{unlost, shown-running}
+use Rattle.eng_world.proofs.Words.{HandsOut}
 
 -- one reply more doesn't change those before it
 reply-before : (l : List Reply) (r : Reply) (i : ℕ) (x : Reply) → i ≢ length l → slice_get (l ++ r ∷ []) i ≡ Some x → slice_get l i ≡ Some x

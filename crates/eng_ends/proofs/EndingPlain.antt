@@ -22,7 +22,7 @@ use Rattle.eng_world.specs.World.{Running, Client, World, Nothing as Idles, Runs
 use Rattle.eng_world.specs.declared.item.Reply.TheVariants as reply
 use Rattle.eng_ends.specs.Ends.{IsPlain, IsPlainOp}
 use Rattle.blk_plain.specs.declared.op.Op.TheVariants as op
-use Rattle.eng_world.specs.Nodes.{Terminates, RepliesTo, ColumnsAfter, Told, MakesOrUses}
+use Rattle.eng_world.specs.Nodes.{Terminates, RepliesTo, ColumnsAfter, MakesOrUses}
 use Rattle.blk_plain.specs.declared.op.Op.{Op}
 use Rattle.eng_world.specs.declared.item.Item.{Item}
 use Rattle.eng_world.specs.World.{op_of}
@@ -51,6 +51,7 @@ use Rattle.eng_state.proofs.Running.{runs_below}
 use Rattle.eng_state.proofs.Shown.{unlost, shown-running, shown-one, desk-set}
 use Rattle.eng_state.proofs.Putting.{out-below, list-out, current-kept}
 use Rattle.eng_state.proofs.Handing.{hands-more}
+use Rattle.eng_world.proofs.Words.{Told}
 
 -- a terminator takes no buffer
 pub end-takes-none : (g : View) (n b : ℕ) → kind_at g n ≡ Trm → MakesOrUses g n b → ⊥

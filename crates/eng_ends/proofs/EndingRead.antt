@@ -11,17 +11,17 @@ use Rattle.buf_pool.specs.Pool as pool
 use Rattle.lay_core.specs.Layout.{Shape}
 use Rattle.lay_core.specs.declared.layout.Layout.{Ghosts as LayoutGhosts}
 use Rattle.graph_mean.specs.declared.graph.Node.{Node}
-use Rattle.graph_mean.specs.declared.graph.Node.TheVariants.{Rd}
+use Rattle.graph_mean.specs.declared.graph.Node.TheVariants.{Rd, Cmt, Trm}
 use Rattle.graph_mean.specs.declared.step.Status.TheVariants as status
 use Rattle.graph_mean.specs.Graph.{View, kind_at, vertex_at, buf_at}
 use Rattle.graph_mean.specs.Steps.{Covers, settled, phase_after}
 use Rattle.eng_one.specs.Control.{mark_in, settled_in}
 use Rattle.eng_cols.specs.declared.spot.Spot.{Spot}
 use Rattle.eng_cols.specs.declared.spot.Loss.{Loss}
-use Rattle.eng_cols.specs.Contents.{byte_at, byte_if, sector_at}
+use Rattle.eng_cols.specs.Contents.{byte_at, sector_at}
 use Rattle.eng_world.specs.declared.item.Traced.TheVariants as event
 use Rattle.eng_world.specs.World.{Running, Client, World, Runs as IsRunning}
-use Rattle.eng_world.specs.Nodes.{Works, Told, CanBeGood, GoodContents, call_of, made}
+use Rattle.eng_world.specs.Nodes.{Works, CanBeGood, made, EndContents}
 use Rattle.eng_world.specs.Step.{Step}
 use Rattle.eng_clients.specs.declared.stage.Stage.{Stage}
 use Rattle.eng_state.specs.declared.array.Array.{Array}
@@ -51,6 +51,8 @@ use Rattle.eng_state.proofs.Putting.{put-here, put-else, current-other, covers-b
 use Rattle.eng_clients.proofs.SeatsApart.{seats-differ}
 use Rattle.eng_state.proofs.Handing.{hands-on}
 use Rattle.eng_log.specs.Filled.{buffer_byte}
+use Rattle.eng_world.proofs.Words.{call_of, Told}
+use Rattle.eng_cols.proofs.Words.{byte_if}
 
 -- the buffer that a read came back with is one of its lease's
 pub buf-below : {L D : Type 0} → (lay : LayoutGhosts L) (disk : DiskGhosts D) (old : Array L D) (c n : ℕ) (after : D) (first count : ℕ) (bytes : List ℕ) → IsSound lay disk old → (r : ReadBack lay disk old c n after first bytes count Good) → r.buf < length (desk_at old.clients c).lease
@@ -147,11 +149,12 @@ module _ {L D : Type 0} (lay : LayoutGhosts L) (disk : DiskGhosts D) (old mid : 
         told = subst (λ (o : Option Spot). Told y g (kind_at g n) o true w x) (sym r.spot) (put-same w.calls r.at.device _, λ k ne. put-other w.calls r.at.device _ k ne);
         out_less = some-out;
       };
+      neither = subst (λ (k : Node). (k ≡ Cmt → ⊥) × (k ≡ Trm → ⊥)) (sym r.kind) ((λ e. let u : ⊥ = cc in u), (λ e. let u : ⊥ = cc in u));
       can = subst (λ (k : Node). CanBeGood k (spot_at d n) w) (sym r.kind) tt;
       buf = λ b o k covers lt. refl;
       phase = phase-same;
       by = refl;
-      contents = subst (λ (k : Node). GoodContents y was k (spot_at d n) w x) (sym r.kind) (λ a b k. refl);
+      contents = subst (λ (k : Node). EndContents y was k (spot_at d n) true w x) (sym r.kind) (λ a b k. refl);
       goes = record {
         items = ap (λ (q : Client). q.items) (put-same w.clients c _);
         replies = ap (λ (q : Client). q.replies) (put-same w.clients c _);

@@ -15,7 +15,7 @@ use Rattle.eng_cols.specs.Changes.{IsEnded}
 use Rattle.eng_world.specs.declared.item.Reply.TheVariants as reply
 use Rattle.eng_world.specs.declared.item.Traced.TheVariants as event
 use Rattle.eng_world.specs.World.{Running, Client, World, Replied}
-use Rattle.eng_world.specs.Nodes.{Terminates, RepliesTo, ColumnsAfter, Told}
+use Rattle.eng_world.specs.Nodes.{Terminates, RepliesTo, ColumnsAfter}
 use Rattle.eng_world.specs.Step.{StepBy, Step}
 use Rattle.eng_state.specs.declared.array.Array.{Array}
 use Rattle.eng_clients.specs.Desk.{Desk, desk_at, item_at}
@@ -33,6 +33,7 @@ use Rattle.eng_state.proofs.Shown.{unlost}
 use Rattle.eng_log.specs.Handed.{Handout, Hands}
 use Rattle.eng_state.proofs.Handing.{hands-more}
 use Rattle.eng_state.specs.Restored.{StripeEnds}
+use Rattle.eng_world.proofs.Words.{Told}
 
 replies-done : (y : Shape) (o : Op) (r : Running) (c : ℕ) (old new : World) → IsRebuildOp o → Replied c reply.Done old new → RepliesTo y o r c old new
 replies-done y (op.Rebuild stripe) r c old new is h = h

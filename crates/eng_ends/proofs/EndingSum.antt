@@ -28,7 +28,7 @@ use Rattle.eng_job.specs.declared.job.Source.{Source}
 use Rattle.eng_job.specs.Performed.{AreLong}
 use Rattle.eng_world.specs.declared.item.Traced.TheVariants as event
 use Rattle.eng_world.specs.World.{Running, Client, World, Runs as IsRunning}
-use Rattle.eng_world.specs.Nodes.{Works, Told, CanBeGood, GoodContents, made}
+use Rattle.eng_world.specs.Nodes.{Works, CanBeGood, made, EndContents}
 use Rattle.eng_world.specs.Step.{Step}
 use Rattle.eng_clients.specs.declared.stage.Stage.{Stage}
 use Rattle.eng_state.specs.declared.array.Array.{Array}
@@ -55,6 +55,8 @@ use Rattle.eng_state.proofs.Shown.{shown-running, shown-one, replies-shown}
 use Rattle.eng_state.proofs.Putting.{put-here, put-else, current-kept, covers-below, out-below, list-out, settled-same}
 use Rattle.eng_clients.proofs.SeatsApart.{seats-differ}
 use Rattle.eng_log.specs.Filled.{buffer_byte}
+use Rattle.eng_world.proofs.Words.{Told}
+use Rattle.graph_mean.specs.declared.graph.Node.TheVariants.{Cmt, Trm}
 
 -- sums whose terms are the same
 xor_by-among : (f g : ℕ → ℕ) (xs : List ℕ) → ((b : ℕ) → Contains xs b → f b ≡ g b) → xor_by f xs ≡ xor_by g xs
@@ -271,11 +273,12 @@ module _ {L D : Type 0} (lay : LayoutGhosts L) (disk : DiskGhosts D) (old mid : 
         told = subst (λ (p : Option Spot). Told (lay.shape old.layout) q (kind_at q n) p true w x) (sym (spot lay disk old c n bytes from count sound r)) (λ a. refl);
         out_less = some-out;
       };
+      neither = subst (λ (k : Node). (k ≡ Cmt → ⊥) × (k ≡ Trm → ⊥)) (sym r.kind) ((λ e. let u : ⊥ = cc in u), (λ e. let u : ⊥ = cc in u));
       can = subst (λ (k : Node). CanBeGood k (spot_at (desk_at old.clients c) n) w) (sym r.kind) tt;
       buf = λ b o k covers lt. refl;
       phase = phase-same;
       by = refl;
-      contents = subst (λ (k : Node). GoodContents (lay.shape old.layout) was k (spot_at (desk_at old.clients c) n) w x) (sym r.kind) (λ a b k. refl);
+      contents = subst (λ (k : Node). EndContents (lay.shape old.layout) was k (spot_at (desk_at old.clients c) n) true w x) (sym r.kind) (λ a b k. refl);
       goes = record {
         items = ap (λ (v : Client). v.items) (put-same w.clients c _);
         replies = ap (λ (v : Client). v.replies) (put-same w.clients c _);

@@ -11,7 +11,7 @@ use Rattle.buf_pool.specs.Pool as pool
 use Rattle.lay_core.specs.Layout.{Shape}
 use Rattle.lay_core.specs.declared.layout.Layout.{Ghosts as LayoutGhosts}
 use Rattle.graph_mean.specs.declared.graph.Node.{Node}
-use Rattle.graph_mean.specs.declared.graph.Node.TheVariants.{Wr}
+use Rattle.graph_mean.specs.declared.graph.Node.TheVariants.{Wr, Cmt, Trm}
 use Rattle.graph_mean.specs.declared.step.Status.TheVariants as status
 use Rattle.graph_mean.specs.Graph.{View, kind_at, vertex_at, buf_at}
 use Rattle.graph_mean.specs.Steps.{Covers, settled, phase_after}
@@ -21,7 +21,7 @@ use Rattle.eng_cols.specs.declared.spot.Loss.{Loss}
 use Rattle.eng_cols.specs.Contents.{sector_at}
 use Rattle.eng_world.specs.declared.item.Traced.TheVariants as event
 use Rattle.eng_world.specs.World.{Running, Client, World, Runs as IsRunning}
-use Rattle.eng_world.specs.Nodes.{Works, Told, CanBeGood, GoodContents, call_of, made}
+use Rattle.eng_world.specs.Nodes.{Works, CanBeGood, made, EndContents}
 use Rattle.eng_world.specs.Step.{Step}
 use Rattle.eng_clients.specs.declared.stage.Stage.{Stage}
 use Rattle.eng_state.specs.declared.array.Array.{Array}
@@ -52,6 +52,7 @@ use Rattle.eng_state.proofs.Putting.{put-here, put-else, current-other, covers-b
 use Rattle.eng_clients.proofs.SeatsApart.{seats-differ}
 use Rattle.eng_state.proofs.Handing.{hands-on}
 use Rattle.eng_log.specs.Filled.{buffer_byte}
+use Rattle.eng_world.proofs.Words.{call_of, Told}
 
 -- the buffer that a read came back with is one of its lease's
 pub write-below : {L D : Type 0} → (lay : LayoutGhosts L) (disk : DiskGhosts D) (old : Array L D) (c n : ℕ) (after : D) (first count : ℕ) (bytes : List ℕ) → IsSound lay disk old → (r : WriteBack lay disk old c n after first bytes count Good) → r.buf < length (desk_at old.clients c).lease
@@ -149,11 +150,12 @@ module _ {L D : Type 0} (lay : LayoutGhosts L) (disk : DiskGhosts D) (old mid : 
         told = subst (λ (o : Option Spot). Told y g (kind_at g n) o true w x) (sym r.spot) (put-same w.calls r.at.device _, λ k ne. put-other w.calls r.at.device _ k ne);
         out_less = some-out;
       };
+      neither = subst (λ (k : Node). (k ≡ Cmt → ⊥) × (k ≡ Trm → ⊥)) (sym r.kind) ((λ e. let u : ⊥ = cc in u), (λ e. let u : ⊥ = cc in u));
       can = subst (λ (k : Node). CanBeGood k (spot_at d n) w) (sym r.kind) (subst (λ (o : Option Spot). CanBeGood (Wr r.unit r.buf) o w) (sym r.spot) (s.failed r.at.device ∙ unfailed));
       buf = λ b o k covers lt. refl;
       phase = phase-same;
       by = refl;
-      contents = subst (λ (k : Node). GoodContents y was k (spot_at d n) w x) (sym r.kind) (subst (λ (o : Option Spot). GoodContents y was (Wr r.unit r.buf) o w x) (sym r.spot) (writes-at y g r.buf r.at (running.0 r.buf) w.contents w x refl refl));
+      contents = subst (λ (k : Node). EndContents y was k (spot_at d n) true w x) (sym r.kind) (subst (λ (o : Option Spot). EndContents y was (Wr r.unit r.buf) o true w x) (sym r.spot) (writes-at y g r.buf r.at (running.0 r.buf) w.contents w x refl refl));
       goes = record {
         items = ap (λ (q : Client). q.items) (put-same w.clients c _);
         replies = ap (λ (q : Client). q.replies) (put-same w.clients c _);

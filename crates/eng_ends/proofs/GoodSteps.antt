@@ -2,25 +2,12 @@
 use Rattle.std.proofs.Common.{◌≡◌, ℕ, ap, ◌∙◌, refl, inl, true, Option, Some, None}
 use Rattle.blk_plain.specs.declared.op.OpId.{OpId}
 use Rattle.lay_core.specs.Layout.{Shape}
-use Rattle.graph_mean.specs.declared.graph.Node.{Node}
-use Rattle.graph_mean.specs.declared.graph.Node.TheVariants.{Rd, Wr, Xor, Cmt, Trm}
-use Rattle.graph_mean.specs.Graph.{kind_at}
-use Rattle.eng_cols.specs.declared.spot.Spot.{Spot}
 use Rattle.eng_cols.specs.declared.spot.Loss.{Loss}
 use Rattle.eng_world.specs.declared.item.Traced.TheVariants as event
 use Rattle.eng_world.specs.World.{Running, World}
 use Rattle.eng_world.specs.Planning.{Graphs}
-use Rattle.eng_world.specs.Nodes.{Works, GoodContents}
-use Rattle.eng_world.specs.Step.{IsNow, LostContents, LostGood, StepBy, Step}
-
--- what such an end leaves on the devices it leaves there too once the array is lost
-lost-contents : (y : Shape) (r : Running) (q : Node) (at : Option Spot) (old new : World) → GoodContents y r q at old new → LostContents y r q at true old new
-lost-contents y r (Rd unit buf) at old new h = h
-lost-contents y r (Wr unit buf) (Some at) old new h = h
-lost-contents y r (Wr unit buf) None old new h = h
-lost-contents y r (Xor to) at old new h = h
-lost-contents y r Cmt at old new h = absurd h
-lost-contents y r Trm at old new h = absurd h
+use Rattle.eng_world.specs.Nodes.{Works}
+use Rattle.eng_world.specs.Step.{IsNow, LostGood, StepBy, Step}
 
 lost-good : (y : Shape) (c n : ℕ) (old new : World) → (h : Works y c n old new) → (g : LostGood y c n old new) × (g.was ≡ h.was)
 lost-good y c n old new h = (
@@ -32,7 +19,7 @@ lost-good y c n old new h = (
       answer = true;
       answered = refl;
       finishes = h.finishes;
-      contents = lost-contents y h.was (kind_at h.was.plan.graph n) (h.was.fired_at n) old new h.contents;
+      contents = h.contents;
       goes = h.goes;
       blocks = h.blocks;
       free = h.free;

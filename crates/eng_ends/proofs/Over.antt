@@ -20,7 +20,7 @@ use Rattle.eng_cols.specs.declared.spot.Loss.{Loss}
 use Rattle.eng_world.specs.declared.item.Item.{Item}
 use Rattle.eng_world.specs.declared.item.Reply.{Reply}
 use Rattle.eng_world.specs.World.{Running, Client, World, Nothing as Idles, Runs as IsRunning, op_now, op_of}
-use Rattle.eng_world.specs.Nodes.{Finishes, Told}
+use Rattle.eng_world.specs.Nodes.{Finishes}
 use Rattle.eng_state.specs.declared.array.Array.{Array}
 use Rattle.eng_parts.specs.Shelf.{Shelved, seen_at}
 use Rattle.eng_clients.specs.Desk.{Desk, desk_at, spot_at, with_ended, with_reply}
@@ -39,6 +39,7 @@ use Rattle.eng_state.proofs.Running.{runs_below}
 use Rattle.eng_state.proofs.Shown.{unlost, shown-running, shown-one, desk-set}
 use Rattle.eng_state.proofs.Putting.{out-below, list-out, current-kept}
 use Rattle.eng_log.specs.Handed.{Hands}
+use Rattle.eng_world.proofs.Words.{Told}
 
 module _ {L D : Type 0} (lay : LayoutGhosts L) (disk : DiskGhosts D) (old end : Array L D) (c n : ℕ) (reply : Reply) (sound : IsSound lay disk old) (o : IsOutOf (desk_at old.clients c) n) (kind : kind_at (desk_at old.clients c).run.graph n ≡ Trm) (h : Terminated old c n reply end) (log : Logged) where
   abbrev now : Desk

@@ -19,7 +19,6 @@ use Rattle.eng_one.specs.Control.{settled_in}
 use Rattle.eng_cols.specs.declared.spot.Spot.{Spot}
 use Rattle.eng_cols.specs.Contents.{sector_at}
 use Rattle.eng_world.specs.World.{Running, Client, World, Runs as IsRunning}
-use Rattle.eng_world.specs.Nodes.{Told, call_of}
 use Rattle.eng_clients.specs.declared.stage.Stage.{Stage}
 use Rattle.eng_state.specs.declared.array.Array.{Array}
 use Rattle.eng_parts.specs.Shelf.{Seen, seen_at, come_home}
@@ -40,13 +39,14 @@ use Rattle.blk_plain.specs.declared.op.Outcome.{Outcome}
 use Rattle.eng_job.specs.Performed.{is_ok_of}
 use Rattle.graph_mean.specs.Steps.{IsCall}
 use Rattle.eng_cols.specs.Contents.{Contents}
-use Rattle.eng_world.specs.Nodes.{FailsNode, HasAnswered, IsLateWrite, ReadsInto, BadContents}
+use Rattle.eng_world.specs.Nodes.{FailsNode, IsLateWrite, ReadsInto}
 use Rattle.graph_mean.specs.declared.graph.Node.TheVariants.{Rd}
 use Rattle.graph_mean.specs.declared.step.Phase.{Phase}
 use Rattle.eng_log.specs.Log.{Logged}
 use Rattle.eng_state.specs.Bad.{CallBack, EndsBad}
 use Rattle.eng_state.proofs.Handing.{hands-on}
 use Rattle.eng_log.specs.Filled.{buffer_byte}
+use Rattle.eng_world.proofs.Words.{call_of, Told, HasAnswered, BadContents}
 
 module _ {L D : Type 0} (lay : LayoutGhosts L) (disk : DiskGhosts D) (old : Array L D) (c n : ℕ) (after : D) (first count : ℕ) (bytes : List ℕ) (outcome : Outcome) (sound : IsSound lay disk old) (r : CallBack lay disk old c n after first bytes count outcome) where
   abbrev pub y : Shape

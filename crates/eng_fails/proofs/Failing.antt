@@ -15,7 +15,7 @@ use Rattle.eng_cols.specs.Lost.{IsLost, NotLost}
 use Rattle.eng_cols.proofs.Lists.{get_set_either}
 use Rattle.eng_cols.proofs.Killing.{order-kept, device-back, killed-device, filling-back, spread-back}
 use Rattle.eng_world.specs.World.{Current, Client, World, Nothing as Idles, Waits as IsWaiting, Runs as IsRunning}
-use Rattle.eng_world.specs.Failing.{FailsColumn, Loses, Survives, SuffersIf, OutlivesIf, newly_missing, by_after, device_on, is_device_of}
+use Rattle.eng_world.specs.Failing.{FailsColumn, Loses, Survives, newly_missing, by_after, device_on, is_device_of}
 use Rattle.eng_world.specs.declared.item.Traced.TheVariants as event
 use Rattle.eng_world.specs.Step.{StepBy}
 use Rattle.eng_clients.specs.declared.stage.Stage.{Stage}
@@ -35,6 +35,7 @@ use Rattle.eng_fails.proofs.Keeping.{GoesOn, kept-sound}
 use Rattle.eng_log.specs.Handed.{Handout, Hands}
 use Rattle.eng_state.proofs.Handing.{hands-told}
 use Rattle.eng_clients.specs.Replied.{told_of}
+use Rattle.eng_world.proofs.Words.{SuffersIf, OutlivesIf}
 
 -- ## Devices
 

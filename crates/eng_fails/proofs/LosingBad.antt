@@ -19,8 +19,7 @@ use Rattle.eng_cols.proofs.Killing.{order-kept, device-back, killed-device}
 use Rattle.eng_job.specs.Performed.{is_ok_of}
 use Rattle.eng_world.specs.declared.item.Traced.TheVariants as event
 use Rattle.eng_world.specs.World.{Running, Client, World}
-use Rattle.eng_world.specs.Nodes.{BadContents, HasAnswered, Told}
-use Rattle.eng_world.specs.Step.{StepBy, LostBad, LostContents}
+use Rattle.eng_world.specs.Step.{StepBy, LostBad}
 use Rattle.eng_state.specs.declared.array.Array.{Array}
 use Rattle.eng_parts.specs.Shelf.{has_failed, failing}
 use Rattle.eng_clients.specs.Desk.{Desk, desk_at, with_ended}
@@ -36,6 +35,8 @@ use Rattle.eng_state.proofs.Leaving.{seen-below}
 use Rattle.eng_fails.proofs.Failing as failure
 use Rattle.eng_fails.proofs.EndingBad as ending
 use Rattle.eng_fails.proofs.FinishingBad.{shows-same}
+use Rattle.eng_world.proofs.Words.{Told, HasAnswered, BadContents}
+use Rattle.eng_world.specs.Nodes.{EndContents}
 
 module _ {L D : Type 0} (lay : LayoutGhosts L) (disk : DiskGhosts D) (old : Array L D) (c n : ℕ) (after : D) (first count : ℕ) (bytes : List ℕ) (outcome : Outcome) (sound : IsSound lay disk old) (r : CallBack lay disk old c n after first bytes count outcome)
     (on : (has_failed old.devices r.at.device ≡ true) ⊎ HasDevice old.cols.states r.at.column r.at.device) where
@@ -134,12 +135,12 @@ module _ {L D : Type 0} (lay : LayoutGhosts L) (disk : DiskGhosts D) (old : Arra
       abbrev x : World
       x = record mid { failed = λ d. w.failed d || (d == device); columns = killed w.columns k }
 
-      lost-contents : (q : Node) → BadContents y was q r.at w mid → LostContents y was q (Some r.at) false w x
+      lost-contents : (q : Node) → BadContents y was q r.at w mid → EndContents y was q (Some r.at) false w x
       lost-contents (Rd unit buf) b = b
       lost-contents (Wr unit buf) b = b
-      lost-contents (Xor to) b = absurd b
-      lost-contents Cmt b = absurd b
-      lost-contents Trm b = absurd b
+      lost-contents (Xor to) b = b
+      lost-contents Cmt b = b
+      lost-contents Trm b = b
 
       lost-bad : LostBad y c n w x
       lost-bad = record {
@@ -161,7 +162,7 @@ module _ {L D : Type 0} (lay : LayoutGhosts L) (disk : DiskGhosts D) (old : Arra
             told = subst (λ (o : Option Spot). Told y e.run.graph (ending.kind_now lay disk old c n after first count bytes outcome sound r) o (is_ok_of outcome) w x) (sym r.spot) (put-same w.calls r.at.device _, λ j ne. put-other w.calls r.at.device _ j ne);
             out_less = ending.some-out lay disk old c n after first count bytes outcome sound r w s log rebuilt history handed p;
           };
-          contents = subst (λ (o : Option Spot). LostContents y was (ending.kind_now lay disk old c n after first count bytes outcome sound r) o false w x) (sym r.spot) (lost-contents (ending.kind_now lay disk old c n after first count bytes outcome sound r) (ending.bad-contents lay disk old c n after first count bytes outcome sound r w s log rebuilt history handed p));
+          contents = subst (λ (o : Option Spot). EndContents y was (ending.kind_now lay disk old c n after first count bytes outcome sound r) o false w x) (sym r.spot) (lost-contents (ending.kind_now lay disk old c n after first count bytes outcome sound r) (ending.bad-contents lay disk old c n after first count bytes outcome sound r w s log rebuilt history handed p));
           goes = record {
             items = ap (λ (q : Client). q.items) (put-same w.clients c _);
             replies = ap (λ (q : Client). q.replies) (put-same w.clients c _);

@@ -18,8 +18,8 @@ use Rattle.eng_cols.specs.declared.spot.Spot.{Spot}
 use Rattle.eng_cols.specs.declared.spot.Loss.{Loss}
 use Rattle.eng_world.specs.declared.item.Traced.TheVariants as event
 use Rattle.eng_world.specs.World.{Running, Client, World, Runs as IsRunning}
-use Rattle.eng_world.specs.Nodes.{MakesOrUses, Told, CanBeGood}
-use Rattle.eng_world.specs.Step.{LostContents, LostGood, StepBy, Step}
+use Rattle.eng_world.specs.Nodes.{MakesOrUses, CanBeGood, EndContents}
+use Rattle.eng_world.specs.Step.{LostGood, StepBy, Step}
 use Rattle.eng_clients.specs.declared.stage.Stage.{Stage}
 use Rattle.eng_state.specs.declared.array.Array.{Array}
 use Rattle.eng_parts.specs.Shelf.{Shelved, seen_at}
@@ -37,6 +37,7 @@ use Rattle.eng_state.proofs.Put.{put, put-same, put-other, set-marked}
 use Rattle.eng_state.proofs.Running.{runs_below}
 use Rattle.eng_state.proofs.Shown.{shown-running, shown-put}
 use Rattle.eng_state.proofs.Putting.{out-below, list-out}
+use Rattle.eng_world.proofs.Words.{Told}
 
 module _ {L D : Type 0} (lay : LayoutGhosts L) (disk : DiskGhosts D) (old mid : Array L D) (c n : ℕ) (loss : Loss) (sound : IsSound lay disk old) (is_lost : old.lost ≡ Some loss) (o : IsOutOf (desk_at old.clients c) n)
     (kind : (kind_at (desk_at old.clients c).run.graph n ≡ Cmt) ⊎ (kind_at (desk_at old.clients c).run.graph n ≡ Trm)) (h : CamePlain old c n Good mid) where
@@ -117,7 +118,7 @@ module _ {L D : Type 0} (lay : LayoutGhosts L) (disk : DiskGhosts D) (old mid : 
           told = subst (λ (p : Option Spot). Told y g (kind_at g n) p true w x) (sym spot) (λ a. refl);
           out_less = some-out;
         };
-        contents = either (λ (k : Node). LostContents y was k (spot_at d n) true w x) (λ a b k. refl) (λ a b k. refl);
+        contents = either (λ (k : Node). EndContents y was k (spot_at d n) true w x) (λ a b k. refl) (λ a b k. refl);
         goes = record {
           items = ap (λ (q : Client). q.items) (put-same w.clients c _);
           replies = ap (λ (q : Client). q.replies) (put-same w.clients c _);

@@ -38,7 +38,7 @@ can-start g t missing free = record {
   ];
   named = λ n a ante. elim (cases_lt a (length g.nodes)) [
     | inl low ↦ low
-    | inr past ↦ absurd (free (Index 1 n) (record { below = ante-below g n a ante; foreign = inr (inr (a, ante, past)) }))
+    | inr past ↦ absurd (free (Index 1 n) (ante-below g n a ante, inr (inr (a, ante, past))))
   ];
 }
 

@@ -244,5 +244,5 @@ module _ {L D : Type 0} (lay : LayoutGhosts L) (disk : DiskGhosts D) (old : Arra
         let idles : (w.clients c).current ≡ Idles = subst (λ (t : Stage). ShowsCurrent disk.tells old.pool t d2 (w.clients c).current) can.nothing told.current in
         let next : item_now (w.clients c) ≡ Some i = ap (λ (l : List Item). slice_get l (length (w.clients c).replies)) told.items ∙ (ap (λ (l : List Reply). slice_get d2.items (length l)) told.replies ∙ is) in
         let may : MayBegin c w = record { nothing = idles; item = i; next = next } in
-        let begins_so : Begins y2 c w b.0 = record { can = may; begun = b.2 } in
+        let begins_so : Begins y2 c w b.0 = (may, b.2) in
         (b.0, b.1, subst (λ (l : Option Loss). StepBy y2 (graphs_of old.graphs.items) l (event.Begin (id_of old.clients c)) w b.0) (sym (s.lost ∙ can.not_lost)) (ap length told.replies, begins_so))

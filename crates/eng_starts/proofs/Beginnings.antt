@@ -17,7 +17,7 @@ use Rattle.eng_world.specs.declared.item.Item.{Item}
 use Rattle.eng_world.specs.declared.item.Traced.{Traced}
 use Rattle.eng_world.specs.declared.item.Traced.TheVariants as event
 use Rattle.eng_world.specs.World.{World, Client, Nothing as Idles}
-use Rattle.eng_world.specs.Serving.{IsUnbegun, AreRebuilds, AreAllRebuilds, StartsRebuild, Fills, Resumes, Spreads, columns_of}
+use Rattle.eng_world.specs.Serving.{IsUnbegun, AreRebuilds, StartsRebuild, Fills, Resumes, Spreads}
 use Rattle.eng_world.specs.Step.{StepBy}
 use Rattle.eng_clients.specs.declared.stage.Stage.{Stage}
 use Rattle.eng_clients.specs.declared.stage.Stage.TheVariants.{Nothing, Runs}
@@ -35,6 +35,7 @@ use Rattle.eng_state.proofs.Put.{put, put-same, put-other}
 use Rattle.eng_starts.proofs.Quiet.{quiet-sound}
 use Rattle.eng_state.proofs.Shown.{shown-put, replies-shown}
 use Rattle.eng_clients.specs.Replied.{replies_of}
+use Rattle.eng_world.proofs.Words.{AreAllRebuilds, columns_of}
 
 -- ## Columns
 

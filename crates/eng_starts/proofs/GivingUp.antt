@@ -91,7 +91,9 @@ module _ {L D : Type 0} (lay : LayoutGhosts L) (disk : DiskGhosts D) (old new : 
 
     backs : Backs y (graphs_of gs) c w x
     backs = record {
-      can = record { was = was; runs = running.1; undone = can.undone };
+      was = was;
+      runs = running.1;
+      undone = can.undone;
       op = op;
       graph = Some file;
       item = item-is ∙ serves.item;

@@ -14,7 +14,7 @@ use Rattle.graph_mean.specs.Graph.{Held, View}
 use Rattle.eng_cols.specs.declared.spot.Loss.{Loss}
 use Rattle.eng_world.specs.declared.item.Traced.TheVariants as event
 use Rattle.eng_world.specs.World.{Plan, Running, Client, World, Runs as IsRunning}
-use Rattle.eng_world.specs.Planning.{IsAccepted, IsFresh}
+use Rattle.eng_world.specs.Planning.{IsFresh}
 use Rattle.eng_world.specs.Serving.{Takes}
 use Rattle.eng_world.specs.Step.{StepBy, Step}
 use Rattle.eng_clients.specs.declared.stage.Stage.TheVariants.{Nothing, Waits, Runs}
@@ -39,6 +39,7 @@ use Rattle.eng_state.proofs.Served as served
 use Rattle.eng_state.proofs.Shown.{unlost}
 use Rattle.eng_state.proofs.Handing.{hands-kept}
 use Rattle.eng_log.specs.Filled.{buffer_byte}
+use Rattle.eng_world.proofs.Words.{IsAccepted}
 
 -- the graph of the file was refused for no cause
 passed : (graphs : List Held) (d : Desk) (p : Plan) (file : Option ℕ) → p.graph ≡ graph_of graphs d → CanRun graphs d → p.task ≡ d.task → p.missing ≡ missing_of d.missing → IsAccepted file p

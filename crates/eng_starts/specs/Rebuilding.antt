@@ -8,18 +8,19 @@ use Rattle.lay_core.specs.declared.layout.Layout.{Ghosts as LayoutGhosts}
 use Rattle.eng_cols.specs.Cols.{ColumnState, Dead, Filling, HasDevice, IsKept, is_filling, is_spread}
 use Rattle.eng_world.specs.Serving.{IsLeft}
 use Rattle.eng_world.specs.declared.item.Item.{Item}
+use Rattle.blk_plain.specs.declared.op.Op.TheVariants as op
+use Rattle.eng_world.specs.declared.item.Item.TheVariants as item
 use Rattle.eng_world.specs.declared.item.Traced.{Traced}
 use Rattle.eng_clients.specs.declared.stage.Stage.TheVariants.{Nothing}
 use Rattle.eng_state.specs.declared.array.Array.{Array}
 use Rattle.eng_parts.specs.Shelf.{seen_at, has_failed}
 use Rattle.eng_clients.specs.Desk.{Desk, desk_at}
 use Rattle.eng_log.specs.Log.{noted}
-use Rattle.eng_clients.specs.Listing.{rebuild}
 
 -- The items are one rebuild for each of the first of the column's stripes that aren't done, of those below this one and as many as are asked, ascending. One that is left out lies behind them all, and then there are as many as are asked.
 pub record AreRebuildsBelow (y : Shape) (cols : List ColumnState) (c asked most : ℕ) (items : List Item) : Type 0 where
   pub stripes : List ℕ
-  pub is : items ≡ map rebuild stripes
+  pub is : items ≡ map (λ (s : ℕ). item.Run (op.Rebuild s) None) stripes
   pub few : length stripes ≤ most
   pub within : length stripes ≤ asked
   pub first : (s : ℕ) → s < most → IsLeft y cols c s → Contains stripes s ⊎ (length stripes ≡ asked)

@@ -13,7 +13,7 @@ use Rattle.eng_world.specs.declared.item.Item.{Item}
 use Rattle.eng_world.specs.declared.item.Reply.{Reply}
 use Rattle.eng_world.specs.World.{Plan, Running, Client, World, IsRead, Has, item_now, op_of, Waits as IsWaiting}
 use Rattle.eng_world.specs.Planning.{IsPlan, Concerns}
-use Rattle.eng_world.specs.Serving.{IsFree, CanTake as MayTake}
+use Rattle.eng_world.specs.Serving.{CanTake as MayTake}
 use Rattle.eng_clients.specs.declared.stage.Stage.{Stage}
 use Rattle.eng_clients.specs.declared.stage.Stage.TheVariants.{Nothing, Waits, Runs}
 use Rattle.eng_state.specs.declared.array.Array.{Array}
@@ -27,6 +27,7 @@ use Rattle.eng_state.specs.Steps.{graphs_of}
 use Rattle.eng_state.proofs.Plans.{planned-is}
 use Rattle.eng_state.proofs.Served as served
 use Rattle.eng_state.proofs.Shown.{unlost, runs-shown}
+use Rattle.eng_world.proofs.Words.{IsFree}
 
 -- a client that waits is shown as one that waits
 shown-waiting : (tells : Type 0) (p : pool.PoolView) (d : Desk) (c : Client) → ShowsClient tells None p d c → d.stage ≡ Waits → c.current ≡ IsWaiting

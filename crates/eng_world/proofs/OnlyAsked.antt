@@ -152,8 +152,8 @@ module _ (y : Shape) (graphs : Graphs) where
 
   -- and of one that is
   lost-done : (e : Traced) (old new : World) (loss : Loss) → StepLost y graphs e old new → Step y graphs e old new → (c s : ℕ) → is_done_on (slice_get new.columns c) s ≡ true → Came old new c s
-  lost-done (event.Good id n) old new loss f step = quiet-done _ old new refl step
-  lost-done (event.Bad id n) old new loss f step = quiet-done _ old new refl step
+  lost-done (event.Good id n) old new loss f step = quiet-done (event.Good id n) old new refl step
+  lost-done (event.Bad id n) old new loss f step = quiet-done (event.Bad id n) old new refl step
   lost-done (event.Fill k device count) old new loss f step = absurd f
   lost-done (event.Resume k count) old new loss f step = absurd f
   lost-done (event.Spread k) old new loss f step = absurd f

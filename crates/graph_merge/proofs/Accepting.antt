@@ -8,7 +8,7 @@ use Rattle.graph_mean.specs.Refused.{IsFree}
 use Rattle.graph_mean.specs.Ordered.{IsOrdered, HasValues, Accepted}
 use Rattle.graph_mean.proofs.Free.{accepted-free}
 use Rattle.graph_mean.proofs.Sound.{accepted-atomic}
-use Rattle.graph_merge.specs.Joined.{Half, IsMarkedHalf, IsJoined, place, joined, commit_place, end_place, first_offsets, second_offsets}
+use Rattle.graph_merge.specs.Joined.{Half, IsMarkedHalf, IsJoined, place, joined, commit_place, first_offsets, second_offsets}
 use Rattle.graph_merge.specs.Tasks.{IsInOrder, IsPair, followed, missing_followed}
 use Rattle.graph_merge.proofs.Carry.{Side}
 use Rattle.graph_merge.proofs.Ordering.{ordered}
@@ -17,6 +17,7 @@ use Rattle.graph_merge.proofs.Tasks.{first_side, second_side}
 use Rattle.graph_merge.proofs.Returning.{joins_rets}
 use Rattle.graph_merge.proofs.Valued.{values}
 use Rattle.graph_merge.proofs.Small.{joined_within, not_large}
+use Rattle.graph_merge.proofs.Words.{end_place}
 
 -- the commit and the terminator are those of the half
 by_ends : (h : Half) (t : Aim) (m : Missing) → IsMarkedHalf h → IsInOrder h.graph t m → IsOrdered h.graph t m h.ends.commit h.ends.end

@@ -10,7 +10,7 @@ use Rattle.graph_mean.specs.Refusals.{IsLarge}
 use Rattle.graph_merge.specs.declared.half.Offsets.{Offsets}
 use Rattle.graph_merge.specs.declared.half.Group.TheVariants.{Early, Rest}
 use Rattle.graph_merge.specs.Form.{IsInLimits, IsTooLarge}
-use Rattle.graph_merge.specs.Joined.{Half, IsJoined, IsMarkedHalf, group_of, node_of, place, joint, joined, first_offsets, second_offsets}
+use Rattle.graph_merge.specs.Joined.{Half, IsJoined, IsMarkedHalf, node_of, place, joint, joined, first_offsets, second_offsets, group_of}
 use Rattle.graph_merge.proofs.Totals.{moved_edges, group_edges, total_nodes, nodes_few, bufs_few, rets_few, edges_few}
 use Rattle.graph_merge.proofs.JoinedNodes.{node_count}
 use Rattle.graph_merge.proofs.Standing.{buf_count}

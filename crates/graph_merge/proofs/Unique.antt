@@ -9,10 +9,10 @@ use Rattle.graph_merge.specs.declared.half.Offsets.{Offsets}
 use Rattle.graph_merge.specs.declared.half.Group.{Group}
 use Rattle.graph_merge.specs.declared.half.Group.TheVariants.{Early, Rest}
 use Rattle.graph_merge.specs.Form.{IsFormed}
-use Rattle.graph_merge.specs.Joined.{Half, IsMarkedHalf, IsJoined, before, picked, is_late, is_in, place, moved_kind, moved_buf, moved_ret, node_of, group_of, joint, joined, first_offsets, second_offsets}
+use Rattle.graph_merge.specs.Joined.{Half, IsMarkedHalf, IsJoined, before, picked, is_in, place, moved_kind, moved_buf, moved_ret, node_of, joint, joined, first_offsets, second_offsets, group_of}
 use Rattle.graph_merge.proofs.Forming.{descending}
 use Rattle.graph_merge.proofs.Mapping.{map_same}
-use Rattle.graph_merge.proofs.Words.{earlies, rests}
+use Rattle.graph_merge.proofs.Words.{earlies, rests, is_late}
 
 before_alike : (f g : ℕ → Bool) (n : ℕ) → ((k : ℕ) → k < n → f k ≡ g k) → before f n ≡ before g n
 unfolding before

@@ -18,13 +18,10 @@ pub record Half : Type 0 where
   pub ends : Ends
   pub late : List Bool
 
-abbrev pub is_late : List Bool → ℕ → Bool
-is_late late n = slice_index_or late n false
-
 -- a node is in a group of its half: it doesn't follow the commit and isn't it; or it follows it and isn't the terminator
 abbrev pub is_in : Group → Ends → List Bool → ℕ → Bool
-is_in Early ends late n = not (is_late late n) && not (n == ends.commit)
-is_in Rest ends late n = is_late late n && not (n == ends.end)
+is_in Early ends late n = not (slice_index_or late n false) && not (n == ends.commit)
+is_in Rest ends late n = slice_index_or late n false && not (n == ends.end)
 
 -- how many of the first n numbers pass
 unfoldable pub before : (ℕ → Bool) → ℕ → ℕ
@@ -41,7 +38,7 @@ unfoldable pub place : Half → Offsets → ℕ → ℕ
 place h o n =
     if n == h.ends.commit then o.commit
     else (if n == h.ends.end then o.end
-    else (if is_late h.late n then o.rest + before (is_in Rest h.ends h.late) n
+    else (if slice_index_or h.late n false then o.rest + before (is_in Rest h.ends h.late) n
     else o.early + before (is_in Early h.ends h.late) n))
 
 -- a node, with its buffers moved up
@@ -95,19 +92,16 @@ count_in group h = before (is_in group h.ends h.late) (length h.graph.nodes)
 abbrev pub commit_place : Half → Half → ℕ
 commit_place a b = count_in Early a + count_in Early b
 
-abbrev pub end_place : Half → Half → ℕ
-end_place a b = commit_place a b + 1 + count_in Rest a + count_in Rest b
-
 -- from where the nodes of the two halves are numbered
 abbrev pub first_offsets : Half → Half → Offsets
-first_offsets a b = record { early = 0; rest = commit_place a b + 1; commit = commit_place a b; end = end_place a b }
+first_offsets a b = record { early = 0; rest = commit_place a b + 1; commit = commit_place a b; end = commit_place a b + 1 + count_in Rest a + count_in Rest b }
 
 abbrev pub second_offsets : Half → Half → Offsets
 second_offsets a b = record {
   early = count_in Early a;
   rest = commit_place a b + 1 + count_in Rest a;
   commit = commit_place a b;
-  end = end_place a b;
+  end = commit_place a b + 1 + count_in Rest a + count_in Rest b;
 }
 
 -- a node of this kind that has the antecedents of node n of one half and of node m of the other
@@ -133,7 +127,7 @@ joined a b shift = record {
 -- the marks are right
 pub record IsMarkedHalf (h : Half) : Type 0 where
   pub formed : IsFormed h.graph h.ends.commit h.ends.end
-  pub late : (n : ℕ) → n < length h.graph.nodes → (is_late h.late n ≡ true) ↔ Follows h.graph n h.ends.commit
+  pub late : (n : ℕ) → n < length h.graph.nodes → (slice_index_or h.late n false ≡ true) ↔ Follows h.graph n h.ends.commit
 
 -- out is a joined with b
 pub record IsJoined (a b : View) (shift : ℕ) (out : View) : Type 0 where

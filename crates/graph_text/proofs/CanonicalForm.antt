@@ -15,13 +15,14 @@ use Rattle.graph_mean.specs.declared.graph.Ret.{Ret}
 use Rattle.graph_mean.specs.declared.graph.Node.{Node}
 use Rattle.graph_mean.specs.declared.graph.Node.TheVariants.{Rd, Wr, Xor, Cmt, Trm}
 use Rattle.graph_mean.specs.Graph.{View, Vertex, blank, edge_count, edges_at, is_xor}
-use Rattle.graph_text.specs.Format.{Named, Read, after_line, after_lines, at_text_end, graphs_of, is_name}
+use Rattle.graph_text.specs.Format.{Named, Read, after_line, after_lines, at_text_end, is_name}
 use Rattle.text_steps.specs.Steps.{at_line}
-use Rattle.graph_text.specs.Steps.{has_name, nothing_read}
+use Rattle.graph_text.specs.Steps.{has_name, nothing_read, graphs_in}
 use Rattle.graph_text.specs.FormatForm.{AreGraphs, Differ, HasForm, IsLineOf, Literal, Number, IsWordBuf, IsWordKind, IsWordNode, IsWordRet, IsWritable, Place, after_places, body_lines, buffer_lines, buffer_places, end_places, file_lines, graph_lines, kind_places, new_places, node_lines, node_places, number_places, return_lines, return_places, start_places}
 use Rattle.graph_text.specs.Canonical.{FileIsOfTheForm}
 use Rattle.graph_text.proofs.CanonicalSteps.{AreSmall, bind_ok, fills_small, ok_same}
 use Rattle.graph_text.proofs.CanonicalEntries.{Entry, Start, Buffer, Node as NodeEntry, Return, End, IsNext, after, entry_places, line_is, view_of}
+use Rattle.graph_text.proofs.Same.{graphs_same}
 
 -- ---- numbers
 
@@ -269,9 +270,10 @@ unfolding file_lines
 first_so_far = (no_graphs, tt)
 
 pub file_of_form : FileIsOfTheForm
-unfolding graphs_of
+unfolding graphs_in
 file_of_form text graphs h =
-    let r = bind_ok (after_lines nothing_read (lines_in text)) _ graphs h in
+    let read : graphs_in text ≡ Ok graphs = sym (graphs_same text) ∙ h in
+    let r = bind_ok (after_lines nothing_read (lines_in text)) _ graphs read in
     go r.0.ended r.0.current r.2 (all_so_far (lines_in text) nothing_read r.0 [] r.1 first_so_far)
   where
     go : (ended : List Named) (current : Option Named) → at_text_end (length (raw_lines text)) ended current ≡ Ok graphs → Holds ended current × HasForm (lines_so_far ended current) (lines_in text)

@@ -8,8 +8,8 @@ use Rattle.graph_mean.specs.declared.graph.Ret.{Ret}
 use Rattle.graph_mean.specs.declared.graph.Node.{Node}
 use Rattle.graph_mean.specs.declared.graph.Node.TheVariants.{Rd, Wr, Xor, Cmt, Trm}
 use Rattle.graph_mean.specs.Graph.{Vertex, is_xor}
-use Rattle.graph_text.specs.FormatSteps.{after_index, after_word, next_pair}
-use Rattle.text_steps.specs.Steps.{at_end, next_number, next_word}
+use Rattle.graph_text.specs.FormatSteps.{next_pair}
+use Rattle.text_steps.specs.Steps.{at_end, next_number, next_word, after_number, after_word}
 use Rattle.graph_text.specs.FormatLines.{after_of, antes_of, buffer_of, kind_of, new_of, node_of, plain_of, return_of, sources_of}
 use Rattle.graph_text.specs.Steps.{read_of, write_of, xor_of}
 use Rattle.graph_text.specs.FormatForm.{Place, Literal, Number, FillsAll, after_places, kind_places, new_places, number_places}
@@ -24,20 +24,20 @@ of_buffer n buf = Number n ∷ Literal (codes "stripe") ∷ Number buf.stripe �
 pub buffer_fills : (n : ℕ) (words : List Text) (buf : Buf) → buffer_of n words ≡ Ok buf → FillsAll (of_buffer n buf) words
 unfolding buffer_of
 buffer_fills n words buf h =
-    let a = bind_ok (after_index n words) _ buf h in
-    let b = bind_ok (after_word (codes "stripe") a.0) _ buf a.2 in
+    let a = bind_ok (after_number n 3 words) _ buf h in
+    let b = bind_ok (after_word (codes "stripe") 1 a.0) _ buf a.2 in
     let s = bind_ok (next_number b.0) _ buf b.2 in
-    let c = bind_ok (after_word (codes "from") s.0.1) _ buf s.2 in
+    let c = bind_ok (after_word (codes "from") 1 s.0.1) _ buf s.2 in
     let f = bind_ok (next_number c.0) _ buf c.2 in
-    let d = bind_ok (after_word (codes "count") f.0.1) _ buf f.2 in
+    let d = bind_ok (after_word (codes "count") 1 f.0.1) _ buf f.2 in
     let k = bind_ok (next_number d.0) _ buf d.2 in
     let u = bind_ok (new_of k.0.1) _ buf k.2 in
     parts a.0 b.0 s.0.0 s.0.1 c.0 f.0.0 f.0.1 d.0 k.0.0 k.0.1 u.0 a.1 b.1 s.1 c.1 f.1 d.1 k.1 u.1 u.2
   where
     parts : (a b : List Text) (stripe : ℕ) (behind_stripe c : List Text) (from : ℕ) (behind_from d : List Text) (count : ℕ) (behind_count : List Text) (unit : Option ℕ)
-        → after_index n words ≡ Ok a → after_word (codes "stripe") a ≡ Ok b → next_number b ≡ Ok (stripe, behind_stripe)
-        → after_word (codes "from") behind_stripe ≡ Ok c → next_number c ≡ Ok (from, behind_from)
-        → after_word (codes "count") behind_from ≡ Ok d → next_number d ≡ Ok (count, behind_count) → new_of behind_count ≡ Ok unit
+        → after_number n 3 words ≡ Ok a → after_word (codes "stripe") 1 a ≡ Ok b → next_number b ≡ Ok (stripe, behind_stripe)
+        → after_word (codes "from") 1 behind_stripe ≡ Ok c → next_number c ≡ Ok (from, behind_from)
+        → after_word (codes "count") 1 behind_from ≡ Ok d → next_number d ≡ Ok (count, behind_count) → new_of behind_count ≡ Ok unit
         → ◌≡◌ {A = Result Buf ℕ} (Ok (record { stripe = stripe; from = from; count = count; new_of = unit })) (Ok buf) → FillsAll (of_buffer n buf) words
     parts a b stripe behind_stripe c from behind_from d count behind_count unit ha hb hs hc hf hd hk hu is =
         let last = Literal (codes "count") ∷ Number count ∷ new_places unit in
@@ -150,7 +150,7 @@ kind_fills word words v h = reads (bytes_eq word (codes "read")) refl h
 pub node_fills : (n : ℕ) (words : List Text) (v : Vertex) → node_of n words ≡ Ok v → FillsAll (Number n ∷ of_node v) words × (is_xor v.kind ≡ false → v.sources ≡ [])
 unfolding node_of
 node_fills n words v h =
-    let a = bind_ok (after_index n words) _ v h in
+    let a = bind_ok (after_number n 3 words) _ v h in
     let w = bind_ok (next_word a.0) _ v a.2 in
     let k = kind_fills w.0.0 w.0.1 v w.2 in
     (index_fills n words a.0 a.1 (of_node v) (rw (words_are a.0 w.0.0 w.0.1 w.1) k.0), k.1)

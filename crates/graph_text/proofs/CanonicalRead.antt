@@ -12,11 +12,12 @@ use Rattle.raid_text.specs.Text.{Text, Numbered, lines_in}
 use Rattle.graph_mean.specs.declared.graph.Buf.{Buf}
 use Rattle.graph_mean.specs.declared.graph.Ret.{Ret}
 use Rattle.graph_mean.specs.Graph.{View, Vertex, edges_at}
-use Rattle.graph_text.specs.Format.{Named, Read, after_lines, graphs_of, is_name}
-use Rattle.graph_text.specs.Steps.{has_name}
+use Rattle.graph_text.specs.Format.{Named, Read, after_lines, is_name}
+use Rattle.graph_text.specs.Steps.{has_name, graphs_in}
 use Rattle.graph_text.specs.FormatForm.{AreGraphs, Differ, HasForm, IsWordNode, IsWritable, Place, body_lines, buffer_lines, end_places, file_lines, graph_lines, node_lines, return_lines, start_places}
 use Rattle.graph_text.specs.Canonical.{FileIsRead}
 use Rattle.graph_text.proofs.CanonicalEntries.{Entry, Start, Buffer, Node, Return, End, IsNext, after, entry_places, line_read, view_of}
+use Rattle.graph_text.proofs.Same.{graphs_same}
 
 -- the first lines take the reading so far, and more stand behind them
 record IsFrontRead (read : Read) (more : List (List Place)) (lines : List Numbered) (next : Read) : Type 0 where
@@ -161,5 +162,7 @@ file_on ended (g ∷ graphs) lines are has =
     one.same ∙ (others ∙ ap (λ (gs : List Named). Ok (between gs)) together)
 
 pub file_read : FileIsRead
-unfolding graphs_of
-file_read text graphs are has = rw (file_on [] graphs (lines_in text) are has) refl
+unfolding graphs_in
+file_read text graphs are has =
+    let read : graphs_in text ≡ Ok graphs = rw (file_on [] graphs (lines_in text) are has) refl in
+    graphs_same text ∙ read

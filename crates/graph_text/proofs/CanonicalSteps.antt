@@ -6,8 +6,8 @@ use Rattle.std.specs.Str.Parse.{digits_value}
 use Rattle.std.proofs.lemmas.Bool.{and_parts, eqb-true, ltb-true}
 use Rattle.std.proofs.lemmas.Slice.Eq.{bytes_eq-Decides}
 use Rattle.raid_text.specs.Text.{Text, number_of}
-use Rattle.graph_text.specs.FormatSteps.{after_index, after_word, next_pair, numbers_of}
-use Rattle.text_steps.specs.Steps.{◌>>=◌, at_end, next_number, next_word, number_in, only_if}
+use Rattle.graph_text.specs.FormatSteps.{next_pair}
+use Rattle.text_steps.specs.Steps.{◌>>=◌, at_end, next_number, next_word, number_in, only_if, after_number, after_word, numbers_of}
 use Rattle.graph_text.specs.FormatLines.{after_of, antes_of, new_of, sources_of}
 use Rattle.graph_text.specs.FormatForm.{Place, Literal, Number, Fills, FillsAll, after_places, new_places, number_places}
 
@@ -93,7 +93,7 @@ unfolding next_word
 word_fills [] word behind h place fill places fills = absurd (cc)
 word_fills (w ∷ ws) word behind h place fill places fills = let both = ok_pair w word ws behind h in (rw both.0 fill, rw both.1 fills)
 
-pub literal_fills : (text : Text) (words behind : List Text) → after_word text words ≡ Ok behind → (places : List Place) → FillsAll places behind → FillsAll (Literal text ∷ places) words
+pub literal_fills : (text : Text) (words behind : List Text) → after_word text 1 words ≡ Ok behind → (places : List Place) → FillsAll places behind → FillsAll (Literal text ∷ places) words
 unfolding after_word
 literal_fills text [] behind h places fills = absurd (cc)
 literal_fills text (w ∷ ws) behind h places fills =
@@ -108,8 +108,8 @@ number_fills (w ∷ ws) n behind h places fills =
     let both = ok_pair s.0 n ws behind s.2 in
     (rw both.0 at (number_is w s.0 s.1), rw both.1 fills)
 
-pub index_fills : (n : ℕ) (words behind : List Text) → after_index n words ≡ Ok behind → (places : List Place) → FillsAll places behind → FillsAll (Number n ∷ places) words
-unfolding after_index
+pub index_fills : (n : ℕ) (words behind : List Text) → after_number n 3 words ≡ Ok behind → (places : List Place) → FillsAll places behind → FillsAll (Number n ∷ places) words
+unfolding after_number
 index_fills n words behind h places fills =
     let s = bind_ok (next_number words) _ behind h in
     let t = if_ok (nat_eq s.0.0 n) s.0.1 behind 3 s.2 in
@@ -149,7 +149,7 @@ pub new_fills : (words : List Text) (o : Option ℕ) → new_of words ≡ Ok o �
 unfolding new_of
 new_fills [] o h = subst (λ (u : Option ℕ). FillsAll (new_places u) []) (ok_same None o h) tt
 new_fills (w ∷ ws) o h =
-    let a = bind_ok (after_word (codes "new") (w ∷ ws)) _ o h in
+    let a = bind_ok (after_word (codes "new") 1 (w ∷ ws)) _ o h in
     let u = bind_ok (next_number a.0) _ o a.2 in
     let e = bind_ok (at_end u.0.1) _ o u.2 in
     subst (λ (u : Option ℕ). FillsAll (new_places u) (w ∷ ws)) (ok_same (Some u.0.0) o e.2)
@@ -203,7 +203,7 @@ unfolding next_word
 word_read place places [] fills = absurd fills
 word_read place places (w ∷ ws) (fill, fills) = (w, ws, refl, fill, fills)
 
-pub literal_read : (text : Text) (places : List Place) (words : List Text) → FillsAll (Literal text ∷ places) words → (behind : List Text) × (after_word text words ≡ Ok behind) × FillsAll places behind
+pub literal_read : (text : Text) (places : List Place) (words : List Text) → FillsAll (Literal text ∷ places) words → (behind : List Text) × (after_word text 1 words ≡ Ok behind) × FillsAll places behind
 unfolding after_word
 literal_read text places [] fills = absurd fills
 literal_read text places (w ∷ ws) (fill, fills) = (ws, rw (fill, same_bytes text) refl, fills)
@@ -213,8 +213,8 @@ unfolding next_number
 number_read n places [] fills = absurd fills
 number_read n places (w ∷ ws) (fill, fills) = (ws, rw (is_number w n fill) refl, fills)
 
-pub index_read : (n : ℕ) (places : List Place) (words : List Text) → FillsAll (Number n ∷ places) words → (behind : List Text) × (after_index n words ≡ Ok behind) × FillsAll places behind
-unfolding after_index
+pub index_read : (n : ℕ) (places : List Place) (words : List Text) → FillsAll (Number n ∷ places) words → (behind : List Text) × (after_number n 3 words ≡ Ok behind) × FillsAll places behind
+unfolding after_number
 index_read n places words fills =
     let s = number_read n places words fills in
     (s.0, rw (s.1, eq-eqb n n refl) refl, s.2)

@@ -5,8 +5,7 @@ use Rattle.graph_text.specs.Answers.{Gives}
 use Rattle.std.specs.Str.{bytes_eq}
 use Rattle.std.proofs.lemmas.List.{take_all, take-append-le, length-take}
 use Rattle.raid_text.specs.Text.{Text}
-use Rattle.graph_text.specs.FormatSteps.{numbers_of}
-use Rattle.text_steps.specs.Steps.{◌>>=◌, number_in}
+use Rattle.text_steps.specs.Steps.{◌>>=◌, number_in, numbers_of}
 use Rattle.graph_text.specs.FormatLines.{sources_of}
 use Rattle.graph_text.specs.Kept.{firsts, with_kept, with_kept_sources}
 

@@ -11,3 +11,4 @@ pub mod CanonicalForm
 pub mod CanonicalRead
 pub mod ShortTexts
 pub mod CanonicalText
+pub mod Same

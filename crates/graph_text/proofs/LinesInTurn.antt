@@ -2,9 +2,10 @@
 use Rattle.std.proofs.Common.{◌≡◌, ◌∙◌, ℕ, List, [], ◌∷◌, Result, Ok, Err, length, refl, sym, ap}
 use Rattle.raid_text.specs.Text.{Numbered, Text, lines_in, raw_lines}
 use Rattle.text_steps.specs.Steps.{◌>>=◌}
-use Rattle.graph_text.specs.Format.{Named, Read, after_line, after_lines, at_text_end, graphs_of}
+use Rattle.graph_text.specs.Format.{Named, Read, after_line, after_lines, at_text_end}
+use Rattle.graph_text.specs.Texts.{graphs_of}
 use Rattle.text_steps.specs.declared.at.At.{At}
-use Rattle.graph_text.specs.Steps.{nothing_read}
+use Rattle.graph_text.specs.Steps.{nothing_read, graphs_in}
 use Rattle.std.specs.Prelude.{IfOk}
 use Rattle.graph_text.specs.FormatForm.{AreGraphs}
 use Rattle.graph_text.specs.declared.fault.BookFault.{BookFault}
@@ -12,6 +13,7 @@ use Rattle.graph_text.proofs.CanonicalForm.{file_of_form}
 use Rattle.graph_text.specs.Answers.{GivesBook, GivesFault, GivesRead, fault_at}
 use Rattle.graph_text.specs.declared.fault.LineFault.{LineFault}
 use Rattle.graph_text.specs.declared.fault.LineFault.TheVariants as fault
+use Rattle.graph_text.proofs.Same.{graphs_same}
 
 -- a line was read
 pub line_read : (read next : Read) (line : Numbered) (rest : List Numbered) (total : Result Read At) → after_line read line ≡ Ok next
@@ -24,18 +26,19 @@ line_read read next line rest total one so_far =
 -- a line was refused, and so is the text
 pub line_refused : (text : Text) (read : Read) (line : Numbered) (rest : List Numbered) (code : ℕ) → after_line read line ≡ Err code
     → after_lines read (line ∷ rest) ≡ after_lines nothing_read (lines_in text) → graphs_of text ≡ Err (record { line = line.at; code = code })
-unfolding after_lines graphs_of
+unfolding after_lines graphs_in
 line_refused text read line rest code one so_far =
     let step : after_lines read (line ∷ rest) ≡ Err (record { line = line.at; code = code }) = rw one refl in
-    ap (λ (r : Result Read At). r >>= λ read. at_text_end (length (raw_lines text)) read.ended read.current) (sym so_far ∙ step)
+    graphs_same text ∙ ap (λ (r : Result Read At). r >>= λ read. at_text_end (length (raw_lines text)) read.ended read.current) (sym so_far ∙ step)
 
 -- no line is left
 pub lines_done : (text : Text) (read : Read) (n : ℕ) → n ≡ length (raw_lines text)
     → after_lines read [] ≡ after_lines nothing_read (lines_in text) → graphs_of text ≡ at_text_end n read.ended read.current
-unfolding after_lines graphs_of
+unfolding after_lines graphs_in
 lines_done text read n is so_far =
-    ap (λ (r : Result Read At). r >>= λ read. at_text_end (length (raw_lines text)) read.ended read.current) (sym so_far)
-    ∙ ap (λ (m : ℕ). at_text_end m read.ended read.current) (sym is)
+    graphs_same text
+    ∙ (ap (λ (r : Result Read At). r >>= λ read. at_text_end (length (raw_lines text)) read.ended read.current) (sym so_far)
+    ∙ ap (λ (m : ℕ). at_text_end m read.ended read.current) (sym is))
 
 -- the fault of a line is the text's
 pub line_faulty : (text : Text) (read next : Read) (line : Numbered) (rest : List Numbered) (f : LineFault) → GivesRead (Err f) next (after_line read line)

@@ -1,7 +1,8 @@
 -- That the reader reads exactly the files of the form, and each canonical text as what was printed.
 use Rattle.std.specs.Prelude.{◌≡◌, ◌≤◌, IsTrue, List, [], ◌∷◌, Ok, flat_map, length}
 use Rattle.raid_text.specs.Text.{Text, lines_in}
-use Rattle.graph_text.specs.Format.{Named, graphs_of, is_name}
+use Rattle.graph_text.specs.Format.{Named, is_name}
+use Rattle.graph_text.specs.Texts.{graphs_of}
 use Rattle.graph_text.specs.FormatForm.{AreGraphs, HasForm, IsWritable, file_lines, graph_text}
 
 -- the canonical texts of graphs, one behind the other

@@ -1,8 +1,8 @@
--- Graph files: the graphs of a text, or the first line that is refused and the code of its refusal.
+-- What the functions that read a graph file find line by line; Texts says it in one.
 use Rattle.std.specs.Prelude.{ℕ, ◌+◌, Bool, ◌==◌, ◌&&◌, ◌||◌, not, List, [], ◌∷◌, ◌++◌, Option, Some, None, Result, Ok, Err, if◌then◌else◌, nat_le, nat_lt, nat_eq, codes, length}
 use Rattle.std.specs.List.{list_all, list_any}
 use Rattle.std.specs.Str.{bytes_eq}
-use Rattle.raid_text.specs.Text.{Text, Numbered, is_sound, lines_in, raw_lines, words_of}
+use Rattle.raid_text.specs.Text.{Text, Numbered, is_sound, words_of}
 use Rattle.graph_mean.specs.Graph.{View, blank, edge_count, edges_at}
 use Rattle.graph_text.specs.FormatLines.{buffer_of, node_of, return_of}
 use Rattle.text_steps.specs.Steps.{◌>>=◌, only_if, next_word, at_end, at_line}
@@ -99,9 +99,3 @@ after_lines read (line ∷ lines) = at_line line.at (after_line read line) >>= �
 abbrev pub at_text_end : ℕ → List Named → Option Named → Result (List Named) At
 at_text_end n ended None = Ok ended
 at_text_end n ended (Some g) = Err (record { line = n + 1; code = 6 })
-
--- the graphs of a text, in their order
-unfoldable pub graphs_of : Text → Result (List Named) At
-graphs_of text =
-    after_lines (record { ended = []; current = None }) (lines_in text)
-    >>= λ read. at_text_end (length (raw_lines text)) read.ended read.current

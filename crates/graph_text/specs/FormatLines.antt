@@ -1,4 +1,4 @@
--- The lines of a graph, behind their first word.
+-- The lines of a graph, behind their first word, as the functions that read them find them.
 use Rattle.std.specs.Prelude.{ℕ, List, [], ◌∷◌, Option, Some, None, Result, Ok, Err, if◌then◌else◌, codes}
 use Rattle.std.specs.Str.{bytes_eq}
 use Rattle.raid_text.specs.Text.{Text}
@@ -7,8 +7,8 @@ use Rattle.graph_mean.specs.declared.graph.Ret.{Ret}
 use Rattle.graph_mean.specs.declared.graph.Node.{Node}
 use Rattle.graph_mean.specs.declared.graph.Node.TheVariants.{Rd, Wr, Xor, Cmt, Trm}
 use Rattle.graph_mean.specs.Graph.{Vertex}
-use Rattle.graph_text.specs.FormatSteps.{after_word, after_index, next_pair, numbers_of}
-use Rattle.text_steps.specs.Steps.{◌>>=◌, number_in, next_word, next_number, at_end}
+use Rattle.graph_text.specs.FormatSteps.{next_pair}
+use Rattle.text_steps.specs.Steps.{◌>>=◌, number_in, next_word, next_number, at_end, after_word, after_number, numbers_of}
 
 -- ---- buffer I stripe S from O count L, and `new U` behind it where it is filled with new data
 
@@ -16,7 +16,7 @@ use Rattle.text_steps.specs.Steps.{◌>>=◌, number_in, next_word, next_number,
 unfoldable pub new_of : List Text → Result (Option ℕ) ℕ
 new_of [] = Ok None
 new_of (word ∷ words) = do
-  number ← after_word (codes "new") (word ∷ words)
+  number ← after_word (codes "new") 1 (word ∷ words)
   unit ← next_number number
   end ← at_end unit.1
   Ok (Some unit.0)
@@ -24,12 +24,12 @@ new_of (word ∷ words) = do
 -- the n-th buffer
 unfoldable pub buffer_of : ℕ → List Text → Result Buf ℕ
 buffer_of n words = do
-  stripe_word ← after_index n words
-  stripe_number ← after_word (codes "stripe") stripe_word
+  stripe_word ← after_number n 3 words
+  stripe_number ← after_word (codes "stripe") 1 stripe_word
   stripe ← next_number stripe_number
-  from_number ← after_word (codes "from") stripe.1
+  from_number ← after_word (codes "from") 1 stripe.1
   from ← next_number from_number
-  count_number ← after_word (codes "count") from.1
+  count_number ← after_word (codes "count") 1 from.1
   count ← next_number count_number
   unit ← new_of count.1
   Ok (record { stripe = stripe.0; from = from.0; count = count.0; new_of = unit })
@@ -84,7 +84,7 @@ kind_of kind words =
 -- the n-th node
 unfoldable pub node_of : ℕ → List Text → Result Vertex ℕ
 node_of n words = do
-  kind_word ← after_index n words
+  kind_word ← after_number n 3 words
   kind ← next_word kind_word
   kind_of kind.0 kind.1
 

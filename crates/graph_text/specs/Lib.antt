@@ -9,3 +9,4 @@ pub mod Answers
 pub mod Printing
 pub mod Canonical
 pub mod Steps
+pub mod Texts

@@ -3,8 +3,9 @@
 use Rattle.std.specs.Prelude.{ℕ, Bool, ◌==◌, ◌&&◌, ◌||◌, List, [], None, nat_le, nat_eq, length, Result, Ok}
 use Rattle.std.specs.List.{list_any}
 use Rattle.std.specs.Str.{bytes_eq}
-use Rattle.raid_text.specs.Text.{Text}
-use Rattle.graph_text.specs.Format.{Named, Read}
+use Rattle.raid_text.specs.Text.{Text, lines_in, raw_lines}
+use Rattle.text_steps.specs.declared.at.At.{At}
+use Rattle.graph_text.specs.Format.{Named, Read, after_lines, at_text_end}
 use Rattle.graph_mean.specs.declared.graph.Node.TheVariants.{Rd, Wr, Xor}
 use Rattle.graph_mean.specs.Graph.{Vertex}
 use Rattle.graph_text.specs.FormatSteps.{next_pair}
@@ -46,3 +47,9 @@ xor_of words = do
   sources ← sources_of target.1
   antes ← antes_of sources.1
   Ok (record { kind = Xor target.0; sources = sources.0; antes = antes })
+
+-- the graphs of a text, line after line
+unfoldable pub graphs_in : Text → Result (List Named) At
+graphs_in text =
+    after_lines nothing_read (lines_in text)
+    >>= λ read. at_text_end (length (raw_lines text)) read.ended read.current

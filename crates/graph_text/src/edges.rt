@@ -2,7 +2,7 @@
 ghost use Rattle.std.specs.Prelude.{◌≤◌, length};
 ghost use Rattle.raid_text.specs.Seen.{words_left};
 ghost use Rattle.graph_text.specs.Answers.{Gives};
-ghost use Rattle.graph_text.specs.FormatSteps.{numbers_of};
+ghost use Rattle.text_steps.specs.Steps.{numbers_of};
 ghost use Rattle.graph_text.specs.FormatLines.{after_of, antes_of, sources_of};
 ghost use Rattle.graph_text.specs.Kept.{behind, with_kept, with_kept_sources};
 
@@ -12,7 +12,7 @@ use crate::steps::{next_number, number_in};
 use raid_text::Words;
 
 /// Keeps the numbers up to the line's end.
-#[tactic(auto, unfolding(crate::specs::FormatSteps::numbers_of))]
+#[tactic(auto, unfolding(text_steps::specs::Steps::numbers_of))]
 fn numbers_in(words: &mut Words, kept: &mut Kept) -> Result<(), u8>
     requires { length kept.old ≤ 16385 }
     ensures { Gives (λ _. kept.new) result

@@ -9,7 +9,7 @@ use graph_mean::{Buf, Ret};
 use raid_text::Words;
 
 // The unit behind `new`, or none at the line's end.
-#[tactic(auto, unfolding(crate::specs::FormatLines::new_of, crate::specs::FormatSteps::after_word))]
+#[tactic(auto, unfolding(crate::specs::FormatLines::new_of, text_steps::specs::Steps::after_word))]
 fn new_in(words: &mut Words) -> Result<Option<u32>, u8>
     ensures { result ≡ new_of (words_left words.old) }
 {

@@ -1,7 +1,8 @@
 //! The reader of a whole file.
 ghost use Rattle.std.specs.Prelude.{◌≡◌, ◌≤◌, ◌+◌, ◌<◌, codes, length, Some, Ok, Err, IsSome, IfOk};
 ghost use Rattle.raid_text.specs.Seen.{seen as seen_line, words_left};
-ghost use Rattle.graph_text.specs.Format.{after_line, at_text_end, graphs_of, inside_line, outside_line, placed_line, start_of};
+ghost use Rattle.graph_text.specs.Format.{after_line, at_text_end, inside_line, outside_line, placed_line, start_of};
+ghost use Rattle.graph_text.specs.Texts.{graphs_of};
 ghost use Rattle.graph_text.specs.Steps.{nothing_read};
 ghost use Rattle.graph_text.specs.FormatForm.{AreGraphs};
 ghost use Rattle.graph_text.specs.Answers.{Gives, GivesBook, GivesRead};

@@ -4,8 +4,8 @@
 ghost use Rattle.std.specs.Prelude.{◌≡◌};
 ghost use Rattle.raid_text.specs.Seen.{words_left};
 ghost use Rattle.graph_text.specs.Answers.{Gives};
-ghost use Rattle.graph_text.specs.FormatSteps.{after_word, after_index, next_pair};
-ghost use Rattle.text_steps.specs.Steps.{next_word, next_number, at_end, number_in};
+ghost use Rattle.graph_text.specs.FormatSteps.{next_pair};
+ghost use Rattle.text_steps.specs.Steps.{next_word, next_number, at_end, number_in, after_word, after_number};
 
 use crate::codes::{INDEX, NUMBER, WORD};
 use raid_text::{Words, number};
@@ -23,10 +23,10 @@ pub fn next_word<'a>(words: &mut Words<'a>) -> Result<&'a [u8], u8>
 }
 
 /// Passes this word.
-#[tactic(auto, unfolding(crate::specs::FormatSteps::after_word))]
+#[tactic(auto, unfolding(text_steps::specs::Steps::after_word))]
 pub fn pass_word(words: &mut Words, wanted: &[u8]) -> Result<(), u8>
     ensures { Gives (λ _. words_left words.new) result
-        (after_word wanted.now (words_left words.old)) }
+        (after_word wanted.now 1 (words_left words.old)) }
 {
     match words.next() {
         Some(word) if word == wanted => Ok(()),
@@ -57,9 +57,9 @@ pub fn next_number(words: &mut Words) -> Result<u32, u8>
 }
 
 /// Passes this number, by which the line counts itself.
-#[tactic(auto, unfolding(crate::specs::FormatSteps::after_index))]
+#[tactic(auto, unfolding(text_steps::specs::Steps::after_number))]
 pub fn pass_index(words: &mut Words, wanted: u32) -> Result<(), u8>
-    ensures { Gives (λ _. words_left words.new) result (after_index wanted (words_left words.old)) }
+    ensures { Gives (λ _. words_left words.new) result (after_number wanted 3 (words_left words.old)) }
 {
     let n = next_number(words)?;
     if n == wanted { Ok(()) } else { Err(INDEX) }

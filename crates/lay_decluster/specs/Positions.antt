@@ -12,13 +12,9 @@ unit_position k j i = if nat_lt i (k - 1) then (if nat_lt i j then i else i + 1)
 abbrev pub spare_position : ℕ → ℕ → ℕ
 spare_position k j = (j + 1) % k
 
--- data unit i stands at the i-th of the positions without these two
-abbrev pub beside_both : ℕ → ℕ → ℕ → ℕ
-beside_both k j i = if nat_lt (j + 1) k then (if nat_lt i j then i else i + 2) else i + 1
-
 -- with spare places: the check unit, the last of the k - 1 units, stands at position j
 abbrev pub spared_position : ℕ → ℕ → ℕ → ℕ
-spared_position k j i = if nat_lt i (k - 2) then beside_both k j i else j
+spared_position k j i = if nat_lt i (k - 2) then (if nat_lt (j + 1) k then (if nat_lt i j then i else i + 2) else i + 1) else j
 
 -- what these are, case by case
 pub data IsUnitAt (k j i p : ℕ) : Type 0 where

@@ -27,7 +27,7 @@ free_row d x s = count_below (λ t. has d.k d.objects x (t % d.b)) s
 
 -- the place of a position of stripe s
 abbrev pub seat : Blocks → ℕ → ℕ → Place
-seat d s position = record { column = column_at d s position; row = free_row d (column_at d s position) s }
+seat d s position = record { column = column_at d s position; row = count_below (λ t. has d.k d.objects (column_at d s position) (t % d.b)) s }
 
 -- an earlier stripe has a position there
 abbrev pub IsTaken : Blocks → ℕ → Place → Type 0

@@ -10,7 +10,8 @@ use Rattle.raid_label.specs.declared.label.Label.{Label}
 use Rattle.raid_assemble.specs.declared.sets.Set.{Set}
 use Rattle.raid_assemble.specs.declared.sets.Standing.{Standing}
 use Rattle.raid_assemble.specs.declared.sets.Standing.TheVariants.{Member, Double, Foreign, Stale, Bare}
-use Rattle.raid_assemble.specs.Sets.{IsGrouping, is_alike, is_of, counter_of, newest, pattern, fits, has_column_of, rank, standing_of, standing_behind}
+use Rattle.raid_assemble.specs.Sets.{IsGrouping, is_alike, newest, pattern, fits, standing_behind}
+use Rattle.raid_assemble.specs.Steps.{is_of, counter_of, has_column_of, rank, standing_of}
 use Rattle.raid_assemble.specs.Standings.{IsFoundAt, HasSetOf, HasCounterOf}
 use Rattle.raid_assemble.proofs.Patterns.{first_is}
 

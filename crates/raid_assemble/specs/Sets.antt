@@ -7,31 +7,19 @@ use Rattle.raid_assemble.specs.declared.sets.Set.{Set}
 use Rattle.raid_assemble.specs.declared.sets.Standing.{Standing}
 use Rattle.raid_assemble.specs.declared.sets.Standing.TheVariants.{Member, Double, Foreign, Stale, Bare}
 
--- a label of this serial
-abbrev pub is_of : ℕ → Option Label → Bool
-is_of serial None = false
-is_of serial (Some l) = l.serial == serial
-
--- its counter, where it is of the serial
-abbrev pub counter_of : ℕ → Option Label → ℕ
-counter_of serial None = 0
-counter_of serial (Some l) = if l.serial == serial then l.counter else 0
-
 -- the greatest counter of a serial
 unfoldable pub newest : List (Option Label) → ℕ → ℕ
 newest [] serial = 0
-newest (label ∷ labels) serial = max (counter_of serial label) (newest labels serial)
+newest (label ∷ labels) serial =
+    max (elim label [ None ↦ 0 | Some l ↦ if l.serial == serial then l.counter else 0 ])
+    (newest labels serial)
 
--- a label of this serial and counter
-abbrev pub is_at : ℕ → ℕ → Option Label → Bool
-is_at serial counter None = false
-is_at serial counter (Some l) = l.serial == serial && l.counter == counter
-
--- the first label that passes
+-- the first label of this serial and counter
 unfoldable pub first_at : ℕ → ℕ → List (Option Label) → Option Label
 first_at serial counter [] = None
 first_at serial counter (label ∷ labels) =
-    if is_at serial counter label then label else first_at serial counter labels
+    if (elim label [ None ↦ false | Some l ↦ l.serial == serial && l.counter == counter ]) then label
+    else first_at serial counter labels
 
 -- the pattern of a serial: its first label with the greatest counter
 abbrev pub pattern : List (Option Label) → ℕ → Option Label
@@ -48,64 +36,36 @@ abbrev pub fits : Option Label → Label → Bool
 fits None l = false
 fits (Some p) l = is_alike p l
 
--- a label that has the column of another of its serial and counter, and fits the pattern
-abbrev pub has_column_of : Option Label → Label → Option Label → Bool
-has_column_of p l None = false
-has_column_of p l (Some e) =
-    ((e.serial == l.serial && e.counter == l.counter) && e.column == l.column) && fits p e
-
--- the position of a serial among those that are found: how many of them are less
-abbrev pub rank : List ℕ → ℕ → ℕ
-rank serials serial = count_by (λ s. nat_lt s serial) serials
-
--- what a label is, behind these others: of those that fit, the first of each column is the member
+-- What a label is, behind these others, of the set whose position is the number of the serials that
+-- are less: of those that fit the pattern, the first of each column is the member.
 unfoldable pub standing_behind : List (Option Label) → List ℕ → List (Option Label) → Label → Standing
 standing_behind labels serials earlier l =
-    if nat_lt l.counter (newest labels l.serial) then Stale (rank serials l.serial)
-    else (if not (fits (pattern labels l.serial) l) then Foreign (rank serials l.serial)
-    else (if list_any (has_column_of (pattern labels l.serial) l) earlier then Double (rank serials l.serial)
-    else Member (rank serials l.serial) l.column))
-
-abbrev pub standing_of : List (Option Label) → List ℕ → List (Option Label) → Option Label → Standing
-standing_of labels serials earlier None = Bare
-standing_of labels serials earlier (Some l) = standing_behind labels serials earlier l
-
-abbrev pub standing : List (Option Label) → List ℕ → ℕ → Standing
-standing labels serials i = standing_of labels serials (take i labels) (slice_index_or labels i None)
-
--- a member of the set at this position
-abbrev pub is_member_of : ℕ → Standing → Bool
-is_member_of set (Member s column) = s == set
-is_member_of set (Double s) = false
-is_member_of set (Foreign s) = false
-is_member_of set (Stale s) = false
-is_member_of set Bare = false
-
--- a seat at which a device is wanted: neither that of a spread column nor that of a dead one
-abbrev pub is_wanted : ℕ → Bool
-is_wanted seat = not (seat == 254 || seat == 255)
-
--- the set of a pattern, at a position among the sets
-abbrev pub set_of : ℕ → List Standing → Label → Set
-set_of position places p = record {
-  serial = p.serial;
-  counter = p.counter;
-  columns = p.columns;
-  level = p.level;
-  members = count_by (is_member_of position) places;
-  wanted = count_by (λ seat. not (seat == 254 || seat == 255)) (take p.columns p.seats);
-}
+    let set = count_by (λ s. nat_lt s l.serial) serials in
+    let p = pattern labels l.serial in
+    if nat_lt l.counter (newest labels l.serial) then Stale set
+    else (if not (fits p l) then Foreign set
+    else (if list_any (elim [ None ↦ false | Some e ↦ ((e.serial == l.serial && e.counter == l.counter) && e.column == l.column) && fits p e ]) earlier then Double set
+    else Member set l.column))
 
 -- the serials of the labels, ascending, each once
 pub record AreSerials (labels : List (Option Label)) (serials : List ℕ) : Type 0 where
   pub ascending : (i j d : ℕ) → i < j → j < length serials
       → slice_index_or serials i d < slice_index_or serials j d
-  pub each : (serial : ℕ) → list_any (nat_eq serial) serials ≡ list_any (is_of serial) labels
+  pub each : (serial : ℕ) → list_any (nat_eq serial) serials
+      ≡ list_any (elim [ None ↦ false | Some l ↦ l.serial == serial ]) labels
 
--- a set stands for a serial, with the serial's pattern
+-- a set stands for a serial, with what the serial's pattern says: at a seat a device is wanted
+-- where it is neither that of a spread column nor that of a dead one
 abbrev pub IsSetOf : List (Option Label) → List Standing → ℕ → Set → Type 0
 IsSetOf labels places position set =
-    (p : Label) × (pattern labels set.serial ≡ Some p) × (set ≡ set_of position places p)
+    (p : Label) × (pattern labels set.serial ≡ Some p) × (set ≡ record {
+      serial = p.serial;
+      counter = p.counter;
+      columns = p.columns;
+      level = p.level;
+      members = count_by (elim [ Member s column ↦ s == position | _ ↦ false ]) places;
+      wanted = count_by (λ seat. not (seat == 254 || seat == 255)) (take p.columns p.seats);
+    })
 
 -- the sets and the standings of the labels
 pub record IsGrouping (labels : List (Option Label)) (sets : List Set) (places : List Standing) : Type 0 where
@@ -115,4 +75,7 @@ pub record IsGrouping (labels : List (Option Label)) (sets : List Set) (places :
   pub count : length places ≡ length labels
   pub standings : (i : ℕ) (d : Standing) → i < length labels
       → slice_index_or places i d
-      ≡ standing_of labels (map (λ s. s.serial) sets) (take i labels) (slice_index_or labels i None)
+      ≡ elim (slice_index_or labels i None) [
+        | None ↦ Bare
+        | Some l ↦ standing_behind labels (map (λ s. s.serial) sets) (take i labels) l
+      ]

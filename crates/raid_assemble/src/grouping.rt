@@ -4,7 +4,8 @@ ghost use Rattle.std.specs.Ordering.{nat_cmp};
 ghost use Rattle.std.specs.BTreeSet.{btree_set_len, contains, IsOrdered};
 ghost use Rattle.std.specs.List.{count_by, list_any, range_with_len};
 ghost use Rattle.raid_assemble.specs.declared.sets.Set.{Set};
-ghost use Rattle.raid_assemble.specs.Sets.{AreSerials, IsGrouping, IsSetOf, is_member_of, is_of, is_wanted, standing};
+ghost use Rattle.raid_assemble.specs.Sets.{AreSerials, IsGrouping, IsSetOf};
+ghost use Rattle.raid_assemble.specs.Steps.{is_member_of, is_of, is_wanted, standing};
 
 use crate::memory::Memory;
 use crate::sets::{Set, SetList, Sets, Standing, Standings};

@@ -1,7 +1,8 @@
 //! What each label is.
 ghost use Rattle.std.specs.Prelude.{◌≡◌, ◌<◌, ◌≤◌, ◌==◌, length, nat_lt, max, IsTrue, IsSome};
 ghost use Rattle.std.specs.List.{list_any, count_by};
-ghost use Rattle.raid_assemble.specs.Sets.{counter_of, is_at, is_of, newest, first_at, is_alike, fits, has_column_of, rank, standing, standing_behind};
+ghost use Rattle.raid_assemble.specs.Sets.{newest, first_at, is_alike, fits, standing_behind};
+ghost use Rattle.raid_assemble.specs.Steps.{counter_of, is_at, is_of, has_column_of, rank, standing};
 
 use crate::sets::Standing;
 use raid_label::Label;

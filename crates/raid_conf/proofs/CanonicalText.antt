@@ -21,7 +21,7 @@ use Rattle.raid_conf.specs.declared.given.Given.TheVariants.{Listed, Cyclic, Com
 use Rattle.raid_conf.specs.Designs.{blocks_of}
 use Rattle.raid_conf.specs.Levels.{is_level}
 use Rattle.raid_conf.specs.Form.{FillsAll, HasForm, IsConf, IsDesignOf, IsDiskName, IsGiven, IsName, Literal, Number, Place, array_places, canonical, conf_places, conf_text, design_places, given_places, layout_places, name_places, printed, queue_places, spare_places, start_places, tuple_places}
-use Rattle.raid_conf.specs.Format.{conf_of}
+use Rattle.raid_conf.specs.Texts.{conf_of}
 use Rattle.raid_conf.specs.Printing.{IsPrintable, placed_text}
 use Rattle.raid_conf.specs.Laws.{ConfTextIsPrintedAgain, ConfTextIsRead}
 use Rattle.raid_conf.proofs.Direct.{text_is}

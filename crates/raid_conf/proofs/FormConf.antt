@@ -1,30 +1,32 @@
 -- That the configurations that are read are those of the form: the sections behind the names.
-use Rattle.std.proofs.Common.{◌≡◌, ◌∙◌, ℕ, zero, suc, ◌+◌, ◌<◌, ◌≤◌, ◌^◌, Bool, true, false, cond, List, [], ◌∷◌, ◌++◌, length, map, take, drop, Option, Some, None, Result, Ok, Err, refl, sym, ap, subst, append_assoc, append-nil, arith, All}
+use Rattle.std.proofs.Common.{◌≡◌, ◌∙◌, ℕ, zero, suc, ◌<◌, ◌≤◌, ◌^◌, Bool, true, false, cond, List, [], ◌∷◌, ◌++◌, length, map, take, drop, Option, Some, None, Result, Ok, Err, refl, sym, ap, subst, append_assoc, append-nil, arith, All}
 use Rattle.std.specs.Prelude.{IfOk, codes}
 use Rattle.std.specs.Option.{ForSome}
 use Rattle.std.specs.Str.{bytes_eq}
 use Rattle.std.proofs.Math.Seq.{drop-append_seam, take-append_seam}
 use Rattle.std.proofs.lemmas.List.Elements.{All-append, All-nil}
-use Rattle.raid_text.specs.Text.{Text, Numbered, lines_in}
+use Rattle.raid_text.specs.Text.{Text, Numbered}
 use Rattle.raid_conf.specs.declared.conf.Conf.{Conf}
 use Rattle.text_steps.specs.declared.at.At.{At}
 use Rattle.raid_conf.specs.declared.fault.ConfFault.{ConfFault}
 use Rattle.raid_conf.specs.Answers.{GivesConf}
 use Rattle.raid_conf.specs.declared.given.Given.{Given}
-use Rattle.raid_conf.specs.declared.given.Given.TheVariants.{Listed, Cyclic, Complete}
+use Rattle.raid_conf.specs.declared.given.Given.TheVariants.{Listed}
 use Rattle.raid_conf.specs.declared.role.Role.TheVariants.{Disk, Spare}
 use Rattle.raid_conf.specs.Designs.{objects_of, serves}
 use Rattle.raid_conf.specs.Levels.{allows, has_design, is_level}
-use Rattle.raid_conf.specs.Sections.{complete_of, Counts, cyclic_of, layout_of, listed_of, pass_start, queue_begins, queue_of, spares_begin, tuple_of}
+use Rattle.raid_conf.specs.Sections.{complete_of, cyclic_of, layout_of, listed_of, pass_start, queue_begins, queue_of, spares_begin, tuple_of}
 use Rattle.raid_conf.specs.Steps.{no_design, conf_in, disks_in, listed_in, spare_lines, tail_in}
 use Rattle.text_steps.specs.Steps.{◌>>=◌, at_line, line_if_any, Next, next_line, next_word, only_if, Rest, whole}
-use Rattle.raid_conf.specs.Form.{Place, Literal, Number, conf_places, design_places, Differ, FillsAll, given_places, HasForm, IsConf, IsConfOf, IsDesignOf, IsDiskName, IsGiven, IsLineOf, IsName, IsTail, IsWordGiven, layout_places, name_places, queue_places, spare_places, start_places, tuple_places}
-use Rattle.raid_conf.specs.Format.{after_start, array_in, conf_of, debug_behind, design_in, given_in, kind_in, layout_in, names_in, next_tuple, queue_behind, queue_in, spares_in, tuples_in}
+use Rattle.raid_conf.specs.Form.{Place, Literal, Number, design_places, Differ, FillsAll, given_places, HasForm, IsConf, IsConfOf, IsDesignOf, IsDiskName, IsName, IsTail, IsWordGiven, layout_places, name_places, queue_places, spare_places, start_places, tuple_places}
+use Rattle.raid_conf.specs.Format.{after_start, array_in, debug_behind, design_in, given_in, kind_in, layout_in, names_in, next_tuple, queue_behind, queue_in, spares_in, tuples_in}
+use Rattle.raid_conf.specs.Texts.{conf_of}
 use Rattle.raid_conf.specs.Laws.{ConfIsOfTheForm}
-use Rattle.raid_conf.proofs.FormDesigns.{BaseRead, complete_fills, cyclic_fills, layout_fills, listed_fills, NumbersRead, queue_fills, TupleRead, tuple_line_fills, WidthRead}
+use Rattle.raid_conf.proofs.FormDesigns.{complete_fills, cyclic_fills, layout_fills, listed_fills, queue_fills, tuple_line_fills}
 use Rattle.raid_conf.proofs.FormLines.{queue_begun, QueueBegins, spares_begun, SparesBegin, start_fills}
-use Rattle.raid_conf.proofs.FormText.{array_front, Front, line_form, LineRead, line_read, may_be_read, MayBeRead, names_front, NamesFront, of_line, section_front, triple_same}
+use Rattle.raid_conf.proofs.FormText.{array_front, Front, line_form, LineRead, line_read, may_be_read, MayBeRead, names_front, of_line, section_front, triple_same}
 use Rattle.raid_conf.proofs.OneStep.{bind_ok, bytes_same, ok_pair, ok_same, only_ok, words_are}
+use Rattle.raid_conf.proofs.Same.{conf_same}
 
 -- ---- disks and spares
 
@@ -383,8 +385,7 @@ conf_form rest conf h =
     )
 
 pub conf_of_form : ConfIsOfTheForm
-unfolding conf_of conf_in disks_in tail_in
-conf_of_form text conf h = conf_form (whole text) conf h
+conf_of_form text conf h = conf_form (whole text) conf (sym (conf_same text) ∙ h)
 
 -- what is read is within the limits
 pub limits : (text : Text) (result : Result Conf ConfFault) → GivesConf result (conf_of text) → IfOk result (λ conf. IsConf conf)

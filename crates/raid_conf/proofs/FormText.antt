@@ -1,30 +1,21 @@
 -- That the configurations that are read are those of the form.
-use Rattle.std.proofs.Common.{◌≡◌, ◌∙◌, ℕ, zero, suc, ◌+◌, ◌<◌, ◌≤◌, ◌^◌, Bool, true, false, cond, List, [], ◌∷◌, ◌++◌, length, map, take, drop, Option, Some, None, Result, Ok, Err, refl, sym, ap, subst, append_assoc, append-nil, arith, All, ◌⊎◌, inl, inr}
-use Rattle.std.specs.Prelude.{◌&&◌, IsTrue, not, codes, nat_eq}
-use Rattle.std.specs.Option.{ForSome}
+use Rattle.std.proofs.Common.{◌≡◌, ◌∙◌, ℕ, zero, suc, ◌≤◌, Bool, true, false, cond, List, [], ◌∷◌, ◌++◌, length, map, Option, Some, None, Result, Ok, Err, refl, sym, ap, subst, append_assoc, append-nil, All, ◌⊎◌}
+use Rattle.std.specs.Prelude.{codes}
 use Rattle.std.specs.List.{list_all}
-use Rattle.std.specs.Str.{bytes_eq}
 use Rattle.std.proofs.lemmas.List.Elements.{All-cons, All-nil}
-use Rattle.raid_text.specs.Text.{Text, Numbered, is_sound, is_word, lines_in, sound_words, words_of}
+use Rattle.raid_text.specs.Text.{Text, Numbered, is_sound, is_word, sound_words, words_of}
 use Rattle.raid_text.proofs.WordCuts.{sound_are_words}
-use Rattle.raid_conf.specs.declared.conf.Conf.{Conf}
 use Rattle.text_steps.specs.declared.at.At.{At}
-use Rattle.raid_conf.specs.declared.given.Given.{Given}
-use Rattle.raid_conf.specs.declared.given.Given.TheVariants.{Listed, Cyclic, Complete}
 use Rattle.raid_conf.specs.declared.role.Role.{Role}
-use Rattle.raid_conf.specs.declared.role.Role.TheVariants.{Disk, Spare}
-use Rattle.raid_conf.specs.Designs.{serves}
-use Rattle.raid_conf.specs.Levels.{allows, has_design, is_level}
-use Rattle.raid_conf.specs.Sections.{array_of, complete_of, count_code, Counts, cyclic_of, layout_of, listed_of, name_of, pass_start, queue_begins, queue_of, spares_begin, tuple_of}
-use Rattle.raid_conf.specs.Steps.{has_name, no_design, conf_in, disks_in, listed_in, spare_lines, tail_in}
-use Rattle.text_steps.specs.Steps.{◌>>=◌, at_line, line_among, line_if_any, Next, next_line, next_word, only_if, or_missing, Rest, whole, words_in}
-use Rattle.raid_conf.specs.Form.{Place, Literal, Number, array_places, conf_places, design_places, Differ, FillsAll, given_places, HasForm, IsConf, IsConfOf, IsDesignOf, IsGiven, IsLineOf, IsTail, layout_places, name_places, queue_places, spare_places, start_places, tuple_places}
-use Rattle.raid_conf.specs.Format.{after_start, array_in, conf_of, debug_behind, design_in, given_in, kind_in, layout_in, names_in, next_name, next_tuple, queue_behind, queue_in, spares_in, tuples_in, with_name}
-use Rattle.raid_conf.specs.Laws.{ConfIsOfTheForm}
-use Rattle.raid_conf.proofs.FormDesigns.{BaseRead, complete_fills, cyclic_fills, layout_fills, listed_fills, queue_fills, TupleRead, tuple_line_fills}
-use Rattle.raid_conf.proofs.FormLines.{array_fills, IsNameFor, name_fills, queue_begun, QueueBegins, spares_begun, SparesBegin, start_fills}
+use Rattle.raid_conf.specs.Sections.{array_of, count_code, name_of, pass_start}
+use Rattle.raid_conf.specs.Steps.{has_name}
+use Rattle.text_steps.specs.Steps.{at_line, line_if_any, Next, next_line, Rest, words_in}
+use Rattle.text_steps.specs.Pieces.{line_among, or_missing}
+use Rattle.raid_conf.specs.Form.{Place, array_places, Differ, FillsAll, HasForm, name_places, start_places}
+use Rattle.raid_conf.specs.Format.{after_start, array_in, names_in, next_name, with_name}
+use Rattle.raid_conf.proofs.FormLines.{array_fills, IsNameFor, name_fills, start_fills}
 use Rattle.raid_conf.proofs.DifferentNames.{differ_push}
-use Rattle.raid_conf.proofs.OneStep.{bind_ok, bytes_same, ok_pair, ok_same, only_ok, words_are}
+use Rattle.raid_conf.proofs.OneStep.{bind_ok, ok_pair, ok_same}
 
 -- ---- lines
 

@@ -5,6 +5,7 @@ pub mod OneStep
 pub mod FormLines
 pub mod FormDesigns
 pub mod DifferentNames
+pub mod Same
 pub mod FormText
 pub mod FormConf
 pub mod ReadLines

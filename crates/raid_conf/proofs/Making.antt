@@ -17,9 +17,10 @@ use Rattle.raid_conf.specs.declared.given.Given.{Given}
 use Rattle.raid_conf.specs.declared.given.Given.TheVariants.{Listed, Cyclic, Complete}
 use Rattle.raid_conf.specs.declared.plain.Plain.{Plain}
 use Rattle.raid_conf.specs.declared.plain.Plain.TheVariants.{Striped, Mirrored, LastChecked, LeftSymmetric, Chained}
-use Rattle.raid_conf.specs.Designs.{blocks_of, is_wide, serves, width_of}
+use Rattle.raid_conf.specs.Designs.{blocks_of, serves}
 use Rattle.raid_conf.specs.Form.{IsConf, IsDesignOf}
-use Rattle.raid_conf.specs.Layouts.{AreColumns, AreNoColumns, AreNoRows, IsAnyFault, IsDesignFault, IsLevelFault, IsMakeFault, IsPlainFault, IsTableFault, level_rows, level_stripes, plain_of, plain_rows, plain_stripes, table_rows, table_stripes}
+use Rattle.raid_conf.specs.Layouts.{AreColumns, AreNoColumns, AreNoRows, IsAnyFault, IsDesignFault, IsLevelFault, IsMakeFault, IsPlainFault, IsTableFault, level_rows, level_stripes, plain_of, plain_stripes, table_rows, table_stripes}
+use Rattle.raid_conf.specs.Steps.{plain_rows, is_wide, width_of}
 use Rattle.raid_conf.specs.Levels.{allows, has_design}
 use Rattle.raid_conf.proofs.TableLaws.{is_given_design, rows_least}
 

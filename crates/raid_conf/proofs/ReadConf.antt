@@ -1,29 +1,30 @@
 -- That each text of the form of a configuration is read as it.
 use Rattle.std.proofs.Common.{◌≡◌, ◌∙◌, ℕ, zero, suc, ◌+◌, ◌-◌, ◌*◌, ◌<◌, ◌≤◌, Bool, true, false, cond, List, [], ◌∷◌, ◌++◌, length, map, take, drop, Option, Some, None, Result, Ok, Err, refl, sym, ap, subst, append_assoc, append-nil, arith, All}
-use Rattle.std.specs.Prelude.{IsTrue, codes}
+use Rattle.std.specs.Prelude.{codes}
 use Rattle.std.proofs.lemmas.Bool.{and_parts}
 use Rattle.std.proofs.Math.Nat.{suc-mul}
 use Rattle.std.proofs.lemmas.List.{length-drop, length-take-le, take-append-drop}
 use Rattle.std.proofs.lemmas.List.Elements.{All-head, All-tail}
-use Rattle.raid_text.specs.Text.{Text, Numbered, is_sound, lines_in, sound_words, words_of}
+use Rattle.raid_text.specs.Text.{Text, Numbered, is_sound, sound_words, words_of}
 use Rattle.raid_conf.specs.declared.conf.Conf.{Conf}
 use Rattle.raid_conf.specs.declared.given.Given.{Given}
 use Rattle.raid_conf.specs.declared.given.Given.TheVariants.{Listed, Cyclic, Complete}
 use Rattle.raid_conf.specs.declared.role.Role.{Role}
 use Rattle.raid_conf.specs.declared.role.Role.TheVariants.{Disk, Spare}
-use Rattle.raid_conf.specs.Designs.{blocks_of, is_design, serves, is_wide}
+use Rattle.raid_conf.specs.Designs.{blocks_of, is_design, serves}
 use Rattle.raid_conf.specs.Levels.{has_design}
 use Rattle.raid_conf.specs.Sections.{count_code}
-use Rattle.raid_conf.specs.Steps.{has_name, conf_in, disks_in, listed_in, spare_lines, tail_in}
-use Rattle.text_steps.specs.Steps.{line_among, line_if_any, Next, next_line, next_word, Rest, whole, words_in}
-use Rattle.raid_conf.specs.Form.{Place, Literal, Number, array_places, conf_places, design_places, Differ, FillsAll, given_places, HasForm, IsConf, IsConfOf, IsDesignOf, IsGiven, IsLineOf, IsTail, layout_places, name_places, queue_places, spare_places, start_places, tuple_places}
-use Rattle.raid_conf.specs.Format.{after_start, array_in, conf_of, debug_behind, design_in, given_in, kind_in, layout_in, names_in, next_name, next_tuple, queue_behind, queue_in, spares_in, tuples_in, with_name}
+use Rattle.raid_conf.specs.Steps.{conf_in, disks_in, listed_in, spare_lines, tail_in, is_wide}
+use Rattle.text_steps.specs.Steps.{line_if_any, Next, next_line, next_word, Rest, whole, words_in}
+use Rattle.raid_conf.specs.Form.{Place, Literal, Number, array_places, design_places, Differ, FillsAll, given_places, HasForm, IsConf, IsDesignOf, IsGiven, IsTail, layout_places, name_places, queue_places, spare_places, start_places, tuple_places}
+use Rattle.raid_conf.specs.Format.{after_start, array_in, debug_behind, design_in, given_in, kind_in, layout_in, names_in, next_name, next_tuple, queue_behind, queue_in, spares_in, tuples_in, with_name}
 use Rattle.raid_conf.specs.Laws.{ConfIsRead}
 use Rattle.raid_conf.proofs.DifferentNames.{differ_front, has_name-differ}
 use Rattle.raid_conf.proofs.FormLines.{IsNameFor}
 use Rattle.raid_conf.proofs.Judged.{design_is}
-use Rattle.raid_conf.proofs.OneStep.{end_back, literal_back, word_back}
+use Rattle.raid_conf.proofs.OneStep.{word_back}
 use Rattle.raid_conf.proofs.ReadLines.{array_back, complete_back, cyclic_back, debug_begins_back, layout_back, listed_back, name_back, no_spare_back, queue_back, queue_begins_back, spare_back, start_back, tuple_back}
+use Rattle.raid_conf.proofs.Same.{conf_same}
 
 -- ---- lines
 
@@ -219,7 +220,7 @@ tail_back (Some number) rest behind form tail =
 -- ---- all sections
 
 pub conf_read : ConfIsRead
-unfolding conf_of conf_in disks_in tail_in
+unfolding conf_in disks_in tail_in
 conf_read text conf is of =
     let rest = whole text in
     let tail = design_places conf.design ++ queue_places conf.queue in
@@ -230,4 +231,5 @@ conf_read text conf is of =
     let l = layout_in_back conf.columns conf.unit conf.level s.0 tail of.behind conf is refl refl refl s.2 in
     let g = design_back conf.level conf.columns conf.design l.0 (queue_places conf.queue) of.behind is.design l.2 in
     let q = tail_back conf.queue g.0 of.behind g.2 of.tail in
-    rw (a.1, d.1, s.1, l.1, g.1, q) refl
+    let read : conf_in rest ≡ Ok conf = rw (a.1, d.1, s.1, l.1, g.1, q) refl in
+    conf_same text ∙ read

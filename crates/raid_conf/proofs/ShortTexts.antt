@@ -9,7 +9,8 @@ use Rattle.raid_text.specs.Text.{Text}
 use Rattle.raid_conf.specs.declared.conf.Conf.{Conf}
 use Rattle.raid_conf.specs.declared.given.Given.{Given}
 use Rattle.raid_conf.specs.declared.given.Given.TheVariants.{Listed, Cyclic, Complete}
-use Rattle.raid_conf.specs.Designs.{blocks_of, is_design, serves, is_wide}
+use Rattle.raid_conf.specs.Designs.{blocks_of, is_design, serves}
+use Rattle.raid_conf.specs.Steps.{is_wide}
 use Rattle.raid_conf.specs.Form.{IsConf, IsDesignOf, IsDiskName, IsGiven, IsName, Literal, Number, Place, array_places, conf_places, conf_text, design_places, given_places, layout_places, name_places, printed, queue_places, spare_places, start_places, tuple_places}
 use Rattle.raid_conf.specs.Printing.{line_text, lines_text, spaced}
 use Rattle.raid_conf.proofs.Judged.{design_is}

@@ -12,9 +12,10 @@ use Rattle.raid_conf.specs.declared.given.Given.{Given}
 use Rattle.raid_conf.specs.declared.given.Given.TheVariants.{Listed, Cyclic, Complete}
 use Rattle.raid_conf.specs.declared.plain.Plain.{Plain}
 use Rattle.raid_conf.specs.declared.plain.Plain.TheVariants.{Striped, Mirrored, LastChecked, LeftSymmetric, Chained}
-use Rattle.raid_conf.specs.Designs.{blocks_of, objects_of, serves, is_wide}
+use Rattle.raid_conf.specs.Designs.{blocks_of, objects_of, serves}
 use Rattle.raid_conf.specs.Form.{IsConf, IsDesignOf}
-use Rattle.raid_conf.specs.Layouts.{HasDesign, IsMakeable, design_shape, level_rows, level_shape, level_stripes, plain_of, plain_rows, plain_shape, plain_stripes, shape_of, table_rows, table_stripes}
+use Rattle.raid_conf.specs.Layouts.{HasDesign, IsMakeable, design_shape, level_rows, level_stripes, plain_of, plain_shape, plain_stripes, shape_of, table_rows, table_stripes}
+use Rattle.raid_conf.specs.Steps.{level_shape, plain_rows, is_wide}
 use Rattle.raid_conf.specs.Levels.{allows, has_design}
 use Rattle.raid_conf.proofs.Judged.{design_is}
 

@@ -18,12 +18,6 @@ objects_of (Listed b v k r lambda tuples) = v
 objects_of (Cyclic v base) = v
 objects_of (Complete v k) = v
 
--- the objects of a tuple
-abbrev pub width_of : Given → ℕ
-width_of (Listed b v k r lambda tuples) = k
-width_of (Cyclic v base) = length base
-width_of (Complete v k) = k
-
 -- the numbers are within the limits of a design, and fit one another and the list
 unfoldable pub numbers_fit : Blocks → Bool
 numbers_fit d = (((nat_le 2 d.v && nat_le d.v 32) && (nat_le 2 d.k && nat_le d.k d.v)) && ((nat_le 1 d.b && nat_le d.b 4096) && nat_eq (length d.objects) (d.b * d.k)))
@@ -38,10 +32,12 @@ unfoldable pub is_design : Blocks → Bool
 is_design d = (numbers_fit d && (nowhere (outside d) d.b d.k && nowhere (repeated d) d.b d.k))
     && (list_all (λ x. not (strays d x)) (range_with_len 0 d.v) && nowhere (parts d) d.v d.v)
 
--- a tuple has three objects at least
-unfoldable pub is_wide : Given → Bool
-is_wide given = nat_le 3 (width_of given)
-
 -- whether a level can stand on it: a block design, whose tuples have three objects at least at level D, where one of them is the spare place
 unfoldable pub serves : ℕ → Given → Bool
-serves level given = (not (level == 68) || nat_le 3 (width_of given)) && is_design (blocks_of given)
+serves level given =
+    let width : ℕ = elim given [
+      | Listed b v k r lambda tuples ↦ k
+      | Cyclic v base ↦ length base
+      | Complete v k ↦ k
+    ] in
+    (not (level == 68) || nat_le 3 width) && is_design (blocks_of given)

@@ -1,17 +1,16 @@
--- Configurations: what a text says, or the first line that is refused and the code of its refusal.
+-- What the functions that read a configuration find, section by section; Texts says it in one.
 use Rattle.std.specs.Prelude.{ℕ, zero, suc, List, [], ◌∷◌, ◌++◌, Option, Some, None, Result, Ok, Err, if◌then◌else◌, codes}
 use Rattle.std.specs.Str.{bytes_eq}
 use Rattle.raid_text.specs.Text.{Text}
-use Rattle.raid_conf.specs.declared.conf.Conf.{Conf}
 use Rattle.text_steps.specs.declared.at.At.{At}
 use Rattle.raid_conf.specs.declared.given.Given.{Given}
 use Rattle.raid_conf.specs.declared.given.Given.TheVariants.{Listed}
 use Rattle.raid_conf.specs.declared.role.Role.{Role}
-use Rattle.raid_conf.specs.declared.role.Role.TheVariants.{Disk, Spare}
+use Rattle.raid_conf.specs.declared.role.Role.TheVariants.{Spare}
 use Rattle.raid_conf.specs.Designs.{serves}
 use Rattle.raid_conf.specs.Levels.{has_design}
 use Rattle.raid_conf.specs.Sections.{array_of, complete_of, count_code, cyclic_of, layout_of, listed_of, name_of, pass_start, queue_begins, queue_of, spares_begin, tuple_of}
-use Rattle.text_steps.specs.Steps.{◌>>=◌, at_line, Next, line_if_any, next_line, next_word, only_if, Rest, whole}
+use Rattle.text_steps.specs.Steps.{◌>>=◌, at_line, Next, line_if_any, next_line, next_word, only_if, Rest}
 
 -- the lines behind the one that begins this section; code 3 where none is left, this code where the next begins no section
 unfoldable pub after_start : ℕ → Text → Rest → Result Rest At
@@ -118,23 +117,3 @@ queue_behind None = Ok None
 queue_behind (Some line) = do
   present ← at_line line.at (queue_begins line.words)
   if present then (queue_in line.rest >>= λ number. Ok (Some number)) else Ok None
-
--- what a text says
-unfoldable pub conf_of : Text → Result Conf At
-conf_of text = do
-  array ← array_in (whole text)
-  disks ← after_start 1 (codes "disks") array.2 >>= names_in Disk array.0 [] []
-  spares ← spares_in array.1 disks.0 disks.1
-  layout ← layout_in array.0 spares.1
-  design ← design_in layout.1 array.0 layout.2
-  queue ← line_if_any design.1 >>= queue_behind
-  Ok (record {
-    columns = array.0;
-    spares = array.1;
-    unit = layout.0;
-    level = layout.1;
-    queue = queue;
-    disks = disks.0;
-    spare_names = spares.0;
-    design = design.0;
-  })

@@ -3,7 +3,7 @@ use Rattle.std.specs.Prelude.{◌≡◌, ◌≤◌, Ok, length}
 use Rattle.raid_text.specs.Text.{Text, lines_in}
 use Rattle.raid_conf.specs.declared.conf.Conf.{Conf}
 use Rattle.raid_conf.specs.Form.{IsConf, IsConfOf, conf_text}
-use Rattle.raid_conf.specs.Format.{conf_of}
+use Rattle.raid_conf.specs.Texts.{conf_of}
 
 -- what is read as a configuration is of its form
 abbrev pub ConfIsOfTheForm : Type 0

@@ -1,5 +1,5 @@
 -- The layout that a configuration describes.
-use Rattle.std.specs.Prelude.{◌≡◌, ◌≢◌, ◌<◌, ◌≤◌, ◌*◌, ◌/◌, ◌⊎◌, ℕ, Bool, true, false, Option, Some, None, IsTrue, if◌then◌else◌, nat_eq}
+use Rattle.std.specs.Prelude.{◌≡◌, ◌≢◌, ◌<◌, ◌≤◌, ◌*◌, ◌/◌, ◌⊎◌, ℕ, Bool, true, false, Option, Some, None, IsTrue, if◌then◌else◌, nat_eq, nat_lt, ◌+◌, ◌%◌, ◌-◌}
 use Rattle.lay_core.specs.Layout.{Shape, IsLayout}
 use Rattle.lay_decluster.specs.declared.fault.TableFault.{TableFault}
 use Rattle.lay_decluster.specs.declared.fault.TableFault.TheVariants as table
@@ -26,6 +26,7 @@ use Rattle.raid_conf.specs.declared.plain.Plain.{Plain}
 use Rattle.raid_conf.specs.declared.plain.Plain.TheVariants.{Striped, Mirrored, LastChecked, LeftSymmetric, Chained}
 use Rattle.raid_conf.specs.Designs.{blocks_of}
 use Rattle.raid_conf.specs.Levels.{has_design, is_level}
+use Rattle.lay_plain.specs.Plain.{by_rows}
 
 -- ---- any layout is one
 
@@ -56,29 +57,25 @@ unfoldable pub plain_of : ℕ → Plain
 plain_of level = if nat_eq level 48 then Striped else (if nat_eq level 49 then Mirrored else (if nat_eq level 52 then LastChecked else (if nat_eq level 53 then LeftSymmetric else Chained)))
 
 abbrev pub plain_shape : Plain → ℕ → ℕ → ℕ → Shape
-plain_shape Striped n u rows = striped n u rows
+plain_shape Striped n u rows = by_rows n 0 u rows (λ s i. i)
 plain_shape Mirrored n u rows = mirrored n u rows
-plain_shape LastChecked n u rows = last_checked n u rows
-plain_shape LeftSymmetric n u rows = left_symmetric n u rows
+plain_shape LastChecked n u rows = by_rows n 1 u rows (λ s i. i)
+plain_shape LeftSymmetric n u rows =
+    by_rows n 1 u rows (λ s i. if nat_lt i (n - 1) then (s * (n - 1) + i) % n else n - 1 - s % n)
 plain_shape Chained n u rows = chained n u rows
 
 -- the layout of a level that stands on this design
 unfoldable pub design_shape : ℕ → Blocks → ℕ → ℕ → Shape
 design_shape level d u rows = if nat_eq level 68 then spared d u rows else declustered d u rows
 
--- the layout of a level over n columns, with the design that there may be
-abbrev pub level_shape : ℕ → ℕ → ℕ → ℕ → Option Given → Shape
-level_shape level n u rows None = plain_shape (plain_of level) n u rows
-level_shape level n u rows (Some given) = if has_design level then design_shape level (blocks_of given) u rows else plain_shape (plain_of level) n u rows
-
 -- the layout that a configuration describes, with so many rows
 abbrev pub shape_of : Conf → ℕ → Shape
-shape_of conf rows = level_shape conf.level conf.columns conf.unit rows conf.design
-
--- the rows of the least layout, of which all others have a multiple, and its stripes: those of a full table at levels T and D, of two rows at level C, of a row at the others
-abbrev pub plain_rows : Plain → ℕ
-plain_rows Chained = 2
-plain_rows _ = 1
+shape_of conf rows =
+    let plain = plain_shape (plain_of conf.level) conf.columns conf.unit rows in
+    elim conf.design [
+      | None ↦ plain
+      | Some given ↦ if has_design conf.level then design_shape conf.level (blocks_of given) conf.unit rows else plain
+    ]
 
 abbrev pub plain_stripes : Plain → ℕ → ℕ
 plain_stripes Chained n = n
@@ -86,8 +83,12 @@ plain_stripes Mirrored n = n / 2
 plain_stripes _ n = 1
 
 abbrev pub level_rows : ℕ → Option Given → ℕ
-level_rows level None = plain_rows (plain_of level)
-level_rows level (Some given) = if has_design level then (blocks_of given).k * (blocks_of given).r else plain_rows (plain_of level)
+level_rows level given =
+    let plain : ℕ = elim (plain_of level) [ Chained ↦ 2 | _ ↦ 1 ] in
+    elim given [
+      | None ↦ plain
+      | Some g ↦ if has_design level then (blocks_of g).k * (blocks_of g).r else plain
+    ]
 
 abbrev pub level_stripes : ℕ → ℕ → Option Given → ℕ
 level_stripes level n None = plain_stripes (plain_of level) n

@@ -2,6 +2,7 @@ pub mod Levels
 pub mod Designs
 pub mod Sections
 pub mod Format
+pub mod Texts
 pub mod Form
 pub mod Answers
 pub mod Laws

@@ -1,4 +1,5 @@
--- The lines of a configuration, one by one: what a line says, or the code by which it is refused.
+-- What the functions that read a line of a configuration find: what the line says, or the code by
+-- which it is refused; Texts says it in one.
 use Rattle.std.specs.Prelude.{ℕ, zero, suc, Bool, true, false, ◌&&◌, not, List, [], ◌∷◌, ◌++◌, Result, Ok, Err, if◌then◌else◌, nat_eq, nat_le, nat_lt, codes, length}
 use Rattle.std.specs.List.{list_any}
 use Rattle.std.specs.Str.{bytes_eq}

@@ -1,6 +1,6 @@
 -- What the functions that read a configuration find piece by piece; Sections, Format and Designs
 -- say it in one.
-use Rattle.std.specs.Prelude.{ℕ, Bool, true, false, ◌&&◌, not, List, Result, Ok, Err, if◌then◌else◌, nat_eq, nat_le, codes, length, [], Option}
+use Rattle.std.specs.Prelude.{ℕ, Bool, true, false, ◌&&◌, not, List, Result, Ok, Err, if◌then◌else◌, nat_eq, nat_le, codes, length, [], Option, Some, None}
 use Rattle.std.specs.List.{list_any}
 use Rattle.std.specs.Str.{bytes_eq}
 use Rattle.raid_text.specs.Text.{Text}
@@ -8,10 +8,16 @@ use Rattle.text_steps.specs.Steps.{◌>>=◌, after_number, at_end, only_if, at_
 use Rattle.raid_conf.specs.declared.conf.Conf.{Conf}
 use Rattle.text_steps.specs.declared.at.At.{At}
 use Rattle.raid_conf.specs.declared.given.Given.{Given}
-use Rattle.raid_conf.specs.declared.given.Given.TheVariants.{Listed}
+use Rattle.raid_conf.specs.declared.given.Given.TheVariants.{Listed, Cyclic, Complete}
 use Rattle.raid_conf.specs.declared.role.Role.TheVariants.{Disk, Spare}
 use Rattle.raid_conf.specs.Sections.{listed_of}
 use Rattle.raid_conf.specs.Format.{after_start, array_in, names_in, spares_in, layout_in, tuples_in, design_in, queue_behind}
+use Rattle.lay_core.specs.Layout.{Shape}
+use Rattle.raid_conf.specs.Designs.{blocks_of}
+use Rattle.raid_conf.specs.Levels.{has_design}
+use Rattle.raid_conf.specs.Layouts.{plain_of, plain_shape, design_shape}
+use Rattle.raid_conf.specs.declared.plain.Plain.{Plain}
+use Rattle.raid_conf.specs.declared.plain.Plain.TheVariants.{Chained}
 
 -- the line begins a section
 abbrev pub begins : Text → Bool
@@ -81,3 +87,23 @@ conf_in rest = do
   design ← design_in layout.1 array.0 layout.2
   queue ← tail_in design.1
   Ok (record { columns = array.0; spares = array.1; unit = layout.0; level = layout.1; queue = queue; disks = disks.0; spare_names = spares.0; design = design.0 })
+
+-- the layout of a level over n columns, with the design that there may be
+abbrev pub level_shape : ℕ → ℕ → ℕ → ℕ → Option Given → Shape
+level_shape level n u rows None = plain_shape (plain_of level) n u rows
+level_shape level n u rows (Some given) = if has_design level then design_shape level (blocks_of given) u rows else plain_shape (plain_of level) n u rows
+
+-- the rows of the least layout, of which all others have a multiple, and its stripes: those of a full table at levels T and D, of two rows at level C, of a row at the others
+abbrev pub plain_rows : Plain → ℕ
+plain_rows Chained = 2
+plain_rows _ = 1
+
+-- the objects of a tuple
+abbrev pub width_of : Given → ℕ
+width_of (Listed b v k r lambda tuples) = k
+width_of (Cyclic v base) = length base
+width_of (Complete v k) = k
+
+-- a tuple has three objects at least
+unfoldable pub is_wide : Given → Bool
+is_wide given = nat_le 3 (width_of given)

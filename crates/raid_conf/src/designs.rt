@@ -2,7 +2,8 @@
 ghost use Rattle.std.specs.Prelude.{◌≡◌, ◌⊎◌, IfErr, IfOk};
 ghost use Rattle.lay_design.specs.Design.{IsDesign, IsFault};
 ghost use Rattle.raid_conf.specs.Answers.{Judges, AnswersFault};
-ghost use Rattle.raid_conf.specs.Designs.{blocks_of, is_design, is_wide, serves};
+ghost use Rattle.raid_conf.specs.Designs.{blocks_of, is_design, serves};
+ghost use Rattle.raid_conf.specs.Steps.{is_wide};
 ghost use Rattle.raid_conf.specs.Levels.{has_design};
 
 use crate::fault::ConfFault;
@@ -66,7 +67,7 @@ fn is_design(alloc: Global, given: &Given) -> Result<bool, ConfFault>
 }
 
 // The objects of a tuple are three at least.
-#[tactic(auto, unfolding(crate::specs::Designs::is_wide))]
+#[tactic(auto, unfolding(crate::specs::Steps::is_wide))]
 fn is_wide(given: &Given) -> bool
     ensures { result ≡ is_wide given.now }
 {
@@ -78,7 +79,7 @@ fn is_wide(given: &Given) -> bool
 
 /// Whether a level can stand on what is given: a block design, whose tuples have three objects at
 /// least at level D, where one of them is the spare place.
-#[tactic(auto, unfolding(crate::specs::Designs::serves, crate::specs::Designs::is_wide))]
+#[tactic(auto, unfolding(crate::specs::Designs::serves, crate::specs::Steps::is_wide))]
 pub(crate) fn serves(alloc: Global, level: u8, given: &Given) -> Result<bool, ConfFault>
     ensures { Judges result (serves level given.now) }
 {

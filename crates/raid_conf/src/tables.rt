@@ -5,7 +5,8 @@ ghost use Rattle.lay_design.specs.Design.{IsDesign};
 ghost use Rattle.lay_design.specs.Families.{choose};
 ghost use Rattle.raid_conf.specs.Designs.{blocks_of};
 ghost use Rattle.raid_conf.specs.Form.{IsConf};
-ghost use Rattle.raid_conf.specs.Layouts.{plain_rows, plain_stripes, table_rows, table_stripes};
+ghost use Rattle.raid_conf.specs.Layouts.{plain_stripes, table_rows, table_stripes};
+ghost use Rattle.raid_conf.specs.Steps.{plain_rows};
 ghost use Rattle.raid_conf.specs.Parameters.{parameters_of};
 
 use crate::conf::Conf;

@@ -8,8 +8,8 @@ use Rattle.std.proofs.lemmas.List.{get_or-drop, take-append-drop, drop-drop, len
 use Rattle.std.proofs.lemmas.Nat.{le_bytes_4}
 use Rattle.std.proofs.lemmas.Slice.Eq.{bytes_eq-Decides}
 use Rattle.raid_label.specs.declared.label.Label.{Label}
-use Rattle.raid_label.specs.Bytes.{bytes_of, bytes_of_words, label_in, fields_of, word_at, has_magic, has_zeros, names_filling, is_well_formed, IsHeld, IsSector}
-use Rattle.raid_label.specs.Steps.{magic, is_first, is_second}
+use Rattle.raid_label.specs.Bytes.{bytes_of, label_in, fields_of, word_at, has_magic, is_well_formed, IsHeld, IsSector}
+use Rattle.raid_label.specs.Steps.{magic, is_first, is_second, bytes_of_words, has_zeros, names_filling}
 
 -- the numbers that stand one behind the other
 abbrev words_from : List ℕ → ℕ → ℕ → List ℕ
@@ -130,7 +130,7 @@ module _ (s : List ℕ) where
   by_version clean (inr h) = second clean h
 
   formed : is_well_formed s ≡ true → (has_magic s ≡ true) × IsHeld (fields_of s) × (has_zeros s 100 ≡ true)
-  unfolding is_well_formed
+  unfolding is_well_formed names_filling
   formed h =
       let outer = and_both (has_magic s && nat_le (word_at s 40) 1) (is_first s || is_second s) h in
       let inner = and_both (has_magic s) (nat_le (word_at s 40) 1) outer.0 in

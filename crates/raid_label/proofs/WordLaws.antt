@@ -4,8 +4,8 @@ use Rattle.std.specs.List.{list_all}
 use Rattle.std.specs.Int.{w32, to_le_bytes}
 use Rattle.std.proofs.lemmas.List.{take_all, length-replicate}
 use Rattle.raid_label.specs.declared.label.Label.{Label}
-use Rattle.raid_label.specs.Bytes.{bytes_of, bytes_of_words}
-use Rattle.raid_label.specs.Steps.{words_of, magic}
+use Rattle.raid_label.specs.Bytes.{bytes_of}
+use Rattle.raid_label.specs.Steps.{words_of, magic, bytes_of_words}
 
 -- labels whose fields are the same are the same
 pub same_label : {version_x version_y serial_x serial_y counter_x counter_y column_x column_y columns_x columns_y unit_x unit_y rows_x rows_y level_x level_y clean_x clean_y b_x b_y k_x k_y r_x r_y lambda_x lambda_y filling_x filling_y done_x done_y : ℕ} {seats_x seats_y : List ℕ}

@@ -7,8 +7,8 @@ use Rattle.std.proofs.lemmas.Bool.{ne_eqb}
 use Rattle.std.proofs.lemmas.List.{take_at, drop_at, drop-drop}
 use Rattle.std.proofs.lemmas.Nat.{from_le_bytes-to_le_bytes_4}
 use Rattle.raid_label.specs.declared.label.Label.{Label}
-use Rattle.raid_label.specs.Bytes.{bytes_of, bytes_of_words, label_in, fields_of, word_at, has_magic, names_filling, is_well_formed, IsHeld, IsInRange}
-use Rattle.raid_label.specs.Steps.{filling_of, is_first, is_second}
+use Rattle.raid_label.specs.Bytes.{bytes_of, label_in, fields_of, word_at, has_magic, is_well_formed, IsHeld, IsInRange}
+use Rattle.raid_label.specs.Steps.{filling_of, is_first, is_second, bytes_of_words, names_filling}
 use Rattle.raid_label.proofs.WordLaws.{same_label, all_zero}
 
 seats_of : (l : Label) → length l.seats ≡ 32 → take 32 (drop 60 (bytes_of l)) ≡ l.seats
@@ -91,7 +91,7 @@ by_version l in_range held (inl one) = or_left (is_first (bytes_of l)) _ (first_
 by_version l in_range held (inr two) = or_right (is_first (bytes_of l)) _ (second_is l in_range held two)
 
 is_formed : (l : Label) → IsInRange l → IsHeld l → is_well_formed (bytes_of l) ≡ true
-unfolding is_well_formed
+unfolding is_well_formed names_filling
 is_formed l in_range held = and_true _ _ (and_true _ _ (magic_is l) (clean_is l in_range held)) (by_version l in_range held held.version)
 
 pub label_is_read : (l : Label) → IsInRange l → IsHeld l → label_in (bytes_of l) ≡ Some l

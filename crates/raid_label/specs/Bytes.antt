@@ -1,23 +1,18 @@
 -- What a label is in the bytes of sector 0.
-use Rattle.std.specs.Prelude.{◌≡◌, ◌⊎◌, ℕ, ◌^◌, ◌<◌, ◌≤◌, ◌==◌, ◌&&◌, ◌||◌, not, Bool, List, [], ◌∷◌, ◌++◌, take, drop, length, replicate, codes, Option, Some, None, if◌then◌else◌, nat_le, slice_index}
+use Rattle.std.specs.Prelude.{◌≡◌, ◌⊎◌, ℕ, ◌^◌, ◌<◌, ◌≤◌, ◌==◌, ◌&&◌, ◌||◌, not, Bool, List, [], ◌∷◌, ◌++◌, flat_map, take, drop, length, replicate, codes, Option, Some, None, if◌then◌else◌, nat_le, slice_index}
 use Rattle.std.specs.List.{list_all}
 use Rattle.std.specs.Str.{bytes_eq}
 use Rattle.std.specs.Int.{w32, from_le_bytes, to_le_bytes}
 use Rattle.raid_label.specs.declared.label.Label.{Label}
 
--- numbers in four bytes each, the lowest first
-abbrev pub bytes_of_words : List ℕ → List ℕ
-bytes_of_words [] = []
-bytes_of_words (n ∷ ns) = to_le_bytes w32 n ++ bytes_of_words ns
-
 -- the 512 bytes of a label: the eight with which each begins, its numbers, a byte for each seat,
--- the two numbers of the column that is filling, zeros
+-- the two numbers of the column that is filling, zeros; a number takes four bytes, the lowest first
 unfoldable pub bytes_of : Label → List ℕ
 bytes_of l =
     codes "RFLABEL1"
-    ++ (bytes_of_words (l.version ∷ l.serial ∷ l.counter ∷ l.column ∷ l.columns ∷ l.unit ∷ l.rows
+    ++ (flat_map (to_le_bytes w32) (l.version ∷ l.serial ∷ l.counter ∷ l.column ∷ l.columns ∷ l.unit ∷ l.rows
     ∷ l.level ∷ l.clean ∷ l.b ∷ l.k ∷ l.r ∷ l.lambda ∷ [])
-    ++ (l.seats ++ (bytes_of_words (l.filling ∷ l.done ∷ []) ++ replicate 412 0)))
+    ++ (l.seats ++ (flat_map (to_le_bytes w32) (l.filling ∷ l.done ∷ []) ++ replicate 412 0)))
 
 -- What a well-formed sector may hold: it is of version 1 or 2, the column that is filling, where one is named, is one of the columns, and where none is no stripe is done.
 pub record IsHeld (l : Label) : Type 0 where
@@ -56,20 +51,15 @@ fields_of sector = record {
 unfoldable pub has_magic : List ℕ → Bool
 has_magic sector = bytes_eq (take 8 sector) (codes "RFLABEL1")
 
--- no byte but 0 stands from there on
-abbrev pub has_zeros : List ℕ → ℕ → Bool
-has_zeros sector at = list_all (λ b. b == 0) (drop at sector)
-
--- the two numbers name a column that there is, or none, of which no stripe is done then
-unfoldable pub names_filling : List ℕ → Bool
-names_filling sector = nat_le (word_at sector 92) (word_at sector 24) && (not (word_at sector 92 == 0) || word_at sector 96 == 0)
-
 -- The eight bytes, a clean field of 0 or 1, and what stands behind the seats by the version are as
--- they are to be: in version 1 zeros, in version 2 the two numbers, and zeros behind them.
+-- they are to be: in version 1 zeros; in version 2 the two numbers, which name a column that there
+-- is, or none, of which no stripe is done then, and zeros behind them.
 unfoldable pub is_well_formed : List ℕ → Bool
 is_well_formed sector = (has_magic sector && nat_le (word_at sector 40) 1)
-    && ((word_at sector 8 == 1 && has_zeros sector 92)
-    || ((word_at sector 8 == 2 && names_filling sector) && has_zeros sector 100))
+    && ((word_at sector 8 == 1 && list_all (λ b. b == 0) (drop 92 sector))
+    || ((word_at sector 8 == 2 && (nat_le (word_at sector 92) (word_at sector 24)
+    && (not (word_at sector 92 == 0) || word_at sector 96 == 0)))
+    && list_all (λ b. b == 0) (drop 100 sector)))
 
 -- the label that a sector holds, if it is well formed
 unfoldable pub label_in : List ℕ → Option Label

@@ -1,6 +1,7 @@
 //! Whether a label is the wanted one.
 ghost use Rattle.std.specs.Prelude.{◌≡◌, MatchResult, Some, None, option_map};
-ghost use Rattle.raid_label.specs.Judged.{fault_in, shape_fault, unlabelled_fault};
+ghost use Rattle.raid_label.specs.Judged.{fault_in, unlabelled_fault};
+ghost use Rattle.raid_label.specs.Steps.{shape_fault};
 
 use crate::fault::LabelFault;
 use crate::label::Label;
@@ -18,7 +19,7 @@ use crate::label::Label;
 /// - `Shape` where columns, unit, level, b, k, r, lambda or rows differ, the first of them;
 /// - `Serial` where the serial numbers differ;
 /// - `Column` where the columns do.
-#[tactic(auto, unfolding(crate::specs::Judged::fault_in))]
+#[tactic(auto, unfolding(crate::specs::Judged::fault_in, crate::specs::Steps::shape_fault))]
 pub fn judge(label: Option<&Label>, found_version: u32, wanted: &Label) -> Result<(), LabelFault>
     ensures { MatchResult result
         (λ _. fault_in (option_map (λ l. l.now) label.entry) found_version wanted.now ≡ None)
@@ -62,7 +63,7 @@ pub fn fault_of_version(found: u32) -> LabelFault
 }
 
 // The first field of the array's shape that differs.
-#[tactic(auto, unfolding(crate::specs::Judged::shape_fault))]
+#[tactic(auto, unfolding(crate::specs::Steps::shape_fault))]
 fn shape_fault(label: &Label, wanted: &Label) -> Option<LabelFault>
     ensures { result ≡ shape_fault label.now wanted.now }
 {

@@ -1,8 +1,8 @@
 //! Reading a label.
 ghost use Rattle.std.specs.Prelude.{◌≡◌, ◌==◌, ◌+◌, ◌≤◌, length, take, drop};
 ghost use Rattle.std.specs.List.{list_all};
-ghost use Rattle.raid_label.specs.Bytes.{label_in, fields_of, word_at, has_magic, has_zeros, names_filling, is_well_formed, version_in};
-ghost use Rattle.raid_label.specs.Steps.{is_first, is_second};
+ghost use Rattle.raid_label.specs.Bytes.{label_in, fields_of, word_at, has_magic, is_well_formed, version_in};
+ghost use Rattle.raid_label.specs.Steps.{is_first, is_second, has_zeros, names_filling};
 
 use crate::label::{Label, MAGIC};
 
@@ -32,7 +32,7 @@ pub fn found_version(sector: &[u8]) -> u32
     }
 }
 
-#[tactic(auto, unfolding(crate::specs::Bytes::is_well_formed))]
+#[tactic(auto, unfolding(crate::specs::Bytes::is_well_formed, crate::specs::Steps::names_filling))]
 fn is_well_formed(sector: &[u8]) -> bool
     requires { length sector.now ≡ 512 }
     ensures { result ≡ is_well_formed sector.now }
@@ -57,7 +57,7 @@ fn is_second(sector: &[u8]) -> bool
 }
 
 // Whether the column that is filling is one of the columns, or none, of which no stripe is done then.
-#[tactic(auto, unfolding(crate::specs::Bytes::names_filling))]
+#[tactic(auto, unfolding(crate::specs::Steps::names_filling))]
 fn names_filling(sector: &[u8]) -> bool
     requires { length sector.now ≡ 512 }
     ensures { result ≡ names_filling sector.now }

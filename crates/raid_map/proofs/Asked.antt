@@ -14,7 +14,7 @@ use Rattle.eng_world.specs.declared.item.Traced.TheVariants as event
 use Rattle.eng_world.specs.World.{Running, Runs, World, RunsAs, Goes}
 use Rattle.eng_world.specs.Planning.{Graphs}
 use Rattle.eng_world.specs.Failing.{FailsColumn, FailsIfAlive, Loses, Survives, device_on}
-use Rattle.eng_world.specs.Serving.{Begun, BackBy, Takes, Refuses}
+use Rattle.eng_world.specs.Serving.{Begun, Takes, Refuses}
 use Rattle.eng_world.specs.Nodes.{Works, Commits, Terminates}
 use Rattle.eng_world.specs.Step.{StepIn, StepLost, StepBy, Step, ComesHome}
 use Rattle.eng_world.specs.Invariant.{Invariant}
@@ -24,6 +24,7 @@ use Rattle.raid_map.specs.Regions.{region_of}
 use Rattle.raid_map.specs.Mapped.{Covers, AreAskedFor}
 use Rattle.raid_map.proofs.Chosen.{EachChosen, chosen-writes}
 use Rattle.graph_mean.proofs.Words.{no_vertex}
+use Rattle.eng_world.proofs.Words.{BackBy}
 
 -- ## While the array isn't lost
 
@@ -77,7 +78,7 @@ module _ (y : Shape) (graphs : Graphs) where
   begin-plans c old new loss none is (item.Fail column) h = alive-plans column old h.0 new loss (h.1.only.columns.lost ∙ none) is h.2 (λ d r runs. (r, still-runs c _ old h.0 h.1.replied d r runs, refl))
 
   in-plans : (e : Traced) (old new : World) (loss : Loss) → old.lost ≡ None → new.lost ≡ Some loss → StepIn y graphs e old new → (d : ℕ) (r : Running) → RunsAs new d r → HadPlan old d r
-  in-plans (event.Begin id) old new loss none is h = begin-plans id.client old new loss none is h.1.can.item h.1.begun
+  in-plans (event.Begin id) old new loss none is h = begin-plans id.client old new loss none is h.1.0.item h.1.1
   in-plans (event.Take id) old new loss none is h = some-none (sym none ∙ sym (go h.1) ∙ is)
     where
       go : Takes y graphs id.client old new ⊎ Refuses y graphs id.client old new → new.lost ≡ old.lost
@@ -94,7 +95,7 @@ module _ (y : Shape) (graphs : Graphs) where
   in-plans (event.Bad id n) old new loss none is h = alive-plans h.1.at.column old h.1.mid new loss (h.1.node.columns.lost ∙ none) is h.1.column (goes-plans id.client h.1.node.was h.1.node.next old h.1.mid h.1.node.finishes.runs h.1.node.finishes.plan h.1.node.goes)
   in-plans (event.Back id) old new loss none is h = some-none (sym none ∙ sym (go h.1.graph h.1.back) ∙ is)
     where
-      go : (g : Option ℕ) → BackBy y graphs id.client h.1.op g h.1.can.was old new → new.lost ≡ old.lost
+      go : (g : Option ℕ) → BackBy y graphs id.client h.1.op g h.1.was old new → new.lost ≡ old.lost
       go None b = b.only.columns.lost
       go (Some n) b = b.only.columns.lost
   in-plans (event.Fail c) old new loss none is h = fails-plans c old new loss is h.2

@@ -22,7 +22,6 @@ use Rattle.eng_world.specs.declared.item.Traced.{Traced}
 use Rattle.eng_world.specs.declared.item.Traced.TheVariants as event
 use Rattle.eng_world.specs.World.{World}
 use Rattle.eng_world.specs.Planning.{Graphs}
-use Rattle.eng_world.specs.Serving.{columns_of}
 use Rattle.eng_world.specs.Nodes.{Terminates, ColumnsAfter}
 use Rattle.eng_world.specs.Step.{Step, StepBy, column_begun}
 use Rattle.eng_world.specs.Invariant.{Invariant}
@@ -30,6 +29,7 @@ use Rattle.eng_world.proofs.KeepsEnd.{first}
 use Rattle.eng_world.proofs.Moves.{Move, Moves, one, two, replies, waits, takes, fires, skips, works, commits, ends, fails, anew, gives, dies, starts, home, moves}
 use Rattle.raid_map.specs.Regions.{region_of}
 use Rattle.raid_map.specs.Mapped.{Covers}
+use Rattle.eng_world.proofs.Words.{columns_of}
 
 some-same : {X : Type 0} {a b : X} → Some a ≡ Some b → a ≡ b
 some-same h = cc

@@ -6,13 +6,14 @@ use Rattle.lay_core.specs.Layout.{Shape, IsLayout}
 use Rattle.eng_cols.specs.declared.spot.Spot.{Spot}
 use Rattle.eng_cols.specs.Cols.{ColumnState}
 use Rattle.eng_cols.specs.Seats.{is_available, seat}
-use Rattle.eng_cols.specs.Contents.{Contents, sector_at, byte_if, byte_of}
+use Rattle.eng_cols.specs.Contents.{Contents, sector_at, byte_of}
 use Rattle.eng_cols.proofs.Sums.{below_same}
 use Rattle.eng_cols.proofs.Spots.{available-seat, same-place}
 use Rattle.raid_map.specs.Stops.{Stored, SameSector, MayHold, IsImage}
 use Rattle.raid_map.specs.Union.{IsUnsound}
 use Rattle.raid_map.proofs.Sited.{IsPlaceOf, of_unit, of_spare}
 use Rattle.raid_map.proofs.Holding.{may-same}
+use Rattle.eng_cols.proofs.Words.{byte_if}
 
 -- ## One stripe has a place
 

@@ -13,9 +13,10 @@ use Rattle.blk_disk.proofs.DeviceLaws.{changes-refl, changes-then, changes-more,
 use Rattle.eng_cols.specs.declared.column.Column.{Column}
 use Rattle.eng_cols.specs.declared.column.Column.TheVariants as column
 use Rattle.eng_cols.specs.Cols.{device_set, HasDeviceOn, has_device}
-use Rattle.eng_cols.specs.Deaths.{Dies}
+use Rattle.eng_cols.specs.Deaths.{Dies, LosesDevice}
 use Rattle.eng_cols.proofs.DeathLaws.{dies-refl, dies-more, dies-then, dies-set}
-use Rattle.raid_map.specs.Marking.{IsMapSector, MarksOn, MarksAtMost, CanBeMarked, LosesDevice, MarksColumn, AreMarked}
+use Rattle.raid_map.specs.Marking.{IsMapSector, MarksOn, CanBeMarked, MarksColumn, AreMarked}
+use Rattle.raid_map.proofs.Words.{MarksAtMost}
 
 -- ## Lists of columns
 
@@ -122,7 +123,7 @@ module _ {D : Type 0} (g : Ghosts D) (bytes : List ℕ) where
     fresh = was.others d (λ c below other. let e = can.apart c n d other here in omega (arith, below, e))
 
     moved : Changes g (IsMapSector columns) dev new
-    moved = changes-more g (λ k m. (k ≡ d) × (m ≡ 1)) (IsMapSector columns) dev new (λ k m h. record { col = n; on = here ∙ ap Some (sym h.0); second = h.1 }) step.marking.frame
+    moved = changes-more g (λ k m. (k ≡ d) × (m ≡ 1)) (IsMapSector columns) dev new (λ k m h. ((n, here ∙ ap Some (sym h.0)), h.1)) step.marking.frame
 
     fails : step.good ≡ false → LosesDevice g columns old new n
     fails bad = record { device = d; had = here; rose = rises-wider g (IsMapSector columns) (IsMapSector columns) old dev new new d was.frame (step.marking.cause bad) (changes-refl g (IsMapSector columns) new) }

@@ -11,12 +11,12 @@ use Rattle.lay_core.specs.Layout.{Shape}
 use Rattle.eng_cols.specs.declared.column.Column.{Column}
 use Rattle.eng_cols.specs.declared.column.Column.TheVariants as column
 use Rattle.eng_cols.specs.Cols.{HasDevice, device_set, state_set, HasDeviceOn, has_device}
-use Rattle.eng_cols.specs.Deaths.{Dies}
+use Rattle.eng_cols.specs.Deaths.{Dies, LosesDevice}
 use Rattle.eng_cols.specs.Stripes.{states_of, filled_in}
 use Rattle.eng_cols.proofs.DeathLaws.{dies-refl, dies-more, dies-then}
 use Rattle.eng_cols.proofs.Fewer.{states-at}
 use Rattle.raid_map.specs.Regions.{regions_in, bit_at, IsMap, Marks, is_marked, IsMapOf, Adds}
-use Rattle.raid_map.specs.Marking.{CanBeMarked, LosesDevice}
+use Rattle.raid_map.specs.Marking.{CanBeMarked}
 use Rattle.raid_map.specs.Reading.{is_true, Grows, AddsRead, ReadsColumn, AreRead, IsUnion}
 use Rattle.raid_map.proofs.MarkLaws.{on_within, if_other, if_on, if_dies, if_has, one_device}
 use Rattle.raid_map.proofs.Unions.{regions-few, added-marks}

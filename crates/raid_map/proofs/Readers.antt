@@ -8,11 +8,11 @@ use Rattle.graph_mean.specs.Graph.{Vertex}
 use Rattle.graph_mean.specs.Task.{Aim, Missing, is_touched}
 use Rattle.graph_lib.specs.Piece.{Piece, At, start, reads_from, sum_nodes, write_node, write_nodes, after, when}
 use Rattle.graph_lib.specs.Assembled.{spread, read_part, sum_part, write_part, commit_of, commit_node, end_node, assembled}
-use Rattle.graph_lib.specs.Library.{Range, plain_read, made_read, read_piece, touched_ranges, stripe_pieces, pieces_upto, library}
+use Rattle.graph_lib.specs.Library.{Range, plain_read, read_piece, touched_ranges, stripe_pieces, pieces_upto, library}
 use Rattle.raid_map.specs.Mapped.{HasWrite}
 use Rattle.raid_map.specs.Asking.{node_writes}
 use Rattle.raid_map.proofs.Spans.{quiet-graph}
-use Rattle.graph_lib.proofs.Words.{sum_node, read_nodes}
+use Rattle.graph_lib.proofs.Words.{sum_node, read_nodes, made_read}
 use Rattle.graph_mean.proofs.Words.{no_vertex}
 
 -- none of these nodes is a write

@@ -18,8 +18,8 @@ use Rattle.eng_cols.proofs.Spots.{Stands, own, spared, seat-stands}
 use Rattle.eng_world.specs.declared.item.Traced.{Traced}
 use Rattle.eng_world.specs.World.{Plan, Running, World, RunsAs}
 use Rattle.eng_world.specs.Planning.{Graphs, Promises}
-use Rattle.eng_world.specs.Nodes.{Fires, Finishes, Told, GoodContents, BadContents, IsWrittenAt, place_of, call_of}
-use Rattle.eng_world.specs.Step.{LostContents, IsOpening, EventsLead}
+use Rattle.eng_world.specs.Nodes.{Fires, Finishes, IsWrittenAt, place_of, EndContents}
+use Rattle.eng_world.specs.Step.{IsOpening, EventsLead}
 use Rattle.eng_world.specs.Invariant.{Invariant}
 use Rattle.eng_world.proofs.Clients.{nothing-runs}
 use Rattle.eng_world.proofs.Serving.{place-seat}
@@ -30,6 +30,8 @@ use Rattle.eng_world.proofs.Reaching.{reaches}
 use Rattle.eng_world.proofs.Promised.{not-lost}
 use Rattle.raid_map.specs.Regions.{region_of}
 use Rattle.raid_map.specs.Mapped.{IsWrite, IsUnderWay, Covers as CoversWrites}
+use Rattle.eng_world.proofs.Words.{call_of, Told, GoodContents, BadContents}
+use Rattle.eng_world.proofs.Shared.{good-of}
 
 -- the place is one of the stripe's: a unit's, or its spare place
 pub data IsPlaceOf (y : Shape) (s c r : ℕ) : Type 0 where
@@ -135,11 +137,11 @@ module _ (y : Shape) (layout : IsLayout y) (in_sync : Type 0) (start : Blocks) (
       bad-same : (c m : ℕ) (was : Running) → RunsAs old c was → was.node m ≡ Out → (kd : Node) (at : Spot) → kind_at was.plan.graph m ≡ kd → was.fired_at m ≡ Some at → BadContents y was kd at old new → new.contents d n k ≡ old.contents d n k
       bad-same c m was runs out (Wr unit buf) at e is g = g d n k (λ w. outside (written c m was unit buf at runs out e is w))
       bad-same c m was runs out (Rd unit buf) at e is g = g d n k
-      bad-same c m was runs out (Xor to) at e is g = absurd g
-      bad-same c m was runs out Cmt at e is g = absurd g
-      bad-same c m was runs out Trm at e is g = absurd g
+      bad-same c m was runs out (Xor to) at e is g = g d n k
+      bad-same c m was runs out Cmt at e is g = g d n k
+      bad-same c m was runs out Trm at e is g = g d n k
 
-      lost-same : (c m : ℕ) (was : Running) → RunsAs old c was → was.node m ≡ Out → (good : Bool) (kd : Node) (at : Option Spot) → kind_at was.plan.graph m ≡ kd → was.fired_at m ≡ at → LostContents y was kd at good old new → new.contents d n k ≡ old.contents d n k
+      lost-same : (c m : ℕ) (was : Running) → RunsAs old c was → was.node m ≡ Out → (good : Bool) (kd : Node) (at : Option Spot) → kind_at was.plan.graph m ≡ kd → was.fired_at m ≡ at → EndContents y was kd at good old new → new.contents d n k ≡ old.contents d n k
       lost-same c m was runs out true (Wr unit buf) (Some at) e is g = g.others d n k (λ w. outside (written c m was unit buf at runs out e is w))
       lost-same c m was runs out false (Wr unit buf) (Some at) e is g = g d n k (λ w. outside (written c m was unit buf at runs out e is w))
       lost-same c m was runs out good (Wr unit buf) None e is g = absurd g
@@ -154,7 +156,7 @@ module _ (y : Shape) (layout : IsLayout y) (in_sync : Type 0) (start : Blocks) (
       same-on e (takes c known f) = f.only.devices.contents d n k
       same-on e (fires c m known f) = f.only.devices.contents d n k
       same-on e (skips c m known f) = f.only.devices.contents d n k
-      same-on e (works c m known f) = good-same c m f.was f.finishes.runs f.finishes.out _ _ refl refl f.contents
+      same-on e (works c m known f) = good-same c m f.was f.finishes.runs f.finishes.out _ _ refl refl (good-of y c m old new f)
       same-on e (commits c m known f) = f.contents d n k
       same-on e (ends c m known f) = f.contents d n k
       same-on e (fails c m at bad known f) = bad-same c m f.was f.finishes.runs f.finishes.out _ at refl f.at_is f.contents

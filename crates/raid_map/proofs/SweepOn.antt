@@ -230,7 +230,7 @@ module _ {D : Type 0} (g : Ghosts D) (y : Shape) (layout : IsLayout y) (one : y.
         same-sum not o k ou = sum-same g (λ d m. (does_write turn ≡ true) × IsCheckSector y mids n d m) dev new y mids n y.width o k step.visit.frame told (λ i at iw is may. no-bool (sym not ∙ may.0))
 
         go : (t : Turn) → turn ≡ t → IsTurn g.tells Sync y (contents_of g dev) mids n t → IsZero y (contents_of g new) mids n
-        go Left e h = let u = h.unit in no-bool (sym h.missing ∙ step-back.available n u (all u h.within))
+        go Left e h = no-bool (sym h.2 ∙ step-back.available n h.0 (all h.0 h.1))
         go (Unread i) e h = absurd (unread i h.1 (ap (failed_at y mids n) e) h.0)
         go Sound e h = λ o k ou ku. same-sum (ap does_write e) o k ou ∙ h.1.1 told o k ou ku
         go Unsound e h = no-bool (h.1.0)
@@ -323,7 +323,7 @@ module _ {D : Type 0} (g : Ghosts D) (y : Shape) (layout : IsLayout y) (one : y.
         unread i iw same full = gone y mid mid-array.order n i (seat y mids n i) (full i iw) refl (subst (λ q. is_available y (states_of y (dead_at mid q)) n i ≡ true) same (complete i iw))
 
         go : (t : Turn) → turn ≡ t → IsTurn g.tells Sync y (contents_of g dev) mids n t → does_count turn ≡ true
-        go Left e h = let u = h.unit in no-bool (sym h.missing ∙ step-back.available n u (all u h.within))
+        go Left e h = no-bool (sym h.2 ∙ step-back.available n h.0 (all h.0 h.1))
         go (Unread i) e h = absurd (unread i h.1 (ap (failed_at y mids n) e) h.0)
         go Sound e h = absurd (nz.differs (sym (sums-before told nz.offset nz.byte nz.within h.0) ∙ h.1.1 told nz.offset nz.byte nz.within nz.of_sector))
         go Unsound e h = no-bool h.1.0

@@ -119,8 +119,9 @@ HasWrite g = (n : ℕ) × (unit : ℕ) × (buf : ℕ) × (kind_at g n ≡ Wr uni
 
 -- a graph by which a read is served has a write: the one of the file that it names, or one of the library's
 abbrev pub ReadWrites : Graphs → Option ℕ → Type 0
-ReadWrites graphs (Some n) = HasWrite (graphs.file n)
-ReadWrites graphs None = (t : Aim) × (missing : Missing) × (t.kind ≡ kind.Read) × HasWrite (graphs.library t missing)
+ReadWrites graphs (Some number) = (n : ℕ) × (unit : ℕ) × (buf : ℕ) × (kind_at (graphs.file number) n ≡ Wr unit buf)
+ReadWrites graphs None = (t : Aim) × (missing : Missing) × (t.kind ≡ kind.Read)
+    × ((n : ℕ) × (unit : ℕ) × (buf : ℕ) × (kind_at (graphs.library t missing) n ≡ Wr unit buf))
 
 -- the operation may write: it is no read, or its graph has a write
 abbrev pub MayWrite : Graphs → Op → Option ℕ → Type 0

@@ -1,20 +1,18 @@
 -- What it is that the devices in use are marked.
-use Rattle.std.specs.Prelude.{◌≡◌, ◌≢◌, ◌<◌, ◌≤◌, ◌⊎◌, ℕ, List, [], ◌∷◌, ◌++◌, Bool, true, false, Option, Some, None, slice_get, slice_set, if◌then◌else◌}
+use Rattle.std.specs.Prelude.{◌≡◌, ◌≢◌, ◌<◌, ◌≤◌, ◌⊎◌, ℕ, List, [], ◌∷◌, ◌++◌, Bool, true, false, Option, Some, slice_get, slice_set, if◌then◌else◌}
 use Rattle.blk_disk.specs.declared.disk.Call.{Call}
 use Rattle.blk_disk.specs.declared.disk.Disk.{Ghosts}
-use Rattle.blk_disk.specs.Disk.{call_of}
+use Rattle.blk_disk.specs.Disk.{call_of, ToldOn}
 use Rattle.blk_disk.specs.Devices.{device_at, size_of, calls_of, RisesOn, Changes}
 use Rattle.blk_disk.specs.Stops.{Left}
 use Rattle.eng_cols.specs.declared.column.Column.{Column}
 use Rattle.eng_cols.specs.declared.column.Column.TheVariants as column
 use Rattle.eng_cols.specs.Cols.{HasDeviceOn, has_device}
-use Rattle.eng_cols.specs.Deaths.{Dies}
+use Rattle.eng_cols.specs.Deaths.{Dies, LosesDevice}
 
 -- sector 1 of a device in use
-pub record IsMapSector (columns : List Column) (d n : ℕ) : Type 0 where
-  pub col : ℕ
-  pub on : HasDeviceOn columns col d
-  pub second : n ≡ 1
+abbrev pub IsMapSector : List Column → ℕ → ℕ → Type 0
+IsMapSector columns d n = ((c : ℕ) × HasDeviceOn columns c d) × (n ≡ 1)
 
 -- the calls that mark a device: its sector 1 is written and it is settled, both well, or one of the two fails
 abbrev pub MarkCalls : Bool → List Call → Type 0
@@ -23,15 +21,7 @@ MarkCalls false calls = (calls ≡ call_of 1 1 512 false ∷ []) ⊎ (calls ≡ 
 
 -- where the calls are told now, they were told before and have these behind them
 abbrev pub MarksOn : Option (List Call) → Option (List Call) → Bool → Type 0
-MarksOn before None good = Unit {0}
-MarksOn None (Some now) good = ⊥
-MarksOn (Some before) (Some now) good = (more : List Call) × MarkCalls good more × (now ≡ before ++ more)
-
--- where the calls are told now, they were told before; and those that came are of a mark, or there are none
-abbrev pub MarksAtMost : Option (List Call) → Option (List Call) → Type 0
-MarksAtMost before None = Unit {0}
-MarksAtMost None (Some now) = ⊥
-MarksAtMost (Some before) (Some now) = (more : List Call) × ((more ≡ []) ⊎ ((good : Bool) × MarkCalls good more)) × (now ≡ before ++ more)
+MarksOn before now good = ToldOn (λ (was : List Call) (is : List Call). (more : List Call) × MarkCalls good more × (is ≡ was ++ more)) before now
 
 module _ {D : Type 0} (g : Ghosts D) where
   -- The device of each column is there with two sectors, and is no other's.
@@ -43,12 +33,6 @@ module _ {D : Type 0} (g : Ghosts D) where
   pub record IsSafeOn (x : D) (bytes : List ℕ) : Type 0 where
     pub held : g.tells → g.sector x 1 ≡ bytes
     pub left : (l : Left) → g.left x ≡ Some l → (l.settled ≡ g.sector x) × (l.logged ≡ [])
-
-  -- the column had a device whose count of faults rose
-  pub record LosesDevice (columns : List Column) (old new : List (Option D)) (c : ℕ) : Type 0 where
-    pub device : ℕ
-    pub had : HasDeviceOn columns c device
-    pub rose : RisesOn g old new device
 
   -- Device d was marked, well or not, and no other was called.
   pub record IsMarking (d : ℕ) (bytes : List ℕ) (old new : List (Option D)) (good : Bool) : Type 0 where
@@ -68,10 +52,12 @@ module _ {D : Type 0} (g : Ghosts D) where
 
   -- The first n columns were marked. No sector has changed but sector 1 of devices in use; a column has died where its device failed, and no other died; each of the first n that has its device still is safe; the device of each of them that has one had the calls of a mark, which went well exactly where the column has it still; no other device was called.
   pub record AreMarked (n : ℕ) (bytes : List ℕ) (columns after : List Column) (old new : List (Option D)) : Type 0 where
-    pub frame : Changes g (IsMapSector columns) old new
-    pub dies : Dies (LosesDevice columns old new) columns after
+    pub frame : Changes g (λ d n. ((c : ℕ) × HasDeviceOn columns c d) × (n ≡ 1)) old new
+    pub dies : Dies (LosesDevice g columns old new) columns after
     pub safe : (c d : ℕ) (x : D) → c < n → HasDeviceOn after c d → device_at new d ≡ Some x → IsSafeOn x bytes
-    pub once : (c d : ℕ) → c < n → HasDeviceOn columns c d → MarksOn (calls_of g old d) (calls_of g new d) (has_device (slice_get after c))
+    pub once : (c d : ℕ) → c < n → HasDeviceOn columns c d
+        → ToldOn (λ (was : List Call) (is : List Call). (more : List Call) × MarkCalls (has_device (slice_get after c)) more × (is ≡ was ++ more)) (calls_of g old d) (calls_of g new d)
     pub others : (d : ℕ) → ((c : ℕ) → c < n → HasDeviceOn columns c d → ⊥) → device_at new d ≡ device_at old d
     pub kept : (c : ℕ) → n ≤ c → slice_get after c ≡ slice_get columns c
-    pub told : (d : ℕ) → MarksAtMost (calls_of g old d) (calls_of g new d)
+    pub told : (d : ℕ)
+        → ToldOn (λ (was : List Call) (is : List Call). (more : List Call) × ((more ≡ []) ⊎ ((good : Bool) × MarkCalls good more)) × (is ≡ was ++ more)) (calls_of g old d) (calls_of g new d)

@@ -6,10 +6,9 @@ use Rattle.blk_disk.specs.Devices.{device_at, calls_of, sector_of, contents_of, 
 use Rattle.lay_core.specs.Layout.{Shape}
 use Rattle.eng_cols.specs.declared.column.Column.{Column}
 use Rattle.eng_cols.specs.declared.column.Column.TheVariants as column
-use Rattle.eng_cols.specs.Deaths.{Dies}
+use Rattle.eng_cols.specs.Deaths.{Dies, LosesDevice}
 use Rattle.eng_cols.specs.Stripes.{states_of}
 use Rattle.raid_map.specs.Regions.{regions_in, Marks, is_marked, IsMapOf, Adds}
-use Rattle.raid_map.specs.Marking.{LosesDevice}
 use Rattle.raid_map.specs.Union.{HasMap, UnionMarks}
 use Rattle.eng_cols.specs.Cols.{HasDeviceOn, has_device}
 

@@ -5,9 +5,9 @@ use Rattle.std.specs.Prelude.{◌≡◌, ℕ, ◌+◌, ◌-◌, ◌*◌, ◌/◌
 abbrev pub region_stripes : ℕ → ℕ
 region_stripes stripes = (stripes + 3967) / 3968
 
--- the region in which a stripe lies
+-- the region in which a stripe lies: a map has 3,968 bits
 abbrev pub region_of : ℕ → ℕ → ℕ
-region_of stripes s = s / region_stripes stripes
+region_of stripes s = s / ((stripes + 3967) / 3968)
 
 -- how many regions there are, where there is a stripe
 abbrev pub regions_in : ℕ → ℕ
@@ -29,7 +29,7 @@ HasMagic bytes = (k : ℕ) → k < 8 → bytes k ≡ slice_index (codes "RFPMAP0
 pub record IsMap (serial stripes : ℕ) (marks : ℕ → Bool) (bytes : ℕ → ℕ) : Type 0 where
   pub magic : (k : ℕ) → k < 8 → bytes k ≡ slice_index (codes "RFPMAP01") k
   pub serial_is : number_at bytes 8 ≡ serial
-  pub region_is : number_at bytes 12 ≡ region_stripes stripes
+  pub region_is : number_at bytes 12 ≡ (stripes + 3967) / 3968
   pub bits : (r : ℕ) → r < 3968
       → (((bytes (16 + r / 8) / 2 ^ (r % 8)) % 2) == 1) ≡ (nat_lt r (regions_in stripes) && marks r)
 

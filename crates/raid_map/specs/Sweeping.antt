@@ -1,5 +1,5 @@
 -- What a sweep over the marked stripes does.
-use Rattle.std.specs.Prelude.{◌≡◌, ◌<◌, ◌≤◌, ◌++◌, ℕ, List, All, Bool, true, Option, Some, None}
+use Rattle.std.specs.Prelude.{◌≡◌, ◌<◌, ◌≤◌, ◌++◌, ℕ, List, All, Bool, true, Option}
 use Rattle.blk_disk.specs.declared.disk.Call.{Call}
 use Rattle.blk_disk.specs.declared.disk.Disk.{Ghosts}
 use Rattle.blk_disk.specs.Devices.{Changes, contents_of}
@@ -13,6 +13,7 @@ use Rattle.raid_recon.specs.Ends.{AreGoodButLast, IsUnitCall}
 use Rattle.raid_recon.specs.Sums.{IsZero, IsNotZero}
 use Rattle.raid_map.specs.Regions.{Marks, region_of, is_marked}
 use Rattle.lay_core.specs.Touched.{count_below}
+use Rattle.blk_disk.specs.Disk.{ToldOn}
 
 -- the stripe lies in a region that the map marks
 abbrev pub marks_stripe : Marks → ℕ → Bool
@@ -52,6 +53,4 @@ pub record IsMarkedCall (y : Shape) (cols : List ColumnState) (marks : ℕ → B
 
 -- Where the calls are told, those that came are of whole units of marked stripes, and none is behind one that failed.
 abbrev pub CallsMarked : Shape → List ColumnState → (ℕ → Bool) → ℕ → Option (List Call) → Option (List Call) → Type 0
-CallsMarked y cols marks d before None = Unit {0}
-CallsMarked y cols marks d None (Some now) = ⊥
-CallsMarked y cols marks d (Some before) (Some now) = (more : List Call) × (now ≡ before ++ more) × AreGoodButLast more × All (IsMarkedCall y cols marks d) more
+CallsMarked y cols marks d before now = ToldOn (λ (was : List Call) (is : List Call). (more : List Call) × (is ≡ was ++ more) × AreGoodButLast more × All (IsMarkedCall y cols marks d) more) before now

@@ -17,10 +17,10 @@ use Rattle.raid_recon.specs.declared.ahead.Rows.{Rows}
 use Rattle.raid_recon.specs.declared.kind.Sweep.{Sweep}
 use Rattle.raid_recon.specs.declared.kind.Sweep.TheVariants.{Check, Sync, Init}
 use Rattle.raid_recon.specs.Turns.{Turn, Left, Unread, Sound, Unsound, Written, Unwritten, TellsMore, call_if, seat_calls, read_calls, units_read, turn_calls, IsTurn}
-use Rattle.raid_recon.specs.Ahead.{is_at_hand, no_rows, read_rows, reads_ahead, rows_read, seat_reads, seat_rows, turn_ahead}
+use Rattle.raid_recon.specs.Ahead.{is_at_hand, no_rows, read_rows, reads_ahead, seat_reads, seat_rows, turn_ahead}
 use Rattle.raid_recon.specs.Units.{SweepsBy, SweepsStripe}
 use Rattle.raid_recon.proofs.AtHand.{at_hand-is}
-use Rattle.raid_recon.proofs.Words.{ahead_call, rows_from}
+use Rattle.raid_recon.proofs.Words.{ahead_call, rows_from, rows_read}
 
 IsShort : Rows → Type 0
 IsShort r = r.end ≤ suc r.first

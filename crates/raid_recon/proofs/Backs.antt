@@ -6,7 +6,7 @@ use Rattle.eng_cols.specs.declared.spot.Spot.{Spot}
 use Rattle.eng_cols.specs.Cols.{ColumnState, HasDevice, InOrder}
 use Rattle.eng_cols.specs.Changes.{killed}
 use Rattle.eng_cols.specs.Seats.{is_available, seat, spot}
-use Rattle.eng_cols.specs.Contents.{Contents, byte_if, byte_of}
+use Rattle.eng_cols.specs.Contents.{Contents, byte_of}
 use Rattle.eng_cols.proofs.Spots.{available-seat, seat-device}
 use Rattle.eng_cols.proofs.Sums.{below_same}
 use Rattle.eng_cols.proofs.Killing.{available-back, seat-back, device-back, order-kept}
@@ -16,6 +16,7 @@ use Rattle.raid_recon.specs.Sums.{sum_of}
 use Rattle.raid_recon.specs.Turns.{Turn, Left, Unread, Sound, Unsound, Written, Unwritten, dead_at, failed_at, columns_after}
 use Rattle.raid_recon.specs.Log.{columns_in}
 use Rattle.raid_recon.proofs.Places.{spot-seat, device-unspread, states-killed}
+use Rattle.eng_cols.proofs.Words.{byte_if}
 
 -- what the one columns have, the others had
 pub record Back (y : Shape) (new old : List ColumnState) : Type 0 where

@@ -10,12 +10,13 @@ use Rattle.lay_core.specs.Layout.{Shape}
 use Rattle.eng_cols.specs.declared.spot.Spot.{Spot}
 use Rattle.eng_cols.specs.Cols.{ColumnState}
 use Rattle.eng_cols.specs.Seats.{is_available, seat}
-use Rattle.eng_cols.specs.Contents.{Contents, byte_if, byte_of}
+use Rattle.eng_cols.specs.Contents.{Contents, byte_of}
 use Rattle.eng_cols.specs.Contents as contents
 use Rattle.eng_cols.proofs.Sums.{below_more, xor_none}
 use Rattle.raid_recon.specs.Sums.{sum_of, IsZero, IsNotZero}
 use Rattle.raid_recon.specs.Units.{IsSum}
 use Rattle.raid_recon.proofs.Places.{spot-seat}
+use Rattle.eng_cols.proofs.Words.{byte_if}
 
 pub byte-sector_at : (bytes : List ℕ) (j k : ℕ) → k < 512 → slice_index (sector_at bytes j) k ≡ slice_index bytes (512 * j + k)
 unfolding sector_at

@@ -72,7 +72,7 @@ module _ (told : Type 0) (kind : Sweep) (y : Shape) (layout : IsLayout y) (one :
   order-then rest = (back-in y columns order rest).order order
 
   whole : (t : Turn) → IsComplete y (states_of y (columns_in y columns ts)) s → Had told kind y c columns ts s t → Whole t
-  whole Left all h = let i = h.is.unit in let z : false ≡ true = sym h.is.missing ∙ h.back.available s i (all i h.is.within) in no-bool z
+  whole Left all h = let i = h.is.0 in let z : false ≡ true = sym h.is.2 ∙ h.back.available s i (all i h.is.1) in no-bool z
   whole (Unread i) all h =
       absurd (gone y (columns_in y columns h.rest) (order-then h.rest) s i (seat y (states_of y (columns_in y columns h.rest)) s i) (h.is.0 i (within kind h.is.1)) refl (h.back.available s i (all i (within kind h.is.1))))
     where

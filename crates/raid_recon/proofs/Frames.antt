@@ -8,12 +8,13 @@ use Rattle.lay_core.specs.Layout.{Shape, IsLayout, data_units}
 use Rattle.eng_cols.specs.declared.spot.Spot.{Spot}
 use Rattle.eng_cols.specs.Cols.{ColumnState, InOrder}
 use Rattle.eng_cols.specs.Seats.{seat, spot}
-use Rattle.eng_cols.specs.Contents.{Contents, byte_if, byte_of, sector_at}
+use Rattle.eng_cols.specs.Contents.{Contents, byte_of, sector_at}
 use Rattle.eng_cols.proofs.Spots.{sectors-one-unit}
 use Rattle.eng_cols.proofs.Sums.{below_same}
 use Rattle.raid_recon.specs.Array.{IsCheckSector}
 use Rattle.raid_recon.specs.Sums.{sum_of}
 use Rattle.raid_recon.proofs.Places.{spot-seat, spot-some}
+use Rattle.eng_cols.proofs.Words.{byte_if}
 
 -- the check unit is the last
 pub last-unit : (y : Shape) → IsLayout y → y.checks ≡ 1 → y.width ≡ suc (data_units y)

@@ -66,16 +66,14 @@ Holds y most contents cols s rows bytes = (t i : ℕ) (at : Spot) → s ≤ t �
 
 -- ## The calls
 
--- the rows of a device behind the read of a unit that stands on it: what was at hand stays where the unit was at hand; else the rows are those that were read, and none where that failed
-abbrev pub rows_read : Shape → ℕ → ℕ → Bool → Rows → Rows
-rows_read y most row good rows =
-    if is_at_hand rows row then rows
-    else record { first = row; end = row + (if good then min most (y.rows - row) else 0) }
-
--- the same of device d, whatever is read
+-- The rows of device d behind the read of a unit: of the one on which it stands, what was at hand stays where the unit was at hand; else the rows are those that were read, and none where that failed.
 abbrev pub seat_rows : Shape → ℕ → Option Spot → Bool → ℕ → Rows → Rows
 seat_rows y most None good d rows = rows
-seat_rows y most (Some at) good d rows = if d == at.device then rows_read y most at.row good rows else rows
+seat_rows y most (Some at) good d rows =
+    if d == at.device
+    then (if is_at_hand rows at.row then rows
+    else record { first = at.row; end = at.row + (if good then min most (y.rows - at.row) else 0) })
+    else rows
 
 -- the calls of device d as a unit is read: none where it is at hand
 abbrev pub seat_reads : Shape → ℕ → Option Spot → Bool → ℕ → Rows → List Call

@@ -31,10 +31,8 @@ abbrev pub IsComplete : Shape → List ColumnState → ℕ → Type 0
 IsComplete y cols s = (i : ℕ) → i < y.width → is_available y cols s i ≡ true
 
 -- one is
-pub record Lacks (y : Shape) (cols : List ColumnState) (s : ℕ) : Type 0 where
-  pub unit : ℕ
-  pub within : unit < y.width
-  pub missing : is_available y cols s unit ≡ false
+abbrev pub Lacks : Shape → List ColumnState → ℕ → Type 0
+Lacks y cols s = (i : ℕ) × (i < y.width) × (is_available y cols s i ≡ false)
 
 -- sector n of device d is one of the stripe's check unit
 pub record IsCheckSector (y : Shape) (cols : List ColumnState) (s d n : ℕ) : Type 0 where

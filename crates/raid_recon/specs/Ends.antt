@@ -1,5 +1,5 @@
 -- What a sweep has changed and counted, said of the stripes as they are before it and behind it.
-use Rattle.std.specs.Prelude.{◌≡◌, ℕ, ◌+◌, ◌*◌, ◌<◌, ◌≤◌, Bool, true, ◌⊎◌, All, List, [], ◌∷◌, ◌++◌, Option, Some, None}
+use Rattle.std.specs.Prelude.{◌≡◌, ℕ, ◌+◌, ◌*◌, ◌<◌, ◌≤◌, Bool, true, ◌⊎◌, All, List, [], ◌∷◌, ◌++◌, Option, Some}
 use Rattle.blk_disk.specs.declared.disk.Call.{Call}
 use Rattle.blk_disk.specs.declared.disk.Disk.{Ghosts}
 use Rattle.blk_disk.specs.Devices.{contents_of}
@@ -16,6 +16,7 @@ use Rattle.raid_recon.specs.Array.{IsComplete, IsCheckSector}
 use Rattle.raid_recon.specs.Sums.{IsNotZero, HoldsSum}
 use Rattle.raid_recon.specs.Turns.{Rewrites, call_at}
 use Rattle.lay_core.specs.Touched.{count_below}
+use Rattle.blk_disk.specs.Disk.{ToldOn}
 
 -- a stripe that lacks no unit is to be counted: at an initialisation any, else one whose sum isn't zero
 abbrev pub IsToCount : Sweep → Type 0 → Type 0
@@ -63,9 +64,7 @@ pub record IsUnitCall (y : Shape) (cols : List ColumnState) (d : ℕ) (call : Ca
 
 -- Where the calls are told, those that came are of whole units, and none is behind one that failed.
 abbrev pub CallsUnits : Shape → List ColumnState → ℕ → Option (List Call) → Option (List Call) → Type 0
-CallsUnits y cols d before None = Unit {0}
-CallsUnits y cols d None (Some now) = ⊥
-CallsUnits y cols d (Some before) (Some now) = (more : List Call) × (now ≡ before ++ more) × AreGoodButLast more × All (IsUnitCall y cols d) more
+CallsUnits y cols d before now = ToldOn (λ (was : List Call) (is : List Call). (more : List Call) × (is ≡ was ++ more) × AreGoodButLast more × All (IsUnitCall y cols d) more) before now
 
 -- A read of rows that begins with a unit that stands on the device, and goes no further than the rows do, at most 64 KiB or one unit; or a write of a whole check unit there.
 pub record IsRowsCall (y : Shape) (cols : List ColumnState) (d : ℕ) (call : Call) : Type 0 where
@@ -81,6 +80,4 @@ pub record IsRowsCall (y : Shape) (cols : List ColumnState) (d : ℕ) (call : Ca
 
 -- Where the calls are told, those that came are such, and none is behind one that failed.
 abbrev pub CallsRows : Shape → List ColumnState → ℕ → Option (List Call) → Option (List Call) → Type 0
-CallsRows y cols d before None = Unit {0}
-CallsRows y cols d None (Some now) = ⊥
-CallsRows y cols d (Some before) (Some now) = (more : List Call) × (now ≡ before ++ more) × AreGoodButLast more × All (IsRowsCall y cols d) more
+CallsRows y cols d before now = ToldOn (λ (was : List Call) (is : List Call). (more : List Call) × (is ≡ was ++ more) × AreGoodButLast more × All (IsRowsCall y cols d) more) before now

@@ -1,18 +1,23 @@
 -- The turns of all stripes, one after another. A log has the newest turn first; so a turn is that of the stripe whose number is the number of turns behind it.
-use Rattle.std.specs.Prelude.{◌≡◌, ℕ, ◌+◌, List, [], ◌∷◌, length, true, Option, Some, None, if◌then◌else◌, ◌==◌}
+use Rattle.std.specs.Prelude.{◌≡◌, ℕ, ◌+◌, List, [], ◌∷◌, length, true, Option, Some, None, if◌then◌else◌, ◌==◌, slice_set}
 use Rattle.lay_core.specs.Layout.{Shape}
 use Rattle.eng_cols.specs.declared.column.Column.{Column}
+use Rattle.eng_cols.specs.declared.column.Column.TheVariants as column
 use Rattle.eng_cols.specs.Contents.{Contents}
 use Rattle.eng_cols.specs.Cols.{ColumnState}
 use Rattle.raid_recon.specs.declared.kind.Sweep.{Sweep}
 use Rattle.eng_cols.specs.Stripes.{states_of}
 use Rattle.raid_recon.specs.Array.{IsCheckSector}
-use Rattle.raid_recon.specs.Turns.{Turn, does_count, does_write, columns_after, IsTurn}
+use Rattle.raid_recon.specs.Turns.{Turn, does_count, does_write, IsTurn, failed_at}
+use Rattle.std.specs.Option.{option_map_or}
+use Rattle.eng_cols.specs.declared.spot.Spot.{Spot}
 
--- the columns behind these turns
+-- the columns behind these turns, of which each leaves the column dead whose device failed
 abbrev pub columns_in : Shape → List Column → List Turn → List Column
 columns_in y columns [] = columns
-columns_in y columns (t ∷ ts) = columns_after y (columns_in y columns ts) (length ts) t
+columns_in y columns (t ∷ ts) =
+    let before = columns_in y columns ts in
+    option_map_or (λ (at : Spot). slice_set before at.column column.Dead) (failed_at y (states_of y before) (length ts) t) before
 
 -- how many of them count
 abbrev pub count_in : List Turn → ℕ

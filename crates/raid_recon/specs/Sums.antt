@@ -11,7 +11,7 @@ sum_of y contents cols s n o k = xor_below (λ i. byte_of y contents cols s i o 
 
 -- all units of the stripe sum to zero
 abbrev pub IsZero : Shape → Contents → List ColumnState → ℕ → Type 0
-IsZero y contents cols s = (o k : ℕ) → o < y.unit_sectors → k < 512 → sum_of y contents cols s y.width o k ≡ 0
+IsZero y contents cols s = (o k : ℕ) → o < y.unit_sectors → k < 512 → xor_below (λ i. byte_of y contents cols s i o k) y.width ≡ 0
 
 -- they don't
 pub record IsNotZero (y : Shape) (contents : Contents) (cols : List ColumnState) (s : ℕ) : Type 0 where
@@ -19,8 +19,8 @@ pub record IsNotZero (y : Shape) (contents : Contents) (cols : List ColumnState)
   pub byte : ℕ
   pub within : offset < y.unit_sectors
   pub of_sector : byte < 512
-  pub differs : sum_of y contents cols s y.width offset byte ≢ 0
+  pub differs : xor_below (λ i. byte_of y contents cols s i offset byte) y.width ≢ 0
 
 -- the check unit holds the exclusive-or of the data units
 abbrev pub HoldsSum : Shape → Contents → List ColumnState → ℕ → Type 0
-HoldsSum y contents cols s = (o k : ℕ) → o < y.unit_sectors → k < 512 → byte_of y contents cols s (data_units y) o k ≡ sum_of y contents cols s (data_units y) o k
+HoldsSum y contents cols s = (o k : ℕ) → o < y.unit_sectors → k < 512 → byte_of y contents cols s (data_units y) o k ≡ xor_below (λ i. byte_of y contents cols s i o k) (data_units y)

@@ -8,13 +8,15 @@ use Rattle.eng_cols.specs.declared.column.Column.{Column}
 use Rattle.eng_cols.specs.declared.column.Column.TheVariants as column
 use Rattle.eng_cols.specs.declared.spot.Spot.{Spot}
 use Rattle.eng_cols.specs.Cols.{ColumnState}
-use Rattle.eng_cols.specs.Seats.{seat}
+use Rattle.eng_cols.specs.Seats.{seat, is_available}
 use Rattle.eng_cols.specs.Contents.{Contents}
 use Rattle.raid_recon.specs.declared.kind.Sweep.{Sweep}
 use Rattle.raid_recon.specs.declared.kind.Sweep.TheVariants.{Check, Sync, Init}
 use Rattle.eng_cols.specs.Stripes.{states_of}
-use Rattle.raid_recon.specs.Array.{IsComplete, Lacks, IsCheckSector}
+use Rattle.raid_recon.specs.Array.{IsComplete, IsCheckSector}
 use Rattle.raid_recon.specs.Sums.{IsZero, IsNotZero, HoldsSum}
+use Rattle.blk_disk.specs.Disk.{ToldOn}
+use Rattle.std.specs.Option.{option_map_or}
 
 -- A stripe's turn. It lacked a unit and was left alone; or the read of this unit failed; or its units were read, and their sum was zero or wasn't, and nothing was written; or its check unit was written, or that write failed.
 pub data Turn : Type 0 where
@@ -29,9 +31,7 @@ pub data Turn : Type 0 where
 
 -- Where the calls are told now, they were told before, and have these behind them.
 abbrev pub TellsMore : Option (List Call) → Option (List Call) → List Call → Type 0
-TellsMore before None calls = Unit {0}
-TellsMore None (Some now) calls = ⊥
-TellsMore (Some before) (Some now) calls = now ≡ before ++ calls
+TellsMore before now calls = ToldOn (λ (was : List Call) (is : List Call). is ≡ was ++ calls) before now
 
 -- a call of a whole unit of u sectors, of a kind, where it stands
 abbrev pub call_at : ℕ → Spot → ℕ → Bool → Call
@@ -97,8 +97,7 @@ failed_at y cols s Unwritten = seat y cols s (data_units y)
 
 -- the column whose device failed is dead
 abbrev pub dead_at : List Column → Option Spot → List Column
-dead_at columns None = columns
-dead_at columns (Some at) = slice_set columns at.column column.Dead
+dead_at columns place = option_map_or (λ (at : Spot). slice_set columns at.column column.Dead) place columns
 
 -- the columns behind a stripe's turn
 abbrev pub columns_after : Shape → List Column → ℕ → Turn → List Column
@@ -124,9 +123,9 @@ is_init Check = false
 is_init Sync = false
 is_init Init = true
 
--- What is so of the turn, by these columns and contents, where contents are told.
+-- What is so of the turn, by these columns and contents, where contents are told. A stripe that was left alone lacks a unit.
 abbrev pub IsTurn : Type 0 → Sweep → Shape → Contents → List ColumnState → ℕ → Turn → Type 0
-IsTurn told kind y contents cols s Left = Lacks y cols s
+IsTurn told kind y contents cols s Left = (i : ℕ) × (i < y.width) × (is_available y cols s i ≡ false)
 IsTurn told kind y contents cols s (Unread i) = IsComplete y cols s × (i < units_read kind y)
 IsTurn told kind y contents cols s Sound = IsComplete y cols s × ((is_init kind ≡ false) × (told → IsZero y contents cols s))
 IsTurn told kind y contents cols s Unsound = IsComplete y cols s × ((is_check kind ≡ true) × (told → IsNotZero y contents cols s))

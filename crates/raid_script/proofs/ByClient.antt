@@ -10,13 +10,14 @@ use Rattle.std.proofs.lemmas.List.Sums.{sum_by-cons}
 use Rattle.raid_text.specs.Text.{Numbered}
 use Rattle.graph_text.specs.Format.{Named}
 use Rattle.raid_script.specs.declared.join.Join.{Join}
-use Rattle.raid_script.specs.Asked.{AreFew, Asked, Writes, WritesAll, Reads, Syncs, Fails, Other, IsAsked, IsJoinOf, IsScript, Request, asked_by, by_first, joined_in, joins_of, read_sectors, scripted}
+use Rattle.raid_script.specs.Asked.{AreFew, Asked, Writes, WritesAll, Reads, Syncs, Fails, Other, IsAsked, IsJoinOf, IsScript, Request, by_first, joins_of, read_sectors, scripted}
+use Rattle.raid_script.specs.Steps.{asked_by, joined_in}
 use Rattle.raid_script.specs.Form.{AreLinesOf, AreRequests, IsJoin, IsSaid}
 
 -- ---- all clients
 
 pub by_first_more : (n : ℕ) (requests : List Request) → by_first (n + 1) requests ≡ by_first n requests ++ asked_by requests n ∷ []
-unfolding by_first
+unfolding by_first asked_by
 by_first_more n requests = map-range_with_len_more (asked_by requests) 0 n n (omega arith)
 
 pub by_first_none : (requests : List Request) → by_first 0 requests ≡ []
@@ -133,7 +134,7 @@ module _ (measure : List Asked → ℕ) (weight : Asked → ℕ) (adds : Adds me
   firsts n qs = sum_by measure (by_first n qs)
 
   firsts_more : (n : ℕ) (qs : List Request) → firsts (suc n) qs ≡ firsts n qs + measure (asked_by qs n)
-  unfolding by_first
+  unfolding by_first asked_by
   firsts_more n qs = ap (λ (k : ℕ). firsts k qs) (sym (add-one n)) ∙ sum_by-map-range_with_len_more measure (asked_by qs) 0 n n (omega arith)
 
   -- a request weighs at its own client alone
@@ -196,7 +197,7 @@ ones [] = refl
 ones (q ∷ qs) = let total = sum_by-cons (λ (_ : Request). 1) q qs in omega (arith, total, ones qs)
 
 sixteen : (qs : List Request) → length (by_first 16 qs) ≡ 16
-unfolding by_first
+unfolding by_first asked_by
 sixteen qs = length-map-range_with_len (asked_by qs) 0 16
 
 pub clients_few : (qs : List Request) → AreRequests qs → AreFew (by_first 16 qs)

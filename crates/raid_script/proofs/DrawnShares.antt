@@ -9,7 +9,8 @@ use Rattle.std.proofs.lemmas.List.Sums.{sum_by_push}
 use Rattle.std.proofs.lemmas.Option.{get_or_from_slice_get, slice_get_within}
 use Rattle.rand_pcg.specs.Lcg.{Lcg}
 use Rattle.raid_script.specs.Asked.{AreFew, Asked, Writes, Reads, read_sectors}
-use Rattle.raid_script.specs.Drawn.{AreApart, IsOwn, IsOwnSpan, drawn, share}
+use Rattle.raid_script.specs.Drawn.{AreApart, IsOwn, IsOwnSpan, drawn}
+use Rattle.raid_script.specs.Steps.{share}
 use Rattle.raid_script.specs.DrawnParts.{after, item_by, item_from, row_from, rows_from, seeded, word_of}
 use Rattle.raid_script.proofs.DrawnWords.{drawn_is, row_more, row_none, rows_more, rows_none}
 

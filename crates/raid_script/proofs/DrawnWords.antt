@@ -4,7 +4,8 @@ use Rattle.std.specs.List.{range_with_len}
 use Rattle.std.proofs.lemmas.List.FromFn.{map-range_with_len_more}
 use Rattle.rand_pcg.specs.Lcg.{Lcg, next_state, state_after}
 use Rattle.rand_pcg.specs.Pcg.{multiplier_64, pcg32}
-use Rattle.raid_script.specs.Drawn.{drawn, item_at, share, word_at}
+use Rattle.raid_script.specs.Drawn.{drawn, item_at, word_at}
+use Rattle.raid_script.specs.Steps.{share}
 use Rattle.raid_script.specs.DrawnParts.{after, first_word, item_by, item_from, row_from, rows_from, seeded, taken, word_of}
 
 steps_more : (w m p n k s : ℕ) → state_after w m p k (state_after w m p n s) ≡ state_after w m p (n + k) s

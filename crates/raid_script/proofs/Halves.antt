@@ -11,7 +11,8 @@ use Rattle.std.proofs.lemmas.Option.{slice_get_read}
 use Rattle.std.proofs.lemmas.List.FromFn.{fill_by_all, length-map-range_with_len, get_or-map-range_with_len}
 use Rattle.std.proofs.lemmas.List.Folds.{find_at}
 use Rattle.std.proofs.lemmas.List.Sums.{position_or_len_is}
-use Rattle.raid_script.specs.Repetition.{filled_by, lengths, shortest}
+use Rattle.raid_script.specs.Repetition.{filled_by, shortest}
+use Rattle.raid_script.specs.Steps.{lengths}
 
 -- byte i is byte i mod n
 abbrev pub Cycles : List ℕ → ℕ → Type 0
@@ -156,10 +157,13 @@ pub at_lengths : (k d : ℕ) → k < 10 → get_or lengths k d ≡ 2 ^ k
 unfolding lengths
 at_lengths k d h = get_or-map-range_with_len (λ (i : ℕ). 2 ^ i) 0 10 k k d h (omega arith)
 
+shortest_by : (s : List ℕ) → take (unwrap_or (find (λ n. bytes_eq (filled_by (take n s)) s) lengths) 512) s ≡ shortest s
+unfolding shortest lengths
+shortest_by s = refl
+
 -- the front that a sector repeats is the shortest string, where its halves differ
 pub is_shortest : (s : List ℕ) (n : ℕ) → length s ≡ 512 → Repeats s n → (1 < n → take (n / 2) s ≡ take (n / 2) (drop (n / 2) s) → ⊥) → take n s ≡ shortest s
-unfolding shortest
-is_shortest s n long now differ = ap (λ (m : Option ℕ). take (unwrap_or m 512) s) (sym found)
+is_shortest s n long now differ = ap (λ (m : Option ℕ). take (unwrap_or m 512) s) (sym found) ∙ shortest_by s
   where
     test : ℕ → Bool
     test m = bytes_eq (filled_by (take m s)) s

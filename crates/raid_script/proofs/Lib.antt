@@ -19,3 +19,4 @@ pub mod Printed
 pub mod ReplyTexts
 pub mod Summed
 pub mod StoredSectors
+pub mod Same

@@ -4,7 +4,8 @@ use Rattle.raid_text.specs.Text.{Numbered}
 use Rattle.text_steps.specs.Steps.{◌>>=◌}
 use Rattle.graph_text.specs.Format.{Named}
 use Rattle.text_steps.specs.declared.at.At.{At}
-use Rattle.raid_script.specs.Asked.{Request, joined_in, read_sectors}
+use Rattle.raid_script.specs.Asked.{Request, read_sectors}
+use Rattle.raid_script.specs.Steps.{joined_in}
 use Rattle.raid_script.specs.Format.{next_of, requests_behind}
 
 -- what was read before, and what is still read

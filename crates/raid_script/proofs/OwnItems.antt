@@ -6,7 +6,8 @@ use Rattle.blk_plain.specs.declared.op.Op.TheVariants as op
 use Rattle.blk_plain.specs.declared.op.Span.{Span}
 use Rattle.blk_plain.specs.Plain.{is_in}
 use Rattle.eng_world.specs.declared.item.Item.TheVariants.{Run, Fail}
-use Rattle.raid_script.specs.Asked.{WritesAll, Other, seen_patches}
+use Rattle.raid_script.specs.Asked.{WritesAll, Other}
+use Rattle.raid_script.specs.Steps.{seen_patches}
 use Rattle.raid_script.specs.Drawn.{IsOwn, OwnItemsTouchTheirShare}
 
 -- a block of a span stands between its ends

@@ -10,9 +10,9 @@ use Rattle.std.proofs.lemmas.List.Kept.{AllPairs-cons}
 use Rattle.blk_plain.specs.declared.op.Span.{Span}
 use Rattle.blk_plain.specs.declared.op.Patch.{Patch}
 use Rattle.blk_plain.specs.Plain.{is_in, AreApart}
-use Rattle.raid_script.specs.Asked.{AskedPatch, IsPatch, ShareNone, seen_patch}
+use Rattle.raid_script.specs.Asked.{AskedPatch, IsPatch, ShareNone}
 use Rattle.raid_script.specs.Format.{are_apart}
-use Rattle.raid_script.specs.Steps.{are_two_apart}
+use Rattle.raid_script.specs.Steps.{are_two_apart, seen_patch}
 
 in-bounds : (s : Span) (b : ℕ) → is_in s b ≡ true → (s.first ≤ b) × (b < s.first + s.count)
 in-bounds s b h =

@@ -9,7 +9,8 @@ use Rattle.eng_world.specs.declared.item.Item.{Item}
 use Rattle.eng_world.specs.declared.item.Reply.{Reply}
 use Rattle.eng_world.specs.declared.item.Reply.TheVariants as reply
 use Rattle.item_list.specs.ItemList.{ItemList}
-use Rattle.raid_script.specs.Replies.{item_sectors, row_sectors, no_item, item_text, place_text, row_text, items_in, replies_in, sectors_before, client_text}
+use Rattle.raid_script.specs.Replies.{item_sectors, row_sectors, no_item, row_text, sectors_before}
+use Rattle.raid_script.specs.Steps.{item_text, place_text, items_in, replies_in, client_text}
 
 -- the lines of an item of a row, where its bytes are these
 pub place_is : (client : ℕ) (items : List Item) (replies : List Reply) (bytes part : List ℕ) (i : ℕ) (x : Item) (e : Reply) (n at : ℕ)

@@ -10,9 +10,9 @@ use Rattle.raid_text.specs.Text.{Text, Numbered, lines_in}
 use Rattle.graph_text.specs.Format.{Named}
 use Rattle.text_steps.specs.declared.at.At.{At}
 use Rattle.raid_script.specs.declared.join.Join.{Join}
-use Rattle.raid_script.specs.Asked.{Asked, Request, Scripted, asked_by, by_first, joined_in, joins_of, read_sectors, scripted, with_asked, with_request}
+use Rattle.raid_script.specs.Asked.{Asked, Request, Scripted, by_first, joins_of, read_sectors, scripted, with_asked, with_request}
 use Rattle.raid_script.specs.Format.{next_of, requests_behind}
-use Rattle.raid_script.specs.Steps.{requests_of}
+use Rattle.raid_script.specs.Steps.{requests_of, asked_by, joined_in}
 use Rattle.raid_script.proofs.LinesInTurn.{with_front, goes_on, ends, is_done}
 
 -- ## One item more
@@ -34,7 +34,7 @@ asked_more front q client =
 
 -- each client's items, where one item more stands behind those of its client
 each : (front : List Request) (q : Request) (client : ℕ) → client < 16 → get_or (with_asked (by_first 16 front) q.client q.asked) client [] ≡ asked_by (front ++ q ∷ []) client
-unfolding by_first added
+unfolding by_first asked_by added
 each front q client below = elim (cases_eq client q.client) [ inl same ↦ own same | inr other ↦ others other ]
   where
     row : List Asked
@@ -65,7 +65,7 @@ each front q client below = elim (cases_eq client q.client) [ inl same ↦ own s
         now ∙ (was client below ∙ sym (all ∙ append-nil (asked_by front client)))
 
 sorted_more : (front : List Request) (q : Request) → with_asked (by_first 16 front) q.client q.asked ≡ by_first 16 (front ++ q ∷ [])
-unfolding by_first
+unfolding by_first asked_by
 sorted_more front q =
     fill_by_all (asked_by (front ++ q ∷ [])) (with_asked (by_first 16 front) q.client q.asked) 16 []
     (length-set (by_first 16 front) q.client (get_or (by_first 16 front) q.client [] ++ q.asked ∷ []) ∙ length-map-range_with_len (asked_by front) 0 16)
@@ -123,5 +123,5 @@ all_read book columns text script n r so_far = is_done book columns n r (length 
 
 -- there are sixteen clients
 pub read_clients : (book : List Named) (columns : ℕ) (text : Text) (script : Scripted) (n r : ℕ) (lines : List Numbered) → HasRead book columns text script n r lines → length script.clients ≡ 16
-unfolding by_first
+unfolding by_first asked_by
 read_clients book columns text script n r lines so_far = ap (λ (x : Scripted). length x.clients) so_far.sorted ∙ length-map-range_with_len (asked_by so_far.front) 0 16

@@ -4,7 +4,8 @@ use Rattle.std.specs.Prelude.{flat_map, bytes_eq, All}
 use Rattle.std.proofs.lemmas.Slice.Eq.{bytes_eq-Decides}
 use Rattle.std.proofs.lemmas.Bool.{cases_lt, false_from_ne_true, false≢true}
 use Rattle.std.proofs.lemmas.List.{take-append-drop, length-take-le, length-replicate, get_or-take, get_or-replicate, get_or_default, same_lists, drop_more, drop_all}
-use Rattle.raid_script.specs.Runs.{SectorRun, joined, runs, EndsBefore, AreApart, AreRuns}
+use Rattle.raid_script.specs.Runs.{SectorRun, runs, EndsBefore, AreApart, AreRuns}
+use Rattle.raid_script.specs.Steps.{joined}
 
 abbrev pub Sector : Type 0
 Sector = List ℕ

@@ -10,14 +10,15 @@ use Rattle.raid_text.specs.Text.{Text, Numbered, is_sound, lines_in, sound_words
 use Rattle.text_steps.specs.Steps.{at_end, next_number, next_word, only_if, at_line}
 use Rattle.graph_text.specs.Format.{Named}
 use Rattle.graph_text.proofs.CanonicalSteps.{bind_ok, bytes_same, ok_same, only_ok, words_are}
-use Rattle.raid_script.specs.Asked.{Asked, Writes, WritesAll, Reads, Syncs, Fails, IsAsked, IsPatch, Request, joined_in, read_sectors, scripted}
-use Rattle.raid_script.specs.Format.{Halves, all_patches_of, are_apart, halves_of, item_of, join_of, line_of, next_client, next_column, next_graph, next_of, next_patch, next_pattern, next_span, requests_behind, run_of, script_of}
-use Rattle.raid_script.specs.Steps.{asked_of, fail_of, plain_of, read_of, request_of, requests_of, sync_of, use_of, write_of, writes_of}
+use Rattle.raid_script.specs.Asked.{Asked, Writes, WritesAll, Reads, Syncs, Fails, IsAsked, IsPatch, Request, read_sectors, scripted}
+use Rattle.raid_script.specs.Format.{Halves, all_patches_of, are_apart, halves_of, item_of, join_of, line_of, next_client, next_column, next_graph, next_of, next_patch, next_pattern, next_span, requests_behind, run_of}
+use Rattle.raid_script.specs.Steps.{asked_of, fail_of, plain_of, read_of, request_of, requests_of, sync_of, use_of, write_of, writes_of, joined_in, script_in}
 use Rattle.raid_script.specs.Form.{Place, Literal, Number, Digits, Graph, AreLinesOf, FillsAll, IsLineOf, IsRequest, IsSaid, asked_places, patch_places, places, said_places, use_places}
 use Rattle.raid_script.specs.Laws.{ScriptIsOfTheForm}
 use Rattle.raid_script.proofs.PatchesApart.{test-apart}
 use Rattle.raid_script.proofs.PatchesForm.{all_patches_fill, patch_fills}
 use Rattle.raid_script.proofs.PlacesFilled.{append_fills, client_fills, column_fills, end_fills, graph_fills, number_fills, pattern_fills, span_fills}
+use Rattle.raid_script.proofs.Same.{script_same}
 
 -- ---- one line
 
@@ -303,14 +304,14 @@ lines_fill book columns n r j (line ∷ lines) requests h =
     })
 
 pub script_of_form : ScriptIsOfTheForm
-unfolding script_of
 script_of_form book columns text script h =
-    let read = bind_ok (requests_of book columns text) _ script h in
-    let all = lines_fill book columns 0 0 0 (lines_in text) read.0 read.1 in (
+    let all : script_in book columns text ≡ Ok script = sym (script_same book columns text) ∙ h in
+    let read = bind_ok (requests_of book columns text) _ script all in
+    let lines = lines_fill book columns 0 0 0 (lines_in text) read.0 read.1 in (
       read.0,
       record {
-        are = record { few = (let f = all.count (omega arith) in omega arith); sectors = (let s = all.sectors (omega arith) in omega arith) };
-        form = all.form;
+        are = record { few = (let f = lines.count (omega arith) in omega arith); sectors = (let s = lines.sectors (omega arith) in omega arith) };
+        form = lines.form;
         sorted = ok_same (scripted read.0) script read.2;
       },
     )

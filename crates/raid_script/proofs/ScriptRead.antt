@@ -1,5 +1,5 @@
 -- That each text of the form of a script is read as its items.
-use Rattle.std.proofs.Common.{◌≡◌, ℕ, ◌+◌, ◌<◌, ◌≤◌, Bool, true, false, cond, List, [], ◌∷◌, length, Option, Some, None, Ok, refl, sym, subst, arith}
+use Rattle.std.proofs.Common.{◌≡◌, ℕ, ◌+◌, ◌<◌, ◌≤◌, Bool, true, false, cond, List, [], ◌∷◌, length, Option, Some, None, Ok, refl, sym, subst, arith, ◌∙◌}
 use Rattle.std.specs.Prelude.{◌&&◌, nat_le, nat_lt, codes, sum_by}
 use Rattle.std.proofs.lemmas.Bool.Decides.{nat_tests}
 use Rattle.std.proofs.lemmas.List.Elements.{All-head, All-tail}
@@ -10,14 +10,15 @@ use Rattle.raid_text.specs.Text.{Text, Numbered, is_sound, lines_in, sound_words
 use Rattle.text_steps.specs.Steps.{next_word}
 use Rattle.graph_text.specs.Format.{Named}
 use Rattle.raid_script.specs.declared.join.Join.{Join}
-use Rattle.raid_script.specs.Asked.{Asked, AskedPatch, Writes, WritesAll, Reads, Syncs, Fails, Other, ArePatches, IsAsked, IsPatch, Request, joined_in, read_sectors}
-use Rattle.raid_script.specs.Format.{are_apart, halves_of, item_of, join_of, line_of, next_graph, next_of, next_patch, requests_behind, run_of, script_of}
-use Rattle.raid_script.specs.Steps.{asked_of, fail_of, plain_of, read_of, request_of, sync_of, use_of, write_of, writes_of}
+use Rattle.raid_script.specs.Asked.{Asked, AskedPatch, Writes, WritesAll, Reads, Syncs, Fails, Other, ArePatches, IsAsked, IsPatch, Request, read_sectors}
+use Rattle.raid_script.specs.Format.{are_apart, halves_of, item_of, join_of, line_of, next_graph, next_of, next_patch, requests_behind, run_of}
+use Rattle.raid_script.specs.Steps.{asked_of, fail_of, plain_of, read_of, request_of, sync_of, use_of, write_of, writes_of, joined_in, script_in}
 use Rattle.raid_script.specs.Form.{Place, Literal, Number, Digits, Graph, AreLinesOf, FillsAll, IsJoin, IsLineOf, IsRequest, IsSaid, asked_places, join_places, patch_places, patches_in, places, said_places}
 use Rattle.raid_script.specs.Laws.{ScriptIsRead}
 use Rattle.raid_script.proofs.PatchesApart.{apart-test}
 use Rattle.raid_script.proofs.PatchesRead.{patch_read, writes_read}
 use Rattle.raid_script.proofs.PlacesRead.{client_read, column_read, end_read, graph_read, number_read, pattern_read, span_read, word_read}
+use Rattle.raid_script.proofs.Same.{script_same}
 
 write_read : (book : List Named) (graph : Option ℕ) (first count : ℕ) (bytes : List ℕ) (words : List Text) → 0 < count → FillsAll book (Number first ∷ Number count ∷ Digits bytes ∷ []) words → write_of graph words ≡ Ok (Writes first count bytes graph)
 unfolding write_of
@@ -204,7 +205,7 @@ lines_read book columns n r j (q ∷ qs) (line ∷ lines) (one, form, more) few 
     rw (read, test, others) refl
 
 pub script_read : ScriptIsRead
-unfolding script_of
 script_read book columns text script requests are =
     let read = lines_read book columns 0 0 0 requests (lines_in text) are.form (let f = are.are.few in omega arith) (let s = are.are.sectors in omega arith) in
-    rw (read, are.sorted) refl
+    let all : script_in book columns text ≡ Ok script = rw (read, are.sorted) refl in
+    script_same book columns text ∙ all

@@ -8,9 +8,7 @@ use Rattle.blk_disk.specs.Disk.{sector_at}
 use Rattle.blk_disk.specs.Sectors.{sector_at-part}
 use Rattle.sector_store.proofs.Putting.{chunk-is}
 use Rattle.raid_script.specs.Blocks.{blocks_text}
-use Rattle.raid_script.specs.Steps.{block_line, sectors_of}
-use Rattle.raid_script.specs.Replies.{bytes_from}
-use Rattle.raid_script.specs.Summary.{byte_sum}
+use Rattle.raid_script.specs.Steps.{block_line, sectors_of, bytes_from, byte_sum}
 use Rattle.raid_script.proofs.Printed.{blocks_more}
 
 -- the sectors of so many, from one on

@@ -8,8 +8,9 @@ use Rattle.eng_world.specs.declared.item.Item.{Item}
 use Rattle.eng_world.specs.declared.item.Reply.{Reply}
 use Rattle.eng_world.specs.declared.item.Reply.TheVariants as reply
 use Rattle.item_list.specs.ItemList.{ItemList}
-use Rattle.raid_script.specs.Replies.{item_sectors, row_sectors, no_item, items_in, replies_in, sectors_before}
-use Rattle.raid_script.specs.Summary.{data_sum, place_sum, row_sum, client_sum}
+use Rattle.raid_script.specs.Replies.{item_sectors, row_sectors, no_item, sectors_before}
+use Rattle.raid_script.specs.Steps.{items_in, replies_in, place_sum, client_sum}
+use Rattle.raid_script.specs.Summary.{data_sum, row_sum}
 
 -- what an item of a row was replied, where its bytes are these
 pub place_sum_is : (items : List Item) (replies : List Reply) (bytes part : List ℕ) (i : ℕ) (x : Item) (e : Reply) (n at : ℕ)

@@ -5,7 +5,8 @@ use Rattle.text_steps.specs.declared.at.At.{At}
 use Rattle.raid_script.specs.declared.fault.ScriptFault.{ScriptFault}
 use Rattle.raid_script.specs.declared.fault.ScriptFault.TheVariants as fault
 use Rattle.raid_script.specs.declared.joining.Halves.{Halves}
-use Rattle.raid_script.specs.Asked.{AskedPatch, seen_patch}
+use Rattle.raid_script.specs.Asked.{AskedPatch}
+use Rattle.raid_script.specs.Steps.{seen_patch}
 use Rattle.raid_script.specs.Format as format
 
 -- the patches in front of those that are read, where they are

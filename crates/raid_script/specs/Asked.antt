@@ -1,19 +1,14 @@
 -- What a script asks for: its items as they are spoken of, each with its client, and in the order of the clients.
-use Rattle.std.specs.Prelude.{◌≡◌, ℕ, ◌+◌, ◌<◌, ◌≤◌, ◌^◌, true, List, [], ◌∷◌, ◌++◌, Option, Some, None, if◌then◌else◌, length, map, filter, sum_by, nat_eq, nat_le, slice_index_or, slice_set, All, AllPairs}
+use Rattle.std.specs.Prelude.{◌≡◌, ℕ, ◌+◌, ◌<◌, ◌≤◌, ◌^◌, true, List, [], ◌∷◌, ◌++◌, Option, Some, None, if◌then◌else◌, length, map, filter, sum_by, nat_eq, nat_le, slice_index_or, slice_set, All, AllPairs, option_to_list}
 use Rattle.std.specs.List.{range_with_len}
 use Rattle.std.specs.Option.{ForSome}
 use Rattle.blk_plain.specs.declared.op.Span.{Span}
 use Rattle.blk_plain.specs.declared.op.Patch.{Patch}
-use Rattle.blk_plain.specs.declared.op.Patches.{Patches}
-use Rattle.blk_plain.specs.declared.op.Op.{Op}
 use Rattle.blk_plain.specs.declared.op.Op.TheVariants as op
 use Rattle.blk_plain.specs.Plain.{is_in, used_of}
 use Rattle.raid_text.specs.Pattern.{pattern_bytes}
 use Rattle.eng_world.specs.declared.item.Item.{Item}
 use Rattle.eng_world.specs.declared.item.Item.TheVariants.{Run, Fail}
-use Rattle.raid_script.specs.declared.entry.Entry.{Entry}
-use Rattle.raid_script.specs.declared.entry.Said.{Said}
-use Rattle.raid_script.specs.declared.entry.Said.TheVariants as said
 use Rattle.raid_script.specs.declared.join.Join.{Join}
 
 -- a span of blocks, and the bytes that are repeated in each of them
@@ -43,59 +38,37 @@ pub record Scripted : Type 0 where
 
 -- ---- items, as what they ask for; no script asks for a rebuild, for a sync by a graph of the file, or for more than eight spans
 
-abbrev pub seen_patch : Patch → AskedPatch
-seen_patch patch = record { span = patch.span; bytes = pattern_bytes patch.pattern }
-
--- those in use
-abbrev pub seen_patches : Patches → List AskedPatch
-seen_patches patches = map seen_patch (used_of patches)
-
-abbrev pub seen_op : Op → Option ℕ → Asked
-seen_op (op.Write span pattern) graph = Writes span.first span.count (pattern_bytes pattern) graph
-seen_op (op.Writes patches) graph = if nat_le patches.used 8 then WritesAll (seen_patches patches) graph else Other
-seen_op (op.Read span) graph = Reads span.first span.count graph
-seen_op (op.Sync stripe) None = Syncs stripe
-seen_op (op.Sync stripe) (Some graph) = Other
-seen_op (op.Rebuild stripe) graph = Other
-
 abbrev pub seen : Item → Asked
-seen (Run op graph) = seen_op op graph
+seen (Run (op.Write span pattern) graph) = Writes span.first span.count (pattern_bytes pattern) graph
+seen (Run (op.Writes patches) graph) =
+    if nat_le patches.used 8
+    then WritesAll (map (λ (p : Patch). record { span = p.span; bytes = pattern_bytes p.pattern }) (used_of patches)) graph
+    else Other
+seen (Run (op.Read span) graph) = Reads span.first span.count graph
+seen (Run (op.Sync stripe) None) = Syncs stripe
+seen (Run (op.Sync stripe) (Some graph)) = Other
+seen (Run (op.Rebuild stripe) graph) = Other
 seen (Fail column) = Fails column
-
--- what a line says, where the patches of a write of several spans are these
-abbrev pub seen_said : Patches → Said → Asked
-seen_said patches (said.Write span pattern graph) = Writes span.first span.count (pattern_bytes pattern) graph
-seen_said patches (said.Writes graph) = if nat_le patches.used 8 then WritesAll (seen_patches patches) graph else Other
-seen_said patches (said.Read span graph) = Reads span.first span.count graph
-seen_said patches (said.Sync stripe) = Syncs stripe
-seen_said patches (said.Fail column) = Fails column
-
-abbrev pub seen_entry : Patches → Entry → Request
-seen_entry patches e = record { client = e.client; asked = seen_said patches e.said; joined = e.join }
 
 -- ---- by client
 
--- what this client asks for, in order
-unfoldable pub asked_by : List Request → ℕ → List Asked
-asked_by requests client = map (λ r. r.asked) (filter (λ r. nat_eq r.client client) requests)
-
--- what each of the first n clients asks for
+-- what each of the first n clients asks for, in order
 unfoldable pub by_first : ℕ → List Request → List (List Asked)
-by_first n requests = map (asked_by requests) (range_with_len 0 n)
-
--- the join line that there is, if there is one
-abbrev pub joined_in : Option Join → List Join
-joined_in None = []
-joined_in (Some join) = join ∷ []
+by_first n requests =
+    map (λ client. map (λ r. r.asked) (filter (λ r. nat_eq r.client client) requests))
+    (range_with_len 0 n)
 
 -- those of all requests
 unfoldable pub joins_of : List Request → List Join
 joins_of [] = []
-joins_of (r ∷ requests) = joined_in r.joined ++ joins_of requests
+joins_of (r ∷ requests) = option_to_list r.joined ++ joins_of requests
 
 -- what all clients ask for, and the join lines
 abbrev pub scripted : List Request → Scripted
-scripted requests = record { clients = by_first 16 requests; joins = joins_of requests }
+scripted requests = record {
+  clients = by_first 16 requests;
+  joins = joins_of requests;
+}
 
 -- what each client asks for, with one item more behind those of this client
 abbrev pub with_asked : List (List Asked) → ℕ → Asked → List (List Asked)
@@ -103,7 +76,7 @@ with_asked rows client asked = slice_set rows client (slice_index_or rows client
 
 -- the same of a whole script
 abbrev pub with_request : Scripted → Request → Scripted
-with_request s r = record { clients = with_asked s.clients r.client r.asked; joins = s.joins ++ joined_in r.joined }
+with_request s r = record { clients = with_asked s.clients r.client r.asked; joins = s.joins ++ option_to_list r.joined }
 
 -- ---- limits
 

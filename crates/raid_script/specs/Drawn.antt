@@ -10,10 +10,6 @@ use Rattle.rand_pcg.specs.Lcg.{advance}
 use Rattle.rand_pcg.specs.Pcg.{multiplier_64, pcg32, pcg32_of_seed}
 use Rattle.raid_script.specs.Asked.{Asked, Writes, WritesAll, Reads, Syncs, Fails, Other, seen}
 
--- the blocks of each one's share
-abbrev pub share : (clients blocks : ℕ) → ℕ
-share clients blocks = blocks / min clients blocks
-
 -- the n-th word of a seed, from 0
 unfoldable pub word_at : (seed n : ℕ) → ℕ
 word_at seed n = (pcg32 (advance 64 multiplier_64 n (pcg32_of_seed (pcg32_seed 16 seed)))).0
@@ -28,10 +24,12 @@ item_at seed client wide n =
     if nat_eq (word % 3) 0 then Reads first count None
     else Writes first count (word_at seed (n + 2) % 256 ∷ []) None
 
--- the script of a seed: client after client, and item after item, three words each
+-- the script of a seed: client after client, each in a share of so many blocks, and item after item,
+-- three words each
 unfoldable pub drawn : (seed clients ops blocks : ℕ) → List (List Asked)
 drawn seed clients ops blocks =
-    map (λ client. map (λ i. item_at seed client (share clients blocks) (3 * (client * ops + i)))
+    let wide = blocks / min clients blocks in
+    map (λ client. map (λ i. item_at seed client wide (3 * (client * ops + i)))
     (range_with_len 0 ops)) (range_with_len 0 (min clients blocks))
 
 -- ---- shares

@@ -4,8 +4,8 @@ use Rattle.raid_text.specs.Text.{Text, Numbered, number_of, sound_words}
 use Rattle.raid_text.specs.Pattern.{pattern_of}
 use Rattle.graph_text.specs.Format.{Named}
 use Rattle.raid_script.specs.declared.join.Join.{Join}
-use Rattle.raid_script.specs.Asked.{Asked, AskedPatch, Writes, WritesAll, Reads, Syncs, Fails, Other, ArePatches, IsAsked, IsJoinOf, Request, joined_in, read_sectors}
-use Rattle.raid_script.specs.Steps.{graph_of}
+use Rattle.raid_script.specs.Asked.{Asked, AskedPatch, Writes, WritesAll, Reads, Syncs, Fails, Other, ArePatches, IsAsked, IsJoinOf, Request, read_sectors}
+use Rattle.raid_script.specs.Steps.{graph_of, joined_in}
 
 -- what stands at a word's place: this word, a number, the digits of a pattern, or the name of a graph of the book
 pub data Place : Type 0 where

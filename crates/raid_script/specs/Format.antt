@@ -1,13 +1,14 @@
--- Scripts: what a text asks for, or the first line that is refused and the code of its refusal.
-use Rattle.std.specs.Prelude.{ℕ, zero, suc, ◌+◌, ◌&&◌, ◌||◌, not, Bool, true, List, [], ◌∷◌, Option, Some, None, Result, Ok, Err, length, if◌then◌else◌, nat_eq, nat_le, nat_lt, codes, position, ok_or}
+-- What the functions that read a script find: what each line asks for, or the code by which it is
+-- refused; Texts says it in one.
+use Rattle.std.specs.Prelude.{ℕ, zero, suc, ◌+◌, ◌&&◌, ◌||◌, not, Bool, true, List, [], ◌∷◌, Option, Some, None, Result, Ok, Err, length, if◌then◌else◌, nat_eq, nat_le, nat_lt, codes, position, ok_or, option_to_list}
 use Rattle.std.specs.List.{list_all}
 use Rattle.std.specs.Str.{bytes_eq}
-use Rattle.raid_text.specs.Text.{Text, Numbered, is_sound, lines_in, words_of}
+use Rattle.raid_text.specs.Text.{Text, Numbered, is_sound, words_of}
 use Rattle.raid_text.specs.Pattern.{pattern_of}
 use Rattle.text_steps.specs.Steps.{◌>>=◌, at_end, next_number, next_word, only_if, at_line}
 use Rattle.graph_text.specs.Format.{Named}
 use Rattle.text_steps.specs.declared.at.At.{At}
-use Rattle.raid_script.specs.Asked.{Asked, AskedPatch, Writes, WritesAll, Reads, Syncs, Fails, Request, Scripted, joined_in, read_sectors, scripted}
+use Rattle.raid_script.specs.Asked.{Asked, AskedPatch, Writes, WritesAll, Reads, Syncs, Fails, Request, read_sectors}
 
 -- ---- words
 
@@ -164,10 +165,5 @@ unfoldable pub requests_behind : List Named → ℕ → ℕ → ℕ → ℕ → 
 requests_behind book columns n r j [] = Ok []
 requests_behind book columns n r j (line ∷ lines) = do
   request ← at_line line.at (next_of book columns n r j line)
-  more ← requests_behind book columns (n + 1) (r + read_sectors request.asked) (j + length (joined_in request.joined)) lines
+  more ← requests_behind book columns (n + 1) (r + read_sectors request.asked) (j + length (option_to_list request.joined)) lines
   Ok (request ∷ more)
-
--- what a text asks for, by client, and its join lines; the graphs of the file are numbered as the book has them, and there are none where no file was given
-unfoldable pub script_of : List Named → ℕ → Text → Result Scripted At
-script_of book columns text =
-    requests_behind book columns 0 0 0 (lines_in text) >>= λ requests. Ok (scripted requests)

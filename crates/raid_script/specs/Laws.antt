@@ -3,7 +3,7 @@ use Rattle.std.specs.Prelude.{◌≡◌, ℕ, List, Ok}
 use Rattle.raid_text.specs.Text.{Text, lines_in}
 use Rattle.graph_text.specs.Format.{Named}
 use Rattle.raid_script.specs.Asked.{Request, Scripted, scripted}
-use Rattle.raid_script.specs.Format.{script_of}
+use Rattle.raid_script.specs.Texts.{script_of}
 use Rattle.raid_script.specs.Form.{AreLinesOf, AreRequests}
 
 -- the text has these items, line by line, and they are by client what is asked for

@@ -13,3 +13,4 @@ pub mod Replies
 pub mod Summary
 pub mod Steps
 pub mod DrawnParts
+pub mod Texts

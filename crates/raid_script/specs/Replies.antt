@@ -1,9 +1,8 @@
 -- The lines of the replies.
-use Rattle.std.specs.Prelude.{◌≡◌, ℕ, ◌*◌, ◌/◌, ◌<◌, ◌≤◌, List, [], ◌∷◌, ◌++◌, length, take, drop, min, codes, decimal, flat_map, slice_index_or, sum_by, Vec, Option, Some, None, slice_get}
+use Rattle.std.specs.Prelude.{◌≡◌, ℕ, ◌*◌, ◌/◌, ◌<◌, ◌≤◌, List, [], ◌∷◌, ◌++◌, length, take, drop, min, codes, decimal, flat_map, slice_index_or, sum_by, Vec, Some, None, slice_get}
 use Rattle.std.specs.List.{range_with_len}
 use Rattle.std.specs.Simd.{first_chunks}
 use Rattle.std.specs.declared.alloc.Global.{Global}
-use Rattle.blk_plain.specs.declared.op.Op.{Op}
 use Rattle.blk_plain.specs.declared.op.Op.TheVariants as op
 use Rattle.graph_mean.specs.declared.refusal.Refusal.{Refusal}
 use Rattle.graph_mean.specs.declared.refusal.Refusal.TheVariants as cause
@@ -16,10 +15,6 @@ use Rattle.put_line.specs.Line.{line}
 use Rattle.raid_script.specs.Blocks.{blocks_text}
 
 -- ---- the words of a reply
-
--- numbers, with a space before each
-abbrev pub numbers_text : List ℕ → List ℕ
-numbers_text numbers = flat_map (λ number. codes " " ++ decimal number) numbers
 
 -- of each cause its name and its fields
 abbrev pub cause_of : Refusal → List ℕ × List ℕ
@@ -49,33 +44,23 @@ reply_of reply.Long = (codes "refused R2", [])
 reply_of (reply.Refused cause) = (codes "refused " ++ (cause_of cause).0, (cause_of cause).1)
 reply_of reply.Lost = (codes "lost", [])
 
--- reply C.I, the words and the numbers
+-- reply C.I, the words and the numbers, with a space before each
 unfoldable pub reply_line : ℕ → ℕ → Reply → List ℕ
 reply_line client index told =
     line (codes "reply " ∷ decimal client ∷ codes "." ∷ decimal index ∷ codes " "
-    ∷ (reply_of told).0 ∷ numbers_text (reply_of told).1 ∷ codes "\n" ∷ [])
+    ∷ (reply_of told).0
+    ∷ flat_map (λ number. codes " " ++ decimal number) (reply_of told).1 ∷ codes "\n" ∷ [])
 
 -- ---- which sectors a reply has
 
 -- how many sectors an item is handed
-abbrev pub op_sectors : Op → ℕ
-op_sectors (op.Write span pattern) = 0
-op_sectors (op.Writes patches) = 0
-op_sectors (op.Read span) = span.count
-op_sectors (op.Rebuild stripe) = 0
-op_sectors (op.Sync stripe) = 0
-
 abbrev pub item_sectors : Item → ℕ
-item_sectors (item.Run op graph) = op_sectors op
+item_sectors (item.Run o graph) = elim o [ op.Read span ↦ span.count | _ ↦ 0 ]
 item_sectors (item.Fail column) = 0
 
 -- and all items of a client
 abbrev pub row_sectors : List Item → ℕ
 row_sectors items = sum_by item_sectors items
-
--- of these bytes those of so many sectors, from this one on
-abbrev pub bytes_from : List ℕ → ℕ → ℕ → List ℕ
-bytes_from bytes from count = take (512 * count) (drop (512 * from) bytes)
 
 -- Of a client's bytes, those of item i: the sectors of each item stand behind those of the items before it, those of a
 -- read that isn't replied its data too.
@@ -83,71 +68,47 @@ abbrev pub item_bytes : List Item → List ℕ → ℕ → ℕ → List ℕ
 item_bytes items bytes i count = take (512 * count) (drop (512 * row_sectors (take i items)) bytes)
 
 -- the first block of an item's
-abbrev pub op_first : Op → ℕ
-op_first (op.Write span pattern) = 0
-op_first (op.Writes patches) = 0
-op_first (op.Read span) = span.first
-op_first (op.Rebuild stripe) = 0
-op_first (op.Sync stripe) = 0
-
 abbrev pub item_first : Item → ℕ
-item_first (item.Run op graph) = op_first op
+item_first (item.Run o graph) = elim o [ op.Read span ↦ span.first | _ ↦ 0 ]
 item_first (item.Fail column) = 0
 
 -- the runs of the sectors behind `data`, and nothing behind another reply
 abbrev pub data_text : Reply → ℕ → List ℕ → List ℕ
-data_text reply.Done first bytes = []
 data_text reply.Data first bytes = blocks_text first (first_chunks 512 (length bytes / 512) bytes)
-data_text reply.Okay first bytes = []
-data_text (reply.Undone device) first bytes = []
-data_text reply.Range first bytes = []
-data_text reply.Long first bytes = []
-data_text (reply.Refused cause) first bytes = []
-data_text reply.Lost first bytes = []
-
--- the lines of an item
-abbrev pub item_text : ℕ → ℕ → Item → Reply → List ℕ → List ℕ
-item_text client index asked told bytes = reply_line client index told ++ data_text told (item_first asked) bytes
+data_text _ first bytes = []
 
 -- what stands at a place where there is no item, and no reply
 abbrev pub no_item : Item
 no_item = item.Fail 0
 
--- the lines of a client's item i, with its bytes from the client's
-abbrev pub place_text : ℕ → List Item → List Reply → List ℕ → ℕ → List ℕ
-place_text client items replies bytes i =
-    item_text client i (slice_index_or items i no_item) (slice_index_or replies i reply.Done) (item_bytes items bytes i (item_sectors (slice_index_or items i no_item)))
-
--- the lines of a client, in the order of its items
+-- the lines of a client, in the order of its items: of each its reply, and what was read
 abbrev pub row_text : ℕ → List Item → List Reply → List ℕ → List ℕ
-row_text client items replies bytes = flat_map (place_text client items replies bytes) (range_with_len 0 (length items))
+row_text client items replies bytes = flat_map
+    (λ i. let asked = slice_index_or items i no_item in
+    let told = slice_index_or replies i reply.Done in
+    reply_line client i told
+    ++ data_text told (item_first asked) (item_bytes items bytes i (item_sectors asked)))
+    (range_with_len 0 (length items))
 
--- the items, and the replies, of the client of this number
-abbrev pub items_in : Option ItemList → List Item
-items_in None = []
-items_in (Some items) = items.items
-
+-- the items of the client of this number
 abbrev pub items_at : List ItemList → ℕ → List Item
-items_at clients c = items_in (slice_get clients c)
+items_at clients c = elim (slice_get clients c) [ None ↦ [] | Some items ↦ items.items ]
 
-abbrev pub replies_in : Option (Vec Reply Global) → List Reply
-replies_in None = []
-replies_in (Some replies) = replies.items
-
+-- its replies
 abbrev pub replies_at : List (Vec Reply Global) → ℕ → List Reply
-replies_at replies c = replies_in (slice_get replies c)
+replies_at replies c = elim (slice_get replies c) [ None ↦ [] | Some told ↦ told.items ]
 
 -- the sectors of the clients before this one
 abbrev pub sectors_before : List ItemList → ℕ → ℕ
 sectors_before clients c = sum_by (λ row. row_sectors row.items) (take c clients)
 
--- the lines of client c, whose bytes stand behind those of the clients before it
-abbrev pub client_text : List ItemList → List (Vec Reply Global) → List ℕ → ℕ → List ℕ
-client_text clients replies bytes c = row_text c (items_at clients c) (replies_at replies c) (drop (512 * sectors_before clients c) bytes)
-
--- of the clients below 16, in their order
+-- the lines of the clients below 16, in their order, each of whose bytes stand behind those of the
+-- clients before it
 abbrev pub replies_text : List ItemList → List (Vec Reply Global) → List ℕ → List ℕ
-replies_text clients replies bytes = flat_map (client_text clients replies bytes) (range_with_len 0 (min (length clients) 16))
+replies_text clients replies bytes = flat_map
+    (λ c. row_text c (items_at clients c) (replies_at replies c)
+    (drop (512 * sectors_before clients c) bytes))
+    (range_with_len 0 (min (length clients) 16))
 
 -- The replies and bytes stand for these items: each item has its reply, and each item its sectors.
 pub record StandFor (clients : List ItemList) (replies : List (Vec Reply Global)) (bytes : List ℕ) : Type 0 where

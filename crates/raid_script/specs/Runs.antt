@@ -6,18 +6,15 @@ pub record SectorRun : Type 0 where
   pub sector : List ℕ
   pub count : ℕ
 
--- the runs as a sector comes in front of them: it joins the first one where that has its bytes
-abbrev pub joined : List ℕ → List SectorRun → List SectorRun
-joined sector [] = record { sector = sector; count = 1 } ∷ []
-joined sector (first ∷ others) =
-    if bytes_eq sector first.sector
-    then record { sector = sector; count = first.count + 1 } ∷ others
-    else record { sector = sector; count = 1 } ∷ first ∷ others
-
 -- the maximal runs of equal sectors that follow one another
 abbrev pub runs : List (List ℕ) → List SectorRun
 runs [] = []
-runs (sector ∷ sectors) = joined sector (runs sectors)
+runs (sector ∷ sectors) = elim (runs sectors) [
+  | [] ↦ record { sector = sector; count = 1 } ∷ []
+  | first ∷ others ↦ if bytes_eq sector first.sector
+      then record { sector = sector; count = first.count + 1 } ∷ others
+      else record { sector = sector; count = 1 } ∷ first ∷ others
+]
 
 -- the run doesn't go on in the first of these
 abbrev pub EndsBefore : SectorRun → List SectorRun → Type 0

@@ -1,6 +1,7 @@
 //! The words of a reply.
 ghost use Rattle.std.specs.Prelude.{◌≡◌, ◌≤◌, ◌+◌, ◌*◌, ◌++◌, length};
-ghost use Rattle.raid_script.specs.Replies.{numbers_text, cause_of, reply_of, reply_line};
+ghost use Rattle.raid_script.specs.Replies.{cause_of, reply_of, reply_line};
+ghost use Rattle.raid_script.specs.Steps.{numbers_text};
 
 use eng_world::Reply;
 use graph_mean::Refusal;

@@ -2,7 +2,8 @@
 ghost use Rattle.std.specs.Prelude.{◌≡◌, ◌+◌, ◌*◌, ◌<◌, ◌≤◌, ◌^◌, ◌∷◌, [], map, IfOk};
 ghost use Rattle.raid_text.specs.Pattern.{pattern_bytes};
 ghost use Rattle.raid_script.specs.Asked.{AreFew, seen};
-ghost use Rattle.raid_script.specs.Drawn.{AreApart, drawn, share};
+ghost use Rattle.raid_script.specs.Drawn.{AreApart, drawn};
+ghost use Rattle.raid_script.specs.Steps.{share};
 ghost use Rattle.raid_script.specs.DrawnParts.{after, item_by, item_from, row_from, seeded, taken, word_of};
 
 use crate::memory::Memory;

@@ -1,6 +1,7 @@
 //! What a line says.
 ghost use Rattle.std.specs.Prelude.{◌≡◌};
-ghost use Rattle.raid_script.specs.Asked.{seen, seen_said};
+ghost use Rattle.raid_script.specs.Asked.{seen};
+ghost use Rattle.raid_script.specs.Steps.{seen_said};
 
 use crate::join::Join;
 use blk_plain::{Op, Patch, Patches, Pattern, Span};

@@ -2,8 +2,8 @@
 ghost use Rattle.std.specs.Prelude.{◌≡◌, ◌≤◌, is_ok, OnErr};
 ghost use Rattle.blk_disk.specs.Disk.{Rose};
 ghost use Rattle.raid_bay.specs.Sink.{Puts};
-ghost use Rattle.raid_script.specs.History.{commit_text, history_text};
-ghost use Rattle.raid_script.specs.Steps.{commit_line};
+ghost use Rattle.raid_script.specs.History.{history_text};
+ghost use Rattle.raid_script.specs.Steps.{commit_line, commit_text};
 
 use blk_disk::Failed;
 use blk_plain::{OpId, limits};

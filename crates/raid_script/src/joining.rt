@@ -3,7 +3,7 @@ ghost use Rattle.std.specs.Prelude.{◌≡◌, ◌+◌, ◌≤◌, length, IfOk}
 ghost use Rattle.raid_text.specs.Seen.{words_left};
 ghost use Rattle.graph_text.specs.Answers.{Gives};
 ghost use Rattle.raid_script.specs.Answers.{seen_halves};
-ghost use Rattle.raid_script.specs.Asked.{joined_in, seen_entry};
+ghost use Rattle.raid_script.specs.Steps.{joined_in, seen_entry};
 ghost use Rattle.raid_script.specs.Format.{halves_of, join_of};
 
 use crate::codes::{JOINED, SHARED};

@@ -2,9 +2,8 @@
 ghost use Rattle.raid_text.specs.Seen.{words_left};
 ghost use Rattle.graph_text.specs.Answers.{Gives};
 ghost use Rattle.blk_plain.specs.declared.op.Patches.{Patches};
-ghost use Rattle.raid_script.specs.Asked.{seen_said};
 ghost use Rattle.raid_script.specs.Format.{item_of, run_of};
-ghost use Rattle.raid_script.specs.Steps.{fail_of, read_of, sync_of, use_of, write_of, writes_of};
+ghost use Rattle.raid_script.specs.Steps.{fail_of, read_of, sync_of, use_of, write_of, writes_of, seen_said};
 
 use crate::codes::{SHARED, WORD};
 use crate::entry::Said;

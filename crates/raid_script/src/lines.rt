@@ -3,9 +3,9 @@ ghost use Rattle.std.specs.Prelude.{◌≡◌, ◌+◌, ◌<◌, ◌≤◌, ◌^
 ghost use Rattle.raid_text.specs.Seen.{seen as seen_line, words_left};
 ghost use Rattle.blk_plain.specs.declared.op.Patches.{Patches};
 ghost use Rattle.graph_text.specs.Answers.{Gives};
-ghost use Rattle.raid_script.specs.Asked.{joined_in, read_sectors, seen_entry, seen_said};
+ghost use Rattle.raid_script.specs.Asked.{read_sectors};
 ghost use Rattle.raid_script.specs.Format.{line_of, next_of};
-ghost use Rattle.raid_script.specs.Steps.{asked_of, plain_of, request_of};
+ghost use Rattle.raid_script.specs.Steps.{asked_of, plain_of, request_of, joined_in, seen_entry, seen_said};
 
 use crate::codes::{LIMIT, WORD};
 use crate::entry::{Entry, Said};

@@ -3,7 +3,7 @@ ghost use Rattle.std.specs.Prelude.{◌≡◌, ◌+◌, ◌-◌, ◌<◌, ◌≤
 ghost use Rattle.blk_plain.specs.Plain.{used_of};
 ghost use Rattle.raid_text.specs.Seen.{words_left};
 ghost use Rattle.graph_text.specs.Answers.{Gives};
-ghost use Rattle.raid_script.specs.Asked.{seen_patch, seen_patches};
+ghost use Rattle.raid_script.specs.Steps.{seen_patch, seen_patches};
 ghost use Rattle.raid_script.specs.Format.{all_patches_of, next_patch, patches_of};
 ghost use Rattle.raid_script.specs.Answers.{behind};
 

@@ -2,7 +2,7 @@
 ghost use Rattle.std.specs.Prelude.{◌≤◌, length, IfOk};
 ghost use Rattle.raid_script.specs.Answers.{GivesScript};
 ghost use Rattle.raid_script.specs.Asked.{AreFew, IsScript};
-ghost use Rattle.raid_script.specs.Format.{script_of};
+ghost use Rattle.raid_script.specs.Texts.{script_of};
 
 use crate::entry::patch_room;
 use crate::fault::ScriptFault;

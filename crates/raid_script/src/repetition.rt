@@ -1,6 +1,7 @@
 //! The string that a sector repeats.
 ghost use Rattle.std.specs.Prelude.{◌≡◌, ◌≤◌, ◌<◌, ◌*◌, ◌↔◌, ℕ, List, length, take, drop, bytes_eq, slice_index, Contains, IsTrue};
-ghost use Rattle.raid_script.specs.Repetition.{filled_by, lengths, shortest};
+ghost use Rattle.raid_script.specs.Repetition.{filled_by, shortest};
+ghost use Rattle.raid_script.specs.Steps.{lengths};
 
 // Whether all bytes are the first one. Each byte is looked at, so that the compiler takes many at once.
 fn is_uniform(sector: &[u8; 512]) -> bool

@@ -2,7 +2,8 @@
 ghost use Rattle.std.specs.Prelude.{◌≡◌, ◌≤◌, ◌+◌, ◌*◌, length, drop, is_ok, IfOk, OnErr};
 ghost use Rattle.blk_disk.specs.Disk.{Rose};
 ghost use Rattle.raid_bay.specs.Sink.{Puts};
-ghost use Rattle.raid_script.specs.Replies.{op_sectors, item_sectors, row_sectors, op_first, item_first, bytes_from, data_text, item_text, row_text, replies_text, StandFor};
+ghost use Rattle.raid_script.specs.Replies.{item_sectors, row_sectors, item_first, data_text, row_text, replies_text, StandFor};
+ghost use Rattle.raid_script.specs.Steps.{op_sectors, op_first, bytes_from, item_text};
 
 use crate::causes::set_reply;
 use crate::runs::put_stored;

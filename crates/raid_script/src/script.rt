@@ -1,6 +1,7 @@
 //! The items of a script, by client.
 ghost use Rattle.std.specs.Prelude.{◌≡◌, ◌<◌, ◌++◌, [], length, map, IfOk, OnOk};
-ghost use Rattle.raid_script.specs.Asked.{joined_in, scripted, seen, seen_entry, with_asked, with_request};
+ghost use Rattle.raid_script.specs.Asked.{scripted, seen, with_asked, with_request};
+ghost use Rattle.raid_script.specs.Steps.{joined_in, seen_entry};
 
 use crate::entry::{Entry, item_from};
 use crate::join::Join;

@@ -3,7 +3,8 @@ ghost use Rattle.std.specs.Prelude.{◌≡◌, ◌≤◌, length, is_ok, OnErr};
 ghost use Rattle.blk_disk.specs.Disk.{Rose};
 ghost use Rattle.raid_bay.specs.Sink.{Puts};
 ghost use Rattle.raid_script.specs.Replies.{StandFor};
-ghost use Rattle.raid_script.specs.Summary.{sweep_line, written_line, summary_text};
+ghost use Rattle.raid_script.specs.Summary.{summary_text};
+ghost use Rattle.raid_script.specs.Steps.{sweep_line, written_line};
 
 use crate::sums::{count_items, count_written, sum_all};
 use blk_disk::Failed;
@@ -13,7 +14,7 @@ use put_line::Line;
 use raid_bay::Sink;
 use sector_store::Store;
 
-#[tactic(auto, unfolding(crate::specs::Summary::sweep_line))]
+#[tactic(auto, unfolding(crate::specs::Steps::sweep_line))]
 fn set_sweep(line: &mut Line, clients: usize, operations: u128)
     ensures { line.new ≡ sweep_line clients operations }
 {
@@ -25,7 +26,7 @@ fn set_sweep(line: &mut Line, clients: usize, operations: u128)
     line.push(b"\n");
 }
 
-#[tactic(auto, unfolding(crate::specs::Summary::written_line))]
+#[tactic(auto, unfolding(crate::specs::Steps::written_line))]
 fn set_written(line: &mut Line, written: u128, read: usize, sum: u128)
     ensures { line.new ≡ written_line written read sum }
 {

@@ -1,8 +1,9 @@
 //! What is summed up of a run: its items, the sectors that they write and read, the bytes replied.
 ghost use Rattle.std.specs.Prelude.{◌≡◌, ◌≤◌, ◌+◌, ◌*◌, length, drop, sum_by};
 ghost use Rattle.blk_plain.specs.Plain.{used_of};
-ghost use Rattle.raid_script.specs.Replies.{row_sectors, bytes_from, StandFor};
-ghost use Rattle.raid_script.specs.Summary.{op_writes, item_writes, row_writes, byte_sum, data_sum, row_sum, all_sum};
+ghost use Rattle.raid_script.specs.Replies.{row_sectors, StandFor};
+ghost use Rattle.raid_script.specs.Steps.{bytes_from, op_writes, row_writes, byte_sum};
+ghost use Rattle.raid_script.specs.Summary.{item_writes, data_sum, row_sum, all_sum};
 
 use crate::replies::item_sectors;
 use blk_plain::{Op, Patch, Patches};

@@ -2,8 +2,8 @@
 ghost use Rattle.std.specs.Prelude.{◌≡◌, ◌≤◌, length, is_ok, OnErr};
 ghost use Rattle.blk_disk.specs.Disk.{Rose};
 ghost use Rattle.raid_bay.specs.Sink.{Puts};
-ghost use Rattle.raid_script.specs.Trace.{id_line, node_line, event_line, trace_text};
-ghost use Rattle.raid_script.specs.Steps.{column_line, fill_line, resume_line};
+ghost use Rattle.raid_script.specs.Trace.{event_line, trace_text};
+ghost use Rattle.raid_script.specs.Steps.{column_line, fill_line, resume_line, id_line, node_line};
 
 use blk_disk::Failed;
 use blk_plain::OpId;
@@ -12,7 +12,7 @@ use put_line::Line;
 use raid_bay::Sink;
 
 // The line of an operation's event.
-#[tactic(auto, unfolding(crate::specs::Trace::id_line))]
+#[tactic(auto, unfolding(crate::specs::Steps::id_line))]
 fn set_id(line: &mut Line, word: &[u8], id: OpId)
     requires { length word.now ≤ 6 }
     ensures { line.new ≡ id_line word.now id }
@@ -26,7 +26,7 @@ fn set_id(line: &mut Line, word: &[u8], id: OpId)
     line.push(b"\n");
 }
 
-#[tactic(auto, unfolding(crate::specs::Trace::node_line))]
+#[tactic(auto, unfolding(crate::specs::Steps::node_line))]
 fn set_node(line: &mut Line, word: &[u8], id: OpId, node: u32)
     requires { length word.now ≤ 6 }
     ensures { line.new ≡ node_line word.now id node }
@@ -80,7 +80,7 @@ fn set_resume(line: &mut Line, column: u32, count: u32)
     line.push(b"\n");
 }
 
-#[tactic(auto, unfolding(crate::specs::Steps::fill_line, crate::specs::Steps::resume_line, crate::specs::Steps::column_line))]
+#[tactic(auto, unfolding(crate::specs::Steps::fill_line, crate::specs::Steps::resume_line, crate::specs::Steps::column_line, crate::specs::Steps::id_line, crate::specs::Steps::node_line))]
 fn set_event(line: &mut Line, event: Traced)
     ensures { line.new ≡ event_line event }
 {

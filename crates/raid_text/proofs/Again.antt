@@ -11,7 +11,8 @@ use Rattle.std.proofs.lemmas.List.Elements.{All-nil, All-cons, All-head, All-tai
 use Rattle.std.proofs.lemmas.List.Folds.{list_all-append}
 use Rattle.std.proofs.lemmas.List.Splits.{slice_split_at, slice_split_none, length-slice_split}
 use Rattle.hex.proofs.HexLemmas.{decode_of-encode_lower}
-use Rattle.raid_text.specs.Text.{Text, body_of, has_word, is_blank, is_sound, is_word, is_word_byte, lines_of_parts, may_stand, numbered, raw_lines, sound_words, words_of}
+use Rattle.raid_text.specs.Text.{Text, body_of, has_word, is_blank, is_sound, is_word, is_word_byte, lines_of_parts, numbered, raw_lines, sound_words, words_of}
+use Rattle.raid_text.specs.Steps.{may_stand}
 use Rattle.raid_text.specs.Pattern.{pattern_of}
 use Rattle.raid_text.specs.Printed.{IsLine, LinesAreReadAgain, NumbersAreReadAgain, PatternsAreReadAgain, text_of}
 use Rattle.raid_text.proofs.Digits.{in_range}

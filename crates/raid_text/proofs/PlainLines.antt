@@ -3,7 +3,8 @@ use Rattle.std.proofs.Common.{◌≡◌, ◌∙◌, ℕ, ◌+◌, ◌-◌, ◌<�
 use Rattle.std.specs.Prelude.{slice_index}
 use Rattle.std.specs.List.{position_or_len, list_all}
 use Rattle.std.proofs.lemmas.List.{take_rest}
-use Rattle.raid_text.specs.Text.{Text, may_stand, raw_lines}
+use Rattle.raid_text.specs.Text.{Text, raw_lines}
+use Rattle.raid_text.specs.Steps.{may_stand}
 use Rattle.raid_text.proofs.Again.{first_line}
 
 -- each byte in front of that place may stand there

@@ -6,7 +6,8 @@ use Rattle.std.proofs.lemmas.Bool.{and_parts, cond_both, ltb-false}
 use Rattle.std.proofs.lemmas.List.{length-take, take_rest}
 use Rattle.std.proofs.lemmas.List.Splits.{slice_split_first}
 use Rattle.std.proofs.Math.Seq.{drop-length}
-use Rattle.raid_text.specs.Text.{Text, is_blank, is_sound, is_word, is_word_byte, may_stand, words_of}
+use Rattle.raid_text.specs.Text.{Text, is_blank, is_sound, is_word, is_word_byte, words_of}
+use Rattle.raid_text.specs.Steps.{may_stand}
 use Rattle.raid_text.proofs.LineCuts.{whole}
 
 abbrev other : ℕ → Bool

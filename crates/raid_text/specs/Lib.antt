@@ -2,3 +2,4 @@ pub mod Text
 pub mod Pattern
 pub mod Printed
 pub mod Seen
+pub mod Steps

@@ -31,10 +31,6 @@ is_blank b = b == 32 || b == 9
 abbrev pub is_word_byte : ℕ → Bool
 is_word_byte b = (nat_le 33 b && nat_le b 126) && not (b == 35)
 
--- a byte that may stand outside a comment
-abbrev pub may_stand : ℕ → Bool
-may_stand b = is_blank b || is_word_byte b
-
 -- one byte of a word or more
 abbrev pub is_word : Text → Bool
 is_word w = nat_lt 0 (length w) && list_all is_word_byte w
@@ -43,9 +39,9 @@ is_word w = nat_lt 0 (length w) && list_all is_word_byte w
 unfoldable pub words_of : Text → List Text
 words_of body = filter (λ w. nat_lt 0 (length w)) (slice_split is_blank body)
 
--- each byte separates words or may stand in one
+-- each byte separates words or may stand in one: 33 to 126 without `#`
 unfoldable pub is_sound : Text → Bool
-is_sound body = list_all may_stand body
+is_sound body = list_all (λ b. is_blank b || ((nat_le 33 b && nat_le b 126) && not (b == 35))) body
 
 -- a byte that doesn't separate words
 unfoldable pub has_word : Text → Bool

@@ -2,7 +2,8 @@
 ghost use Rattle.std.specs.Prelude.{◌≡◌, ◌<◌, ◌≤◌, ◌∷◌, [], length, slice_index, IfSome, IfNone, not, ◌==◌};
 ghost use Rattle.std.specs.List.{position_or_len};
 ghost use Rattle.std.specs.Str.Lines.{strip_carriage_return};
-ghost use Rattle.raid_text.specs.Text.{raw_lines, body_of, has_word, is_sound, words_of, is_blank, is_word_byte, may_stand};
+ghost use Rattle.raid_text.specs.Text.{raw_lines, body_of, has_word, is_sound, words_of, is_blank, is_word_byte};
+ghost use Rattle.raid_text.specs.Steps.{may_stand};
 
 // The place of the first such byte, or the length where there is none.
 fn first_at(bytes: &[u8], byte: u8) -> usize

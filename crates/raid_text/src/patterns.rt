@@ -1,6 +1,7 @@
 //! Patterns.
 ghost use Rattle.std.specs.Prelude.{◌≡◌, option_map};
-ghost use Rattle.raid_text.specs.Pattern.{is_digit_count, pattern_bytes, pattern_of};
+ghost use Rattle.raid_text.specs.Pattern.{pattern_bytes, pattern_of};
+ghost use Rattle.raid_text.specs.Printed.{is_digit_count};
 
 use blk_plain::Pattern;
 

@@ -15,7 +15,8 @@ use Rattle.top_words.specs.Judged.{OnArray}
 use Rattle.top_duty.specs.declared.duty.Duty.{Duty as DeclaredDuty}
 use Rattle.top_duty.specs.declared.duty.Duty.TheVariants as declared
 use Rattle.top_duty.specs.Duty.{Admitted, Duty, IsWanted, OnArray as OnAdmitted, asked_of, duty_by, duty_in}
-use Rattle.top_duty.specs.Opening.{reads_fronts, sizes_of}
+use Rattle.top_duty.specs.Opening.{sizes_of}
+use Rattle.top_duty.specs.Steps.{reads_fronts}
 use Rattle.top_duty.specs.Taken.{DevicesAreTaken, Reads, RefusedFor, WasRead}
 use Rattle.top_duty.specs.Views as views
 use Rattle.top_duty.proofs.Returning.{others_home}
@@ -50,7 +51,7 @@ module _ {D : Type 0} (g : Ghosts D) (b : Told D) (command : Command) (mid : Tex
         command_is = ap (λ (x : Asked). x.command) same ∙ command_is;
         asked = λ t. asked_made g b command fronts duty (wanted t);
         wanted = subst (λ (x : Asked). IsWanted (duty_by x (sizes_of g.size old) fronts) (Ok duty)) (sym same) due;
-        ordered = ordered;
+        ordered = λ a is. (let o = ordered a is in (o.law, o.units, o.opened, o.started));
         read = subst (λ (x : Asked). Reads g (reads_fronts x.command.action) taken.taken old fronts) (sym same) taken.read;
         before = λ t. subst (λ (x : Asked). AreNamed b.home (names_for x) taken.taken) (sym same) (taken.named t);
         after = λ t. subst (λ (x : Asked). AreNamed b.after (names_for x) d.back) (sym same) (back_are_named mid b.after (names_for k) d.back (d.count ∙ many) d.there (d.put t));

@@ -8,7 +8,7 @@ use Rattle.eng_cols.specs.declared.column.Column.{Column}
 use Rattle.eng_cols.specs.declared.column.Column.TheVariants as column
 use Rattle.eng_cols.specs.declared.spot.Loss.{Loss}
 use Rattle.eng_cols.specs.Cols.{HasDevice, is_set_filling}
-use Rattle.eng_cols.specs.Deaths.{Dies}
+use Rattle.eng_cols.specs.Deaths.{Dies, LosesDevice}
 use Rattle.eng_cols.proofs.DeathLaws.{dies-more}
 use Rattle.eng_array.specs.declared.start.Start.{Start}
 use Rattle.eng_array.specs.declared.start.Start.TheVariants as start
@@ -26,11 +26,11 @@ use Rattle.top_acts.proofs.Kills.{alive_died, alive_given}
 use Rattle.top_labelled.specs.Begun.{IsAnew}
 use Rattle.top_labelled.specs.Ran.{IsLostBefore, RanLabelled}
 use Rattle.top_open.specs.declared.fronts.Front.{Front}
-use Rattle.top_close.specs.Settled.{LosesDevice}
 use Rattle.top_close.specs.Stage.{DiesIn, IsGivenUp, IsGivenUpIn}
 use Rattle.top_rounds.specs.Rounds.{HaveRounds, in_end}
 use Rattle.top_rounds.proofs.RoundLaws.{given_after, none_given_in}
-use Rattle.top_run.specs.Ran.{IsDeadBy, Ran as Run, RanPlain, RisesAt, begun_for}
+use Rattle.top_run.specs.Ran.{Ran as Run, RanPlain, RisesAt}
+use Rattle.top_run.specs.Steps.{IsDeadBy, columns_in}
 use Rattle.top_run.specs.Told.{IsToldFailed, IsToldUnbuilt}
 use Rattle.top_run.specs.Work.{Ending, Service, Work}
 use Rattle.top_run.proofs.Starting.{rebuilds-none}
@@ -38,7 +38,8 @@ use Rattle.top_serve.specs.Served.{IsKeptAs, IsUnbuilt, WasFailed}
 use Rattle.top_serve.specs.Setups.{with_start}
 use Rattle.top_words.specs.Asked.{Action, Io, Sweep, Show, ShowMap, Init, Check, Rewrite, Print, Fail, ShowLabel, Label as Labels, Rebuild, Resume, profile_of}
 use Rattle.top_words.specs.declared.profile.Deed.TheVariants as deed
-use Rattle.top_duty.specs.Duty.{Admitted, Duty, OnArray, Shows, OneLabel, PrintConf, columns_of, layout_of, states_in}
+use Rattle.top_duty.specs.Duty.{Admitted, Duty, OnArray, Shows, OneLabel, PrintConf, layout_of}
+use Rattle.top_duty.specs.Steps.{columns_of, states_in}
 use Rattle.top_duty.specs.Opening.{needs_for, needs_of}
 use Rattle.top_duty.specs.Start.{has_failed}
 use Rattle.raid_top.specs.Arrays.{Renews}
@@ -64,7 +65,7 @@ item_told g a taken back s ran c w = record {
 }
   where
     other : w.id.client ≢ 16
-    other is = rebuilds-none a.layout (begun_for a) a.start (ran.now.clients 16).items w.id.index c ran.rests.rebuilds (ap (λ k. slice_get (ran.now.clients k).items w.id.index) (sym is) ∙ w.asked)
+    other is = rebuilds-none a.layout (columns_in a) a.start (ran.now.clients 16).items w.id.index c ran.rests.rebuilds (ap (λ k. slice_get (ran.now.clients k).items w.id.index) (sym is) ∙ w.asked)
 
 module _ {D : Type 0} (g : Ghosts D) (a : Admitted) (old back : List (Option D)) where
   abbrev Each : Outcome → Type 0
@@ -78,8 +79,7 @@ module _ {D : Type 0} (g : Ghosts D) (a : Admitted) (old back : List (Option D))
 
   -- nothing is rebuilt, so nothing is left unbuilt
   none_unbuilt : {A : Type 0} (how : Option Start) → how ≡ None → (now : World) (c : ℕ) → IsUnbuilt (layout_of a) how now c → A
-  none_unbuilt None e now c h = absurd h
-  none_unbuilt (Some how) e now c h = absurd (let z : ⊥ = cc e in z)
+  none_unbuilt how e now c h = absurd (let z : ⊥ = cc (sym e ∙ h.0) in z)
 
   module _ (action : Action) (s : Service) where
     abbrev Why : ℕ → Type 0
@@ -168,9 +168,9 @@ module _ {D : Type 0} (g : Ghosts D) (a : Admitted) (old back : List (Option D))
     kill_ends : (failed : Bool) → (needs_of a.asked).excused ≡ a.asked.comp → DoesDeed g a failed old back deed.Kills (Did act e) → Ends (Did act e)
     kill_ends failed is h =
         let k = h.5 in (
-          (alive_died g (layout_of a) h.1 h.2 k.left e.columns old back e.lost k.ends).count ∙ k.without.entries,
+          (alive_died g (layout_of a) h.1 h.2 k.left e.columns old back e.lost (record { mid = k.mid; dev = k.dev; before = k.before; settles = k.settles; lost_is = k.before_is; ends = k.ends })).count ∙ k.entries,
           killed_ends g (layout_of a) (columns_of a) old back may rises act e gives h.0 h.1 h.2 (inl (is ∙ h.3)) k,
-          alive_given g (layout_of a) h.1 h.2 k.left e.columns old back e.lost k.ends,
+          alive_given g (layout_of a) h.1 h.2 k.left e.columns old back e.lost (record { mid = k.mid; dev = k.dev; before = k.before; settles = k.settles; lost_is = k.before_is; ends = k.ends }),
         )
 
     renew_dies : (kind : Renewal) (newest : Option Label) → Renews g (layout_of a) (columns_of a) old back act e kind newest → Dies may (columns_of a) e.columns

@@ -10,7 +10,7 @@ use Rattle.top_status.specs.declared.status.Status.{Status}
 use Rattle.top_status.specs.declared.status.Status.TheVariants as status
 use Rattle.top_status.specs.Refusals.{Refused}
 use Rattle.top_duty.specs.Duty.{Duty, asked_of, duty_in}
-use Rattle.top_duty.specs.Opening.{reads_fronts}
+use Rattle.top_duty.specs.Steps.{reads_fronts}
 use Rattle.top_duty.specs.Taken.{RefusedAt, RefusedFor}
 use Rattle.top_words.specs.Asked.{Command}
 use Rattle.top_words.specs.Judged.{Invocation, Tell, OnArray, Scan, Simulate, invocation_of}
@@ -132,10 +132,10 @@ module _ {D : Type 0} (g : Ghosts D) (b : Told D) (words : List Text) (told : b.
         }
 
     ended : (o : CallOutcome) → Acts g b words o → (sink_tells : Type 0) (answer : Status) (old new : List ℕ) → answer ≡ call_status o → (sink_tells → new ≡ old ++ call_text o) → IsDone g b words sink_tells answer old new
-    ended (OfArray o) acts sink_tells answer old new same printed = inl (done_well (OfArray o) acts sink_tells answer old new same printed)
-    ended (OfScan text) acts sink_tells answer old new same printed = inl (done_well (OfScan text) acts sink_tells answer old new same printed)
-    ended (OfSimulation text) acts sink_tells answer old new same printed = inl (done_well (OfSimulation text) acts sink_tells answer old new same printed)
-    ended (OfTopic text) acts sink_tells answer old new same printed = inl (done_well (OfTopic text) acts sink_tells answer old new same printed)
+    ended (OfArray o) acts sink_tells answer old new same printed = inl (done_well (OfArray o) (record { invocation = acts.0; words_are = acts.1; follows = acts.2 }) sink_tells answer old new same printed)
+    ended (OfScan text) acts sink_tells answer old new same printed = inl (done_well (OfScan text) (record { invocation = acts.0; words_are = acts.1; follows = acts.2 }) sink_tells answer old new same printed)
+    ended (OfSimulation text) acts sink_tells answer old new same printed = inl (done_well (OfSimulation text) (record { invocation = acts.0; words_are = acts.1; follows = acts.2 }) sink_tells answer old new same printed)
+    ended (OfTopic text) acts sink_tells answer old new same printed = inl (done_well (OfTopic text) (record { invocation = acts.0; words_are = acts.1; follows = acts.2 }) sink_tells answer old new same printed)
     ended (Refuses r) is sink_tells answer old new same printed = inr (same ∙ refused_well right.invocation r right.right (is.cause told right.invocation right.words_are))
 
     pub complete_of : (sink_tells sink_rose : Type 0) (answer : Status) (old new : List ℕ) → Answers g b words sink_tells sink_rose answer old new → (sink_rose → ⊥) → IsDone g b words sink_tells answer old new

@@ -11,7 +11,8 @@ use Rattle.top_status.specs.declared.status.Status.{Status}
 use Rattle.raid_top.specs.Calls.{CallOutcome, OfArray, OfScan, OfSimulation, OfTopic, Refuses, call_status}
 use Rattle.raid_top.specs.Ends.{Acts}
 use Rattle.raid_top.specs.Laws.{NothingChanged, RefusedChangesNothing, RightIsAnswered, is_refusing}
-use Rattle.raid_top.specs.Outcome.{Outcome, Ran, Did, Looked, status_of, status_of_act, status_of_done}
+use Rattle.raid_top.specs.Outcome.{Outcome, Ran, Did, Looked, status_of, status_of_act}
+use Rattle.raid_top.specs.Words.{status_of_done}
 use Rattle.raid_top.proofs.Completing.{complete_of}
 use Rattle.top_status.specs.Status.{status_of_loss}
 

@@ -14,7 +14,8 @@ use Rattle.top_status.specs.Refusals.{Refused, ◌then◌, only}
 use Rattle.top_words.specs.Asked.{Command, profile_of}
 use Rattle.top_words.specs.declared.profile.Kind.{Kind}
 use Rattle.top_words.specs.declared.profile.Kind.TheVariants as kind
-use Rattle.top_duty.specs.Duty.{Admitted, Duty, OnArray, Shows, OneLabel, PrintConf, IsWanted, admitted_with, asked_of, columns_of, duty_by, duty_for, duty_in, first_of, if_apart, if_past, is_short, judged, lost_by, short_status, unless, with_joined}
+use Rattle.top_duty.specs.Duty.{Admitted, Duty, OnArray, Shows, OneLabel, PrintConf, IsWanted, asked_of, duty_by, duty_for, duty_in, judged, short_status, with_joined}
+use Rattle.top_duty.specs.Steps.{columns_of, if_apart, if_past, lost_by, unless, admitted_with, is_short, first_of}
 use Rattle.top_duty.specs.Opening.{kind_of, opened_by, sizes_in}
 use Rattle.top_duty.specs.Start.{other_filling, start_in}
 use Rattle.raid_top.specs.Laws.{DeadAsOpened}

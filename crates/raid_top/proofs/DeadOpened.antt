@@ -19,15 +19,17 @@ use Rattle.top_open.specs.declared.plan.Plan.{Plan}
 use Rattle.top_open.specs.declared.plan.Needs.{Needs}
 use Rattle.top_open.specs.First.{first_below}
 use Rattle.top_open.specs.Labels.{label_at, newest_below, shape_refusal}
-use Rattle.top_open.specs.Opening.{Opened, columns_in, counter_refusal, filled_by, filling_of, is_unlabelled, judged_in, kept_if_left, labelled_if, labelled_in, own_seats, seats_in, small_in, unlabelled_in, unlabelled_refusal, with_filling}
+use Rattle.top_open.specs.Opening.{Opened, columns_in, counter_refusal, filled_by, judged_in, labelled_in, own_seats, seats_in, small_in, unlabelled_in, unlabelled_refusal, with_filling}
+use Rattle.top_open.specs.Steps.{filling_of, is_unlabelled, labelled_if, is_spread_below, kept_if_sound, read_disk, seat_at, wanted, kept_if_left}
 use Rattle.top_open.specs.Plan.{is_present, sectors_for, tables_below}
-use Rattle.top_open.specs.Seats.{columns_below, is_sound, is_spread_below, is_unread, judged_at, kept_if_sound, read_disk, seat_at, seat_of, wanted}
+use Rattle.top_open.specs.Seats.{columns_below, is_sound, is_unread, judged_at, seat_of}
 use Rattle.top_open.proofs.Below.{length-columns_below}
 use Rattle.top_open.proofs.Columns.{columns_count}
 use Rattle.top_open.proofs.Filled.{WasJudged, entries, filling, was}
 use Rattle.top_open.proofs.LargeEnough.{get_there}
 use Rattle.top_open.proofs.OwnDevices.{columns_below-get, not_refused}
-use Rattle.top_duty.specs.Opening.{filling_at, kept_if_large, left_at, needs_of, opened_by, plan_of, present_of, stripes_on, without_small}
+use Rattle.top_duty.specs.Opening.{filling_at, needs_of, opened_by, plan_of, stripes_on}
+use Rattle.top_duty.specs.Steps.{left_at, present_of, without_small, kept_if_large}
 use Rattle.top_duty.proofs.Opens.{Stages, stages}
 use Rattle.raid_top.specs.Opened.{IsCutOff, IsDeadFor, IsUnfilled, LacksDevice, LacksDisk, LacksLabel, LacksSeat, LacksSectors}
 

@@ -8,12 +8,11 @@ use Rattle.eng_cols.specs.declared.column.Column.{Column}
 use Rattle.eng_cols.specs.declared.column.Column.TheVariants as column
 use Rattle.eng_cols.specs.declared.spot.Loss.{Loss}
 use Rattle.eng_cols.specs.Cols.{HasDevice, device_set, is_set_filling, passes}
-use Rattle.eng_cols.specs.Deaths.{Dies}
+use Rattle.eng_cols.specs.Deaths.{Dies, LosesDevice}
 use Rattle.eng_cols.specs.Stripes.{states_of}
 use Rattle.eng_cols.proofs.DeathLaws.{dies-more, dies-then}
 use Rattle.raid_label.specs.declared.label.Label.{Label}
 use Rattle.raid_recon.specs.Array.{Failed}
-use Rattle.top_close.specs.Settled.{LosesDevice}
 use Rattle.top_acts.specs.declared.done.Done.{Done}
 use Rattle.top_acts.specs.declared.sweeping.Renewal.{Renewal}
 use Rattle.top_acts.specs.Checked.{IsChecked}
@@ -108,15 +107,15 @@ module _ {D : Type 0} (g : Ghosts D) (y : Shape) (columns : List Column) (old ba
     -- one that was filling may have fewer stripes, or be live, since a death may leave it fewer
     pub killed_ends : (c : ℕ) (l next : Label) → may c → IsKilled g y c l next columns e.columns old back e.lost act
         → (k : ℕ) → IsKeptAs (slice_get columns k) (slice_get e.columns k) ⊎ ((slice_get e.columns k ≡ Some column.Dead) × may k)
-    killed_ends c l next why h k = elim (kept_left y columns c h.left h.without k) [
+    killed_ends c l next why h k = elim (kept_left y columns c h.left (record { entries = h.entries; kept = h.kept }) k) [
       | inr here ↦
-          let dies = alive_died g y l next h.left e.columns old back e.lost h.ends in
+          let dies = alive_died g y l next h.left e.columns old back e.lost (record { mid = h.mid; dev = h.dev; before = h.before; settles = h.settles; lost_is = h.before_is; ends = h.ends }) in
           elim (dies.each k) [
             | inl still ↦ inr (still ∙ here.1, subst may (sym here.0) why)
             | inr gone ↦ inr (gone.0, subst may (sym here.0) why)
           ]
       | inl kept ↦
-          let dies = alive_died g y l next h.left e.columns old back e.lost h.ends in
+          let dies = alive_died g y l next h.left e.columns old back e.lost (record { mid = h.mid; dev = h.dev; before = h.before; settles = h.settles; lost_is = h.before_is; ends = h.ends }) in
           elim (dies.each k) [
             | inl still ↦ inl (subst (λ (o : Option Column). IsKeptAs (slice_get columns k) o) (sym still) kept)
             | inr gone ↦ inr (gone.0, died_as e.lost gives h.left k kept gone.1)

@@ -8,14 +8,16 @@ use Rattle.raid_conf.specs.declared.conf.Conf.{Conf}
 use Rattle.raid_conf.specs.Layouts.{shape_of}
 use Rattle.raid_label.specs.declared.label.Label.{Label}
 use Rattle.raid_script.specs.Asked.{Asked as Item}
-use Rattle.raid_script.specs.Drawn.{AreApart, drawn, item_at, share}
+use Rattle.raid_script.specs.Drawn.{AreApart, drawn, item_at}
+use Rattle.raid_script.specs.Steps.{share}
 use Rattle.raid_script.proofs.DrawnShares.{drawn_apart}
 use Rattle.top_bay.specs.Asked.{Asked}
 use Rattle.top_fetch.specs.Told.{Told}
 use Rattle.top_open.specs.Opening.{Opened}
 use Rattle.top_open.specs.declared.fronts.Front.{Front}
 use Rattle.top_words.specs.Asked.{Action, Command, Sweep, profile_of}
-use Rattle.top_duty.specs.Duty.{Admitted, Duty, IsWanted, OnArray, admitted_with, asked_of, clients_by, duty_by, layout_of}
+use Rattle.top_duty.specs.Duty.{Admitted, Duty, IsWanted, OnArray, asked_of, duty_by, layout_of}
+use Rattle.top_duty.specs.Steps.{clients_by, admitted_with}
 use Rattle.top_duty.specs.Opening.{sizes_of}
 use Rattle.top_duty.specs.Start.{has_failed, start_in}
 use Rattle.top_duty.proofs.Tables.{some_blocks}
@@ -91,7 +93,6 @@ abbrev IsDrawn : (seed clients ops : ℕ) → Admitted → Type 0
 IsDrawn seed clients ops a = (a.clients ≡ drawn seed clients ops (blocks_in (layout_of a))) × (a.start ≡ None)
 
 drawn_are : (seed clients ops workers : ℕ) (mapped : Bool) (scripted : List (List Item)) (blocks : ℕ) → clients_by (Sweep seed clients ops workers mapped) scripted blocks ≡ drawn seed clients ops blocks
-unfolding clients_by
 drawn_are seed clients ops workers mapped scripted blocks = refl
 
 no_start : (action : Action) (comp : Option ℕ) (conf : Conf) (o : Opened) (sizes : List ℕ) (fronts : List Front) (seed clients ops workers : ℕ) (mapped : Bool) → action ≡ Sweep seed clients ops workers mapped → start_by action comp conf o sizes fronts ≡ None
@@ -116,18 +117,18 @@ module _ {D : Type 0} (g : Ghosts D) (b : Told D) (command : Command) (o : Outco
       subst (IsDrawn seed clients ops) by.3 made
 
 pub deaths_are_caused : {D : Type 0} (g : Ghosts D) (b : Told D) → DeathsAreCaused g b
-deaths_are_caused g b command o h = are_caused g h.duty h.fronts h.old h.back o (in_order (asked_of h.duty) (sizes_of g.size h.old) h.fronts h.duty h.wanted h.ordered) h.does
+deaths_are_caused g b command o h = are_caused g h.duty h.fronts h.old h.back o (in_order (asked_of h.duty) (sizes_of g.size h.old) h.fronts h.duty h.wanted (λ a is. let o = h.ordered a is in record { law = o.0; units = o.1; opened = o.2; started = o.3 })) h.does
 
 pub drawn_in_turn : {D : Type 0} (g : Ghosts D) (b : Told D) → DrawnComeInTurn g b
 drawn_in_turn g b command o h seed clients ops workers mapped sweeps =
     if_ran g (IsRunInTurn g) h.duty h.fronts h.old h.back o h.does (λ a is newest run.
     let so = is_drawn g b command o h a is seed clients ops workers mapped sweeps in
     let blocks = blocks_in (layout_of a) in
-    let shares = subst (λ (rows : List (List Item)). AreSharesOf ops blocks rows) (sym so.0) (drawn_shares seed clients ops blocks (some_blocks (layout_of a) (h.ordered a is).law)) in
+    let shares = subst (λ (rows : List (List Item)). AreSharesOf ops blocks rows) (sym so.0) (drawn_shares seed clients ops blocks (some_blocks (layout_of a) (h.ordered a is).0)) in
     in_turn g a (has_failed a.start h.fronts) h.old h.back ops shares so.1 newest o run)
 
 pub rebuilt_is_worth : {D : Type 0} (g : Ghosts D) (b : Told D) → RebuiltIsWorth g b
 rebuilt_is_worth g b command o h =
     if_ran g (IsRunWorth g) h.duty h.fronts h.old h.back o h.does (λ a is newest run.
     let ordered = h.ordered a is in
-    is_worth g a (has_failed a.start h.fronts) h.old h.back ordered.law ordered.units newest o run)
+    is_worth g a (has_failed a.start h.fronts) h.old h.back ordered.0 ordered.1 newest o run)

@@ -8,7 +8,8 @@ use Rattle.top_open.specs.declared.fronts.Front.{Front}
 use Rattle.top_status.specs.Refusals.{Refused}
 use Rattle.top_words.specs.Asked.{Command}
 use Rattle.top_duty.specs.Duty.{Duty, IsWanted, asked_of, duty_by, duty_in}
-use Rattle.top_duty.specs.Opening.{reads_fronts, sizes_in, sizes_of}
+use Rattle.top_duty.specs.Opening.{sizes_in, sizes_of}
+use Rattle.top_duty.specs.Steps.{reads_fronts}
 use Rattle.top_duty.proofs.Sized.{sizes_are, sizes_kept}
 use Rattle.raid_top.specs.Acted.{Acted}
 use Rattle.raid_top.specs.Outcome.{Outcome}

@@ -13,7 +13,8 @@ use Rattle.top_words.specs.Asked.{Action}
 use Rattle.raid_top.specs.declared.came.Came.{Came}
 use Rattle.raid_top.specs.declared.came.Came.TheVariants as came
 use Rattle.raid_top.specs.Calls.{call_status}
-use Rattle.raid_top.specs.Ends.{Acts, Followed, Printed}
+use Rattle.raid_top.specs.Ends.{Acts, Followed}
+use Rattle.raid_top.specs.Words.{Printed}
 use Rattle.raid_top.specs.Finished.{finished_seen, status_finished}
 use Rattle.raid_top.specs.declared.finished.Finished.{Finished}
 use Rattle.raid_top.specs.declared.finished.Finished.TheVariants as finished
@@ -42,7 +43,7 @@ finished_status (finished.OfTopic topic) = refl
 
 -- what came wasn't refused
 pub acts_of : {D : Type 0} (g : Ghosts D) (b : Told D) (words : List Text) (f : Finished) → Followed g b words (finished_seen f) → Acts g b words (finished_seen f)
-acts_of g b words (finished.OfArray ended) h = h
-acts_of g b words (finished.OfScan scanned) h = h
-acts_of g b words (finished.OfSimulation simulated) h = h
-acts_of g b words (finished.OfTopic topic) h = h
+acts_of g b words (finished.OfArray ended) h = (h.invocation, h.words_are, h.follows)
+acts_of g b words (finished.OfScan scanned) h = (h.invocation, h.words_are, h.follows)
+acts_of g b words (finished.OfSimulation simulated) h = (h.invocation, h.words_are, h.follows)
+acts_of g b words (finished.OfTopic topic) h = (h.invocation, h.words_are, h.follows)

@@ -12,7 +12,7 @@ use Rattle.eng_cols.specs.Deaths.{Dies}
 use Rattle.eng_cols.specs.Lost.{NotLost}
 use Rattle.eng_cols.specs.Stripes.{filled_in, leading, states_of}
 use Rattle.eng_cols.proofs.Lists.{count_at_most, get_set_either, get_set_other}
-use Rattle.top_acts.specs.Killed.{IsWithout}
+use Rattle.top_acts.specs.Alive.{IsWithout}
 use Rattle.top_close.specs.Closes.{FillingEnds, SpreadEnds}
 use Rattle.top_close.specs.Dying.{AnyCause}
 use Rattle.top_close.proofs.DyingLaws.{columns_die, dies_unfilled, lost_no_less}

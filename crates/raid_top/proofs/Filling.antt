@@ -6,8 +6,9 @@ use Rattle.eng_cols.specs.declared.column.Column.{Column}
 use Rattle.eng_cols.specs.declared.column.Column.TheVariants as column
 use Rattle.lay_core.specs.Layout.{Shape}
 use Rattle.top_duty.specs.First.{first_of}
-use Rattle.top_duty.specs.Opening.{filling_at, kept_if_large, left_at, stripes_on, without_small}
-use Rattle.top_open.specs.Opening.{kept_if_left}
+use Rattle.top_duty.specs.Opening.{filling_at, stripes_on}
+use Rattle.top_duty.specs.Steps.{left_at, without_small, kept_if_large}
+use Rattle.top_open.specs.Steps.{kept_if_left}
 use Rattle.std.specs.Option.{option_or}
 
 -- ## It is filling

@@ -22,7 +22,8 @@ use Rattle.top_looks.specs.declared.map.Marked.{Marked}
 use Rattle.top_words.specs.Asked.{profile_of}
 use Rattle.top_words.specs.declared.profile.Deed.{Deed}
 use Rattle.top_words.specs.declared.profile.Deed.TheVariants as deed
-use Rattle.top_duty.specs.Duty.{Admitted, Duty, OnArray, Shows, OneLabel, PrintConf, columns_of, layout_of}
+use Rattle.top_duty.specs.Duty.{Admitted, Duty, OnArray, Shows, OneLabel, PrintConf, layout_of}
+use Rattle.top_duty.specs.Steps.{columns_of}
 use Rattle.top_duty.specs.Start.{has_failed}
 use Rattle.raid_top.specs.Arrays.{Renews}
 use Rattle.raid_top.specs.Does.{Does, DoesDeed, DoesRun, Says, ShowsArray}
@@ -51,7 +52,7 @@ module _ {D : Type 0} (g : Ghosts D) where
 
   module _ (a : Admitted) (failed : Bool) (old back : List (Option D)) where
     pub run_moves : (newest : Option Label) (o : Outcome) → DoesRun g a failed old back newest o → Moves old back
-    run_moves None (Ran action s) h = moved _ old back h.1.leaves.frame
+    run_moves None (Ran action s) h = moved _ old back h.1.frame
     run_moves None (Did act e) h = absurd h
     run_moves (Some l) (Ran action s) h = moved _ old back h.1.leaves.frame
     run_moves (Some l) (Did act e) h = moved _ old back h.1.frame
@@ -69,7 +70,7 @@ module _ {D : Type 0} (g : Ghosts D) where
     deed_moves deed.Rewrites (Did act e) h = renewal_moves (layout_of a) (columns_of a) old back act e renewal.Rewrite a.opened.newest h
     deed_moves deed.Rewrites (Ran action s) h = absurd h
     deed_moves deed.Rewrites (Looked text) h = absurd h
-    deed_moves deed.Kills (Did act e) h = moved _ old back (alive_frame g (layout_of a) h.1 h.2 (h.5).left e.columns old back e.lost (h.5).ends)
+    deed_moves deed.Kills (Did act e) h = moved _ old back (alive_frame g (layout_of a) h.1 h.2 (h.5).left e.columns old back e.lost (record { mid = (h.5).mid; dev = (h.5).dev; before = (h.5).before; settles = (h.5).settles; lost_is = (h.5).before_is; ends = (h.5).ends }))
     deed_moves deed.Kills (Ran action s) h = absurd h
     deed_moves deed.Kills (Looked text) h = absurd h
     deed_moves (deed.Labels serial) (Did act e) h = rounds_move (layout_of a) (columns_of a) old back act e e.lost _ h.0 e.columns (h.1).rounds

@@ -16,7 +16,8 @@ use Rattle.top_open.specs.declared.fronts.Front.{Front}
 use Rattle.top_words.specs.Asked.{Action, Io, Sweep, Show, ShowMap, Init, Check, Rewrite, Print, Fail, ShowLabel, Label as Labels, Rebuild, Resume}
 use Rattle.top_duty.proofs.Labels.{has_labels}
 use Rattle.top_duty.proofs.Opens.{Stages, stages}
-use Rattle.top_duty.specs.Opening.{filling_at, needs_for, needs_of, opened_by, plan_of, present_of}
+use Rattle.top_duty.specs.Opening.{filling_at, needs_for, needs_of, opened_by, plan_of}
+use Rattle.top_duty.specs.Steps.{present_of}
 use Rattle.top_duty.specs.Start.{start_in}
 use Rattle.raid_top.specs.Served.{AreUnfilledIf}
 use Rattle.raid_top.proofs.Filling.{large_filling, left_filling}

@@ -14,9 +14,10 @@ use Rattle.lay_plain.specs.Straight.{last_checked_lawful, striped_lawful}
 use Rattle.raid_conf.specs.declared.conf.Conf.{Conf}
 use Rattle.raid_conf.specs.declared.given.Given.{Given}
 use Rattle.raid_conf.specs.declared.given.Given.TheVariants.{Listed, Cyclic, Complete}
-use Rattle.raid_conf.specs.Designs.{blocks_of, is_wide, serves, width_of}
+use Rattle.raid_conf.specs.Designs.{blocks_of, serves}
 use Rattle.raid_conf.specs.Form.{IsConf, IsDesignOf}
-use Rattle.raid_conf.specs.Layouts.{design_shape, level_rows, level_shape, level_stripes, plain_of, plain_rows, plain_shape, plain_stripes, shape_of}
+use Rattle.raid_conf.specs.Layouts.{design_shape, level_rows, level_stripes, plain_of, plain_shape, plain_stripes, shape_of}
+use Rattle.raid_conf.specs.Steps.{level_shape, plain_rows, is_wide, width_of}
 use Rattle.raid_conf.specs.Levels.{allows}
 use Rattle.raid_conf.proofs.TableLaws.{is_given_design, rows_least, rows_most}
 use Rattle.top_duty.specs.Opening.{AreTableRows}

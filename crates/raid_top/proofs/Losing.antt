@@ -18,7 +18,8 @@ use Rattle.top_acts.specs.declared.sweeping.Renewal.TheVariants as renewal
 use Rattle.top_close.specs.Closes.{ClosesAs}
 use Rattle.eng_cols.specs.Stripes.{states_of}
 use Rattle.top_close.specs.Ended.{IsLossBy}
-use Rattle.top_duty.specs.Duty.{Admitted, OnArray, columns_of, layout_of}
+use Rattle.top_duty.specs.Duty.{Admitted, OnArray, layout_of}
+use Rattle.top_duty.specs.Steps.{columns_of}
 use Rattle.top_duty.specs.Start.{has_failed}
 use Rattle.top_open.specs.declared.fronts.Front.{Front}
 use Rattle.top_run.proofs.Caused.{loss-caused}

@@ -2,12 +2,14 @@
 use Rattle.std.specs.Prelude.{◌≡◌, ℕ, Bool, true, false, List, [], ◌∷◌, length, nat_lt, Option, Some, None, Result, Ok, Err, if◌then◌else◌}
 use Rattle.std.specs.List.{position}
 use Rattle.std.specs.Str.{bytes_eq}
-use Rattle.graph_text.specs.Format.{Named, graphs_of}
-use Rattle.raid_conf.specs.Format.{conf_of}
+use Rattle.graph_text.specs.Format.{Named}
+use Rattle.graph_text.specs.Texts.{graphs_of}
+use Rattle.raid_conf.specs.Texts.{conf_of}
 use Rattle.raid_conf.specs.declared.conf.Conf.{Conf}
-use Rattle.raid_script.specs.Format.{script_of}
+use Rattle.raid_script.specs.Texts.{script_of}
 use Rattle.raid_text.specs.Text.{Text}
-use Rattle.top_bay.specs.Asked.{Asked, asked_in, book_in, comp_in, comp_named, component_in, conf_in, device_in, devices_in, graphs_name, is_at_home, names_for, names_of, script_in, script_name, texts_in}
+use Rattle.top_bay.specs.Asked.{Asked, asked_in, book_in, comp_in, comp_named, component_in, conf_in, devices_in, graphs_name, names_for, names_of, script_in, script_name, texts_in}
+use Rattle.top_bay.specs.Steps.{device_in, is_at_home}
 use Rattle.top_fetch.specs.Fetched.{or_status}
 use Rattle.top_fetch.specs.Told.{Told}
 use Rattle.top_open.specs.declared.fault.OpenFault.{OpenFault}
@@ -21,8 +23,9 @@ use Rattle.top_status.specs.Steps.{short_text}
 use Rattle.top_words.specs.Asked.{Command, Component, Nameless, Column, Device, profile_of}
 use Rattle.top_words.specs.declared.profile.Kind.{Kind}
 use Rattle.top_words.specs.declared.profile.Kind.TheVariants as kind
-use Rattle.top_duty.specs.Duty.{OnArray, Shows, admitted_with, duty_by, duty_for, duty_in}
-use Rattle.top_duty.specs.Opening.{fronted_by, kind_of, needs_of, opened_by, plan_of, present_of, sizes_in, status_of}
+use Rattle.top_duty.specs.Duty.{OnArray, Shows, duty_by, duty_for, duty_in}
+use Rattle.top_duty.specs.Opening.{fronted_by, kind_of, needs_of, opened_by, plan_of, sizes_in, status_of}
+use Rattle.top_duty.specs.Steps.{present_of, admitted_with}
 use Rattle.top_duty.specs.Start.{start_in}
 use Rattle.top_duty.proofs.Opens.{as_left, as_opened}
 

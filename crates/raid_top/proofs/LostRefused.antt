@@ -15,7 +15,7 @@ use Rattle.graph_mean.specs.Graph.{View}
 use Rattle.text_steps.specs.declared.at.At.{At}
 use Rattle.raid_conf.specs.declared.conf.Conf.{Conf}
 use Rattle.raid_conf.specs.Form.{IsConf}
-use Rattle.raid_conf.specs.Format.{conf_of}
+use Rattle.raid_conf.specs.Texts.{conf_of}
 use Rattle.raid_conf.proofs.FormConf.{conf_of_form}
 use Rattle.raid_recon.specs.Array.{IsArray}
 use Rattle.raid_text.specs.Text.{Text}
@@ -38,7 +38,8 @@ use Rattle.top_words.specs.declared.profile.Kind.TheVariants as kind
 use Rattle.top_words.specs.declared.profile.Rebuilding.{Rebuilding}
 use Rattle.top_words.specs.declared.profile.Rebuilding.TheVariants as rebuilding
 use Rattle.top_words.specs.Asked.{profile_of}
-use Rattle.top_duty.specs.Duty.{Admitted, Duty, OnArray, Shows, OneLabel, PrintConf, IsWanted, admitted_with, beside_dead, columns_of, duty_by, duty_for, duty_in, first_of, if_apart, if_past, is_past_bound, is_short, judged, judged_states, layout_of, lost_by, short_status, states_in, unless, with_joined, with_killed}
+use Rattle.top_duty.specs.Duty.{Admitted, Duty, OnArray, Shows, OneLabel, PrintConf, IsWanted, beside_dead, duty_by, duty_for, duty_in, is_past_bound, judged, judged_states, layout_of, short_status, with_joined}
+use Rattle.top_duty.specs.Steps.{columns_of, if_apart, if_past, lost_by, unless, with_killed, states_in, admitted_with, is_short, first_of}
 use Rattle.top_duty.specs.Fit.{IsFit}
 use Rattle.top_duty.specs.Opening.{kind_of, needs_of, opened_by, sizes_in, sizes_of}
 use Rattle.top_duty.specs.Start.{start_in}

@@ -19,7 +19,8 @@ use Rattle.top_bay.specs.Asked.{Asked}
 use Rattle.top_close.proofs.Counts.{none_passes}
 use Rattle.top_duty.specs.declared.duty.Duty.{Duty as DeclaredDuty}
 use Rattle.top_duty.specs.declared.duty.Duty.TheVariants as declared
-use Rattle.top_duty.specs.Duty.{Admitted, Duty, OnArray, Shows, OneLabel, PrintConf, IsWanted, columns_of, duty_by}
+use Rattle.top_duty.specs.Duty.{Admitted, Duty, OnArray, Shows, OneLabel, PrintConf, IsWanted, duty_by}
+use Rattle.top_duty.specs.Steps.{columns_of}
 use Rattle.top_duty.specs.Fit.{IsFit, IsStartIf}
 use Rattle.top_duty.specs.Opening.{needs_of}
 use Rattle.top_duty.specs.Views.{IsDutyOver, IsFitFor, admitted_by, duty_seen}

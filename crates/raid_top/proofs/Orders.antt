@@ -15,7 +15,8 @@ use Rattle.top_run.specs.Work.{Ending}
 use Rattle.top_words.specs.Asked.{Action, Io, Sweep, Show, ShowMap, Init, Check, Rewrite, Print, Fail, ShowLabel, Label as Labels, Rebuild, Resume, profile_of}
 use Rattle.top_words.specs.declared.profile.Deed.{Deed}
 use Rattle.top_words.specs.declared.profile.Deed.TheVariants as deed
-use Rattle.top_duty.specs.Duty.{Admitted, columns_of, layout_of}
+use Rattle.top_duty.specs.Duty.{Admitted, layout_of}
+use Rattle.top_duty.specs.Steps.{columns_of}
 use Rattle.top_duty.specs.Fit.{IsFit}
 use Rattle.top_duty.specs.Opening.{kind_of, needs_for, needs_of}
 use Rattle.top_duty.proofs.Fits.{fit_array}

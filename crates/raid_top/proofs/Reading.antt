@@ -5,7 +5,7 @@ use Rattle.std.proofs.lemmas.List.{append_cancel_left, length-replicate}
 use Rattle.blk_disk.specs.Disk.{Tells, call_of}
 use Rattle.blk_disk.specs.declared.disk.Call.{Call}
 use Rattle.blk_disk.specs.declared.disk.Disk.{Ghosts}
-use Rattle.blk_disk.specs.Devices.{Changes, RisesOn, StaysIf, TellsOn, calls_of, device_at}
+use Rattle.blk_disk.specs.Devices.{Changes, RisesOn, StaysIf, calls_of, device_at}
 use Rattle.blk_disk.proofs.DeviceLaws.{changes-refl, rises-wider}
 use Rattle.top_open.specs.declared.fronts.Front.{Front}
 use Rattle.top_open.specs.declared.fronts.Front.TheVariants.{Unread}
@@ -13,6 +13,7 @@ use Rattle.top_duty.specs.Taken.{Reads}
 use Rattle.raid_top.specs.Acted.{MayRead}
 use Rattle.raid_top.specs.Laws.{FailsLateIsRead}
 use Rattle.raid_top.proofs.Frames.{Moves}
+use Rattle.blk_disk.proofs.Words.{TellsOn}
 
 -- no sector changes
 abbrev pub NoSector : ℕ → ℕ → Type 0

@@ -26,7 +26,7 @@ use Rattle.top_bay.specs.Asked.{Asked}
 use Rattle.top_bay.specs.Views.{IsWithinLimits}
 use Rattle.top_close.proofs.DyingLaws.{lost_no_less}
 use Rattle.top_open.specs.Opening.{Opened}
-use Rattle.top_duty.specs.Duty.{with_dead, with_killed}
+use Rattle.top_duty.specs.Steps.{with_dead, with_killed}
 use Rattle.top_duty.specs.Fit.{IsFit, IsStart, MayGo}
 use Rattle.top_duty.specs.Opening.{needs_of}
 use Rattle.top_duty.proofs.Killing.{dead_is_killed}

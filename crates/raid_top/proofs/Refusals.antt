@@ -10,7 +10,8 @@ use Rattle.top_status.specs.Refusals.{Refused, ◌then◌, only}
 use Rattle.top_words.specs.Asked.{Command}
 use Rattle.top_words.specs.Judged.{OnArray}
 use Rattle.top_duty.specs.Duty.{Duty, IsWanted, WantsMemory, duty_by, duty_in, judged}
-use Rattle.top_duty.specs.Opening.{reads_fronts, sizes_in, sizes_of}
+use Rattle.top_duty.specs.Opening.{sizes_in, sizes_of}
+use Rattle.top_duty.specs.Steps.{reads_fronts}
 use Rattle.top_duty.specs.Taken.{MemoryAt, RefusedAt, RefusedFor, WasRead}
 use Rattle.top_duty.proofs.Sized.{duty_err, sizes_are, sizes_kept}
 use Rattle.top_duty.proofs.Wanting.{wanted_err}
@@ -36,20 +37,20 @@ module _ {D : Type 0} (g : Ghosts D) (b : Told D) (command : Command) where
       inl (inl (is ∙ ap (λ (x : Refused). Err x) (early_is early r wanted)), at.unread early is)
   at_once r at (Ok k) is =
       let was = at.read k is in
-      inr (k, is, record { fronts = at.fronts; was = was; cause = inl (subst (λ (w : Result Duty Refused). IsWanted w (Err r)) (due_on k at.fronts was is) at.wanted) })
+      inr (k, is, record { fronts = at.fronts; taken = was.taken; back = was.back; before = was.before; after = was.after; others = was.others; read = was.read; cause = inl (subst (λ (w : Result Duty Refused). IsWanted w (Err r)) (due_on k at.fronts was is) at.wanted) })
 
   for_memory : (r : Refused) (at : MemoryAt g b command r) (x : Result Asked Refused) → asked_in b command ≡ x → RefusedBy g b (OnArray command) r
   for_memory r at (Err early) is = absurd (let z : ⊥ = cc (at.wanted.1, duty_err g b command early at.fronts is) in z)
   for_memory r at (Ok k) is =
       let was = at.read k is in
-      inr (k, is, record { fronts = at.fronts; was = was; cause = inr (inl (subst (λ (w : Result Duty Refused). WantsMemory w r) (due_on k at.fronts was is) at.wanted)) })
+      inr (k, is, record { fronts = at.fronts; taken = was.taken; back = was.back; before = was.before; after = was.after; others = was.others; read = was.read; cause = inr (inl (subst (λ (w : Result Duty Refused). WantsMemory w r) (due_on k at.fronts was is) at.wanted)) })
 
   pub refused_by : (r : Refused) → RefusedFor g b command r → RefusedBy g b (OnArray command) r
   refused_by r (inl at) = at_once r at (asked_in b command) refl
   refused_by r (inr (inl bay)) = inl (inr (inl (bay.0, bay.1)), bay.2)
   refused_by r (inr (inr (inl memory))) = elim memory.1 [
     | inl untouched ↦ inl (inr (inr memory.0), untouched)
-    | inr looked ↦ inr (looked.0, looked.1, record { fronts = looked.2; was = looked.3; cause = inr (inr memory.0) })
+    | inr looked ↦ inr (looked.0, looked.1, record { fronts = looked.2; taken = looked.3.taken; back = looked.3.back; before = looked.3.before; after = looked.3.after; others = looked.3.others; read = looked.3.read; cause = inr (inr memory.0) })
   ]
   refused_by r (inr (inr (inr at))) = for_memory r at (asked_in b command) refl
 
@@ -86,4 +87,6 @@ module _ {D : Type 0} (g : Ghosts D) (b : Told D) (command : Command) where
       | inr memory ↦ inr (inr (inl (memory, inl early.1)))
     ]
   ]
-  refused_for r (inr late) = refused_on r late.0 late.1 late.2.fronts late.2.was late.2.cause
+  refused_for r (inr late) =
+      let on = late.2 in
+      refused_on r late.0 late.1 on.fronts (record { taken = on.taken; back = on.back; before = on.before; after = on.after; others = on.others; read = on.read }) on.cause

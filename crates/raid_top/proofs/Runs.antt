@@ -13,7 +13,8 @@ use Rattle.top_bay.specs.Asked.{Asked}
 use Rattle.top_bay.specs.Views.{IsWithinLimits}
 use Rattle.top_bound.specs.Laws.{asked_of}
 use Rattle.top_bound.proofs.Limits.{few-have-room}
-use Rattle.top_duty.specs.Duty.{Admitted, admitted_with, clients_by}
+use Rattle.top_duty.specs.Duty.{Admitted}
+use Rattle.top_duty.specs.Steps.{clients_by, admitted_with}
 use Rattle.graph_mean.specs.Graph.{View}
 use Rattle.top_duty.specs.Views.{drawn_by}
 use Rattle.top_duty.proofs.Drawing.{either_few}

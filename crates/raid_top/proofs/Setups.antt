@@ -26,7 +26,8 @@ use Rattle.eng_world.specs.declared.item.Item.TheVariants as item
 use Rattle.eng_world.specs.Step.{MayBeAsked}
 use Rattle.item_list.specs.ItemList.{ItemList}
 use Rattle.raid_script.specs.Asked.{AreFew, IsAsked, seen}
-use Rattle.top_bound.specs.Bound.{rebuilds_sum, trace_sum}
+use Rattle.top_bound.specs.Bound.{trace_sum}
+use Rattle.top_bound.specs.Words.{rebuilds_sum}
 use Rattle.top_bound.specs.Laws.{IsSmall, asked_of}
 use Rattle.top_bound.proofs.Counted.{what-fits, what-fits-rebuilt}
 use Rattle.top_bound.specs.Traced.{AreScriptAndGraphs}
@@ -41,7 +42,8 @@ use Rattle.top_bay.specs.Asked.{Asked, names_of}
 use Rattle.top_bay.specs.Views.{IsWithinLimits}
 use Rattle.top_open.specs.Opening.{Opened}
 use Rattle.top_open.specs.declared.fronts.Front.{Front}
-use Rattle.top_duty.specs.Duty.{ComesOfJoins, admitted_with, clients_by, rebuilds_by, traces, with_dead}
+use Rattle.top_duty.specs.Duty.{rebuilds_by}
+use Rattle.top_duty.specs.Steps.{ComesOfJoins, clients_by, with_dead, admitted_with, traces}
 use Rattle.top_duty.specs.Fit.{IsFit, IsStart, IsStartIf, begun_in}
 use Rattle.top_duty.specs.Opening.{needs_of}
 use Rattle.top_duty.specs.Views.{IsReady, drawn_by, graphs_with}

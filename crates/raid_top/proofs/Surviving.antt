@@ -18,20 +18,23 @@ use Rattle.top_acts.specs.declared.done.Done.TheVariants as done
 use Rattle.top_acts.specs.declared.sweeping.Renewal.{Renewal}
 use Rattle.top_acts.specs.Checked.{IsChecked}
 use Rattle.top_acts.specs.Done.{unless_lost}
-use Rattle.top_acts.specs.Killed.{EndsAlive, IsKilled}
+use Rattle.top_acts.specs.Killed.{IsKilled}
+use Rattle.top_acts.specs.Alive.{EndsAlive}
 use Rattle.top_acts.specs.Labelled.{IsFirstLabelled}
 use Rattle.top_acts.proofs.Kills.{alive_died, alive_given}
 use Rattle.top_close.specs.Stage.{DiesIn, IsGivenUp}
 use Rattle.top_status.specs.declared.status.Status.{Status}
 use Rattle.top_status.specs.declared.status.Status.TheVariants as status
 use Rattle.top_words.specs.Asked.{Command, Check}
-use Rattle.top_duty.specs.Duty.{Admitted, columns_of, layout_of, states_in}
+use Rattle.top_duty.specs.Duty.{Admitted, layout_of}
+use Rattle.top_duty.specs.Steps.{columns_of, states_in}
 use Rattle.top_duty.specs.Opening.{needs_of}
 use Rattle.top_run.specs.Work.{Ending}
 use Rattle.top_serve.specs.Served.{IsKeptAs}
 use Rattle.raid_top.specs.Arrays.{Renews}
 use Rattle.raid_top.specs.Acted.{CommandEndsWell, MayEndDead}
-use Rattle.raid_top.specs.Outcome.{status_of_act, status_of_done}
+use Rattle.raid_top.specs.Outcome.{status_of_act}
+use Rattle.raid_top.specs.Words.{status_of_done}
 use Rattle.raid_top.proofs.Deaths.{checked_dies, died_as, labelled_dies, renewed_dies}
 use Rattle.raid_top.proofs.Failing.{kept_same, outlives_failing}
 use Rattle.raid_top.proofs.Reading.{NoSector, rises_late}
@@ -76,12 +79,12 @@ module _ {D : Type 0} (g : Ghosts D) (a : Admitted) (taken old back : List (Opti
       by_loss None ends is = refl
       by_loss (Some loss) ends is =
           not_lost (layout_of a) (states_of (layout_of a) e.columns) (Some loss) is
-          (outlives_failing (layout_of a) (columns_of a) h.left e.columns c h.without (DiesIn g (Some loss) h.left old back) may
+          (outlives_failing (layout_of a) (columns_of a) h.left e.columns c (record { entries = h.entries; kept = h.kept }) (DiesIn g (Some loss) h.left old back) may
           (alive_died g (layout_of a) l next h.left e.columns old back (Some loss) ends) (inl named) (λ k fills. inr (inl fills)) (of_left (Some loss))
           (alive_given g (layout_of a) l next h.left e.columns old back (Some loss) ends) survives)
 
       pub killed : e.lost ≡ None
-      killed = by_loss e.lost h.ends h.lost_is
+      killed = by_loss e.lost (record { mid = h.mid; dev = h.dev; before = h.before; settles = h.settles; lost_is = h.before_is; ends = h.ends }) h.lost_is
 
     pub labelled : (l next : Label) (e : Ending) (act : Done) → IsFirstLabelled g (layout_of a) l next (columns_of a) e.columns old back e.lost act → e.lost ≡ None
     labelled l next e act h = kept e.columns e.lost (labelled_dies g (layout_of a) (columns_of a) old back may rises act e (gives e.lost) l next h) h.lost_is

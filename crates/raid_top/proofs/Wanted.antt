@@ -19,10 +19,11 @@ use Rattle.top_open.specs.declared.fronts.Front.{Front}
 use Rattle.top_status.specs.declared.status.Status.TheVariants as status
 use Rattle.top_status.specs.Refusals.{Refused, ◌then◌, only}
 use Rattle.top_words.specs.Asked.{Action, Command, Io, Sweep, Show, ShowMap, Init, Check, Rewrite, Print, Fail, ShowLabel, Label as Labels, Rebuild, Resume, profile_of}
-use Rattle.top_duty.specs.Duty.{Admitted, ComesOfJoins, Duty, OnArray, Shows, OneLabel, PrintConf, IsWanted, WantsMemory, admitted_with, asked_of, beside_dead, columns_of, duty_by, duty_for, duty_in, first_of, if_apart, if_past, is_past_bound, is_short, judged, judged_states, layout_of, unless, with_joined, short_status}
+use Rattle.top_duty.specs.Duty.{Admitted, Duty, OnArray, Shows, OneLabel, PrintConf, IsWanted, WantsMemory, asked_of, beside_dead, duty_by, duty_for, duty_in, is_past_bound, judged, judged_states, layout_of, with_joined, short_status}
+use Rattle.top_duty.specs.Steps.{ComesOfJoins, columns_of, if_apart, if_past, unless, onto_spare, rebuild_elsewhere, admitted_with, is_short, first_of}
 use Rattle.top_close.specs.Ended.{IsLossBy}
 use Rattle.top_duty.specs.Opening.{filling_at, kind_of, needs_for, needs_of, opened_by, sizes_in}
-use Rattle.top_duty.specs.Start.{free_spare, has_places, onto_spare, rebuild_elsewhere, start_in}
+use Rattle.top_duty.specs.Start.{free_spare, has_places, start_in}
 use Rattle.top_duty.specs.Views.{other_of, short_of}
 use Rattle.top_words.specs.declared.profile.Kind.{Kind}
 use Rattle.top_duty.proofs.Sized.{duty_err}

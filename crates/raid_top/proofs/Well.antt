@@ -14,7 +14,7 @@ use Rattle.top_acts.specs.declared.done.Done.{Done}
 use Rattle.top_acts.specs.declared.done.Done.TheVariants as done
 use Rattle.top_acts.specs.declared.sweeping.Renewal.{Renewal}
 use Rattle.top_acts.specs.declared.sweeping.Renewal.TheVariants as renewal
-use Rattle.top_acts.specs.Labelled.{alive}
+use Rattle.top_acts.specs.Counting.{alive}
 use Rattle.top_labelled.proofs.Outlived as labelled_laws
 use Rattle.top_open.specs.declared.fronts.Front.{Front}
 use Rattle.top_open.specs.Opening.{Opened}
@@ -24,14 +24,16 @@ use Rattle.top_run.proofs.Outlived.{outlived}
 use Rattle.top_status.specs.Status.{status_of_loss}
 use Rattle.top_words.specs.Asked.{Action, Io, Sweep, Show, ShowMap, Init, Check, Rewrite, Print, Fail, ShowLabel, Label as Labels, Rebuild, Resume, Command, profile_of}
 use Rattle.top_words.specs.declared.profile.Deed.TheVariants as deed
-use Rattle.top_duty.specs.Duty.{Admitted, Duty, OnArray, Shows, OneLabel, PrintConf, asked_of, columns_of, layout_of}
+use Rattle.top_duty.specs.Duty.{Admitted, Duty, OnArray, Shows, OneLabel, PrintConf, asked_of, layout_of}
+use Rattle.top_duty.specs.Steps.{columns_of}
 use Rattle.top_duty.specs.Opening.{needs_for, needs_of}
 use Rattle.top_duty.specs.Start.{has_failed}
 use Rattle.top_run.specs.Work.{Ending}
 use Rattle.raid_top.specs.Arrays.{Renews}
 use Rattle.raid_top.specs.Does.{Does, DoesDeed, DoesRun, Says, ShowsArray}
 use Rattle.raid_top.specs.Acted.{CommandEndsWell, MayEndDead, SurvivesCall}
-use Rattle.raid_top.specs.Outcome.{Outcome, Ran, Did, Looked, status_of, status_of_done}
+use Rattle.raid_top.specs.Outcome.{Outcome, Ran, Did, Looked, status_of}
+use Rattle.raid_top.specs.Words.{status_of_done}
 use Rattle.raid_top.specs.Works.{work_of}
 use Rattle.raid_top.proofs.Filling.{filling_passes}
 use Rattle.raid_top.proofs.Reading.{NoSector, rises_late}

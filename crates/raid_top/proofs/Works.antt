@@ -10,7 +10,8 @@ use Rattle.eng_parts.specs.declared.setup.Setup.{Setup}
 use Rattle.raid_script.specs.Asked.{Asked as Item, seen}
 use Rattle.top_run.specs.Work.{Work}
 use Rattle.top_run.specs.Works as run
-use Rattle.top_duty.specs.Duty.{Admitted, columns_of, graphs_of, layout_of, traces}
+use Rattle.top_duty.specs.Duty.{Admitted, layout_of}
+use Rattle.top_duty.specs.Steps.{columns_of, graphs_of, traces}
 use Rattle.raid_top.specs.Works.{work_of}
 
 abbrev made : Shape → List Column → List (List Item) → List View → Bool → Option Start → Work

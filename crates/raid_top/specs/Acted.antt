@@ -1,7 +1,9 @@
 -- What was done of a command on the array of a configuration, and when that ends well.
-use Rattle.std.specs.Prelude.{◌≡◌, ◌⊎◌, ℕ, List, Bool, true, Option, Some, Ok, Contains, slice_get}
+use Rattle.std.specs.Prelude.{◌≡◌, ◌⊎◌, ◌<◌, ℕ, List, Bool, true, Option, Some, Ok, Contains, slice_get}
 use Rattle.blk_disk.specs.Devices.{AreNamed, Changes, RisesOn}
 use Rattle.blk_disk.specs.declared.disk.Disk.{Ghosts}
+use Rattle.lay_core.specs.Layout.{IsLayout}
+use Rattle.lay_core.specs.declared.place.Place.{Place}
 use Rattle.eng_cols.specs.declared.column.Column.{Column}
 use Rattle.eng_cols.specs.Cols.{HasDevice, is_set_filling, passes}
 use Rattle.eng_cols.specs.Deaths.{Dies}
@@ -12,14 +14,16 @@ use Rattle.top_bay.specs.Asked.{Asked, asked_in, names_for}
 use Rattle.top_status.specs.declared.status.Status.{Status}
 use Rattle.top_status.specs.declared.status.Status.TheVariants as status
 use Rattle.top_open.specs.declared.fronts.Front.{Front}
-use Rattle.top_words.specs.Asked.{Check, Command}
+use Rattle.top_words.specs.Asked.{Check, Command, profile_of}
 use Rattle.eng_cols.specs.Stripes.{states_of}
-use Rattle.top_duty.specs.Duty.{Admitted, Duty, OnArray, Shows, OneLabel, PrintConf, IsWanted, asked_of, columns_of, duty_by, duty_in, layout_of, states_in}
-use Rattle.top_duty.specs.Opening.{needs_of, reads_fronts, sizes_of}
+use Rattle.top_duty.specs.Duty.{Admitted, Duty, OnArray, Shows, OneLabel, PrintConf, IsWanted, asked_of, duty_by, duty_in, layout_of}
+use Rattle.top_duty.specs.Steps.{columns_of, reads_fronts, states_in}
+use Rattle.top_duty.specs.Opening.{needs_of, sizes_of}
 use Rattle.top_duty.specs.Taken.{Reads}
+use Rattle.top_serve.specs.Setups.{with_start}
 use Rattle.top_run.specs.Outliving.{HasFail}
 use Rattle.raid_top.specs.Does.{Does}
-use Rattle.raid_top.specs.Ordered.{IsOrdered}
+use Rattle.raid_top.specs.Ordered.{AreOrdered}
 use Rattle.raid_top.specs.Outcome.{Outcome}
 use Rattle.raid_top.specs.Works.{work_of}
 
@@ -37,8 +41,10 @@ module _ {D : Type 0} (g : Ghosts D) (b : Told D) (command : Command) where
     pub command_is : (asked_of duty).command ≡ command
     pub asked : b.tells → asked_in b command ≡ Ok (asked_of duty)
     pub wanted : IsWanted (duty_by (asked_of duty) (sizes_of g.size old) fronts) (Ok duty)
-    pub ordered : (a : Admitted) → duty ≡ OnArray a → IsOrdered a
-    pub read : Reads g (reads_fronts (asked_of duty).command.action) taken old fronts
+    pub ordered : (a : Admitted) → duty ≡ OnArray a → IsLayout (layout_of a)
+        × ((s : ℕ) (p : Place) → s < (layout_of a).stripes → (layout_of a).spare s ≡ Some p → (t : ℕ) × (i : ℕ) × (t < (layout_of a).stripes) × (i < (layout_of a).width) × (((layout_of a).place t i).column ≡ p.column))
+        × AreOrdered (layout_of a) a.opened.columns × AreOrdered (layout_of a) (with_start a.start a.opened.columns)
+    pub read : Reads g (profile_of (asked_of duty).command.action).reads taken old fronts
     pub before : b.tells → AreNamed b.home (names_for (asked_of duty)) taken
     pub after : b.tells → AreNamed b.after (names_for (asked_of duty)) back
     pub others : b.tells → (n : Text) → (Contains (names_for (asked_of duty)) n → ⊥)

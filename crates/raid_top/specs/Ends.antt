@@ -63,28 +63,17 @@ module _ {D : Type 0} (g : Ghosts D) (b : Told D) where
   IsAnswered invocation o h = Unit {0}
 
   module _ (words : List Text) where
-    -- what the words ask for came of them
-    pub record Followed (outcome : CallOutcome) : Type 0 where
-      pub invocation : Invocation
-      pub words_are : invocation_of words ≡ Ok invocation
-      pub follows : Follows invocation outcome
-
-    -- what is so of an outcome
+    -- what is so of an outcome: what the words ask for came of them, or the call was refused
     abbrev pub Acts : CallOutcome → Type 0
     Acts (Refuses r) = CallIsRefused g b words r
-    Acts outcome = Followed outcome
+    Acts outcome = (invocation : Invocation) × (invocation_of words ≡ Ok invocation) × Follows invocation outcome
 
--- The answer is the status, and its output was printed whole; or the sink failed, and a front of that output was printed. `rose` says that the sink's count of faults rose.
-abbrev pub Printed : Type 0 → Type 0 → Status → Status → List ℕ → List ℕ → List ℕ → Type 0
-Printed tells rose ending answer text old new =
-    ((answer ≡ ending) × (tells → new ≡ old ++ text))
-    ⊎ ((answer ≡ status.SinkFault) × rose × (tells → (n : ℕ) × (new ≡ old ++ take n text)))
-
--- A call of the program: it came to this outcome, whose status and text were answered and printed so. What is so of an outcome speaks of the bay, the last part of the sink.
+-- A call of the program: it came to this outcome. The answer is its status, and its output was printed whole; or the sink failed, whose count of faults rose, and a front of that output was printed. What is so of an outcome speaks of the bay, the last part of the sink.
 pub record Answers {D : Type 0} (g : Ghosts D) (b : Told D) (words : List Text) (sink_tells sink_rose : Type 0) (answer : Status) (old new : List ℕ) : Type 0 where
   pub outcome : CallOutcome
   pub acts : Acts g b words outcome
-  pub printed : Printed sink_tells sink_rose (call_status outcome) answer (call_text outcome) old new
+  pub printed : ((answer ≡ call_status outcome) × (sink_tells → new ≡ old ++ call_text outcome))
+      ⊎ ((answer ≡ status.SinkFault) × sink_rose × (sink_tells → (n : ℕ) × (new ≡ old ++ take n (call_text outcome))))
 
 -- ## Completeness
 
@@ -107,6 +96,12 @@ EndsWell words status.Memory = Unit {0}
 EndsWell words (status.NotInSync n) =
     (c : Command) × (invocation_of words ≡ Ok (OnArray c)) × (c.action ≡ Check)
 EndsWell words _ = ⊥
+
+-- what the words ask for came of them
+pub record Followed {D : Type 0} (g : Ghosts D) (b : Told D) (words : List Text) (outcome : CallOutcome) : Type 0 where
+  pub invocation : Invocation
+  pub words_are : invocation_of words ≡ Ok invocation
+  pub follows : Follows g b invocation outcome
 
 module _ {D : Type 0} (g : Ghosts D) (b : Told D) (words : List Text) (sink_tells : Type 0) (answer : Status) (old new : List ℕ) where
   -- What the words ask for was done, and ended well: its status is the answer, each item of its

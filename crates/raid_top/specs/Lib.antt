@@ -1,5 +1,6 @@
 pub mod Bays
 pub mod Rebuilt
+pub mod Words
 pub mod Outcome
 pub mod Arrays
 pub mod Orders
@@ -7,6 +8,7 @@ pub mod Works
 pub mod Does
 pub mod Runs
 pub mod Views
+pub mod Found
 pub mod Shown
 pub mod Served
 pub mod Losses

@@ -8,7 +8,8 @@ use Rattle.eng_cols.specs.declared.column.Column.{Column}
 use Rattle.eng_cols.specs.declared.column.Column.TheVariants as column
 use Rattle.eng_cols.specs.declared.spot.Loss.{Loss}
 use Rattle.eng_cols.specs.Cols.{ColumnState, HasDevice}
-use Rattle.top_duty.specs.Duty.{Admitted, Duty, OnArray, Shows, OneLabel, PrintConf, columns_of, layout_of, states_in}
+use Rattle.top_duty.specs.Duty.{Admitted, Duty, OnArray, Shows, OneLabel, PrintConf, layout_of}
+use Rattle.top_duty.specs.Steps.{columns_of, states_in}
 use Rattle.top_duty.specs.Opening.{needs_of}
 use Rattle.top_labelled.specs.Begun.{IsAnew}
 use Rattle.top_close.specs.Stage.{IsGivenUp, IsGivenUpIn}

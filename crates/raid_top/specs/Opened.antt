@@ -9,14 +9,15 @@ use Rattle.raid_label.specs.declared.fault.LabelFault.{LabelFault}
 use Rattle.raid_label.specs.declared.label.Label.{Label}
 use Rattle.top_bay.specs.Asked.{Asked}
 use Rattle.top_duty.specs.Duty.{Duty, OnArray, Shows, OneLabel, PrintConf}
-use Rattle.top_duty.specs.Opening.{needs_of, plan_of, present_of, stripes_on}
+use Rattle.top_duty.specs.Opening.{needs_of, plan_of, stripes_on}
+use Rattle.top_duty.specs.Steps.{present_of}
 use Rattle.top_open.specs.declared.fronts.Front.{Front}
 use Rattle.top_open.specs.declared.fronts.Front.TheVariants as front
 use Rattle.top_open.specs.declared.plan.Plan.{Plan}
 use Rattle.top_open.specs.Labels.{label_at}
 use Rattle.top_open.specs.Opening.{Opened}
 use Rattle.top_open.specs.Plan.{is_present, sectors_for}
-use Rattle.top_open.specs.Seats.{is_spread_below, wanted}
+use Rattle.top_open.specs.Steps.{is_spread_below, wanted}
 
 -- without labels: its disk is absent, or sector 0 of that couldn't be read
 abbrev pub LacksDisk : List Bool → List Front → ℕ → Type 0

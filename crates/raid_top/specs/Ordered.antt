@@ -3,7 +3,7 @@ use Rattle.std.specs.Prelude.{◌≡◌, ◌<◌, ℕ, List, length, Some, IsSom
 use Rattle.eng_cols.specs.declared.column.Column.{Column}
 use Rattle.eng_cols.specs.declared.column.Column.TheVariants as column
 use Rattle.lay_core.specs.Layout.{IsLayout, Shape, SparesLieByUnits}
-use Rattle.top_duty.specs.Duty.{Admitted, columns_of, layout_of}
+use Rattle.top_duty.specs.Duty.{Admitted, layout_of}
 use Rattle.top_serve.specs.Setups.{with_start}
 
 -- There is one column for each of the layout's; at most one is spread, and then each stripe has a spare place.
@@ -16,5 +16,5 @@ pub record AreOrdered (y : Shape) (cols : List Column) : Type 0 where
 pub record IsOrdered (a : Admitted) : Type 0 where
   pub law : IsLayout (layout_of a)
   pub units : SparesLieByUnits (layout_of a)
-  pub opened : AreOrdered (layout_of a) (columns_of a)
-  pub started : AreOrdered (layout_of a) (with_start a.start (columns_of a))
+  pub opened : AreOrdered (layout_of a) a.opened.columns
+  pub started : AreOrdered (layout_of a) (with_start a.start a.opened.columns)

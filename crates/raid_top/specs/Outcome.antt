@@ -1,9 +1,8 @@
 -- What comes of an action on an array, and what is printed of it.
-use Rattle.std.specs.Prelude.{ℕ, zero, suc, List, [], ◌++◌, Option, Some, None}
-use Rattle.eng_cols.specs.declared.spot.Loss.{Loss}
+use Rattle.std.specs.Prelude.{ℕ, zero, suc, List, [], ◌++◌, Some, flat_map}
 use Rattle.raid_script.specs.Replies.{replies_text}
 use Rattle.raid_script.specs.History.{history_text}
-use Rattle.raid_script.specs.Trace.{trace_text}
+use Rattle.raid_script.specs.Trace.{event_line}
 use Rattle.raid_script.specs.Summary.{summary_text}
 use Rattle.top_status.specs.declared.status.Status.{Status}
 use Rattle.top_status.specs.declared.status.Status.TheVariants as status
@@ -14,7 +13,7 @@ use Rattle.top_acts.specs.Done.{done_text}
 use Rattle.top_run.specs.Work.{Ending, Service}
 use Rattle.top_words.specs.Asked.{Action, profile_of}
 use Rattle.top_words.specs.declared.profile.Drawing.{Drawing}
-use Rattle.raid_top.specs.Rebuilt.{rebuild_text}
+use Rattle.raid_top.specs.Rebuilt.{rebuild_line}
 use Rattle.std.specs.Option.{option_map_or}
 
 -- A script was run, or items that were drawn; or something was done to the array without a core, or
@@ -34,28 +33,17 @@ status_of_act (done.Rewrite n) = status.Ok
 status_of_act (done.Killed c) = status.Ok
 status_of_act (done.Labelled n) = status.Ok
 
-abbrev pub status_of_done : Done → Option Loss → Status
-status_of_done act None = status_of_act act
-status_of_done act (Some loss) = status_of_loss (Some loss)
-
 -- the status, a lost run's too
 abbrev pub status_of : Outcome → Status
 status_of (Ran action s) = status_of_loss s.ending.lost
-status_of (Did act e) = status_of_done act e.lost
+status_of (Did act e) = option_map_or (λ loss. status_of_loss (Some loss)) e.lost (status_of_act act)
 status_of (Looked text) = status.Ok
 
--- what is told of a script: replies, history, and the trace where it is kept
-abbrev pub script_text : Service → List ℕ
-script_text s = replies_text s.clients s.replies s.sectors ++ history_text s.history ++ trace_text s.trace
-
--- what is told of a run, but for its end: where clients were drawn, their sums, and nothing where the array was lost; else of a script, its replies, its history, and the trace where it is kept, and behind that of a rebuild, if there was one
-abbrev pub run_text : Option Drawing → Service → List ℕ
-run_text None s = (replies_text s.clients s.replies s.sectors ++ history_text s.history ++ trace_text s.trace)
-    ++ rebuild_text s.line
-run_text (Some drawing) s = option_map_or (λ loss. []) s.ending.lost (summary_text s.clients s.replies s.sectors)
-
--- all that is printed: what a run tells, or the line of what was done, if it has one, the columns that are dead in the end, and the status
+-- All that is printed: what a run tells, or the line of what was done, if it has one, the columns that are dead in the end, and the status. A run tells, where clients were drawn, their sums, and nothing where the array was lost; else of a script its replies, its history, and the trace where it is kept, and behind that of a rebuild, if there was one.
 abbrev pub outcome_text : Outcome → List ℕ
-outcome_text (Ran action s) = run_text (profile_of action).drawn s ++ ending_text s.ending.columns (status_of_loss s.ending.lost)
-outcome_text (Did act e) = done_text act ++ ending_text e.columns (status_of_done act e.lost)
+outcome_text (Ran action s) =
+    option_map_or (λ (d : Drawing). option_map_or (λ loss. []) s.ending.lost (summary_text s.clients s.replies s.sectors)) (profile_of action).drawn
+    ((replies_text s.clients s.replies s.sectors ++ history_text s.history ++ flat_map event_line s.trace) ++ option_map_or rebuild_line s.line [])
+    ++ ending_text s.ending.columns (status_of_loss s.ending.lost)
+outcome_text (Did act e) = done_text act ++ ending_text e.columns (status_of (Did act e))
 outcome_text (Looked text) = text ++ status_text status.Ok

@@ -9,7 +9,8 @@ use Rattle.top_open.specs.declared.fronts.Front.{Front}
 use Rattle.top_words.specs.Asked.{profile_of}
 use Rattle.top_words.specs.declared.profile.Deed.{Deed}
 use Rattle.top_words.specs.declared.profile.Deed.TheVariants as deed
-use Rattle.top_duty.specs.Duty.{Admitted, Duty, OnArray, layout_of, states_in}
+use Rattle.top_duty.specs.Duty.{Admitted, Duty, OnArray, layout_of}
+use Rattle.top_duty.specs.Steps.{states_in}
 use Rattle.top_duty.specs.Start.{has_failed}
 use Rattle.top_run.specs.InTurn.{SweptInTurn}
 use Rattle.top_run.specs.Outliving.{AllAnswered}

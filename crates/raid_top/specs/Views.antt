@@ -14,7 +14,8 @@ use Rattle.top_acts.specs.declared.done.Done.TheVariants as done
 use Rattle.top_labelled.specs.declared.labelled.Outcome.{Outcome as Ended}
 use Rattle.top_labelled.specs.declared.labelled.Outcome.TheVariants as ended
 use Rattle.raid_top.specs.Arrays.{ending_seen}
-use Rattle.raid_top.specs.Outcome.{Outcome, Ran, Did, Looked, status_of_done}
+use Rattle.raid_top.specs.Outcome.{Outcome, Ran, Did, Looked}
+use Rattle.raid_top.specs.Words.{status_of_done}
 use Rattle.raid_top.specs.Shown.{shown_text}
 use Rattle.raid_top.specs.declared.came.Shown.{Shown}
 use Rattle.raid_top.specs.declared.came.Came.{Came}

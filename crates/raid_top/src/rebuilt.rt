@@ -2,7 +2,8 @@
 ghost use Rattle.std.specs.Prelude.{◌≡◌, ◌≤◌, ◌+◌, ◌++◌, length, is_ok, OnErr};
 ghost use Rattle.blk_disk.specs.Disk.{Rose};
 ghost use Rattle.raid_bay.specs.Sink.{Puts};
-ghost use Rattle.raid_top.specs.Rebuilt.{end_text, place_text, rebuild_line, rebuild_text};
+ghost use Rattle.raid_top.specs.Rebuilt.{end_text, rebuild_line};
+ghost use Rattle.raid_top.specs.Words.{place_text, rebuild_text};
 
 use blk_disk::Failed;
 use put_line::Line;
@@ -10,7 +11,6 @@ use raid_bay::Sink;
 use top_run::{Line as Rebuild, Told};
 
 // Where its units went.
-#[tactic(auto, unfolding(crate::specs::Rebuilt::place_text))]
 fn push_place(line: &mut Line, device: Option<u32>)
     requires { length line.old ≤ 100 }
     ensures value { line.new ≡ line.old ++ place_text device }

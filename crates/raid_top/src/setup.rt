@@ -2,7 +2,7 @@
 ghost use Rattle.std.specs.Prelude.{◌≡◌, ◌≤◌, ◌++◌, ℕ, map, IfOk, IfErr, IfSome};
 ghost use Rattle.top_words.specs.Asked.{AreNumbersInRange, profile_of};
 ghost use Rattle.top_words.specs.Views.{action_seen};
-ghost use Rattle.top_duty.specs.Duty.{clients_by, traces};
+ghost use Rattle.top_duty.specs.Steps.{clients_by, traces};
 ghost use Rattle.top_duty.specs.Views.{drawn_by, items_seen, views_of};
 
 use eng_array::{Setup, Start};

@@ -5,7 +5,8 @@ ghost use Rattle.raid_conf.specs.Layouts.{shape_of};
 ghost use Rattle.raid_map.specs.Marking.{CanBeMarked};
 ghost use Rattle.top_duty.specs.Opening.{AreTableRows};
 ghost use Rattle.top_open.specs.Opening.{opened_seen};
-ghost use Rattle.raid_top.specs.Shown.{IsEmptyMap, IsUnionFound, MapIs};
+ghost use Rattle.raid_top.specs.Shown.{IsEmptyMap, MapIs};
+ghost use Rattle.raid_top.specs.Found.{IsUnionFound};
 
 use crate::came::Shown;
 use blk_disk::Disk;

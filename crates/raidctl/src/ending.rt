@@ -2,7 +2,7 @@
 ghost use Rattle.std.specs.Prelude.{◌≡◌, ℕ};
 ghost use Rattle.std.specs.Process.{exit_status};
 ghost use Rattle.blk_disk.specs.Disk.{Rose};
-ghost use Rattle.raid_top.specs.Ends.{Printed};
+ghost use Rattle.raid_top.specs.Words.{Printed};
 ghost use Rattle.top_status.specs.Status.{exit_number, status_text};
 ghost use Rattle.top_words.specs.declared.invocation.WordsFault.TheVariants.{Memory, Usage};
 

@@ -1,11 +1,12 @@
 -- What the reads of a service are replied, by the plain machine over a disk of zeros.
-use Rattle.std.specs.Prelude.{◌≡◌, ◌≢◌, ℕ, ◌<◌, List, [], length, map, replicate, take, drop, slice_index_or}
+use Rattle.std.specs.Prelude.{◌≡◌, ◌≢◌, ℕ, ◌<◌, List, [], length, map, replicate, take, drop, slice_index_or, fold, slice_get}
 use Rattle.blk_plain.specs.declared.op.Op.{Op}
 use Rattle.blk_plain.specs.declared.op.Op.TheVariants.{Write, Writes, Read, Rebuild, Sync}
-use Rattle.blk_plain.specs.Plain.{replayed, zero_sector}
+use Rattle.blk_plain.specs.Plain.{zero_sector, after}
 use Rattle.sim_queue.specs.declared.request.Request.{Request}
 use Rattle.sim_queue.specs.declared.request.Served.{Served}
 use Rattle.sim_queue.specs.Service.{request_at, IsTransfer}
+use Rattle.std.specs.Option.{option_map_or}
 
 -- the sectors that an operation is replied, from the blocks as they stand
 abbrev pub read_from : Op → List (List ℕ) → List (List ℕ)
@@ -23,7 +24,7 @@ service_at services place = slice_index_or services place (record { request = 0;
 unfoldable pub reply_at : ℕ → List Request → List Served → ℕ → List (List ℕ)
 reply_at sectors requests services place =
     read_from (request_at requests (service_at services place).request).op
-    (replayed (map (λ r. r.op) requests) (take place (map (λ s. s.request) services)) (replicate sectors zero_sector))
+    (fold (λ (now : List (List ℕ)) i. option_map_or (λ (op : Op). after op now) (slice_get (map (λ r. r.op) requests) i) now) (replicate sectors zero_sector) (take place (map (λ s. s.request) services)))
 
 -- these are the replies: each request that is served has that of its place
 abbrev pub AreReplies : ℕ → List Request → List Served → List (List (List ℕ)) → Type 0

@@ -1,2 +1,3 @@
 pub mod Words
 pub mod Binds
+pub mod Thens

@@ -1,6 +1,6 @@
 -- What a text has next, read line by line and on a line word by word from left to right, or where
 -- and by which code it is refused there.
-use Rattle.std.specs.Prelude.{ℕ, ◌+◌, Bool, List, [], ◌∷◌, length, Option, Some, None, Result, Ok, Err, if◌then◌else◌, nat_eq, ok_or}
+use Rattle.std.specs.Prelude.{ℕ, zero, suc, ◌+◌, Bool, List, [], ◌∷◌, length, Option, Some, None, Result, Ok, Err, if◌then◌else◌, nat_eq, ok_or}
 use Rattle.std.specs.Str.{bytes_eq}
 use Rattle.raid_text.specs.declared.readers.Lines.{Lines}
 use Rattle.raid_text.specs.Seen.{left, line_count}
@@ -50,6 +50,14 @@ unfoldable pub at_end : List Text → Result (Unit {0}) ℕ
 at_end [] = Ok tt
 at_end (word ∷ words) = Err 1
 
+-- the numbers up to the line's end; code 2 where a word is none
+unfoldable pub numbers_of : List Text → Result (List ℕ) ℕ
+numbers_of [] = Ok []
+numbers_of (word ∷ words) = do
+  n ← number_in word
+  more ← numbers_of words
+  Ok (n ∷ more)
+
 -- ---- the lines of a text
 
 -- the value, or the refusal of this line
@@ -83,24 +91,31 @@ pub record Next : Type 0 where
   pub rest : Rest
 
 -- the next line, where one is left
-abbrev pub line_among : ℕ → List Numbered → Result (Option Next) At
-line_among count [] = Ok None
-line_among count (line ∷ lines) =
-    at_line line.at (words_in line) >>= λ words.
-    Ok (Some (record {
-      at = line.at;
-      words = words;
-      rest = record { lines = lines; count = count };
-    }))
-
 unfoldable pub line_if_any : Rest → Result (Option Next) At
-line_if_any rest = line_among rest.count rest.lines
-
--- the line that there is, or this code at the line behind the last of so many
-abbrev pub or_missing : ℕ → ℕ → Option Next → Result Next At
-or_missing count code None = Err (record { line = count + 1; code = code })
-or_missing count code (Some line) = Ok line
+line_if_any rest = elim rest.lines [
+  | [] ↦ Ok None
+  | line ∷ lines ↦ at_line line.at (words_in line) >>= λ words.
+      Ok (Some (record {
+        at = line.at;
+        words = words;
+        rest = record { lines = lines; count = rest.count };
+      }))
+]
 
 -- the next line; this code where none is left, at the line behind the last
 unfoldable pub next_line : ℕ → Rest → Result Next At
-next_line code rest = line_if_any rest >>= λ line. or_missing rest.count code line
+next_line code rest = line_if_any rest
+    >>= elim [ None ↦ Err (record { line = rest.count + 1; code = code }) | Some line ↦ Ok line ]
+
+-- what is made of the words of the next line, and the lines behind it; this code where none is left
+unfoldable pub line_by : {A : Type 0} → ℕ → (List Text → Result A ℕ) → Rest → Result (A × Rest) At
+line_by code f rest = do
+  line ← next_line code rest
+  x ← at_line line.at (f line.words)
+  Ok (x, line.rest)
+
+-- a step that is taken so many times, each time with what the one before gave
+unfoldable pub repeated : {A : Type 0} → ℕ → (A → Rest → Result (A × Rest) At) → A → Rest
+    → Result (A × Rest) At
+repeated zero step x rest = Ok (x, rest)
+repeated (suc n) step x rest = step x rest >>= λ more. repeated n step more.0 more.1

@@ -8,16 +8,18 @@ use Rattle.eng_cols.specs.declared.column.Column.{Column}
 use Rattle.eng_cols.specs.declared.spot.Loss.{Loss}
 use Rattle.raid_label.specs.declared.label.Label.{Label}
 use Rattle.raid_map.specs.Regions.{Marks as Map, IsBytesOf}
-use Rattle.top_close.specs.Stage.{DiesIn, IsGivenUpIn, IsStage, IsUncalled}
+use Rattle.top_close.specs.Stage.{DiesIn, IsGivenUpIn, IsStage}
 use Rattle.top_close.proofs.StageLaws.{live_before, stage-then, stage_as}
 use Rattle.top_rounds.specs.Calls.{IsLabelWrite}
 use Rattle.top_rounds.specs.Labels.{seating_in, with_round}
 use Rattle.top_rounds.specs.Passes.{HoldsLabel, IsKeptInUse}
 use Rattle.top_rounds.specs.Rounds.{CountsRounds, HaveRounds}
 use Rattle.top_rounds.proofs.RoundLaws.{counts-none, counts-then, counts_as, counts_few, stage_of_rounds}
-use Rattle.top_acts.specs.Begun.{AreLast, HasSeats, Opens}
+use Rattle.top_acts.specs.Begun.{HasSeats, Opens}
+use Rattle.top_acts.specs.Behind.{AreLast}
 use Rattle.top_acts.specs.Failed.{IsLeftLost}
-use Rattle.top_acts.specs.Marking.{AreNotice, HoldsMap, MarksAll}
+use Rattle.top_acts.specs.Marking.{AreNotice, MarksAll}
+use Rattle.top_acts.proofs.Words.{HoldsMap}
 use Rattle.top_acts.specs.Sweeps.{Notice, Round, Marks, rounds_for, wrote_round}
 use Rattle.top_acts.proofs.Ended.{no_loss, rounds_of}
 use Rattle.top_acts.proofs.Marked.{IsMarkCall, marks_stage, marks_uncalled}
@@ -25,6 +27,7 @@ use Rattle.top_acts.proofs.Seated.{seats-then, seats_of_rounds}
 use Rattle.top_acts.proofs.Staged.{none_last}
 use Rattle.top_rounds.proofs.Words.{IsFirstInUse}
 use Rattle.eng_cols.specs.Cols.{HasDeviceOn}
+use Rattle.top_close.proofs.Words.{IsUncalled}
 
 pub no_bool : {A : Type 0} → true ≡ false → A
 no_bool h = absurd (let u : ⊥ = cc in u)

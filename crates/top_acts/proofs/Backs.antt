@@ -11,7 +11,7 @@ use Rattle.eng_cols.specs.declared.column.Column.{Column}
 use Rattle.eng_cols.specs.declared.spot.Spot.{Spot}
 use Rattle.eng_cols.specs.Cols.{ColumnState, Live, Dead, Filling, Spread, HasDevice, is_set_filling}
 use Rattle.eng_cols.specs.Deaths.{Dies}
-use Rattle.eng_cols.specs.Seats.{is_available, open_on, spare_open, seat_on, seat}
+use Rattle.eng_cols.specs.Seats.{is_available, open_on, seat_on, seat}
 use Rattle.eng_cols.specs.Fewer.{DieApart}
 use Rattle.eng_cols.specs.Stripes.{states_of}
 use Rattle.eng_cols.proofs.Lists.{count_at_most}
@@ -19,6 +19,7 @@ use Rattle.raid_recon.specs.Array.{IsArray, IsComplete, Lacks}
 use Rattle.raid_recon.proofs.Backs.{Back}
 use Rattle.top_close.specs.Dying.{OnlyDie}
 use Rattle.top_close.proofs.DyingLaws.{columns_die, unit_back}
+use Rattle.eng_cols.proofs.Words.{spare_open}
 
 module _ (y : Shape) (old new : List ColumnState) (die : OnlyDie old new) where
   -- what holds of a column and of no dead one held before
@@ -91,7 +92,7 @@ array_after g y cause may columns after old new dies apart few changes array =
 
 -- a stripe lacks no unit, or one
 pub complete_or : (y : Shape) (cols : List ColumnState) (s : ℕ) → IsComplete y cols s ⊎ Lacks y cols s
-complete_or y cols s = elim (go y.width) [ inl all ↦ inl all | inr one ↦ inr (record { unit = one.0; within = one.1; missing = one.2 }) ]
+complete_or y cols s = elim (go y.width) [ inl all ↦ inl all | inr one ↦ inr one ]
   where
     go : (n : ℕ) → ((i : ℕ) → i < n → is_available y cols s i ≡ true) ⊎ ((i : ℕ) × (i < n) × (is_available y cols s i ≡ false))
     go zero = inl (λ i within. absurd (omega (arith, within)))

@@ -23,9 +23,9 @@ use Rattle.top_rounds.specs.Rounds.{CountsRounds, HaveRounds, clean_in_end}
 use Rattle.top_close.proofs.StageLaws.{live_before, stage-then, stage_as, told-others}
 use Rattle.top_rounds.proofs.RoundLaws.{counts-none, counts-then, counts_few, round_again, stage_of_rounds}
 use Rattle.top_acts.specs.Stages.{AreStaged}
-use Rattle.top_acts.specs.Begun.{AreLast, HasBegun, HasSeats, MayBegin, MaySweep, SweepHas}
+use Rattle.top_acts.specs.Begun.{HasBegun, HasSeats, MayBegin, MaySweep, SweepHas}
 use Rattle.top_acts.specs.Marking.{AreNotice}
-use Rattle.top_acts.specs.Behind.{SweepsLabelled}
+use Rattle.top_acts.specs.Behind.{SweepsLabelled, AreLast}
 use Rattle.top_acts.specs.Failed.{EndsFailed}
 use Rattle.top_acts.specs.Sweeping.{DoesSweeps, SweepsBehind}
 use Rattle.top_acts.specs.Sweeps.{Sweeps, Nothing, Over, Marked, Notice, Round, Marks, wrote_round}

@@ -12,15 +12,15 @@ use Rattle.lay_core.specs.Layout.{Shape}
 use Rattle.eng_cols.specs.declared.column.Column.{Column}
 use Rattle.eng_cols.specs.declared.spot.Loss.{Loss}
 use Rattle.eng_cols.specs.Cols.{ColumnState, device_set, HasDeviceOn}
-use Rattle.eng_cols.specs.Deaths.{Dies}
+use Rattle.eng_cols.specs.Deaths.{Dies, LosesDevice}
 use Rattle.eng_cols.specs.Stripes.{states_of}
 use Rattle.raid_label.specs.declared.label.Label.{Label}
 use Rattle.raid_map.specs.Marking.{CanBeMarked, IsMapSector, MarksOn}
 use Rattle.raid_map.specs.Regions.{Marks as Map, IsBytesOf}
 use Rattle.top_close.specs.Calls.{EndsSettled, MoreOn}
 use Rattle.top_close.specs.Ended.{IsLossBy}
-use Rattle.top_close.specs.Settled.{AreSettled, LosesDevice}
-use Rattle.top_close.specs.Stage.{DiesIn, IsGivenUp, IsGivenUpIn, IsInUse, IsStage, IsUncalled, device_count}
+use Rattle.top_close.specs.Settled.{AreSettled}
+use Rattle.top_close.specs.Stage.{DiesIn, IsGivenUp, IsGivenUpIn, IsInUse, IsStage, device_count}
 use Rattle.top_close.proofs.CallLaws.{more-then}
 use Rattle.top_close.proofs.SettledLaws.{device_within}
 use Rattle.top_close.proofs.StageLaws.{live_before, live_less, stage-then, stage_as}
@@ -34,7 +34,7 @@ use Rattle.top_acts.specs.Begun.{HasSeats}
 use Rattle.top_acts.specs.Cleared.{ClearsIn, EndsInSteps, EndsMapped, EndsMappedSettled, IsEndingCall, TriesToClear}
 use Rattle.top_acts.specs.Closed.{ClosesLabelled, ClosesSettled, settled_in_end}
 use Rattle.top_acts.specs.Failed.{IsLeftLost}
-use Rattle.top_acts.specs.Marking.{HoldsMap, MarksAll}
+use Rattle.top_acts.specs.Marking.{MarksAll}
 use Rattle.top_acts.specs.Stages.{IsClosing}
 use Rattle.top_acts.proofs.Endings.{calls_ending, ending_calls, endings-then, marked_ending}
 use Rattle.top_acts.proofs.InTurn.{AreApart}
@@ -44,7 +44,8 @@ use Rattle.top_acts.proofs.Ended.{no_loss}
 use Rattle.top_acts.proofs.Settled.{Death, death_of}
 use Rattle.top_acts.proofs.Tried.{strict}
 use Rattle.top_rounds.proofs.Words.{IsFirstInUse}
-use Rattle.top_acts.proofs.Words.{EndCleared, HoldsOr, EndingCalls}
+use Rattle.top_acts.proofs.Words.{EndCleared, HoldsOr, EndingCalls, HoldsMap}
+use Rattle.top_close.proofs.Words.{IsUncalled}
 
 -- a label write, a write of a map or a settle
 any_mark : (call : Call) → IsMarkCall call → IsEndingCall true call
@@ -175,7 +176,7 @@ module _ {D : Type 0} (g : Ghosts D) where
 
     -- the label is where it was
     label_there : (c d : ℕ) → HasDeviceOn after c d → HoldsLabel g new next c d
-    label_there c d h told = changes_sector g (IsMapSector mid) dev new d 0 m.marked.frame told (λ f. omega (arith, f.second)) ∙ e.held c d (before_it c d h) told
+    label_there c d h told = changes_sector g (IsMapSector mid) dev new d 0 m.marked.frame told (λ f. let e = f.1 in omega (arith, e)) ∙ e.held c d (before_it c d h) told
 
     -- what sector 1 holds behind the clear
     second_cleared : g.tells → (d : ℕ) → (RisesOn g old new d → ⊥) → HoldsOr g (Some blank) old new d

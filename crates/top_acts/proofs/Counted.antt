@@ -7,7 +7,7 @@ use Rattle.blk_disk.specs.Devices.{calls_of}
 use Rattle.eng_cols.specs.declared.column.Column.{Column}
 use Rattle.eng_cols.specs.declared.spot.Loss.{Loss}
 use Rattle.raid_label.specs.declared.label.Label.{Label}
-use Rattle.top_close.specs.Stage.{DiesIn, IsStage, IsUncalled}
+use Rattle.top_close.specs.Stage.{DiesIn, IsStage}
 use Rattle.top_close.proofs.StageLaws.{live_before, stage-none, stage-then, stage_as}
 use Rattle.top_rounds.specs.Calls.{IsLabelWrite, WritesWithin}
 use Rattle.top_rounds.specs.Rounds.{AreRounds, CountsRounds}
@@ -17,6 +17,7 @@ use Rattle.top_acts.specs.Closed.{AreCounted}
 use Rattle.top_acts.specs.Stages.{IsClosing}
 use Rattle.top_rounds.proofs.Words.{IsFirstInUse}
 use Rattle.eng_cols.specs.Cols.{HasDeviceOn}
+use Rattle.top_close.proofs.Words.{IsUncalled}
 
 module _ {D : Type 0} (g : Ghosts D) where
   -- nothing was done

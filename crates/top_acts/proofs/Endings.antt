@@ -13,13 +13,14 @@ use Rattle.eng_cols.specs.Cols.{device_set, HasDeviceOn, has_device}
 use Rattle.raid_map.specs.Marking.{MarkCalls, MarksOn}
 use Rattle.top_close.specs.Calls.{MoreOn}
 use Rattle.top_close.proofs.CallLaws.{more-then, more_as}
-use Rattle.top_close.specs.Stage.{IsGivenUp, IsUncalled}
+use Rattle.top_close.specs.Stage.{IsGivenUp}
 use Rattle.top_close.proofs.StageLaws.{live_before, given_before}
 use Rattle.top_acts.specs.Cleared.{AreEndingInTurn, EndsInTurn}
 use Rattle.top_acts.specs.Closed.{CallInTurn}
 use Rattle.top_acts.specs.Stages.{AreInTurn, EndInTurn}
 use Rattle.top_acts.proofs.InTurn.{AreApart}
 use Rattle.top_acts.proofs.Words.{FailsEnding, EndingCalls}
+use Rattle.top_close.proofs.Words.{IsUncalled}
 
 -- ## Lists of calls
 

@@ -12,7 +12,7 @@ use Rattle.top_close.specs.Ended.{IsLossBy}
 use Rattle.top_rounds.specs.Labels.{seating_in, with_round}
 use Rattle.top_rounds.specs.Rounds.{HaveRounds}
 use Rattle.top_acts.specs.Failed.{EndsFailed}
-use Rattle.top_acts.specs.Killed.{IsWithout}
+use Rattle.top_acts.specs.Alive.{IsWithout}
 use Rattle.top_acts.proofs.Ended.{no_loss}
 use Rattle.top_acts.proofs.Without.{without_still}
 

@@ -13,11 +13,12 @@ use Rattle.eng_cols.specs.declared.spot.Loss.{Loss}
 use Rattle.eng_cols.specs.Cols.{device_set, HasDeviceOn, has_device}
 use Rattle.top_close.proofs.CallLaws.{more-none, more-one, more-then, more_as}
 use Rattle.top_rounds.specs.Calls.{EndsBy, IsLabelled, WritesTo, WritesWell}
-use Rattle.top_close.specs.Stage.{IsGivenUp, IsUncalled}
+use Rattle.top_close.specs.Stage.{IsGivenUp}
 use Rattle.top_close.proofs.StageLaws.{live_before, given_before}
 use Rattle.top_acts.specs.Closed.{CallInTurn}
 use Rattle.top_acts.specs.Stages.{AreInTurn, EndInTurn, FailInTurn, InTurnOn}
 use Rattle.top_rounds.proofs.Words.{AreWritten}
+use Rattle.top_close.proofs.Words.{IsUncalled}
 
 -- ## Lists of calls
 

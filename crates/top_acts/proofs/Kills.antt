@@ -21,7 +21,8 @@ use Rattle.top_close.specs.Stage.{DiesIn, IsGivenUp, IsGivenUpIn, IsStage}
 use Rattle.top_rounds.specs.Rounds.{in_end}
 use Rattle.top_close.proofs.StageLaws.{live_before, given_before, dies_over}
 use Rattle.top_rounds.proofs.RoundLaws.{gives_up, none_given}
-use Rattle.top_acts.specs.Killed.{ClosesUnless, EndsAlive}
+use Rattle.top_acts.specs.Alive.{EndsAlive}
+use Rattle.top_acts.proofs.Words.{ClosesUnless}
 use Rattle.top_acts.specs.Stages.{IsClosing}
 use Rattle.top_acts.proofs.Ended.{no_loss, still_lost}
 use Rattle.top_acts.proofs.Settled.{settled}

@@ -181,7 +181,7 @@ module _ {D : Type 0} (g : Ghosts D) (y : Shape) where
           let may = of_check sweep mid dev at.device (sector_at y at o) swept in
           let same = (check-alone y (states_of y columns) layout order one may.stripe s (data_units y) o at may.within sw last ou is (check-back y (states_of y mid) (states_of y columns) may.stripe at.device (sector_at y at o) back may.sector)).0 in
           let all = subst (IsComplete y (states_of y mid)) (sym same) may.complete in
-          let z : true ≡ false = sym (all lacks.unit lacks.within) ∙ lacks.missing in let u : ⊥ = cc in u
+          let z : true ≡ false = sym (all lacks.0 lacks.1) ∙ lacks.2 in let u : ⊥ = cc in u
 
       checks_first : g.tells → ChecksHold g y mid after dev new → ChecksHold g y columns after old new
       checks_first told h s sw all here = elim (complete_or y (states_of y mid) s) [

@@ -9,14 +9,13 @@ use Rattle.lay_core.specs.Layout.{Shape}
 use Rattle.eng_cols.specs.declared.column.Column.{Column}
 use Rattle.eng_cols.specs.declared.spot.Loss.{Loss}
 use Rattle.eng_cols.specs.Cols.{is_set_filling, is_set_spread, has_device}
-use Rattle.eng_cols.specs.Deaths.{Dies}
+use Rattle.eng_cols.specs.Deaths.{Dies, LosesDevice}
 use Rattle.eng_cols.proofs.DeathLaws.{dies-more, dies-refl}
 use Rattle.raid_map.specs.Reading.{AreRead}
 use Rattle.raid_map.specs.Regions.{Marks as Map}
 use Rattle.top_close.specs.Dying.{AnyCause}
 use Rattle.top_close.specs.Calls.{MoreOn}
-use Rattle.top_close.specs.Settled.{LosesDevice}
-use Rattle.top_close.specs.Stage.{DiesIn, IsGivenUp, IsStage, IsUncalled}
+use Rattle.top_close.specs.Stage.{DiesIn, IsGivenUp, IsStage}
 use Rattle.top_close.proofs.CallLaws.{more_all-none, more_all-one}
 use Rattle.top_close.proofs.StageLaws.{dies_over, stage-plain, told-others}
 use Rattle.top_close.proofs.DyingLaws.{dies_unfilled}
@@ -26,14 +25,15 @@ use Rattle.top_rounds.proofs.RoundLaws.{given_death, gives_up, none_given}
 use Rattle.top_acts.specs.Begun.{CanAct}
 use Rattle.top_acts.specs.Mapped.{LooksAtMaps}
 use Rattle.top_acts.proofs.Having.{acts_after}
-use Rattle.top_acts.proofs.Marked.{loses_marked, on_or}
+use Rattle.top_acts.proofs.Marked.{on_or}
 use Rattle.top_acts.proofs.Named.{apart_in}
 use Rattle.top_acts.proofs.Words.{IsMapRead}
+use Rattle.top_close.proofs.Words.{IsUncalled}
 
 module _ {D : Type 0} (g : Ghosts D) (y : Shape) where
   -- columns whose devices failed are dead
   pub read_dies : (columns read : List Column) (old new : List (Option D)) → AreRead g (length columns) columns read old new → Dies (DiesIn g None columns old new) columns read
-  read_dies columns read old new r = dies-more (LosesDevice g columns old new) (DiesIn g None columns old new) columns read (λ c f. inl f) (loses_marked g columns read old new r.dies)
+  read_dies columns read old new r = dies-more (LosesDevice g columns old new) (DiesIn g None columns old new) columns read (λ c f. inl f) r.dies
 
   -- and can be acted on
   pub acts_read : (columns read : List Column) (old new : List (Option D)) → count_by is_set_filling read ≤ count_by is_set_filling columns → count_by is_set_spread read ≤ count_by is_set_spread columns

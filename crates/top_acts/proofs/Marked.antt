@@ -12,21 +12,21 @@ use Rattle.blk_disk.proofs.DeviceLaws.{changes-more}
 use Rattle.eng_cols.specs.declared.column.Column.{Column}
 use Rattle.eng_cols.specs.declared.spot.Loss.{Loss}
 use Rattle.eng_cols.specs.Cols.{device_set, HasDeviceOn}
-use Rattle.eng_cols.specs.Deaths.{Dies}
-use Rattle.eng_cols.proofs.DeathLaws.{dies-more}
-use Rattle.raid_map.specs.Marking as mark
-use Rattle.raid_map.specs.Marking.{AreMarked, IsMapSector, MarkCalls, MarksAtMost}
+use Rattle.eng_cols.specs.Deaths.{Dies, LosesDevice}
+use Rattle.raid_map.specs.Marking.{AreMarked, IsMapSector, MarkCalls}
 use Rattle.raid_map.specs.Regions.{Marks as Map, IsBytesOf}
 use Rattle.top_close.specs.Calls.{IsSettle, MoreOn}
-use Rattle.top_close.specs.Settled.{LosesDevice}
-use Rattle.top_close.specs.Stage.{IsStage, IsUncalled}
+use Rattle.top_close.specs.Stage.{IsStage}
 use Rattle.top_close.proofs.SettledLaws.{device_within}
 use Rattle.top_close.proofs.StageLaws.{dies_lost, live_before, stage-plain, told-others}
 use Rattle.top_rounds.specs.Calls.{WritesWithin}
 use Rattle.top_rounds.specs.Passes.{CanBeLabelled, IsKeptInUse}
 use Rattle.top_rounds.proofs.CallLaws.{within-other}
-use Rattle.top_acts.specs.Marking.{IsMapWrite, MarksAll}
+use Rattle.top_acts.specs.Marking.{MarksAll}
+use Rattle.top_acts.proofs.Words.{IsMapWrite}
 use Rattle.top_rounds.proofs.Words.{is_label_write}
+use Rattle.raid_map.proofs.Words.{MarksAtMost}
+use Rattle.top_close.proofs.Words.{IsUncalled}
 
 -- ## Calls
 
@@ -88,13 +88,9 @@ on_or columns d (suc n) = elim (is_on (device_set (slice_get columns n)) d) [
 -- ## The stage
 
 module _ {D : Type 0} (g : Ghosts D) where
-  -- those of raid_map have the same devices
-  pub loses_marked : (columns after : List Column) (old new : List (Option D)) → Dies (mark.LosesDevice g columns old new) columns after → Dies (LosesDevice g columns old new) columns after
-  loses_marked columns after old new dies = dies-more (mark.LosesDevice g columns old new) (LosesDevice g columns old new) columns after (λ c f. record { device = f.device; had = f.had; rose = f.rose }) dies
-
   module _ (map : Map) (columns after : List Column) (old new : List (Option D)) (m : MarksAll g map columns after old new) where
     pub marks_dies : Dies (LosesDevice g columns old new) columns after
-    marks_dies = loses_marked columns after old new m.marked.dies
+    marks_dies = m.marked.dies
 
     pub marks_uncalled : IsUncalled columns old new
     marks_uncalled d none = m.marked.others d (λ c below live. none c live)
@@ -114,7 +110,7 @@ module _ {D : Type 0} (g : Ghosts D) where
     -- no device is listed of it
     abbrev pub marks_stage : (lost : Option Loss) → IsStage g (IsKeptInUse true columns) (λ d. All IsMarkCall) lost columns after old new
     marks_stage lost = stage-plain g (IsKeptInUse true columns) (λ d. All IsMarkCall) lost columns after old new
-        (changes-more g (IsMapSector columns) (IsKeptInUse true columns) old new (λ d n h. record { col = h.col; live = h.on; kept = inr h.second }) m.marked.frame)
+        (changes-more g (IsMapSector columns) (IsKeptInUse true columns) old new (λ d n h. record { col = h.0.0; live = h.0.1; kept = inr h.1 }) m.marked.frame)
         (λ d. marks_more (calls_of g old d) (calls_of g new d) (m.marked.told d))
         (told-others g columns old new marks_uncalled)
         (dies_lost g lost columns after old new marks_dies)
@@ -140,7 +136,7 @@ module _ {D : Type 0} (g : Ghosts D) where
     are = are;
     marked = m;
     held = λ c d live told.
-        let was : HasDeviceOn columns c d = live_before (LosesDevice g columns old new) columns after c d (loses_marked columns after old new m.dies) live in
+        let was : HasDeviceOn columns c d = live_before (LosesDevice g columns old new) columns after c d m.dies live in
         held_of bytes map (device_at new d) told (there_still (IsMapSector columns d) (device_at old d) (device_at new d) (m.frame.each d) (can.have.there c d was)) are
         (λ x is. (m.safe c d x (device_within columns c d was) live is).held told);
   }

@@ -8,12 +8,11 @@ use Rattle.eng_cols.specs.declared.column.Column.{Column}
 use Rattle.eng_cols.specs.declared.column.Column.TheVariants as column
 use Rattle.eng_cols.specs.declared.spot.Loss.{Loss}
 use Rattle.eng_cols.specs.Cols.{HasDevice, Live, Filling, device_set, is_set_filling, is_set_spread, passes, state_set, HasDeviceOn}
-use Rattle.eng_cols.specs.Deaths.{Dies}
+use Rattle.eng_cols.specs.Deaths.{Dies, LosesDevice}
 use Rattle.eng_cols.proofs.DeathLaws.{dies-more}
 use Rattle.eng_cols.specs.Fewer.{DieApart}
 use Rattle.eng_cols.specs.Stripes.{filled_in, spreads, states_of}
 use Rattle.raid_recon.specs.Array.{Failed}
-use Rattle.top_close.specs.Settled.{LosesDevice}
 use Rattle.top_close.proofs.DyingLaws.{dies_apart, unspread}
 use Rattle.top_close.specs.Stage.{DiesIn}
 

@@ -19,7 +19,7 @@ use Rattle.raid_recon.specs.Ends.{MayRewrite}
 use Rattle.raid_recon.proofs.Backs.{Back}
 use Rattle.top_close.specs.Calls.{EndsSettled, IsSettle, MoreOn}
 use Rattle.top_close.specs.Ended.{IsLossBy}
-use Rattle.top_close.specs.Settled.{AreSettled, LosesDevice}
+use Rattle.top_close.specs.Settled.{AreSettled}
 use Rattle.top_close.proofs.SettledLaws.{device_within}
 use Rattle.top_rounds.specs.Calls.{IsLabelWrite}
 use Rattle.top_rounds.specs.Labels.{seating_in, with_round}
@@ -32,7 +32,8 @@ use Rattle.top_rounds.proofs.RoundLaws.{counts-none, counts-then, counts_as, non
 use Rattle.top_acts.specs.declared.done.Done.{Done}
 use Rattle.top_acts.specs.declared.done.Done.TheVariants as done
 use Rattle.top_acts.specs.declared.sweeping.Renewal.{Renewal}
-use Rattle.top_acts.specs.Begun.{AreLast, HasBegun, HasSwept, MayBegin, MaySweep}
+use Rattle.top_acts.specs.Begun.{HasBegun, HasSwept, MayBegin, MaySweep}
+use Rattle.top_acts.specs.Behind.{AreLast}
 use Rattle.top_acts.specs.Cleared.{EndsInSteps, EndsMapped, EndsMappedSettled, IsEndingCall}
 use Rattle.top_acts.specs.Done.{unless_lost}
 use Rattle.top_acts.specs.Mapped.{LooksAtMaps, ReadsMap, is_any_marked}
@@ -53,6 +54,7 @@ use Rattle.top_acts.proofs.Staged.{AreNone, last_ends, settles-ending, staged-as
 use Rattle.top_rounds.proofs.Words.{IsFirstInUse}
 use Rattle.top_acts.proofs.Words.{MayEnd, IsMapRead, clear_of}
 use Rattle.top_rounds.specs.Passes.{IsKeptInUse}
+use Rattle.eng_cols.specs.Deaths.{LosesDevice}
 
 -- the settles come first
 first_settled : {D : Type 0} (g : Ghosts D) (clear : Option Map) (label next : Label) (columns after : List Column) (old new : List (Option D)) (lost : Option Loss) → EndsMappedSettled g clear label next columns after old new lost → (c d : ℕ) → HasDeviceOn columns c d → MoreOn (SettlesFirstOf (is_some clear)) (calls_of g old d) (calls_of g new d)
@@ -267,7 +269,7 @@ module _ {D : Type 0} (g : Ghosts D) (kind : Renewal) (y : Shape) (blank union :
             (subst (λ x. MoreOn (SettlesFirstOf x) (calls_of g dev d) (calls_of g new d)) clears (first_settled g (clear_of blank union) before next mid after dev new ended settles c d (live_before (DiesIn g ended mid dev new) mid after c d k.stage.dies h)));
         lost_is = is;
         map = second;
-        renews = (mid, dev, first, None, b, (subst (λ (l : Label). EndsMappedSettled g (clear_of blank union) l next mid after dev new ended) clean_is settles, subst (λ (l : Label). EndsInSteps g (clear_of blank union) y None l next mid after dev new ended) clean_is steps));
+        renews = (mid, dev, first, None, b, ((settles.mid, settles.dev, settles.settles, subst (λ (l : Label). EndsMapped g (clear_of blank union) true l next settles.mid after settles.dev new ended) clean_is settles.ends), subst (λ (l : Label). EndsInSteps g (clear_of blank union) y None l next mid after dev new ended) clean_is steps));
       }
 
 module _ {D : Type 0} (g : Ghosts D) (kind : Renewal) (y : Shape) where
@@ -276,7 +278,7 @@ module _ {D : Type 0} (g : Ghosts D) (kind : Renewal) (y : Shape) where
       → DoesSweep g (sweep_of kind) y columns mid old dev n → AreSettled g (length mid) mid after dev new → ((c d : ℕ) → HasDeviceOn after c d → EndsSettled (calls_of g new d)) → IsRenewedPlain g kind y columns after old new ended result
   renewed_plain columns mid after old dev new ended n result most few told is s settled last =
       let quiet = changes-more g (λ _ _. ⊥) (λ d m. m < 64) dev new (λ d m f. absurd f) settled.frame in
-      let dies = dies-more (Rattle.top_close.specs.Settled.LosesDevice g mid dev new) (DiesIn g None mid dev new) mid after (λ c f. inl (record { device = f.device; had = f.had; rose = f.rose })) settled.dies in
+      let dies = dies-more (LosesDevice g mid dev new) (DiesIn g None mid dev new) mid after (λ c f. inl (record { device = f.device; had = f.had; rose = f.rose })) settled.dies in
       let was = loses_of g y None columns mid old dev s.dies in
       record {
         found = n;

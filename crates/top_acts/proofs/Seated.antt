@@ -5,12 +5,11 @@ use Rattle.blk_disk.specs.Devices.{Changes}
 use Rattle.blk_disk.proofs.DeviceLaws.{changes-refl, rises-wider}
 use Rattle.eng_cols.specs.declared.column.Column.{Column}
 use Rattle.eng_cols.specs.declared.spot.Loss.{Loss}
-use Rattle.eng_cols.specs.Deaths.{Dies}
+use Rattle.eng_cols.specs.Deaths.{Dies, LosesDevice}
 use Rattle.eng_cols.proofs.DeathLaws.{dies-more, dies-then}
 use Rattle.raid_label.specs.declared.label.Label.{Label}
 use Rattle.top_close.specs.Stage.{DiesIn}
 use Rattle.top_rounds.specs.Rounds.{AreRounds}
-use Rattle.top_close.specs.Settled.{LosesDevice}
 use Rattle.top_close.proofs.StageLaws.{live_before, dies_over}
 use Rattle.top_acts.specs.Begun.{HasSeats}
 use Rattle.top_acts.proofs.Named.{only_lose}

@@ -12,11 +12,12 @@ use Rattle.eng_cols.specs.Deaths.{Dies}
 use Rattle.top_close.specs.Settled.{AreSettled}
 use Rattle.top_rounds.specs.Calls.{WritesWithin}
 use Rattle.top_rounds.proofs.CallLaws.{within-other}
-use Rattle.top_close.specs.Stage.{IsStage, IsUncalled}
+use Rattle.top_close.specs.Stage.{IsStage}
 use Rattle.top_close.proofs.StageLaws.{stage-settled, stage_as}
 use Rattle.top_acts.specs.Stages.{IsClosing}
 use Rattle.top_close.specs.Calls.{IsSettle}
 use Rattle.top_rounds.proofs.Words.{is_label_write, IsFirstInUse}
+use Rattle.top_close.proofs.Words.{IsUncalled}
 
 -- a column that died of a cause
 pub record Death (cause : ℕ → Type 0) (after : List Column) : Type 0 where

@@ -14,7 +14,7 @@ use Rattle.raid_recon.proofs.Backs.{Back}
 use Rattle.top_close.proofs.CallLaws.{more-one, more-then}
 use Rattle.top_rounds.specs.Calls.{IsLabelWrite}
 use Rattle.top_close.specs.Calls.{MoreOn}
-use Rattle.top_acts.specs.Begun.{AreLast}
+use Rattle.top_acts.specs.Behind.{AreLast}
 use Rattle.top_acts.specs.Cleared.{IsEndingCall}
 use Rattle.top_acts.specs.Mapped.{ReadsMap}
 use Rattle.top_acts.specs.Renewed.{SettlesFirstOf}

@@ -26,7 +26,7 @@ use Rattle.top_close.proofs.DyingLaws.{lost_no_less}
 use Rattle.top_rounds.specs.Labels.{IsNumbered}
 use Rattle.top_rounds.specs.Passes.{CanBeLabelled}
 use Rattle.top_acts.specs.Begun.{CanAct}
-use Rattle.top_acts.specs.Killed.{IsWithout}
+use Rattle.top_acts.specs.Alive.{IsWithout}
 use Rattle.top_acts.proofs.Having.{has_live}
 use Rattle.top_acts.proofs.Named.{live_of}
 use Rattle.top_acts.proofs.Tried.{not_lost}

@@ -1,5 +1,5 @@
 -- Words that proofs go by, for what the specifications spell out.
-use Rattle.std.specs.Prelude.{ℕ, List, Bool, ◌≡◌, [], ◌∷◌, ◌++◌, true, ◌⊎◌, Option, Some, None, if◌then◌else◌, false, slice_get}
+use Rattle.std.specs.Prelude.{ℕ, List, Bool, ◌≡◌, [], ◌∷◌, ◌++◌, true, ◌⊎◌, Option, Some, None, if◌then◌else◌, false, slice_get, is_some, MatchOption}
 use Rattle.eng_cols.specs.declared.column.Column.{Column}
 use Rattle.top_rounds.specs.Passes.{IsKeptInUse}
 use Rattle.blk_disk.specs.declared.disk.Call.{Call}
@@ -14,7 +14,10 @@ use Rattle.top_close.specs.Calls.{MoreOn}
 use Rattle.top_acts.specs.Sweeps.{Sweeps}
 use Rattle.top_acts.specs.Stages.{AreStaged}
 use Rattle.top_close.specs.Stage.{IsGivenUp}
-use Rattle.top_acts.specs.Cleared.{AreEndingInTurn, EndsInTurn}
+use Rattle.top_acts.specs.Cleared.{AreEndingInTurn, EndsInTurn, EndsMapped}
+use Rattle.top_acts.specs.Failed.{StaysBegun}
+use Rattle.raid_label.specs.declared.label.Label.{Label}
+use Rattle.top_rounds.specs.Labels.{given_up}
 use Rattle.eng_cols.specs.declared.spot.Loss.{Loss}
 
 -- sector 0 of a device in use may change, and sector 1 where maps are cleared
@@ -28,6 +31,10 @@ EndCleared calls = (front : List Call) × (calls ≡ front ++ call_of 1 1 512 tr
 -- sector 1 of device d holds what it did, or the map without marks by which maps are cleared, where they are
 abbrev pub HoldsOr : {D : Type 0} → Ghosts D → Option Map → List (Option D) → List (Option D) → ℕ → Type 0
 HoldsOr g clear old new d = (sector_of g new d 1 ≡ sector_of g old d 1) ⊎ ((blank : Map) × (clear ≡ Some blank) × IsBytesOf blank (sector_of g new d 1))
+
+-- a write of sector 1 alone, whether it went well or not
+abbrev pub IsMapWrite : Call → Type 0
+IsMapWrite call = (good : Bool) × (call ≡ call_of 1 1 512 good)
 
 -- a read of sector 1 alone, whether it went well or not
 abbrev pub IsMapRead : Call → Type 0
@@ -51,3 +58,12 @@ abbrev pub EndingCalls : {D : Type 0} → Ghosts D → (clears : Bool) → Optio
 EndingCalls g clears lost was is columns after old new = (c d : ℕ) → HasDeviceOn columns c d
     → MoreOn (λ more. EndsInTurn clears (has_device (slice_get after c)) was more is) (calls_of g old d) (calls_of g new d)
     ⊎ (IsGivenUp lost columns c × ((settled : Bool) × MoreOn (λ more. AreEndingInTurn clears was more settled) (calls_of g old d) (calls_of g new d)))
+
+-- where it is told, sector 1 of device d holds this map
+abbrev pub HoldsMap : {D : Type 0} → Ghosts D → List (Option D) → Map → ℕ → Type 0
+HoldsMap g devices map d = g.tells → IsBytesOf map (sector_of g devices d 1)
+
+-- An array that isn't lost was closed; one that is was left as it was, but for a column that was filling, and stays lost.
+abbrev pub ClosesUnless : {D : Type 0} → Ghosts D → Option Loss → Label → Label → List Column → List Column → List (Option D) → List (Option D) → Option Loss → Type 0
+ClosesUnless g before label next columns after old new lost = MatchOption before (EndsMapped g None true label next columns after old new lost)
+    (λ loss. StaysBegun g label next (given_up columns) after old new × (is_some lost ≡ true))

@@ -1,39 +1,32 @@
 -- A labelled array is begun with: its opening round, and the sweep behind that.
-use Rattle.std.specs.Prelude.{◌≡◌, ◌⊎◌, ◌≤◌, ◌+◌, ℕ, List, [], length, Bool, true, false, Option, Some, None, All, is_some}
-use Rattle.blk_disk.specs.declared.disk.Call.{Call}
+use Rattle.std.specs.Prelude.{◌≡◌, ◌⊎◌, ◌≤◌, ◌+◌, ℕ, List, [], length, Bool, true, false, Option, Some, None, All, is_some, MatchOption}
 use Rattle.blk_disk.specs.declared.disk.Disk.{Ghosts}
-use Rattle.blk_disk.specs.Devices.{Changes, contents_of}
+use Rattle.blk_disk.specs.Devices.{Changes, contents_of, device_at, sector_of}
 use Rattle.lay_core.specs.Layout.{Shape}
 use Rattle.eng_cols.specs.declared.column.Column.{Column}
 use Rattle.eng_cols.specs.declared.spot.Loss.{Loss}
 use Rattle.eng_cols.specs.Contents.{InSync}
-use Rattle.eng_cols.specs.Deaths.{Dies}
+use Rattle.eng_cols.specs.Deaths.{Dies, LosesDevice}
 use Rattle.raid_label.specs.declared.label.Label.{Label}
 use Rattle.raid_recon.specs.declared.kind.Sweep.{Sweep}
 use Rattle.eng_cols.specs.Stripes.{states_of}
 use Rattle.raid_recon.specs.Array.{IsArray}
 use Rattle.raid_recon.specs.Ends.{MayRewrite, ChecksHold, IsCounted}
 use Rattle.top_close.specs.Ended.{IsLossBy}
-use Rattle.top_close.specs.Settled.{LosesDevice}
 use Rattle.top_rounds.specs.Calls.{IsLabelWrite}
 use Rattle.top_rounds.specs.Labels.{seating_in, seating_of, with_round}
 use Rattle.top_rounds.specs.Passes.{CanBeLabelled, HoldsLabel, IsKeptInUse}
-use Rattle.top_close.specs.Stage.{DiesIn, IsGivenUpIn, IsUncalled, IsStage, ToldNothing}
+use Rattle.top_close.specs.Stage.{DiesIn, IsGivenUpIn, IsStage, ToldNothing}
 use Rattle.top_rounds.specs.Rounds.{HaveRounds, CountsRounds}
-use Rattle.raid_map.specs.Regions.{Marks as Map}
+use Rattle.raid_map.specs.Regions.{Marks as Map, IsBytesOf}
 use Rattle.raid_map.specs.Sweeping.{MayRewrite as MayRewriteMarked, IsCountedTo, UnsoundAreMarked}
 use Rattle.eng_cols.specs.Settable.{IsSettable}
 use Rattle.top_acts.specs.Failed.{IsLeftLost, StaysBegun}
-use Rattle.top_acts.specs.Marking.{AreNotice, HoldsMap, MarksAll}
+use Rattle.top_acts.specs.Marking.{AreNotice, MarksAll}
 use Rattle.top_acts.specs.Stages.{AreStaged}
 use Rattle.top_acts.specs.Sweeping.{SweepsBehind}
 use Rattle.top_acts.specs.Sweeps.{Sweeps, Nothing, Over, Marked, Notice, Round, Marks, rounds_for, wrote_round}
 use Rattle.eng_cols.specs.Cols.{HasDeviceOn}
-
--- label writes, and none where the array isn't lost
-abbrev pub AreLast : Option Loss → List Call → Type 0
-AreLast None calls = calls ≡ []
-AreLast (Some loss) calls = All IsLabelWrite calls
 
 module _ {D : Type 0} (g : Ghosts D) where
   -- The label says what the columns were with which the last round began: since `columns` some had died, or were given up where the array is lost, and some may have died since whose devices failed.
@@ -87,7 +80,7 @@ module _ {D : Type 0} (g : Ghosts D) where
     pub some : rounds_for notice ≤ rounds
     pub few : rounds ≤ rounds_for notice + 1
     pub one : lost ≡ None → rounds ≡ rounds_for notice
-    pub stage : IsStage g (MayBegin notice sweep y columns old) (λ d. AreStaged (AreNotice notice) (AreLast lost) sweep y (states_of y columns) d) lost columns after old new
+    pub stage : IsStage g (MayBegin notice sweep y columns old) (λ d. AreStaged (AreNotice notice) (λ calls. MatchOption lost (calls ≡ []) (λ loss. All IsLabelWrite calls)) sweep y (states_of y columns) d) lost columns after old new
     pub counter : CountsRounds rounds label next (length stage.rises)
     pub bounded : next.counter ≤ label.counter + 34
     pub label_is : wrote_round notice lost ≡ true → next ≡ with_round label next.counter 0 (seating_in next)
@@ -95,8 +88,8 @@ module _ {D : Type 0} (g : Ghosts D) where
     pub given_up : IsGivenUpIn lost after
     pub held : wrote_round notice lost ≡ true → (c d : ℕ) → HasDeviceOn after c d → HoldsLabel g new next c d
     pub same : wrote_round notice lost ≡ false → next ≡ label
-    pub mapped : (map : Map) → notice ≡ Marks map → (c d : ℕ) → HasDeviceOn after c d → HoldsMap g new map d
-    pub others : sweep ≡ Nothing → IsUncalled columns old new
+    pub mapped : (map : Map) → notice ≡ Marks map → (c d : ℕ) → HasDeviceOn after c d → g.tells → IsBytesOf map (sector_of g new d 1)
+    pub others : sweep ≡ Nothing → (d : ℕ) → ((c : ℕ) → HasDeviceOn columns c d → ⊥) → device_at new d ≡ device_at old d
     pub swept : lost ≡ None → SweepHas sweep y columns after old new n
     pub still : g.tells → InSync y (contents_of g old) (states_of y columns) → InSync y (contents_of g new) (states_of y after)
     pub left : List Column

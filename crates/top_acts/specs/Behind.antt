@@ -1,5 +1,6 @@
 -- A sweep behind an opening round, or behind maps on each device in use.
-use Rattle.std.specs.Prelude.{◌≡◌, ◌⊎◌, ◌≤◌, ℕ, List, [], Option, None, length}
+use Rattle.std.specs.Prelude.{◌≡◌, ◌⊎◌, ◌≤◌, ℕ, List, [], All, Option, None, MatchOption, length}
+use Rattle.blk_disk.specs.declared.disk.Call.{Call}
 use Rattle.blk_disk.specs.declared.disk.Disk.{Ghosts}
 use Rattle.blk_disk.specs.Devices.{Changes}
 use Rattle.lay_core.specs.Layout.{Shape}
@@ -9,13 +10,18 @@ use Rattle.raid_label.specs.declared.label.Label.{Label}
 use Rattle.eng_cols.specs.Stripes.{states_of}
 use Rattle.top_rounds.specs.Labels.{seating_in, with_round}
 use Rattle.top_rounds.specs.Passes.{HoldsLabel}
+use Rattle.top_rounds.specs.Calls.{IsLabelWrite}
 use Rattle.top_close.specs.Stage.{IsGivenUpIn, IsStage}
 use Rattle.top_rounds.specs.Rounds.{CountsRounds, clean_in_end}
-use Rattle.top_acts.specs.Begun.{AreLast, HasSeats, MayBegin, MaySweep, SweepHas}
+use Rattle.top_acts.specs.Begun.{HasSeats, MayBegin, MaySweep, SweepHas}
 use Rattle.top_acts.specs.Sweeping.{SweepsBehind}
 use Rattle.top_acts.specs.Sweeps.{Sweeps, Round}
 use Rattle.top_acts.specs.Stages.{AreStaged}
 use Rattle.eng_cols.specs.Cols.{HasDeviceOn}
+
+-- label writes, and none where the array isn't lost
+abbrev pub AreLast : Option Loss → List Call → Type 0
+AreLast lost calls = MatchOption lost (calls ≡ []) (λ loss. All IsLabelWrite calls)
 
 module _ {D : Type 0} (g : Ghosts D) (sweep : Sweeps) (y : Shape) where
   -- What a sweep behind an opening round, or maps, has done: where the array is lost by it, one round was written, and else the labels stay as they were, and no sector has changed but those of the sweep.

@@ -1,9 +1,9 @@
 -- The end of an array whose maps are cleared behind its last labels.
-use Rattle.std.specs.Prelude.{◌≡◌, ◌⊎◌, ◌≤◌, ℕ, zero, suc, List, [], ◌∷◌, ◌++◌, All, length, Bool, true, false, Option, Some, None, is_some, slice_get, not, ◌+◌}
+use Rattle.std.specs.Prelude.{◌≡◌, ◌⊎◌, ◌≤◌, ℕ, zero, suc, List, [], ◌∷◌, ◌++◌, All, length, Bool, true, false, Option, Some, None, is_some, slice_get, not, ◌+◌, MatchOption}
 use Rattle.blk_disk.specs.declared.disk.Call.{Call}
 use Rattle.blk_disk.specs.declared.disk.Disk.{Ghosts}
 use Rattle.blk_disk.specs.Disk.{call_of}
-use Rattle.blk_disk.specs.Devices.{RisesOn, calls_of, sector_of}
+use Rattle.blk_disk.specs.Devices.{RisesOn, calls_of, sector_of, device_at}
 use Rattle.eng_cols.specs.declared.column.Column.{Column}
 use Rattle.eng_cols.specs.declared.spot.Loss.{Loss}
 use Rattle.eng_cols.specs.Stripes.{states_of}
@@ -13,21 +13,21 @@ use Rattle.raid_map.specs.Regions.{Marks as Map, IsBytesOf}
 use Rattle.top_close.specs.Calls.{EndsSettled, MoreOn, IsSettle}
 use Rattle.top_close.specs.Ended.{IsLossBy}
 use Rattle.top_close.specs.Settled.{AreSettled}
-use Rattle.top_close.specs.Stage.{IsGivenUp, IsGivenUpIn, IsStage, IsUncalled, device_count}
+use Rattle.top_close.specs.Stage.{IsGivenUp, IsGivenUpIn, IsStage, device_count}
 use Rattle.top_rounds.specs.Calls.{IsLabelWrite, label_writes}
 use Rattle.top_rounds.specs.Labels.{seating_in, seating_of, with_round}
 use Rattle.top_rounds.specs.Passes.{HoldsLabel, IsKeptInUse}
 use Rattle.top_rounds.specs.Rounds.{CountsRounds, HoldsTried, clean_in_end}
 use Rattle.top_acts.specs.Begun.{HasSeats}
-use Rattle.top_acts.specs.Marking.{HoldsMap, IsMapWrite, MarksAll}
+use Rattle.top_acts.specs.Marking.{MarksAll}
 use Rattle.eng_cols.specs.Cols.{HasDeviceOn, has_device}
 
 -- Whether maps are cleared at the end, and by which map without marks.
 
--- a write of a label, or a settle; or a write of a map, where maps are cleared
+-- a write of a label, or a settle; or a write of sector 1 alone, whether it went well or not, where maps are cleared
 abbrev pub IsEndingCall : (clears : Bool) → Call → Type 0
 IsEndingCall false call = IsLabelWrite call ⊎ IsSettle call
-IsEndingCall true call = (IsLabelWrite call ⊎ IsSettle call) ⊎ IsMapWrite call
+IsEndingCall true call = (IsLabelWrite call ⊎ IsSettle call) ⊎ ((good : Bool) × (call ≡ call_of 1 1 512 good))
 
 -- Such calls that all went well, no settle right behind another: `was` and `is` say whether the call before them, and the last of them, is a settle.
 abbrev pub AreEndingInTurn : (clears was : Bool) → List Call → (is : Bool) → Type 0
@@ -48,7 +48,7 @@ module _ {D : Type 0} (g : Ghosts D) where
   pub record EndsMapped (clear : Option Map) (was : Bool) (label next : Label) (columns after : List Column) (old new : List (Option D)) (lost : Option Loss) : Type 0 where
     pub stage : IsStage g (IsKeptInUse (is_some clear) columns) (λ d. All (IsEndingCall (is_some clear))) lost columns after old new
     pub counter : CountsRounds 1 label next (length stage.rises)
-    pub others : IsUncalled columns old new
+    pub others : (d : ℕ) → ((c : ℕ) → HasDeviceOn columns c d → ⊥) → device_at new d ≡ device_at old d
     pub times : (d : ℕ) → MoreOn (λ more. label.counter + label_writes more ≤ next.counter) (calls_of g old d) (calls_of g new d)
     pub label_is : next ≡ with_round label next.counter (clean_in_end lost label.clean) (seating_in next)
     pub seated : HasSeats g lost next columns after old new
@@ -64,7 +64,7 @@ module _ {D : Type 0} (g : Ghosts D) where
         ⊎ (IsGivenUp lost columns c × ((settled : Bool) × MoreOn (λ more. AreEndingInTurn (is_some clear) was more settled) (calls_of g old d) (calls_of g new d)))
     pub maps : g.tells → (d : ℕ) → (RisesOn g old new d → ⊥)
         → (sector_of g new d 1 ≡ sector_of g old d 1) ⊎ ((blank : Map) × (clear ≡ Some blank) × IsBytesOf blank (sector_of g new d 1))
-    pub cleared : (blank : Map) → clear ≡ Some blank → lost ≡ None → (c d : ℕ) → HasDeviceOn after c d → HoldsMap g new blank d
+    pub cleared : (blank : Map) → clear ≡ Some blank → lost ≡ None → (c d : ℕ) → HasDeviceOn after c d → g.tells → IsBytesOf blank (sector_of g new d 1)
     pub called : is_some clear ≡ true → lost ≡ None → (c d : ℕ) → HasDeviceOn after c d
         → MoreOn (λ more. (front : List Call) × (more ≡ front ++ call_of 1 1 512 true ∷ (call_of 2 0 0 true ∷ []))) (calls_of g old d) (calls_of g new d)
 
@@ -90,11 +90,6 @@ module _ {D : Type 0} (g : Ghosts D) where
   ClearsIn (suc n) y blank label next columns after old new before lost = (mid : List Column) × (dev : List (Option D)) × (first : Label) × (between : Option Loss)
       × TriesToClear blank label first columns mid old dev before between false × IsLossBy y None (states_of y mid) between × ClearsIn n y blank first next mid after dev new between lost
 
-  -- where maps are cleared; else nothing is done
-  abbrev pub ClearsBehind : Option Map → Shape → Label → Label → List Column → List Column → List (Option D) → List (Option D) → (before lost : Option Loss) → Type 0
-  ClearsBehind None y label next columns after old new before lost = (next ≡ label) × (after ≡ columns) × (new ≡ old) × (lost ≡ before)
-  ClearsBehind (Some blank) y label next columns after old new before lost = (tries : ℕ) × ClearsIn tries y blank label next columns after old new before lost
-
   -- The array was closed, as one is whose maps aren't cleared, which left the columns `mid`, the devices `dev`, the label `first` and the loss `behind`: by that it stays lost that was lost before, by `was`, and else it is lost by those columns, if it is. Then the maps were cleared, if they are to be: of an array that is lost by then none is.
   pub record EndsInSteps (clear : Option Map) (y : Shape) (was : Option Loss) (label next : Label) (columns after : List Column) (old new : List (Option D)) (lost : Option Loss) : Type 0 where
     pub mid : List Column
@@ -103,4 +98,5 @@ module _ {D : Type 0} (g : Ghosts D) where
     pub behind : Option Loss
     pub closes : EndsMapped None false label first columns mid old dev behind
     pub behind_is : IsLossBy y was (states_of y mid) behind
-    pub clears : ClearsBehind clear y first next mid after dev new behind lost
+    pub clears : MatchOption clear ((next ≡ first) × (after ≡ mid) × (new ≡ dev) × (lost ≡ behind))
+        (λ blank. (tries : ℕ) × ClearsIn tries y blank first next mid after dev new behind lost)

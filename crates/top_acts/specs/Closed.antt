@@ -1,7 +1,7 @@
 -- The labels of an array's end.
 use Rattle.std.specs.Prelude.{◌≡◌, ◌⊎◌, ◌≤◌, ◌+◌, ℕ, suc, List, length, Bool, true, false, Option, None, All, slice_get, not, is_some}
 use Rattle.blk_disk.specs.declared.disk.Disk.{Ghosts}
-use Rattle.blk_disk.specs.Devices.{RisesOn, calls_of}
+use Rattle.blk_disk.specs.Devices.{RisesOn, calls_of, device_at}
 use Rattle.eng_cols.specs.declared.column.Column.{Column}
 use Rattle.eng_cols.specs.declared.spot.Loss.{Loss}
 use Rattle.raid_label.specs.declared.label.Label.{Label}
@@ -10,7 +10,7 @@ use Rattle.top_close.specs.Settled.{AreSettled}
 use Rattle.top_rounds.specs.Calls.{WritesSome, WritesWithin}
 use Rattle.top_rounds.specs.Labels.{seating_in, seating_of, with_round}
 use Rattle.top_rounds.specs.Passes.{HoldsLabel, IsKeptInUse}
-use Rattle.top_close.specs.Stage.{IsGivenUp, IsGivenUpIn, IsUncalled, device_count, IsStage}
+use Rattle.top_close.specs.Stage.{IsGivenUp, IsGivenUpIn, device_count, IsStage}
 use Rattle.top_rounds.specs.Rounds.{HoldsTried, clean_in_end, CountsRounds}
 use Rattle.top_acts.specs.Begun.{HasSeats}
 use Rattle.top_acts.specs.Stages.{InTurnOn, IsClosing}
@@ -30,7 +30,7 @@ module _ {D : Type 0} (g : Ghosts D) where
   pub record AreCounted (lost : Option Loss) (rounds : ℕ) (label next : Label) (columns after : List Column) (old new : List (Option D)) : Type 0 where
     pub stage : IsStage g (IsKeptInUse false columns) (λ d. All IsClosing) lost columns after old new
     pub counter : CountsRounds rounds label next (length stage.rises)
-    pub others : IsUncalled columns old new
+    pub others : (d : ℕ) → ((c : ℕ) → HasDeviceOn columns c d → ⊥) → device_at new d ≡ device_at old d
     pub times : (d : ℕ) → WritesWithin label.counter next.counter (calls_of g old d) (calls_of g new d)
 
   -- One round is named. Each device in use in the end was written its label, once where the counter is greater by one, and has it; it isn't clean where the array is lost, and says what the columns of the last round were, which are those in the end unless the array is lost; of a lost one no column is filling any more, and the device of one that was, if its count of faults didn't rise, has what it had, or the label of a round before the last. Each device in use was called in turn: label writes, and settles none of which comes right behind another, none behind a call that failed; `was` says whether its call before was a settle. Its last is a settle, or a label write where the array is lost.

@@ -10,16 +10,12 @@ abbrev pub unless_lost : Option Loss → Done → Done
 unless_lost None act = act
 unless_lost (Some loss) act = done.Nothing
 
--- words and a number
-unfoldable pub number_line : List ℕ → ℕ → List ℕ
-number_line words n = line (words ∷ decimal n ∷ codes "\n" ∷ [])
-
 -- the line of what was done, if it has one
 abbrev pub done_text : Done → List ℕ
 done_text done.Nothing = []
-done_text (done.Init n) = number_line (codes "parity initialised ") n
+done_text (done.Init n) = line (codes "parity initialised " ∷ decimal n ∷ codes "\n" ∷ [])
 done_text (done.Check zero) = codes "parity clean\n"
 done_text (done.Check (suc n)) = []
-done_text (done.Rewrite n) = number_line (codes "parity rewritten ") n
-done_text (done.Killed c) = number_line (codes "failed column ") c
-done_text (done.Labelled n) = number_line (codes "labels written ") n
+done_text (done.Rewrite n) = line (codes "parity rewritten " ∷ decimal n ∷ codes "\n" ∷ [])
+done_text (done.Killed c) = line (codes "failed column " ∷ decimal c ∷ codes "\n" ∷ [])
+done_text (done.Labelled n) = line (codes "labels written " ∷ decimal n ∷ codes "\n" ∷ [])

@@ -4,9 +4,12 @@ pub mod Checked
 pub mod Cleared
 pub mod Closed
 pub mod Done
+pub mod Lines
 pub mod Failed
 pub mod Killed
+pub mod Alive
 pub mod Labelled
+pub mod Counting
 pub mod Mapped
 pub mod Marking
 pub mod Renewed

@@ -12,23 +12,15 @@ use Rattle.top_rounds.specs.Calls.{IsLabelWrite}
 use Rattle.top_acts.specs.Sweeps.{Notice, Round, Marks}
 use Rattle.eng_cols.specs.Cols.{HasDeviceOn}
 
--- a write of sector 1 alone, whether it went well or not
-abbrev pub IsMapWrite : Call → Type 0
-IsMapWrite call = (good : Bool) × (call ≡ call_of 1 1 512 good)
-
--- the calls by which it is announced: label writes; or writes of the map, and settles
+-- the calls by which it is announced: label writes; or writes of sector 1 alone, whether they went well or not, and settles
 abbrev pub AreNotice : Notice → List Call → Type 0
 AreNotice Round calls = All IsLabelWrite calls
-AreNotice (Marks map) calls = All (λ call. IsMapWrite call ⊎ IsSettle call) calls
+AreNotice (Marks map) calls = All (λ call. ((good : Bool) × (call ≡ call_of 1 1 512 good)) ⊎ IsSettle call) calls
 
 module _ {D : Type 0} (g : Ghosts D) where
-  -- where it is told, sector 1 of device d holds this map
-  abbrev pub HoldsMap : List (Option D) → Map → ℕ → Type 0
-  HoldsMap devices map d = g.tells → IsBytesOf map (sector_of g devices d 1)
-
   -- The map was written on each device in use, which was then settled; a column has died where its device failed one of the two, and no other died. Whatever a stop leaves of a device that is in use still, its sector 1 is the map.
   pub record MarksAll (map : Map) (columns after : List Column) (old new : List (Option D)) : Type 0 where
     pub bytes : List ℕ
     pub are : IsBytesOf map bytes
     pub marked : AreMarked g (length columns) bytes columns after old new
-    pub held : (c d : ℕ) → HasDeviceOn after c d → HoldsMap new map d
+    pub held : (c d : ℕ) → HasDeviceOn after c d → g.tells → IsBytesOf map (sector_of g new d 1)

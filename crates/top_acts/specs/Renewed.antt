@@ -1,5 +1,5 @@
 -- The check units of an array were renewed: each was rewritten, or those whose stripes weren't in sync.
-use Rattle.std.specs.Prelude.{◌≡◌, ◌⊎◌, ◌≤◌, ℕ, List, [], ◌∷◌, length, Bool, Option, Some, None, All, if◌then◌else◌}
+use Rattle.std.specs.Prelude.{◌≡◌, ◌⊎◌, ◌≤◌, ℕ, List, [], ◌∷◌, length, Bool, Option, Some, None, All, if◌then◌else◌, MatchOption, true}
 use Rattle.blk_disk.specs.declared.disk.Disk.{Ghosts}
 use Rattle.blk_disk.specs.declared.disk.Call.{Call}
 use Rattle.blk_disk.specs.Disk.{call_of}
@@ -7,13 +7,12 @@ use Rattle.blk_disk.specs.Devices.{Changes, RisesOn, calls_of, sector_of}
 use Rattle.lay_core.specs.Layout.{Shape}
 use Rattle.eng_cols.specs.declared.column.Column.{Column}
 use Rattle.eng_cols.specs.declared.spot.Loss.{Loss}
-use Rattle.eng_cols.specs.Deaths.{Dies}
+use Rattle.eng_cols.specs.Deaths.{Dies, LosesDevice}
 use Rattle.raid_label.specs.declared.label.Label.{Label}
-use Rattle.raid_recon.specs.declared.kind.Sweep.{Sweep}
 use Rattle.eng_cols.specs.Stripes.{states_of}
 use Rattle.top_close.specs.Calls.{EndsSettled, IsSettle, MoreOn}
 use Rattle.top_close.specs.Ended.{IsLossBy}
-use Rattle.top_close.specs.Settled.{AreSettled, LosesDevice}
+use Rattle.top_close.specs.Settled.{AreSettled}
 use Rattle.top_rounds.specs.Calls.{IsLabelWrite}
 use Rattle.top_rounds.specs.Labels.{seating_in, seating_of, with_round}
 use Rattle.top_rounds.specs.Passes.{HoldsLabel, IsKeptInUse}
@@ -27,7 +26,7 @@ use Rattle.top_acts.specs.Begun.{HasBegun, HasSwept, MaySweep}
 use Rattle.top_acts.specs.Done.{unless_lost}
 use Rattle.raid_map.specs.Regions.{Marks as Map, IsBytesOf}
 use Rattle.top_acts.specs.Failed.{StaysBegun}
-use Rattle.top_acts.specs.Cleared.{EndsInSteps, EndsMappedSettled, IsEndingCall}
+use Rattle.top_acts.specs.Cleared.{EndsInSteps, EndsMapped, IsEndingCall}
 use Rattle.top_acts.specs.Mapped.{LooksAtMaps, ReadsMap, is_any_marked}
 use Rattle.top_acts.specs.Stages.{AreStaged}
 use Rattle.top_acts.specs.Sweeping.{DoesSweep}
@@ -44,18 +43,7 @@ abbrev pub SettlesFirstOf : (clears : Bool) → List Call → Type 0
 SettlesFirstOf clears calls = (good : Bool) × (more : List Call) × (calls ≡ call_of 2 0 0 good ∷ more) × All (IsEndingCall clears) more
 
 module _ {D : Type 0} (g : Ghosts D) where
-  -- An array that isn't lost was closed, with labels that say so, and its maps were cleared, if they are to be; one that is was left as it was begun, and stays lost by that.
-  abbrev pub ClosesBegun : Option Map → Shape → Option Loss → Label → Label → List Column → List Column → List (Option D) → List (Option D) → Option Loss → Type 0
-  ClosesBegun clear y None first next columns after old new lost = EndsMappedSettled g clear (record first { clean = 1 }) next columns after old new lost × EndsInSteps g clear y None (record first { clean = 1 }) next columns after old new lost
-  ClosesBegun clear y (Some loss) first next columns after old new lost = StaysBegun g first next columns after old new × (lost ≡ Some loss)
-
-  -- what isn't lost as its maps are read is begun, and closed; else it is left as it is
-  abbrev pub RenewsUnless : Option Map → Option Loss → Sweep → Shape → Label → Label → List Column → List Column → List (Option D) → List (Option D) → Option Loss → ℕ → Type 0
-  RenewsUnless clear None kind y label next columns after old new lost n = (mid : List Column) × (dev : List (Option D)) × (first : Label) × (before : Option Loss)
-      × HasBegun g Round (Over kind) y label first columns mid old dev before n × ClosesBegun clear y before first next mid after dev new lost
-  RenewsUnless clear (Some loss) kind y label next columns after old new lost n = StaysBegun g label next columns after old new × (lost ≡ Some loss)
-
-  -- Of a labelled array: its maps are read, then the opening round, the sweep, then each device in use settled, the closing round, and each settled again; and the maps are cleared, where the union of those that were read has a mark. Where the array is lost on the way, what is left of this isn't done, but for the one round of a lost array, and nothing is told; one that is lost as its maps are read is left as it is. `read`, `looked` and `unread` are the columns, the devices and the loss with which it was begun; all else is said by the columns and devices as they were before. `blank` is the map into which the maps were read, and `union` what it is then.
+  -- Of a labelled array: its maps are read, then the opening round, the sweep, then each device in use settled, the closing round, and each settled again; and the maps are cleared, where the union of those that were read has a mark. Where the array is lost on the way, what is left of this isn't done, but for the one round of a lost array, and nothing is told; one that is lost as its maps are read, or as it was begun, is left as it is then. `read`, `looked` and `unread` are the columns, the devices and the loss with which it was begun; all else is said by the columns and devices as they were before. `blank` is the map into which the maps were read, and `union` what it is then.
   pub record IsRenewed (kind : Renewal) (y : Shape) (label next : Label) (columns after : List Column) (old new : List (Option D)) (lost : Option Loss) (result : Done) (blank union : Map) : Type 0 where
     pub read : List Column
     pub looked : List (Option D)
@@ -83,7 +71,15 @@ module _ {D : Type 0} (g : Ghosts D) where
         (calls_of g old d) (calls_of g new d)
     pub lost_is : IsLossBy y None (states_of y after) lost
     pub map : g.tells → (d : ℕ) → (RisesOn g old new d → ⊥) → (sector_of g new d 1 ≡ sector_of g old d 1) ⊎ IsBytesOf blank (sector_of g new d 1)
-    pub renews : RenewsUnless (if is_any_marked union then Some blank else None) unread (sweep_of kind) y label next read after looked new lost found
+    pub renews : MatchOption unread
+        ((mid : List Column) × (dev : List (Option D)) × (first : Label) × (before : Option Loss)
+        × HasBegun g Round (Over (sweep_of kind)) y label first read mid looked dev before found
+        × MatchOption before
+        (((left : List Column) × (quiet : List (Option D)) × AreSettled g (length mid) mid left dev quiet
+        × EndsMapped g (if is_any_marked union then Some blank else None) true (record first { clean = 1 }) next left after quiet new lost)
+        × EndsInSteps g (if is_any_marked union then Some blank else None) y None (record first { clean = 1 }) next mid after dev new lost)
+        (λ loss. StaysBegun g first next mid after dev new × (lost ≡ Some loss)))
+        (λ loss. StaysBegun g label next read after looked new × (lost ≡ Some loss))
 
   -- Of an array without labels: the sweep, which left columns `mid` and devices `dev`, then each device in use settled once, whether the array is lost or not.
   pub record IsRenewedPlain (kind : Renewal) (y : Shape) (columns after : List Column) (old new : List (Option D)) (lost : Option Loss) (result : Done) : Type 0 where

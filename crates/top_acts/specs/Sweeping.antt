@@ -1,5 +1,5 @@
 -- A sweep of a whole array, as what it did is said by the columns and contents just before it.
-use Rattle.std.specs.Prelude.{◌≡◌, ℕ, Bool, List, Option, None, is_some}
+use Rattle.std.specs.Prelude.{◌≡◌, ℕ, Bool, List, Option, None, is_some, All, ◌++◌}
 use Rattle.blk_disk.specs.declared.disk.Disk.{Ghosts}
 use Rattle.blk_disk.specs.Devices.{Changes, calls_of, contents_of}
 use Rattle.lay_core.specs.Layout.{Shape}
@@ -11,11 +11,13 @@ use Rattle.raid_label.specs.declared.label.Label.{Label}
 use Rattle.raid_recon.specs.declared.kind.Sweep.{Sweep}
 use Rattle.eng_cols.specs.Stripes.{states_of}
 use Rattle.raid_recon.specs.Array.{Failed}
-use Rattle.raid_recon.specs.Ends.{MayRewrite, ChecksHold, IsCounted, CallsRows}
-use Rattle.raid_map.specs.Sweeping.{IsSweptTo, IsCountedTo, UnsoundAreMarked, CallsMarked}
+use Rattle.raid_recon.specs.Ends.{MayRewrite, ChecksHold, IsCounted, IsRowsCall, AreGoodButLast}
+use Rattle.raid_map.specs.Sweeping.{IsSweptTo, IsCountedTo, UnsoundAreMarked, IsMarkedCall}
 use Rattle.top_close.specs.Ended.{IsLossBy}
 use Rattle.top_acts.specs.Failed.{EndsFailed}
 use Rattle.top_acts.specs.Sweeps.{Sweeps, Nothing, Over, Marked}
+use Rattle.blk_disk.specs.Disk.{ToldOn}
+use Rattle.blk_disk.specs.declared.disk.Call.{Call}
 
 module _ {D : Type 0} (g : Ghosts D) (y : Shape) (marks : ℕ → Bool) where
   -- One sweep over the stripes that are marked: which sectors may have changed, whose columns died, what it left, counted and called.
@@ -25,7 +27,8 @@ module _ {D : Type 0} (g : Ghosts D) (y : Shape) (marks : ℕ → Bool) where
     pub checks : y.checks ≡ 1 → g.tells → ChecksHold g y columns after old new
     pub in_sync : g.tells → UnsoundAreMarked g y marks columns old → InSync y (contents_of g new) (states_of y after)
     pub none : y.checks ≡ 0 → (n ≡ 0) × ((after ≡ columns) × (new ≡ old))
-    pub calls : (d : ℕ) → CallsMarked y (states_of y columns) marks d (calls_of g old d) (calls_of g new d)
+    pub calls : (d : ℕ)
+        → ToldOn (λ (was : List Call) (is : List Call). (more : List Call) × (is ≡ was ++ more) × AreGoodButLast more × All (IsMarkedCall y (states_of y columns) marks d) more) (calls_of g old d) (calls_of g new d)
 
 module _ {D : Type 0} (g : Ghosts D) (kind : Sweep) (y : Shape) where
   -- One sweep over all stripes: the same of it.
@@ -36,7 +39,8 @@ module _ {D : Type 0} (g : Ghosts D) (kind : Sweep) (y : Shape) where
     pub checks : y.checks ≡ 1 → g.tells → ChecksHold g y columns after old new
     pub counted : y.checks ≡ 1 → IsCounted g kind y columns after old n
     pub none : y.checks ≡ 0 → (n ≡ 0) × ((after ≡ columns) × (new ≡ old))
-    pub calls : (d : ℕ) → CallsRows y (states_of y columns) d (calls_of g old d) (calls_of g new d)
+    pub calls : (d : ℕ)
+        → ToldOn (λ (was : List Call) (is : List Call). (more : List Call) × (is ≡ was ++ more) × AreGoodButLast more × All (IsRowsCall y (states_of y columns) d) more) (calls_of g old d) (calls_of g new d)
 
 module _ {D : Type 0} (g : Ghosts D) where
   -- one of the two, or none

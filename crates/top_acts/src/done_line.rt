@@ -2,14 +2,14 @@
 ghost use Rattle.std.specs.Prelude.{◌≡◌, ◌≤◌, length, is_ok, OnErr};
 ghost use Rattle.blk_disk.specs.Disk.{Rose};
 ghost use Rattle.raid_bay.specs.Sink.{Puts};
-ghost use Rattle.top_acts.specs.Done.{number_line, done_text};
+ghost use Rattle.top_acts.specs.Done.{done_text};
+ghost use Rattle.top_acts.specs.Lines.{number_line};
 
 use crate::done::Done;
 use blk_disk::Failed;
 use put_line::Line;
 use raid_bay::Sink;
 
-#[tactic(auto, unfolding(crate::specs::Done::number_line))]
 fn set_number(line: &mut Line, words: &[u8], number: u64)
     requires short { length words.now ≤ 20 }
     ensures { line.new ≡ number_line words.now number }

@@ -4,7 +4,7 @@ ghost use Rattle.eng_cols.specs.Cols.{IsFor};
 ghost use Rattle.eng_cols.specs.declared.column.Column.{Column};
 ghost use Rattle.top_acts.specs.Begun.{CanAct};
 ghost use Rattle.top_acts.specs.Failed.{EndsFailed};
-ghost use Rattle.top_acts.specs.Killed.{IsWithout};
+ghost use Rattle.top_acts.specs.Alive.{IsWithout};
 ghost use Rattle.eng_cols.specs.Stripes.{states_of};
 ghost use Rattle.top_close.specs.Ended.{IsLossBy};
 ghost use Rattle.top_rounds.specs.Labels.{IsLabelFor};

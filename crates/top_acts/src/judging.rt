@@ -3,7 +3,7 @@ ghost use Rattle.std.specs.Prelude.{◌≡◌, ◌<◌, Some, None, length, slic
 ghost use Rattle.eng_cols.specs.Cols.{IsFor};
 ghost use Rattle.eng_cols.specs.Settable.{IsSettable};
 ghost use Rattle.eng_cols.specs.Stripes.{states_of};
-ghost use Rattle.top_acts.specs.Killed.{IsWithout};
+ghost use Rattle.top_acts.specs.Alive.{IsWithout};
 ghost use Rattle.top_close.specs.Closes.{FillingEnds};
 ghost use Rattle.top_close.specs.Ended.{IsLossBy};
 ghost use Rattle.top_rounds.specs.Rounds.{in_end};

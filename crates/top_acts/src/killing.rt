@@ -2,7 +2,8 @@
 ghost use Rattle.std.specs.Prelude.{◌<◌, ◌+◌, ◌^◌};
 ghost use Rattle.eng_cols.specs.Cols.{IsFor};
 ghost use Rattle.eng_cols.specs.Settable.{IsSettable};
-ghost use Rattle.top_acts.specs.Killed.{EndsAlive, IsKilled};
+ghost use Rattle.top_acts.specs.Killed.{IsKilled};
+ghost use Rattle.top_acts.specs.Alive.{EndsAlive};
 ghost use Rattle.std.specs.Prelude.{length};
 ghost use Rattle.std.specs.Prelude.{None};
 ghost use Rattle.eng_cols.specs.Stripes.{states_of};

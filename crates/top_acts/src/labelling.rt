@@ -2,7 +2,8 @@
 ghost use Rattle.std.specs.Prelude.{◌≡◌, ◌≤◌, length, Some};
 ghost use Rattle.eng_cols.specs.Cols.{IsFor};
 ghost use Rattle.eng_cols.specs.Settable.{IsSettable};
-ghost use Rattle.top_acts.specs.Labelled.{IsFirstLabelled, is_alive, alive};
+ghost use Rattle.top_acts.specs.Labelled.{IsFirstLabelled};
+ghost use Rattle.top_acts.specs.Counting.{is_alive, alive};
 ghost use Rattle.top_rounds.specs.Labels.{IsLabelFor};
 ghost use Rattle.top_rounds.specs.Passes.{CanBeLabelled};
 

@@ -12,7 +12,8 @@ use Rattle.top_words.specs.Asked.{Command}
 use Rattle.top_fetch.specs.Told.{Told}
 use Rattle.top_fetch.specs.Answers.{RefusedAs}
 use Rattle.top_fetch.proofs.Refusing.{refused_then}
-use Rattle.top_bay.specs.Asked.{Asked, asked_in, book_in, comp_in, conf_in, device_in, devices_in, graphs_name, is_at_home, names_for, script_in, script_name, texts_in}
+use Rattle.top_bay.specs.Asked.{Asked, asked_in, book_in, comp_in, conf_in, devices_in, graphs_name, names_for, script_in, script_name, texts_in}
+use Rattle.top_bay.specs.Steps.{device_in, is_at_home}
 
 -- ## Texts
 

@@ -1,12 +1,12 @@
 -- A text without bytes.
 use Rattle.std.specs.Prelude.{◌≡◌, [], Result, Ok}
 use Rattle.std.proofs.Common.{refl}
-use Rattle.graph_text.specs.Format.{after_lines, graphs_of}
+use Rattle.graph_text.specs.Texts.{graphs_behind, graphs_of}
 use Rattle.raid_text.specs.Text.{numbered, raw_lines}
 
 -- it has no graphs
 pub no_graphs_in : graphs_of [] ≡ Ok []
-unfolding graphs_of raw_lines after_lines numbered
+unfolding graphs_of raw_lines graphs_behind numbered
 no_graphs_in = refl
 
 -- what was read is what there is

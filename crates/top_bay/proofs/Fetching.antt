@@ -7,7 +7,7 @@ use Rattle.top_status.specs.Refusals.{Refused, ◌then◌, only, or_refusal}
 use Rattle.top_fetch.specs.Answers.{AnswersAs, RefusedAs}
 use Rattle.top_fetch.specs.Fetched.{device_named}
 use Rattle.top_fetch.proofs.Refusing.{refused_then}
-use Rattle.top_bay.specs.Asked.{device_in}
+use Rattle.top_bay.specs.Steps.{device_in}
 
 abbrev found_or : {D : Type 0} → Option D → Status → Result (Unit {0}) Refused
 found_or o s = if is_some o then Ok tt else Err (only s)

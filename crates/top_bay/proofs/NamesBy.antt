@@ -7,7 +7,8 @@ use Rattle.raid_text.specs.Text.{Text}
 use Rattle.top_words.specs.Asked.{Action, Component, Nameless, Column, Device, profile_of}
 use Rattle.top_words.specs.declared.profile.Kind.{Kind}
 use Rattle.top_words.specs.declared.profile.Kind.TheVariants as kind
-use Rattle.top_bay.specs.Asked.{name_of, names_by, names_with}
+use Rattle.top_bay.specs.Asked.{names_by, names_with}
+use Rattle.top_bay.specs.Steps.{name_of}
 
 none_differ : Differ []
 none_differ i j m n lt within same = absurd (omega (arith, within))

@@ -1,12 +1,13 @@
 -- What a command asks for, or which refusal comes first, by what the bay has.
-use Rattle.std.specs.Prelude.{ℕ, Bool, true, List, [], ◌∷◌, ◌++◌, Option, Some, None, Result, Ok, Err, if◌then◌else◌, is_some, option_and_then, option_map}
+use Rattle.std.specs.Prelude.{ℕ, true, List, [], ◌∷◌, ◌++◌, Option, Some, None, Result, Ok, Err, if◌then◌else◌, is_some, option_and_then, option_map}
 use Rattle.std.specs.List.{position}
 use Rattle.std.specs.Str.{bytes_eq}
 use Rattle.raid_text.specs.Text.{Text}
-use Rattle.graph_text.specs.Format.{Named, graphs_of}
-use Rattle.raid_conf.specs.Format.{conf_of}
+use Rattle.graph_text.specs.Format.{Named}
+use Rattle.graph_text.specs.Texts.{graphs_of}
+use Rattle.raid_conf.specs.Texts.{conf_of}
 use Rattle.raid_conf.specs.declared.conf.Conf.{Conf}
-use Rattle.raid_script.specs.Format.{script_of}
+use Rattle.raid_script.specs.Texts.{script_of}
 use Rattle.raid_script.specs.declared.join.Join.{Join}
 use Rattle.raid_script.specs.Asked.{Asked as Item, Scripted}
 use Rattle.top_words.specs.Asked.{Action, Command, Component, Nameless, Column, Device, beside_of, profile_of}
@@ -66,18 +67,14 @@ graphs_name action = option_and_then (λ beside. beside.graphs) (beside_of actio
 abbrev pub script_name : Action → Option Text
 script_name action = option_map (λ beside. beside.script) (beside_of action)
 
--- the name of a component
-abbrev pub name_of : Component → List Text
-name_of Nameless = []
-name_of (Column name) = name ∷ []
-name_of (Device name) = name ∷ []
-
 -- the names of the devices that an action goes by: none where the configuration is printed, that of
 -- the component where a label is shown
 abbrev pub names_with : Conf → Kind → Component → List Text
 names_with conf kind.Array component = names_of conf
 names_with conf kind.Shown component = names_of conf
-names_with conf kind.Label component = name_of component
+names_with conf kind.Label Nameless = []
+names_with conf kind.Label (Column name) = name ∷ []
+names_with conf kind.Label (Device name) = name ∷ []
 names_with conf kind.Conf component = []
 
 abbrev pub names_by : Conf → Action → List Text
@@ -88,20 +85,12 @@ abbrev pub names_for : Asked → List Text
 names_for a =
     names_with a.conf (profile_of a.command.action).kind (profile_of a.command.action).component
 
--- a device that isn't absent is at home
-abbrev pub is_at_home : {D : Type 0} → (Text → Option D) → Text → Bool
-is_at_home home [] = true
-is_at_home home (b ∷ name) = is_some (home (b ∷ name))
-
--- the device of a name is at home, or is refused
-abbrev pub device_in : {D : Type 0} → (Text → Option D) → Text → Result (Unit {0}) Refused
-device_in home name = if is_at_home home name then Ok tt else Err (only (status.NoFile name))
-
--- all devices of these names are at home, or the first that isn't is refused
+-- all devices of these names that aren't absent are at home, or the first that isn't is refused
 unfoldable pub devices_in : {D : Type 0} → (Text → Option D) → List Text → Result (Unit {0}) Refused
 devices_in home [] = Ok tt
 devices_in home (name ∷ names) =
-    (if is_at_home home name then Ok (tt {0}) else Err (only (status.NoFile name)))
+    (if (elim name [ [] ↦ true | b ∷ rest ↦ is_some (home (b ∷ rest)) ]) then Ok (tt {0})
+    else Err (only (status.NoFile name)))
     then λ there. devices_in home names
 
 -- what a command and texts ask for, or the first refusal: the configuration, the component, the

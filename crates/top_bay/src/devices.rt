@@ -5,7 +5,8 @@ ghost use Rattle.blk_disk.specs.Devices.{at_home, device_at};
 ghost use Rattle.raid_conf.specs.Form.{IsConf};
 ghost use Rattle.top_fetch.specs.Answers.{IsEarly, AnswersAs, RefusedAs};
 ghost use Rattle.top_words.specs.Views.{action_seen};
-ghost use Rattle.top_bay.specs.Asked.{device_in, devices_in, names_by};
+ghost use Rattle.top_bay.specs.Asked.{devices_in, names_by};
+ghost use Rattle.top_bay.specs.Steps.{device_in};
 ghost use Rattle.top_bay.specs.Lent.{AreBack, AreOut, IsLent, IsMeant};
 
 use crate::names::{count_for, name_for};

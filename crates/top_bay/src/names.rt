@@ -3,7 +3,8 @@ ghost use Rattle.std.specs.Prelude.{◌≡◌, ◌<◌, ◌+◌, length, Some, s
 ghost use Rattle.raid_conf.specs.Form.{IsConf};
 ghost use Rattle.top_words.specs.Profiled.{component_seen};
 ghost use Rattle.top_words.specs.Views.{action_seen};
-ghost use Rattle.top_bay.specs.Asked.{name_of, names_by, names_of, names_with};
+ghost use Rattle.top_bay.specs.Asked.{names_by, names_of, names_with};
+ghost use Rattle.top_bay.specs.Steps.{name_of};
 
 use raid_conf::Conf;
 use top_words::{Action, Component, Kind};

@@ -19,8 +19,10 @@ use Rattle.eng_plan.specs.Asked.{no_graph}
 use Rattle.eng_array.specs.Fitting as core
 use Rattle.eng_array.specs.Serving.{most_for}
 use Rattle.eng_array.proofs.CountedEvents.{counted-fits, counted-rebuilds}
-use Rattle.raid_script.specs.Asked.{Asked, IsAsked, Other, WritesAll, seen, seen_patches}
-use Rattle.top_bound.specs.Bound.{span_nodes, spans_nodes, nodes_in, graph_nodes, item_nodes, item_bound, row_sum, rebuilds_sum, trace_sum}
+use Rattle.raid_script.specs.Asked.{Asked, IsAsked, Other, WritesAll, seen}
+use Rattle.raid_script.specs.Steps.{seen_patches}
+use Rattle.top_bound.specs.Bound.{span_nodes, spans_nodes, item_nodes, item_bound, row_sum, trace_sum}
+use Rattle.top_bound.specs.Words.{nodes_in, graph_nodes, rebuilds_sum}
 use Rattle.top_bound.specs.Laws.{asked_of}
 use Rattle.top_bound.specs.Traced.{AreScriptAndGraphs, WhatFitsARebuild, WhatFitsHasRoom}
 use Rattle.top_bound.proofs.Below.{below-zero, below-all, below-clients}

@@ -17,7 +17,8 @@ use Rattle.item_list.specs.ItemList.{ItemList}
 use Rattle.eng_plan.specs.Asked.{no_graph}
 use Rattle.eng_log.specs.Given.{items_at}
 use Rattle.eng_log.specs.Laid as laid
-use Rattle.raid_script.specs.Asked.{Asked, AreFew, Other, WritesAll, seen, seen_patches, read_sectors}
+use Rattle.raid_script.specs.Asked.{Asked, AreFew, Other, WritesAll, seen, read_sectors}
+use Rattle.raid_script.specs.Steps.{seen_patches}
 use Rattle.raid_script.specs.Replies as replies
 use Rattle.top_bound.specs.Laws.{asked_of, HasRoomFor, IsSmall}
 use Rattle.top_bound.proofs.Below.{below-all, below-clients, below-same}

@@ -15,7 +15,8 @@ use Rattle.blk_plain.specs.Plain.{AreSound, is_in, used_of, spans_of}
 use Rattle.eng_plan.specs.Asked.{HasBlocks}
 use Rattle.eng_world.specs.declared.item.Item.{Item}
 use Rattle.item_list.specs.ItemList.{ItemList}
-use Rattle.raid_script.specs.Asked.{Asked, AskedPatch, ArePatches, IsAsked, Other, WritesAll, seen, seen_op, seen_patch, seen_patches}
+use Rattle.raid_script.specs.Asked.{Asked, AskedPatch, ArePatches, IsAsked, Other, WritesAll, seen}
+use Rattle.raid_script.specs.Steps.{seen_op, seen_patch, seen_patches}
 use Rattle.top_bound.specs.Bound.{MayBeAsked}
 use Rattle.top_bound.specs.Laws.{asked_of}
 

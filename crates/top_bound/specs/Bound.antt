@@ -1,13 +1,14 @@
 -- How many events a trace may come to: a bound for each item, and the sum of these.
-use Rattle.std.specs.Prelude.{ℕ, ◌+◌, ◌*◌, ◌++◌, List, length, map, Option, Some, None, if◌then◌else◌, nat_lt, slice_get, sum_by}
+use Rattle.std.specs.Prelude.{ℕ, ◌+◌, ◌*◌, ◌++◌, List, length, map, Option, if◌then◌else◌, nat_lt, slice_get, sum_by}
 use Rattle.std.specs.List.{list_any}
+use Rattle.std.specs.Option.{option_map_or}
 use Rattle.blk_plain.specs.declared.op.Span.{Span}
 use Rattle.blk_plain.specs.Plain.{is_in_some}
 use Rattle.lay_core.specs.Layout.{Shape, data_units, blocks_in}
 use Rattle.lay_core.specs.Touched.{stripe_count, stripes_among}
 use Rattle.graph_mean.specs.Graph.{Held, View}
 use Rattle.graph_text.specs.Format.{Named}
-use Rattle.raid_script.specs.Asked.{Asked, AskedPatch, IsAsked, Writes, WritesAll, Reads, Syncs, Fails, Other}
+use Rattle.raid_script.specs.Asked.{Asked, IsAsked, Writes, WritesAll, Reads, Syncs, Fails, Other}
 
 -- an item that may stand in a script
 abbrev pub MayBeAsked : Asked → Type 0
@@ -27,29 +28,15 @@ spans_nodes y spans = if list_any (λ s. nat_lt (blocks_in y) (s.first + s.count
 abbrev pub graphs_in : List Named → List Held → List View
 graphs_in book joined = map (λ n. n.graph) book ++ map (λ g. g.drawn) joined
 
--- the graph of this number, if there is one
-abbrev pub nodes_in : Option View → ℕ
-nodes_in None = 0
-nodes_in (Some g) = length g.nodes
-
-abbrev pub graph_nodes : List View → ℕ → ℕ
-graph_nodes graphs n = nodes_in (slice_get graphs n)
-
--- the graph of a write or read: the one that is named, or the library's
-abbrev pub run_nodes : Shape → List View → Span → Option ℕ → ℕ
-run_nodes y graphs span None = span_nodes y span
-run_nodes y graphs span (Some n) = nodes_in (slice_get graphs n)
-
--- the graph of a write of several spans
-abbrev pub patches_nodes : Shape → List View → List AskedPatch → Option ℕ → ℕ
-patches_nodes y graphs patches None = spans_nodes y (map (λ p. p.span) patches)
-patches_nodes y graphs patches (Some n) = nodes_in (slice_get graphs n)
+-- the graph that is named, if one is, with no node where there is none of that number; else the library's, which has so many
+abbrev pub nodes_by : List View → Option ℕ → ℕ → ℕ
+nodes_by graphs graph own = option_map_or (λ n. option_map_or (λ (g : View). length g.nodes) (slice_get graphs n) 0) graph own
 
 -- an item's graph: that of a sync, or of a rebuild, which no script asks for, has a node for each unit of a stripe, and three
 abbrev pub item_nodes : Shape → List View → Asked → ℕ
-item_nodes y graphs (Writes first count bytes graph) = run_nodes y graphs (record { first = first; count = count }) graph
-item_nodes y graphs (WritesAll patches graph) = patches_nodes y graphs patches graph
-item_nodes y graphs (Reads first count graph) = run_nodes y graphs (record { first = first; count = count }) graph
+item_nodes y graphs (Writes first count bytes graph) = nodes_by graphs graph (span_nodes y (record { first = first; count = count }))
+item_nodes y graphs (WritesAll patches graph) = nodes_by graphs graph (spans_nodes y (map (λ p. p.span) patches))
+item_nodes y graphs (Reads first count graph) = nodes_by graphs graph (span_nodes y (record { first = first; count = count }))
 item_nodes y graphs (Syncs stripe) = y.width + 3
 item_nodes y graphs (Fails column) = 0
 item_nodes y graphs Other = y.width + 3
@@ -67,7 +54,3 @@ row_sum y graphs devices items = sum_by (λ i. item_bound devices (item_nodes y 
 unfoldable pub trace_sum : Shape → List View → ℕ → List (List Asked) → ℕ
 trace_sum y graphs devices clients =
     sum_by (λ items. sum_by (λ i. item_bound devices (item_nodes y graphs i)) items) clients
-
--- and over so many rebuilds, each of which has the graph of one unit
-abbrev pub rebuilds_sum : Shape → ℕ → ℕ → ℕ
-rebuilds_sum y devices rebuilds = rebuilds * item_bound devices (y.width + 3)

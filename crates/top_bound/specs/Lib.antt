@@ -1,3 +1,4 @@
 pub mod Bound
+pub mod Words
 pub mod Laws
 pub mod Traced

@@ -8,7 +8,8 @@ use Rattle.item_list.specs.ItemList.{ItemList}
 use Rattle.eng_parts.specs.declared.setup.Setup.{Setup}
 use Rattle.eng_array.specs.Fitting as core
 use Rattle.raid_script.specs.Asked.{IsAsked}
-use Rattle.top_bound.specs.Bound.{rebuilds_sum, trace_sum}
+use Rattle.top_bound.specs.Bound.{trace_sum}
+use Rattle.top_bound.specs.Words.{rebuilds_sum}
 use Rattle.top_bound.specs.Laws.{asked_of}
 
 -- the items are a script's, of at most 16 clients, for so many columns, and these are its graphs

@@ -3,8 +3,10 @@ ghost use Rattle.std.specs.Prelude.{◌≡◌, ◌≤◌, ◌<◌, ◌+◌, ◌-
 ghost use Rattle.blk_plain.specs.Plain.{AreSound, spans_of};
 ghost use Rattle.lay_core.specs.Layout.{data_units, blocks_in};
 ghost use Rattle.lay_core.specs.Touched.{stripe_count};
-ghost use Rattle.raid_script.specs.Asked.{seen, seen_patches};
-ghost use Rattle.top_bound.specs.Bound.{MayBeAsked, span_nodes, spans_nodes, graph_nodes, run_nodes, patches_nodes, item_nodes, item_bound, row_sum, rebuilds_sum, trace_sum, graphs_in};
+ghost use Rattle.raid_script.specs.Asked.{seen};
+ghost use Rattle.raid_script.specs.Steps.{seen_patches};
+ghost use Rattle.top_bound.specs.Bound.{MayBeAsked, span_nodes, spans_nodes, item_nodes, item_bound, row_sum, trace_sum, graphs_in};
+ghost use Rattle.top_bound.specs.Words.{graph_nodes, run_nodes, patches_nodes, rebuilds_sum};
 
 use blk_plain::{Op, Patches, Span, limits};
 use eng_world::Item;

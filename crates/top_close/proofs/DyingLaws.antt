@@ -8,7 +8,7 @@ use Rattle.lay_core.specs.Layout.{Shape, Blocks}
 use Rattle.eng_cols.specs.declared.column.Column.{Column}
 use Rattle.eng_cols.specs.declared.column.Column.TheVariants as column
 use Rattle.eng_cols.specs.Cols.{ColumnState, Live, Dead, Filling, Spread, AtMostOne, device_set, is_done, is_set_filling, is_set_spread, passes, state_set, HasDeviceOn}
-use Rattle.eng_cols.specs.Seats.{stands_for, spare_stands, available_on, is_available, open_on, spare_open, seat_on, seat}
+use Rattle.eng_cols.specs.Seats.{stands_for, spare_stands, available_on, is_available, open_on, seat_on, seat}
 use Rattle.eng_cols.specs.Lost.{NotLost}
 use Rattle.eng_cols.specs.Contents.{Contents, Agrees, sector_at}
 use Rattle.eng_cols.specs.Deaths.{Dies}
@@ -18,6 +18,7 @@ use Rattle.top_close.proofs.Counts.{none_passes}
 use Rattle.top_close.specs.Dying.{OnlyDie, HoldSame}
 use Rattle.eng_cols.specs.Stripes.{filled_in, spreads, states_of}
 use Rattle.eng_cols.specs.Fewer.{DieApart}
+use Rattle.eng_cols.proofs.Words.{spare_open}
 
 module _ (y : Shape) (old new : List ColumnState) (die : OnlyDie old new) where
   -- a column of which something holds that holds of no dead one is what it was

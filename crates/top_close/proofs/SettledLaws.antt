@@ -11,11 +11,11 @@ use Rattle.blk_disk.proofs.DeviceLaws.{changes-refl, changes-then, rises-wider}
 use Rattle.eng_cols.specs.declared.column.Column.{Column}
 use Rattle.eng_cols.specs.declared.column.Column.TheVariants as column
 use Rattle.eng_cols.specs.Cols.{device_set, HasDeviceOn, has_device}
-use Rattle.eng_cols.specs.Deaths.{Dies}
+use Rattle.eng_cols.specs.Deaths.{Dies, LosesDevice}
 use Rattle.eng_cols.proofs.DeathLaws.{dies-refl, dies-more, dies-then, dies-set}
 use Rattle.eng_cols.proofs.Lists.{get_set_other}
 use Rattle.top_close.specs.Calls.{IsSettle, EndsSettled}
-use Rattle.top_close.specs.Settled.{HaveDevices, LosesDevice, SettlesColumn, AreSettled}
+use Rattle.top_close.specs.Settled.{HaveDevices, SettlesColumn, AreSettled}
 use Rattle.top_close.proofs.CallLaws.{more_all-none, more_all-one, more_all-then}
 use Rattle.top_close.proofs.Words.{SettlesOn}
 

@@ -11,13 +11,14 @@ use Rattle.blk_disk.proofs.DeviceLaws.{changes-more, changes-refl, changes-then,
 use Rattle.eng_cols.specs.declared.column.Column.{Column}
 use Rattle.eng_cols.specs.declared.spot.Loss.{Loss}
 use Rattle.eng_cols.specs.Cols.{device_set, passes, is_set_filling, HasDeviceOn, has_device}
-use Rattle.eng_cols.specs.Deaths.{Dies}
+use Rattle.eng_cols.specs.Deaths.{Dies, LosesDevice}
 use Rattle.eng_cols.proofs.DeathLaws.{dies-more, dies-refl, dies-then}
 use Rattle.top_close.specs.Calls.{IsSettle, MoreOn}
-use Rattle.top_close.specs.Settled.{AreSettled, LosesDevice}
-use Rattle.top_close.specs.Stage.{DiesIn, HaveFailed, IsGivenUp, IsInUse, IsStage, IsUncalled, ToldNothing, device_count}
+use Rattle.top_close.specs.Settled.{AreSettled}
+use Rattle.top_close.specs.Stage.{DiesIn, HaveFailed, IsGivenUp, IsInUse, IsStage, ToldNothing, device_count}
 use Rattle.top_close.proofs.CallLaws.{more-none, more-then, more_as}
 use Rattle.top_close.proofs.Counts.{deaths_pass_less}
+use Rattle.top_close.proofs.Words.{IsUncalled}
 
 -- ## Different numbers
 

@@ -6,7 +6,7 @@ use Rattle.blk_disk.specs.Devices.{device_at, calls_of, RisesOn, Changes}
 use Rattle.eng_cols.specs.declared.column.Column.{Column}
 use Rattle.eng_cols.specs.declared.column.Column.TheVariants as column
 use Rattle.eng_cols.specs.Cols.{HasDeviceOn, has_device}
-use Rattle.eng_cols.specs.Deaths.{Dies}
+use Rattle.eng_cols.specs.Deaths.{Dies, LosesDevice}
 use Rattle.top_close.specs.Calls.{MoreOn, IsSettle}
 
 -- The device of each column that has one is there, and is no other's.
@@ -15,12 +15,6 @@ pub record HaveDevices {D : Type 0} (columns : List Column) (devices : List (Opt
   pub apart : (c k d : ℕ) → HasDeviceOn columns c d → HasDeviceOn columns k d → c ≡ k
 
 module _ {D : Type 0} (g : Ghosts D) where
-  -- the column had a device whose count of faults rose
-  pub record LosesDevice (columns : List Column) (old new : List (Option D)) (c : ℕ) : Type 0 where
-    pub device : ℕ
-    pub had : HasDeviceOn columns c device
-    pub rose : RisesOn g old new device
-
   -- Device d was settled, well or not, and no other was called.
   pub record IsSettling (d : ℕ) (old new : List (Option D)) (good : Bool) : Type 0 where
     pub frame : Changes g (λ _ _. ⊥) old new
@@ -39,7 +33,7 @@ module _ {D : Type 0} (g : Ghosts D) where
   -- The first n columns were settled. No sector has changed; a column has died where its device failed, and no other died; the device of each of the first n that has one had one call more, to settle, and the column has it still exactly where that went well; no other device was called.
   pub record AreSettled (n : ℕ) (columns after : List Column) (old new : List (Option D)) : Type 0 where
     pub frame : Changes g (λ _ _. ⊥) old new
-    pub dies : Dies (LosesDevice columns old new) columns after
+    pub dies : Dies (LosesDevice g columns old new) columns after
     pub once : (c d : ℕ) → c < n → HasDeviceOn columns c d → Tells (calls_of g old d) (calls_of g new d) (call_of 2 0 0 (has_device (slice_get after c)))
     pub others : (d : ℕ) → ((c : ℕ) → c < n → HasDeviceOn columns c d → ⊥) → device_at new d ≡ device_at old d
     pub left : (c : ℕ) → n ≤ c → slice_get after c ≡ slice_get columns c

@@ -2,13 +2,12 @@
 use Rattle.std.specs.Prelude.{◌≡◌, ◌≢◌, ◌⊎◌, ◌≤◌, ◌+◌, ℕ, List, length, true, Option, Some, None, All, AllPairs, count_by, slice_get, []}
 use Rattle.blk_disk.specs.declared.disk.Call.{Call}
 use Rattle.blk_disk.specs.declared.disk.Disk.{Ghosts}
-use Rattle.blk_disk.specs.Devices.{calls_of, device_at, RisesOn, Changes}
+use Rattle.blk_disk.specs.Devices.{calls_of, RisesOn, Changes}
 use Rattle.eng_cols.specs.declared.column.Column.{Column}
 use Rattle.eng_cols.specs.declared.spot.Loss.{Loss}
 use Rattle.eng_cols.specs.Cols.{is_set_filling, passes, HasDeviceOn, has_device}
-use Rattle.eng_cols.specs.Deaths.{Dies}
+use Rattle.eng_cols.specs.Deaths.{Dies, LosesDevice}
 use Rattle.top_close.specs.Calls.{MoreOn}
-use Rattle.top_close.specs.Settled.{LosesDevice}
 
 -- ## Columns and their devices
 
@@ -20,10 +19,6 @@ device_count columns = count_by (λ column. has_device (Some column)) columns
 pub record IsInUse (columns : List Column) (d : ℕ) : Type 0 where
   pub col : ℕ
   pub live : HasDeviceOn columns col d
-
--- a device that no column has is what it was
-abbrev pub IsUncalled : {D : Type 0} → List Column → List (Option D) → List (Option D) → Type 0
-IsUncalled columns old new = (d : ℕ) → ((c : ℕ) → HasDeviceOn columns c d → ⊥) → device_at new d ≡ device_at old d
 
 -- the array is lost, and the column was filling
 abbrev pub IsGivenUp : Option Loss → List Column → ℕ → Type 0

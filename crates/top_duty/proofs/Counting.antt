@@ -13,7 +13,8 @@ use Rattle.eng_cols.proofs.Counting.{any-same, count-same}
 use Rattle.eng_cols.proofs.Fewer.{states-spread}
 use Rattle.eng_cols.proofs.Lists.{get_set_other}
 use Rattle.eng_cols.specs.Stripes.{are_spread, is_stripe_by, is_stripe_of, is_unit_by, states_of}
-use Rattle.top_duty.specs.Duty.{rebuilds_by, with_dead}
+use Rattle.top_duty.specs.Duty.{rebuilds_by}
+use Rattle.top_duty.specs.Steps.{with_dead}
 use Rattle.top_duty.specs.Opening.{stripes_on}
 use Rattle.top_duty.specs.Start.{IsNamedBy}
 

@@ -8,10 +8,10 @@ use Rattle.eng_cols.specs.declared.column.Column.TheVariants as column
 use Rattle.eng_cols.specs.Cols.{device_set, HasDeviceOn}
 use Rattle.eng_cols.proofs.Lists.{get_set_either, get_set_other, get_set_same}
 use Rattle.top_open.specs.Seats.{is_same}
-use Rattle.top_duty.specs.Duty.{with_dead}
-use Rattle.top_open.specs.Opening.{kept_if_left}
+use Rattle.top_duty.specs.Steps.{with_dead, left_at, without_small, kept_if_large}
+use Rattle.top_open.specs.Steps.{kept_if_left}
 use Rattle.lay_core.specs.Layout.{Shape}
-use Rattle.top_duty.specs.Opening.{kept_if_large, left_at, stripes_on, without_small}
+use Rattle.top_duty.specs.Opening.{stripes_on}
 
 -- ## A column is made dead
 

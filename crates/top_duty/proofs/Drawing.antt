@@ -8,7 +8,7 @@ use Rattle.raid_script.specs.Asked.{Asked, Writes, WritesAll, Reads, Syncs, Fail
 use Rattle.raid_script.specs.Drawn.{AreApart, IsOwn}
 use Rattle.top_words.specs.Asked.{Action, profile_of}
 use Rattle.top_words.specs.declared.profile.Drawing.{Drawing}
-use Rattle.top_duty.specs.Duty.{clients_by, drawn_or}
+use Rattle.top_duty.specs.Steps.{clients_by, drawn_or}
 use Rattle.top_duty.specs.Views.{drawn_by}
 
 own_sectors : (wide blocks client : ℕ) (a : Asked) → IsOwn wide blocks client a → read_sectors a ≤ 8
@@ -58,7 +58,6 @@ module _ (taken ops wide blocks : ℕ) (clients : List (List Asked)) (apart : Ar
 
 -- the clients that are run are within the limits, where those of the script and those that are drawn are
 pub either_asked : (columns graphs : ℕ) (action : Action) (scripted : List (List Asked)) (blocks : ℕ) → All (All (IsAsked columns graphs)) scripted → All (All (IsAsked columns graphs)) (drawn_by action blocks) → All (All (IsAsked columns graphs)) (clients_by action scripted blocks)
-unfolding clients_by
 either_asked columns graphs action scripted blocks one two = go (profile_of action).drawn two
   where
     go : (drawing : Option Drawing) → All (All (IsAsked columns graphs)) (drawn_or drawing [] blocks) → All (All (IsAsked columns graphs)) (drawn_or drawing scripted blocks)
@@ -66,7 +65,6 @@ either_asked columns graphs action scripted blocks one two = go (profile_of acti
     go (Some d) two = two
 
 pub either_few : (action : Action) (scripted : List (List Asked)) (blocks : ℕ) → AreFew scripted → AreFew (drawn_by action blocks) → AreFew (clients_by action scripted blocks)
-unfolding clients_by
 either_few action scripted blocks one two = go (profile_of action).drawn two
   where
     go : (drawing : Option Drawing) → AreFew (drawn_or drawing [] blocks) → AreFew (drawn_or drawing scripted blocks)

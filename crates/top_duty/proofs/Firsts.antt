@@ -12,7 +12,8 @@ use Rattle.top_open.specs.declared.fronts.Front.{Front}
 use Rattle.top_open.specs.Opening.{Opened}
 use Rattle.top_duty.specs.First.{first_of}
 use Rattle.top_duty.specs.Opening.{filling_at}
-use Rattle.top_duty.specs.Start.{free_spare, is_free}
+use Rattle.top_duty.specs.Start.{free_spare}
+use Rattle.top_duty.specs.Steps.{is_free}
 use Rattle.std.specs.Option.{option_or}
 
 -- one that was found passes

@@ -26,7 +26,8 @@ use Rattle.top_duty.specs.declared.duty.Duty as declared_duty
 use Rattle.top_duty.specs.declared.duty.Duty.TheVariants as duty
 use Rattle.eng_cols.specs.Stripes.{states_of}
 use Rattle.top_duty.specs.Fit.{IsFit}
-use Rattle.top_duty.specs.Opening.{needs_of, opened_by, plan_of, present_of, sizes_of}
+use Rattle.top_duty.specs.Opening.{needs_of, opened_by, plan_of, sizes_of}
+use Rattle.top_duty.specs.Steps.{present_of}
 use Rattle.top_duty.specs.Views.{IsDutyOver, IsFitFor, IsReady, views_of}
 use Rattle.top_duty.proofs.Labels.{named_columns}
 use Rattle.top_duty.proofs.Opens.{Stages, opened_count, opened_filling, opened_left, opened_rows, opened_spread, present_count, stages}

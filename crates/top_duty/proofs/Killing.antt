@@ -8,7 +8,7 @@ use Rattle.eng_cols.specs.declared.column.Column.TheVariants as column
 use Rattle.eng_cols.specs.Cols.{ColumnState, Dead, state_set}
 use Rattle.eng_cols.specs.Stripes.{filled_in, states_of}
 use Rattle.top_open.specs.Seats.{is_same}
-use Rattle.top_duty.specs.Duty.{with_dead, with_killed}
+use Rattle.top_duty.specs.Steps.{with_dead, with_killed}
 use Rattle.top_duty.proofs.Deadened.{dead_get}
 
 set_dead : (n : ℕ) (l : List Bool) (columns : List Column) (c : ℕ) → map (state_set n l) (slice_set columns c column.Dead) ≡ slice_set (map (state_set n l) columns) c Dead

@@ -5,13 +5,15 @@ use Rattle.raid_label.specs.declared.label.Label.{Label}
 use Rattle.top_bay.specs.Asked.{Asked}
 use Rattle.top_open.specs.First.{unless}
 use Rattle.top_open.specs.Labels.{newest_below}
-use Rattle.top_open.specs.Opening.{Opened, is_unlabelled, judged_in, labelled_if, labelled_in, small_in, unlabelled_in, unlabelled_refusal}
+use Rattle.top_open.specs.Opening.{Opened, judged_in, labelled_in, small_in, unlabelled_in, unlabelled_refusal}
+use Rattle.top_open.specs.Steps.{is_unlabelled, labelled_if}
 use Rattle.top_open.specs.declared.fault.OpenFault.{OpenFault}
 use Rattle.top_open.specs.declared.fronts.Front.{Front}
 use Rattle.top_open.specs.declared.plan.Plan.{Plan}
 use Rattle.top_open.specs.declared.plan.Needs.{Needs}
 use Rattle.top_open.proofs.OwnDevices.{not_refused}
-use Rattle.top_duty.specs.Opening.{needs_of, opened_by, plan_of, present_of}
+use Rattle.top_duty.specs.Opening.{needs_of, opened_by, plan_of}
+use Rattle.top_duty.specs.Steps.{present_of}
 use Rattle.top_duty.proofs.Opens.{stages}
 use Rattle.top_duty.proofs.Placing.{made_columns, made_newest, newest_of}
 use Rattle.top_duty.proofs.Stages.{judged, newest_are}

@@ -11,7 +11,8 @@ use Rattle.top_open.specs.declared.fronts.Front.{Front}
 use Rattle.top_open.specs.Opening.{Opened}
 use Rattle.top_words.specs.Asked.{Action, Io, Sweep, Show, ShowMap, Init, Check, Rewrite, Print, Fail, ShowLabel, Label, Rebuild, Resume}
 use Rattle.top_duty.specs.Opening.{filling_at, needs_for, needs_of}
-use Rattle.top_duty.specs.Start.{IsNamedBy, free_spare, has_places, onto_spare, rebuild_elsewhere, start_in}
+use Rattle.top_duty.specs.Start.{IsNamedBy, free_spare, has_places, start_in}
+use Rattle.top_duty.specs.Steps.{onto_spare, rebuild_elsewhere}
 use Rattle.top_duty.proofs.Firsts.{filling_is}
 use Rattle.top_duty.proofs.Opens.{dead_within}
 use Rattle.top_duty.proofs.Words.{start_by}

@@ -24,7 +24,8 @@ use Rattle.top_status.specs.Refusals.{Refused, ◌then◌, only}
 use Rattle.top_words.specs.Asked.{Action, Component, Nameless, Column, Device, profile_of}
 use Rattle.top_words.specs.declared.profile.Kind.{Kind}
 use Rattle.top_words.specs.declared.profile.Kind.TheVariants as kind
-use Rattle.top_duty.specs.Opening.{AreTableRows, excused_by, filling_at, fronted_by, is_named, kind_of, left_at, needs_of, opened_by, plan_of, present_of, status_of, stripes_on, without_small}
+use Rattle.top_duty.specs.Opening.{AreTableRows, excused_by, filling_at, fronted_by, kind_of, needs_of, opened_by, plan_of, status_of, stripes_on}
+use Rattle.top_duty.specs.Steps.{left_at, present_of, without_small, is_named}
 use Rattle.top_duty.proofs.Deadened.{left_few, left_fewer, left_get, left_length, small_fewer, small_length}
 use Rattle.top_duty.proofs.Firsts.{filling_found}
 use Rattle.top_duty.proofs.Tables.{plan_is, stripes-most}

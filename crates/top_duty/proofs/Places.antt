@@ -5,7 +5,8 @@ use Rattle.lay_decluster.specs.Shapes.{declustered, spared}
 use Rattle.raid_conf.specs.declared.given.Given.{Given}
 use Rattle.raid_conf.specs.Designs.{blocks_of}
 use Rattle.raid_conf.specs.Form.{IsDesignOf}
-use Rattle.raid_conf.specs.Layouts.{design_shape, level_shape, plain_of, plain_shape}
+use Rattle.raid_conf.specs.Layouts.{design_shape, plain_of, plain_shape}
+use Rattle.raid_conf.specs.Steps.{level_shape}
 use Rattle.raid_conf.specs.Levels.{has_design}
 
 -- at level D each stripe has one

@@ -13,7 +13,8 @@ use Rattle.top_open.specs.declared.plan.Needs.{Needs}
 use Rattle.top_open.specs.First.{first_below}
 use Rattle.top_open.specs.Plan.{is_present, sectors_for}
 use Rattle.top_open.specs.Labels.{label_at, shape_refusal}
-use Rattle.top_open.specs.Seats.{columns_below, is_same, is_sound, is_spread_below, judged_at, kept_if_sound, seat_at, seat_of, sized_device, small_at, small_refusal}
+use Rattle.top_open.specs.Seats.{columns_below, is_same, is_sound, judged_at, seat_of, sized_device, small_at}
+use Rattle.top_open.specs.Steps.{is_spread_below, kept_if_sound, seat_at, small_refusal}
 use Rattle.top_open.specs.Opening.{Opened, columns_in, counter_refusal, labelled_in, seats_in, small_in}
 use Rattle.top_open.proofs.Below.{length-columns_below}
 use Rattle.top_open.proofs.LargeEnough.{columns_of, get_there, large, no_refusal, none_below, rows_of}

@@ -2,7 +2,8 @@
 use Rattle.std.proofs.Common.{◌≡◌, refl, ℕ, ◌==◌, Bool, true, false, Option, Some, None, option_map}
 use Rattle.std.specs.Prelude.{if◌then◌else◌}
 use Rattle.std.proofs.lemmas.Bool.{eqb-true}
-use Rattle.raid_label.specs.Judged.{fault_in, fault_unless_same, shape_fault}
+use Rattle.raid_label.specs.Judged.{fault_in}
+use Rattle.raid_label.specs.Steps.{shape_fault, fault_unless_same}
 use Rattle.raid_label.specs.declared.fault.LabelFault.{LabelFault}
 use Rattle.raid_label.specs.declared.fault.LabelFault.TheVariants.{Serial, Column, Shape}
 use Rattle.raid_label.specs.declared.label.Label.{Label}
@@ -49,7 +50,7 @@ same_columns l w h =
 
 -- one that isn't refused is that of an array of so many columns
 pub shape_columns : (p : Plan) (n : ℕ) (l : Label) → shape_refusal p n l ≡ None → l.columns ≡ n
-unfolding shape_refusal fault_in
+unfolding shape_refusal fault_in shape_fault
 shape_columns p n l h =
     let w = configured p n l in
     same_columns l w

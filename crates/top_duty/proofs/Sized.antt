@@ -16,7 +16,8 @@ use Rattle.top_status.specs.declared.status.Status.TheVariants as status
 use Rattle.top_status.specs.Refusals.{Refused, only}
 use Rattle.top_duty.specs.declared.duty.Duty as declared_duty
 use Rattle.top_duty.specs.Duty.{Duty, IsWanted, WantsMemory, duty_by, duty_in}
-use Rattle.top_duty.specs.Opening.{reads_fronts, sizes_in, sizes_of}
+use Rattle.top_duty.specs.Opening.{sizes_in, sizes_of}
+use Rattle.top_duty.specs.Steps.{reads_fronts}
 use Rattle.top_duty.specs.Taken.{AreLookedAtMost, AreUntouched, IsRefusedOver, Reads, ReadsAtMost, RefusedFor, RefusedOver, WasRead}
 use Rattle.top_duty.specs.Views.{IsDutyOver, RefusedHere, duty_seen}
 use Rattle.top_duty.proofs.Wanting.{duty_wanted, wanted_err}

@@ -12,7 +12,8 @@ use Rattle.top_open.specs.Plan.{IsPlan, sectors_for}
 use Rattle.top_open.specs.Seats.{is_same}
 use Rattle.top_open.proofs.Filled.{WasJudged, live, newest-is, rows-are, spread, was}
 use Rattle.top_open.proofs.LargeEnough.{large_devices}
-use Rattle.top_duty.specs.Opening.{filling_at, needs_of, plan_of, present_of}
+use Rattle.top_duty.specs.Opening.{filling_at, needs_of, plan_of}
+use Rattle.top_duty.specs.Steps.{present_of}
 use Rattle.top_duty.proofs.Deadened.{left_get, left_live, small_get, small_live}
 use Rattle.top_duty.proofs.Opens.{Stages}
 

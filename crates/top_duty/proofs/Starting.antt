@@ -23,11 +23,11 @@ use Rattle.top_open.specs.Plan.{sectors_for}
 use Rattle.top_open.specs.Seats.{is_unread}
 use Rattle.top_open.proofs.Filled.{WasJudged}
 use Rattle.top_words.specs.Asked.{Action, Io, Sweep, Show, ShowMap, Init, Check, Rewrite, Print, Fail, ShowLabel, Label as Labels, Rebuild, Resume, profile_of}
-use Rattle.top_duty.specs.Duty.{with_dead}
+use Rattle.top_duty.specs.Steps.{with_dead, present_of, onto_spare, rebuild_elsewhere, is_on, is_free, unless_named}
 use Rattle.top_duty.specs.First.{first_of}
 use Rattle.top_duty.specs.Fit.{HaveSparePlaces, IsStart, IsTarget, MayGo, IsStartIf}
-use Rattle.top_duty.specs.Opening.{filling_at, needs_for, needs_of, opened_by, plan_of, present_of, sizes_of}
-use Rattle.top_duty.specs.Start.{free_spare, has_places, is_free, is_on, onto_spare, other_filling, other_with, rebuild_elsewhere, start_in, unless_named}
+use Rattle.top_duty.specs.Opening.{filling_at, needs_for, needs_of, opened_by, plan_of, sizes_of}
+use Rattle.top_duty.specs.Start.{free_spare, has_places, other_filling, other_with, start_in}
 use Rattle.top_duty.proofs.Deadened.{dead_fewer}
 use Rattle.top_duty.proofs.Few.{GoesOn, few_rebuilds}
 use Rattle.top_duty.proofs.Firsts.{filling_found, filling_is, first_is}

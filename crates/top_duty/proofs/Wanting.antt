@@ -11,7 +11,8 @@ use Rattle.graph_mean.specs.Graph.{View}
 use Rattle.text_steps.specs.declared.at.At.{At}
 use Rattle.raid_conf.specs.Layouts.{shape_of}
 use Rattle.raid_script.specs.Asked.{Asked as Item}
-use Rattle.top_bound.specs.Bound.{rebuilds_sum, trace_sum}
+use Rattle.top_bound.specs.Bound.{trace_sum}
+use Rattle.top_bound.specs.Words.{rebuilds_sum}
 use Rattle.top_words.specs.Asked.{Action, Io, Sweep, Show, ShowMap, Init, Check, Rewrite, Print, Fail, ShowLabel, Label, Rebuild, Resume}
 use Rattle.top_bay.specs.Asked.{Asked, names_of}
 use Rattle.top_open.specs.declared.fronts.Front.{Front}
@@ -25,7 +26,8 @@ use Rattle.top_duty.specs.declared.duty.Duty as declared_duty
 use Rattle.top_duty.specs.declared.duty.Duty.TheVariants as duty
 use Rattle.top_words.specs.declared.profile.Kind.{Kind}
 use Rattle.top_words.specs.declared.profile.Kind.TheVariants as kind
-use Rattle.top_duty.specs.Duty.{Admitted, ComesOfJoins, Duty, OnArray, Shows, OneLabel, PrintConf, IsWanted, WantsMemory, admitted_with, beside_dead, clients_by, columns_of, duty_by, duty_for, is_past, is_past_bound, is_short, judged_states, layout_of, lost_by, rebuilds_by, traces, with_dead, with_killed}
+use Rattle.top_duty.specs.Duty.{Admitted, Duty, OnArray, Shows, OneLabel, PrintConf, IsWanted, WantsMemory, beside_dead, duty_by, duty_for, is_past_bound, judged_states, layout_of, rebuilds_by}
+use Rattle.top_duty.specs.Steps.{ComesOfJoins, clients_by, columns_of, lost_by, with_dead, with_killed, is_past, admitted_with, is_short, traces}
 use Rattle.top_close.specs.Ended.{IsLossBy}
 use Rattle.top_duty.specs.Opening.{kind_of, needs_of, opened_by, status_of}
 use Rattle.top_duty.specs.Start.{IsNamedBy, other_filling, start_in}
@@ -150,7 +152,6 @@ refused_after w a (status.LongText n) e h = absurd h
 -- a trace is kept of a script's items alone, and of rebuilds
 past_same : (y : Shape) (graphs : List View) (n count : ℕ) (action : Action) (scripted : List (List Item)) (blocks : ℕ)
     → (traces action && nat_lt 1048576 (trace_sum y graphs n (clients_by action scripted blocks) + rebuilds_sum y n count)) ≡ (traces action && nat_lt 1048576 (trace_sum y graphs n scripted + rebuilds_sum y n count))
-unfolding clients_by
 past_same y graphs n count (Io beside workers mapped) scripted blocks = refl
 past_same y graphs n count (Sweep seed clients ops workers mapped) scripted blocks = refl
 past_same y graphs n count Show scripted blocks = refl

@@ -5,7 +5,8 @@ use Rattle.raid_conf.specs.declared.conf.Conf.{Conf}
 use Rattle.top_open.specs.declared.fronts.Front.{Front}
 use Rattle.top_open.specs.Opening.{Opened}
 use Rattle.top_words.specs.Asked.{Action, profile_of}
-use Rattle.top_duty.specs.Duty.{Admitted, columns_of, layout_of, rebuilds_by, with_dead}
+use Rattle.top_duty.specs.Duty.{Admitted, layout_of, rebuilds_by}
+use Rattle.top_duty.specs.Steps.{columns_of, with_dead}
 use Rattle.top_duty.specs.Opening.{needs_of}
 use Rattle.top_duty.specs.Start.{start_with}
 

@@ -1,7 +1,8 @@
 -- What is to be done, or which refusal comes first: by texts, names, sizes, and sector 0 of the
 -- devices.
-use Rattle.std.specs.Prelude.{◌≡◌, ◌&&◌, ◌+◌, ◌-◌, ◌++◌, ℕ, Bool, false, List, [], ◌∷◌, length, map, Option, Some, None, is_none, Result, Ok, Err, if◌then◌else◌, nat_le, nat_lt, option_map, slice_set, unwrap_or, is_some}
+use Rattle.std.specs.Prelude.{◌≡◌, ◌&&◌, ◌+◌, ◌-◌, ◌++◌, ℕ, Bool, false, List, [], ◌∷◌, length, map, Option, Some, None, is_none, Result, Ok, Err, if◌then◌else◌, nat_le, nat_lt, option_map, slice_set, unwrap_or, is_some, option_and_then, slice_get, ◌*◌}
 use Rattle.std.specs.Option.{option_map_or}
+use Rattle.std.specs.Result.{result_err}
 use Rattle.lay_core.specs.Layout.{Shape, blocks_in}
 use Rattle.graph_mean.specs.Graph.{View}
 use Rattle.text_steps.specs.declared.at.At.{At}
@@ -11,16 +12,15 @@ use Rattle.eng_array.specs.Starts.{most_of}
 use Rattle.eng_cols.specs.declared.column.Column.{Column}
 use Rattle.eng_cols.specs.declared.column.Column.TheVariants as column
 use Rattle.eng_cols.specs.declared.spot.Loss.{Loss}
-use Rattle.eng_cols.specs.Changes.{killed}
-use Rattle.eng_cols.specs.Cols.{ColumnState}
-use Rattle.eng_cols.specs.Stripes.{done_at, states_of}
+use Rattle.eng_cols.specs.Cols.{ColumnState, Dead}
+use Rattle.eng_cols.specs.Stripes.{states_of, done_set}
 use Rattle.raid_conf.specs.Layouts.{shape_of}
 use Rattle.raid_script.specs.Asked.{Asked as Item}
 use Rattle.raid_script.specs.Drawn.{drawn}
 use Rattle.top_fetch.specs.Told.{Told}
 use Rattle.top_bay.specs.Asked.{Asked, asked_in, names_for, names_of}
-use Rattle.top_bound.specs.Bound.{rebuilds_sum, trace_sum}
-use Rattle.top_join.specs.Joining.{AreJoined}
+use Rattle.top_bound.specs.Bound.{trace_sum, item_bound}
+use Rattle.top_join.specs.Joining.{AreJoined, first_in}
 use Rattle.top_close.specs.Ended.{IsLossBy}
 use Rattle.top_open.specs.declared.fronts.Front.{Front}
 use Rattle.top_open.specs.Opening.{Opened}
@@ -29,14 +29,13 @@ use Rattle.top_status.specs.declared.status.Status.TheVariants as status
 use Rattle.top_status.specs.Dead.{dead_columns}
 use Rattle.top_rounds.specs.Labels.{given_up}
 use Rattle.top_status.specs.Refusals.{Refused, ◌then◌, only}
-use Rattle.top_words.specs.Asked.{Action, Command, profile_of}
-use Rattle.top_words.specs.declared.profile.Drawing.{Drawing}
+use Rattle.top_words.specs.Asked.{Command, profile_of}
 use Rattle.top_words.specs.declared.profile.Kind.{Kind}
 use Rattle.top_words.specs.declared.profile.Kind.TheVariants as kind
 use Rattle.top_words.specs.declared.profile.Rebuilding.{Rebuilding}
 use Rattle.top_words.specs.declared.profile.Rebuilding.TheVariants as rebuilding
-use Rattle.top_duty.specs.Opening.{needs_of, opened_by, sizes_in, stripes_on}
-use Rattle.top_duty.specs.Start.{other_filling, rebuilds, start_with}
+use Rattle.top_duty.specs.Opening.{needs_of, opened_by, sizes_in, stripes_on, changed_at}
+use Rattle.top_duty.specs.Start.{other_filling, start_with}
 
 -- ## What is admitted
 
@@ -62,53 +61,23 @@ asked_of (Shows k o) = k
 asked_of (OneLabel k) = k
 asked_of (PrintConf k) = k
 
--- the layout of the array, and its columns as they are opened
+-- the layout of the array
 abbrev pub layout_of : Admitted → Shape
 layout_of a = shape_of a.asked.conf a.opened.rows
 
-abbrev pub columns_of : Admitted → List Column
-columns_of a = a.opened.columns
-
-abbrev pub states_in : Admitted → List ColumnState
-states_in a = states_of (layout_of a) (columns_of a)
-
--- the column that the action fails or rebuilds is dead
-abbrev pub with_dead : Option ℕ → List Column → List Column
-with_dead None columns = columns
-with_dead (Some c) columns = slice_set columns c column.Dead
-
--- a column dies, if one is to; what is done on the others stays so
-abbrev pub with_killed : Option ℕ → List ColumnState → List ColumnState
-with_killed None states = states
-with_killed (Some c) states = killed states c
-
--- the columns as the action makes them, with what is done on them, by which it is judged whether the array is lost
+-- the columns as the action makes them, by which it is judged whether the array is lost: the one that it fails or rebuilds is dead; what is done on the others stays so
 abbrev pub judged_states : Admitted → List ColumnState
-judged_states a = with_killed (needs_of a.asked).excused (states_of (layout_of a) (columns_of a))
+judged_states a = option_map_or (λ c. slice_set (states_of (layout_of a) a.opened.columns) c Dead) (needs_of a.asked).excused (states_of (layout_of a) a.opened.columns)
 
--- the items of the script, or those that are drawn for so many blocks
-abbrev pub drawn_or : Option Drawing → List (List Item) → ℕ → List (List Item)
-drawn_or None scripted blocks = scripted
-drawn_or (Some d) scripted blocks = drawn d.seed d.clients d.ops blocks
-
-unfoldable pub clients_by : Action → List (List Item) → ℕ → List (List Item)
-clients_by action scripted blocks = drawn_or (profile_of action).drawn scripted blocks
-
-abbrev pub admitted_with : Asked → Opened → Option Start → List View → Admitted
-admitted_with k o start joined = record { asked = k; opened = o; clients = clients_by k.command.action k.clients (blocks_in (shape_of k.conf o.rows)); start = start; joined = joined }
-
--- the graphs that items name: those of the file, and behind them those that are joined
-abbrev pub graphs_of : Admitted → List View
-graphs_of a = map (λ n. n.graph) a.asked.book ++ a.joined
-
--- this comes of the join lines over its layout
-abbrev pub ComesOfJoins : Admitted → Result (List View) At → Type 0
-ComesOfJoins a r = AreJoined (layout_of a) a.asked.book a.asked.clients (length a.asked.book) a.asked.joins r
-
--- what is to be done by what is made of the array
+-- what is to be done by what is made of the array; the items are those of the script, or those that are drawn for its blocks
 abbrev pub duty_for : Kind → Asked → List ℕ → List Front → Result Duty Refused
-duty_for kind.Array k sizes fronts = opened_by k sizes fronts then λ o. Ok (OnArray (admitted_with k o
-    (start_with (profile_of k.command.action).rebuild (profile_of k.command.action).limit k.comp k.conf o sizes fronts) []))
+duty_for kind.Array k sizes fronts = opened_by k sizes fronts then λ o. Ok (OnArray (record {
+  asked = k;
+  opened = o;
+  clients = option_map_or (λ d. drawn d.seed d.clients d.ops (blocks_in (shape_of k.conf o.rows))) (profile_of k.command.action).drawn k.clients;
+  start = start_with (profile_of k.command.action).rebuild (profile_of k.command.action).limit k.comp k.conf o sizes fronts;
+  joined = [];
+}))
 duty_for kind.Shown k sizes fronts = opened_by k sizes fronts then λ o. Ok (Shows k o)
 duty_for kind.Label k sizes fronts = Ok (OneLabel k)
 duty_for kind.Conf k sizes fronts = Ok (PrintConf k)
@@ -127,15 +96,11 @@ duty_in size b command fronts =
 
 -- a refusal that prints the columns that are dead as the array is opened
 abbrev pub beside_dead : Admitted → Status → Refused
-beside_dead a s = record { status = s; dead = dead_columns (columns_of a) }
+beside_dead a s = record { status = s; dead = dead_columns a.opened.columns }
 
--- that of a lost array prints those that are dead as the action makes them, and one that was filling
-abbrev pub lost_by : Admitted → Loss → Refused
-lost_by a loss = record { status = status.Lost loss.first loss.second loss.stripe; dead = dead_columns (given_up (with_dead (needs_of a.asked).excused (columns_of a))) }
-
--- a column is to be rebuilt, and there is nowhere to, or nothing to go on with
-abbrev pub is_short : Admitted → Bool
-is_short a = is_some (profile_of a.asked.command.action).rebuild && is_none a.start
+-- the columns as they are opened, but that the one is dead that the action fails or rebuilds
+abbrev pub columns_made : Admitted → List Column
+columns_made a = changed_at (needs_of a.asked).excused (λ c x. column.Dead) a.opened.columns
 
 -- why: there is nowhere to rebuild to, or nothing to go on with
 abbrev pub short_status : Option Rebuilding → Status
@@ -144,24 +109,15 @@ short_status (Some rebuilding.Elsewhere) = status.NoSpare
 short_status (Some rebuilding.InPlace) = status.NoSpare
 short_status (Some rebuilding.Further) = status.NoRebuild
 
--- graphs that can't be joined are refused
-abbrev pub if_apart : Admitted → Result (List View) At → Option Refused
-if_apart a (Ok views) = None
-if_apart a (Err at) = Some (beside_dead a (status.Script at.line at.code))
-
 -- the same, where they are joined
 abbrev pub with_joined : Admitted → Result (List View) At → Admitted
 with_joined a (Ok views) = record a { joined = views }
 with_joined a (Err at) = a
 
--- whether a trace is kept
-abbrev pub traces : Action → Bool
-traces action = option_map_or (λ beside. beside.trace) (profile_of action).beside false
-
 -- how many stripes of the column are left to do: all, or those that aren't done where it is filling
 abbrev pub left_by : Shape → List Column → Start → ℕ
 left_by y columns (start.Fill c device most) = stripes_on y columns c
-left_by y columns (start.Resume c most) = stripes_on y columns c - unwrap_or (done_at columns c) 0
+left_by y columns (start.Resume c most) = stripes_on y columns c - unwrap_or (option_and_then done_set (slice_get columns c)) 0
 left_by y columns (start.Spread c) = stripes_on y columns c
 
 -- how many rebuilds there are: one for each stripe of the column that is left to do, or as many as are asked
@@ -169,39 +125,23 @@ unfoldable pub rebuilds_by : Shape → List Column → Option Start → ℕ
 rebuilds_by y columns None = 0
 rebuilds_by y columns (Some how) = if nat_le (left_by y columns how) (most_of how) then left_by y columns how else most_of how
 
--- so many items of clients by these graphs, and so many rebuilds: more events may come than a trace that is kept has room for
-abbrev pub is_past : Shape → Asked → List View → List (List Item) → ℕ → Bool
-is_past y asked graphs clients rebuilds = traces asked.command.action
-    && nat_lt 1048576 (trace_sum y graphs (length (names_of asked.conf)) clients + rebuilds_sum y (length (names_of asked.conf)) rebuilds)
-
+-- a trace is kept, and more events may come than it has room for: of the items of clients, by the graphs of the file and those that are joined, and of the rebuilds, each of which has the graph of one unit
 abbrev pub is_past_bound : Admitted → Bool
-is_past_bound a = traces a.asked.command.action
+is_past_bound a = option_map_or (λ beside. beside.trace) (profile_of a.asked.command.action).beside false
     && nat_lt 1048576
-    (trace_sum (layout_of a) (graphs_of a) (length (names_of a.asked.conf)) a.clients
-    + rebuilds_sum (layout_of a) (length (names_of a.asked.conf))
-    (rebuilds_by (layout_of a) (with_dead (needs_of a.asked).excused (columns_of a)) a.start))
+    (trace_sum (layout_of a) (map (λ n. n.graph) a.asked.book ++ a.joined) (length (names_of a.asked.conf)) a.clients
+    + rebuilds_by (layout_of a) (columns_made a) a.start * item_bound (length (names_of a.asked.conf)) ((layout_of a).width + 3))
 
--- a trace that is kept has room for all events
-abbrev pub if_past : Admitted → Option Refused
-if_past a = if is_past_bound a then Some (beside_dead a (status.Script 0 8)) else None
-
--- the first refusal, if there is one
-abbrev pub first_of : List (Option Refused) → Option Refused
-first_of [] = None
-first_of (None ∷ more) = first_of more
-first_of (Some r ∷ more) = Some r
-
-abbrev pub unless : Option Refused → Duty → Result Duty Refused
-unless None d = Ok d
-unless (Some r) d = Err r
-
--- An array that something is done with isn't lost, no other column is filling beside one that is rebuilt, it has somewhere to rebuild to or something to go on with, its graphs are joined, and its trace has room. Nothing else is judged.
+-- The first refusal that there is, if there is one: an array that something is done with isn't lost, no other column is filling beside one that is rebuilt, it has somewhere to rebuild to or something to go on with, its graphs are joined, and a trace that is kept has room for all events. Nothing else is judged. The refusal of a lost array prints those columns that are dead as the action makes them, and one that was filling.
 abbrev pub judged : Duty → Option Loss → Result (List View) At → Result Duty Refused
 judged (OnArray a) loss joined =
-    unless (first_of (option_map (lost_by a) loss
-    ∷ option_map (λ c. only (status.Rebuilding c)) (other_filling a.asked (columns_of a))
-    ∷ (if is_short a then Some (only (short_status (profile_of a.asked.command.action).rebuild)) else None)
-    ∷ if_apart a joined ∷ if_past (with_joined a joined) ∷ [])) (OnArray (with_joined a joined))
+    option_map_or (λ r. Err r) (first_in (λ refusal. refusal) (
+    option_map (λ (l : Loss). record { status = status.Lost l.first l.second l.stripe; dead = dead_columns (given_up (columns_made a)) }) loss
+    ∷ option_map (λ c. only (status.Rebuilding c)) (other_filling a.asked a.opened.columns)
+    ∷ (if is_some (profile_of a.asked.command.action).rebuild && is_none a.start then Some (only (short_status (profile_of a.asked.command.action).rebuild)) else None)
+    ∷ option_map (λ at. beside_dead a (status.Script at.line at.code)) (result_err joined)
+    ∷ (if is_past_bound (with_joined a joined) then Some (beside_dead (with_joined a joined) (status.Script 0 8)) else None)
+    ∷ [])) (Ok (OnArray (with_joined a joined)))
 judged (Shows k o) loss joined = Ok (Shows k o)
 judged (OneLabel k) loss joined = Ok (OneLabel k)
 judged (PrintConf k) loss joined = Ok (PrintConf k)
@@ -211,7 +151,7 @@ pub record IsWanted (duty wanted : Result Duty Refused) : Type 0 where
   pub loss : Option Loss
   pub joined : Result (List View) At
   pub is_loss : (a : Admitted) → duty ≡ Ok (OnArray a) → IsLossBy (layout_of a) None (judged_states a) loss
-  pub is_joined : (a : Admitted) → duty ≡ Ok (OnArray a) → loss ≡ None → other_filling a.asked (columns_of a) ≡ None → is_short a ≡ false → ComesOfJoins a joined
+  pub is_joined : (a : Admitted) → duty ≡ Ok (OnArray a) → loss ≡ None → other_filling a.asked a.opened.columns ≡ None → (is_some (profile_of a.asked.command.action).rebuild && is_none a.start) ≡ false → AreJoined (layout_of a) a.asked.book a.asked.clients (length a.asked.book) a.asked.joins joined
   pub is : wanted ≡ (duty then λ d. judged d loss joined)
 
 -- Memory was wanted behind the opening: those columns are printed dead that are so as the array is opened.

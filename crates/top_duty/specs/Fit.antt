@@ -15,7 +15,8 @@ use Rattle.top_bay.specs.Asked.{Asked}
 use Rattle.top_open.specs.Opening.{Opened}
 use Rattle.top_rounds.specs.Labels.{IsLabelFor, IsNumbered}
 use Rattle.eng_cols.specs.Stripes.{states_of}
-use Rattle.top_duty.specs.Duty.{rebuilds_by, with_dead}
+use Rattle.top_duty.specs.Duty.{rebuilds_by}
+use Rattle.top_duty.specs.Steps.{with_dead}
 use Rattle.top_duty.specs.Opening.{AreTableRows, needs_of, stripes_on}
 
 -- There is one column for each of the configuration; at most one is filling, which has stripes left to do, and at most one is spread, where each stripe has a spare place. Each device of a column is that of no other; it is a column's disk or a spare; it has a sector, and room for the rows. The rows are those of whole tables. The newest label is one that a sector may hold, and its counter has room where labels are to be written.

@@ -1,6 +1,7 @@
 pub mod Opening
 pub mod Start
 pub mod Duty
+pub mod Steps
 pub mod Taken
 pub mod First
 pub mod Fit

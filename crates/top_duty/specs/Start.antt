@@ -1,11 +1,11 @@
 -- How a column is rebuilt: onto its own disk, onto a spare, or into the spare places of the other columns; or the one that is filling goes on.
-use Rattle.std.specs.Prelude.{◌≡◌, ℕ, ◌+◌, ◌*◌, ◌==◌, ◌&&◌, Bool, true, false, not, List, Option, Some, None, if◌then◌else◌, is_none, is_some, nat_le, option_map, slice_get, slice_index, unwrap_or}
+use Rattle.std.specs.Prelude.{◌≡◌, ℕ, ◌+◌, ◌*◌, ◌==◌, ◌&&◌, Bool, false, not, List, Option, Some, None, if◌then◌else◌, is_none, is_some, nat_le, option_map, slice_get, slice_index, unwrap_or}
 use Rattle.std.specs.List.{list_any}
+use Rattle.std.specs.Option.{option_map_or, option_or}
 use Rattle.eng_array.specs.declared.start.Start.{Start}
 use Rattle.eng_array.specs.declared.start.Start.TheVariants as start
 use Rattle.eng_cols.specs.declared.column.Column.{Column}
-use Rattle.eng_cols.specs.declared.column.Column.TheVariants as column
-use Rattle.eng_cols.specs.Cols.{is_set_spread}
+use Rattle.eng_cols.specs.Cols.{is_set_spread, device_set}
 use Rattle.raid_conf.specs.declared.conf.Conf.{Conf}
 use Rattle.top_bay.specs.Asked.{Asked}
 use Rattle.top_open.specs.declared.fronts.Front.{Front}
@@ -19,20 +19,12 @@ use Rattle.top_words.specs.declared.profile.Rebuilding.TheVariants as rebuilding
 
 -- ## A free spare
 
--- the column has this device
-abbrev pub is_on : ℕ → Column → Bool
-is_on d (column.Live e) = e == d
-is_on d column.Dead = false
-is_on d (column.Filling e done) = e == d
-is_on d column.Spread = false
-
--- A device may be filled: it is in no seat, it has so many sectors, and its sector 0 could be read.
-abbrev pub is_free : ℕ → List ℕ → List Front → List Column → ℕ → Bool
-is_free needs sizes fronts seats d = (not (list_any (is_on d) seats) && nat_le needs (slice_index sizes d)) && not (is_unread (slice_get fronts d))
-
--- the first spare that is free, as a device; the devices of the columns' disks come before the spares
+-- the first spare that is free, as a device: it is in no seat, it has so many sectors, and its sector 0 could be read; the devices of the columns' disks come before the spares
 unfoldable pub free_spare : Conf → Opened → List ℕ → List Front → Option ℕ
-free_spare conf o sizes fronts = option_map (λ j. conf.columns + j) (first_of (λ j. is_free (64 + o.rows * conf.unit) sizes fronts o.seats (conf.columns + j)) conf.spares)
+free_spare conf o sizes fronts = option_map (λ j. conf.columns + j) (first_of (λ j.
+    (not (list_any (λ x. option_map_or (λ e. e == conf.columns + j) (device_set (Some x)) false) o.seats)
+    && nat_le (64 + o.rows * conf.unit) (slice_index sizes (conf.columns + j)))
+    && not (is_unread (slice_get fronts (conf.columns + j)))) conf.spares)
 
 -- ## The start
 
@@ -40,23 +32,12 @@ free_spare conf o sizes fronts = option_map (λ j. conf.columns + j) (first_of (
 abbrev pub has_places : Conf → List Column → Bool
 has_places conf columns = (conf.level == 68) && not (list_any is_set_spread columns)
 
--- onto this spare, if there is one; else into the spare places, if they may be used
-abbrev pub onto_spare : ℕ → ℕ → Option ℕ → Bool → Option Start
-onto_spare most c (Some device) places = Some (start.Fill c device most)
-onto_spare most c None true = Some (start.Spread c)
-onto_spare most c None false = None
-
--- the rebuild of a column elsewhere: into spare places only without a limit
-abbrev pub rebuild_elsewhere : Option ℕ → Conf → Opened → List ℕ → List Front → Option ℕ → Option Start
-rebuild_elsewhere limit conf o sizes fronts None = None
-rebuild_elsewhere limit conf o sizes fronts (Some c) =
-    onto_spare (unwrap_or limit 4294967295) c (free_spare conf o sizes fronts)
-    (is_none limit && ((conf.level == 68) && not (list_any is_set_spread o.columns)))
-
--- how the action begins a rebuild, or goes on with one, by the array as it is opened; None where it does neither, or where there is nowhere to rebuild to, or nothing to go on with
+-- how the action begins a rebuild, or goes on with one, by the array as it is opened: elsewhere is onto the free spare, if there is one, and else into the spare places, without a limit alone, if they may be used. None where it does neither, or where there is nowhere to rebuild to, or nothing to go on with
 abbrev pub start_with : Option Rebuilding → Option ℕ → Option ℕ → Conf → Opened → List ℕ → List Front → Option Start
 start_with None limit comp conf o sizes fronts = None
-start_with (Some rebuilding.Elsewhere) limit comp conf o sizes fronts = rebuild_elsewhere limit conf o sizes fronts comp
+start_with (Some rebuilding.Elsewhere) limit comp conf o sizes fronts = option_map_or (λ c.
+    option_or (option_map (λ device. start.Fill c device (unwrap_or limit 4294967295)) (free_spare conf o sizes fronts))
+    (if is_none limit && ((conf.level == 68) && not (list_any is_set_spread o.columns)) then Some (start.Spread c) else None)) comp None
 start_with (Some rebuilding.InPlace) limit comp conf o sizes fronts = option_map (λ c. start.Fill c c (unwrap_or limit 4294967295)) comp
 start_with (Some rebuilding.Further) limit comp conf o sizes fronts = option_map (λ c. start.Resume c (unwrap_or limit 4294967295)) (filling_at o.columns)
 
@@ -67,18 +48,11 @@ start_in k o sizes fronts = start_with (profile_of k.command.action).rebuild (pr
 abbrev pub rebuilds : Action → Bool
 rebuilds action = is_some (profile_of action).rebuild
 
--- a column other than the one that is named
-abbrev pub unless_named : Option ℕ → Option ℕ → Option ℕ
-unless_named comp None = None
-unless_named None (Some c) = Some c
-unless_named (Some d) (Some c) = if d == c then None else Some c
-
--- the column that is filling, where the action begins the rebuild of another
+-- the column that is filling, where the action begins the rebuild of another: it isn't the one that is named
 abbrev pub other_with : Option Rebuilding → Option ℕ → Option ℕ → Option ℕ
 other_with None comp filling = None
-other_with (Some rebuilding.Elsewhere) comp filling = unless_named comp filling
-other_with (Some rebuilding.InPlace) comp filling = unless_named comp filling
 other_with (Some rebuilding.Further) comp filling = None
+other_with (Some anew) comp filling = option_map_or (λ c. if option_map_or (λ d. d == c) comp false then None else Some c) filling None
 
 abbrev pub other_filling : Asked → List Column → Option ℕ
 other_filling k columns = other_with (profile_of k.command.action).rebuild k.comp (filling_at columns)

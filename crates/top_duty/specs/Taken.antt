@@ -1,23 +1,25 @@
 -- The devices that were taken, and how they were looked at before anything was done with them.
-use Rattle.std.specs.Prelude.{◌≡◌, ◌⊎◌, Bool, true, false, List, length, Option, Ok, Err, Contains, replicate}
-use Rattle.blk_disk.specs.Devices.{AreNamed, Changes}
+use Rattle.std.specs.Prelude.{◌≡◌, ◌⊎◌, ℕ, Bool, true, false, List, length, Option, Some, Ok, Err, Contains, replicate, slice_get}
+use Rattle.blk_disk.specs.Devices.{AreNamed, Changes, device_at}
 use Rattle.blk_disk.specs.declared.disk.Disk.{Ghosts}
 use Rattle.raid_text.specs.Text.{Text}
-use Rattle.top_words.specs.Asked.{Command}
+use Rattle.top_words.specs.Asked.{Command, profile_of}
 use Rattle.top_bay.specs.Asked.{Asked, asked_in, names_for}
 use Rattle.top_bay.specs.Lent.{IsMeant}
 use Rattle.top_fetch.specs.Told.{Told}
 use Rattle.top_open.specs.declared.fronts.Front.{Front}
-use Rattle.top_open.specs.Fronts.{AreFronts, AreReadOnce}
+use Rattle.top_open.specs.Fronts.{AreFronts, IsCalledOnce}
 use Rattle.top_status.specs.declared.status.Status.TheVariants as status
 use Rattle.top_status.specs.Refusals.{Refused, only}
 use Rattle.top_duty.specs.Duty.{IsWanted, WantsMemory, duty_by, duty_in}
-use Rattle.top_duty.specs.Opening.{reads_fronts, sizes_of}
+use Rattle.top_duty.specs.Opening.{sizes_of}
+use Rattle.top_duty.specs.Steps.{reads_fronts}
 use Rattle.top_open.specs.declared.fronts.Front.TheVariants.{Away}
 
 -- Sector 0 of each device that has one was read, once, and no sector has changed; or nothing was read.
 abbrev pub Reads : {D : Type 0} → Ghosts D → Bool → List (Option D) → List (Option D) → List Front → Type 0
-Reads g true old new fronts = AreFronts g old new fronts × AreReadOnce g old new fronts × Changes g (λ _ _. ⊥) old new
+Reads g true old new fronts = AreFronts g old new fronts
+    × ((d : ℕ) (front : Front) → slice_get fronts d ≡ Some front → IsCalledOnce g (device_at old d) (device_at new d) front) × Changes g (λ _ _. ⊥) old new
 Reads g false old new fronts = (new ≡ old) × (fronts ≡ replicate (length old) Away)
 
 module _ {D : Type 0} (g : Ghosts D) (b : Told D) where
@@ -36,7 +38,7 @@ module _ {D : Type 0} (g : Ghosts D) (b : Told D) where
     pub before : AreNamed b.home (names_for k) taken
     pub after : AreNamed b.after (names_for k) back
     pub others : (n : Text) → (Contains (names_for k) n → ⊥) → b.after n ≡ b.home n
-    pub read : Reads g (reads_fronts k.command.action) taken back fronts
+    pub read : Reads g (profile_of k.command.action).reads taken back fronts
 
   -- each device is at home as it was, with no call more
   abbrev pub AreUntouched : Type 0

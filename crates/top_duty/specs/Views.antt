@@ -29,7 +29,8 @@ use Rattle.top_words.specs.declared.profile.Kind.TheVariants as kind
 use Rattle.top_duty.specs.declared.duty.Duty as declared_duty
 use Rattle.top_duty.specs.declared.duty.Duty.TheVariants as duty
 use Rattle.top_duty.specs.declared.duty.Ready as declared_ready
-use Rattle.top_duty.specs.Duty.{Admitted, Duty, OnArray, Shows, OneLabel, PrintConf, IsWanted, WantsMemory, ComesOfJoins, admitted_with, columns_of, drawn_or, is_past, is_past_bound, is_short, judged_states, layout_of, short_status, with_dead}
+use Rattle.top_duty.specs.Duty.{Admitted, Duty, OnArray, Shows, OneLabel, PrintConf, IsWanted, WantsMemory, is_past_bound, judged_states, layout_of, short_status}
+use Rattle.top_duty.specs.Steps.{ComesOfJoins, columns_of, drawn_or, with_dead, is_past, admitted_with, is_short}
 use Rattle.top_duty.specs.Fit.{IsFit, IsStartIf}
 use Rattle.top_duty.specs.Opening.{AreTableRows, kind_of, opened_by, status_of}
 use Rattle.top_duty.specs.Start.{has_failed, other_filling, rebuilds, start_in}

@@ -10,7 +10,8 @@ ghost use Rattle.top_fetch.specs.Told.{Told};
 ghost use Rattle.top_bay.specs.Views.{IsWithinLimits, asked_seen};
 ghost use Rattle.top_duty.specs.Admitted.{IsAdmitted};
 ghost use Rattle.top_duty.specs.Duty.{IsWanted, duty_in};
-ghost use Rattle.top_duty.specs.Opening.{reads_fronts, sizes_of};
+ghost use Rattle.top_duty.specs.Opening.{sizes_of};
+ghost use Rattle.top_duty.specs.Steps.{reads_fronts};
 ghost use Rattle.top_duty.specs.Taken.{DevicesAreTaken, Reads, RefusedFor, RefusedOver};
 ghost use Rattle.top_duty.specs.Views.{IsDutyOver, IsFitFor, IsRefusal, duty_seen};
 

@@ -3,7 +3,7 @@ ghost use Rattle.std.specs.Prelude.{◌≡◌, ◌<◌, ◌≤◌, ◌^◌, ℕ,
 ghost use Rattle.raid_script.specs.Asked.{AreFew, IsAsked};
 ghost use Rattle.top_words.specs.Asked.{AreNumbersInRange, IsDrawable};
 ghost use Rattle.top_words.specs.Views.{action_seen};
-ghost use Rattle.top_duty.specs.Duty.{clients_by, drawn_or};
+ghost use Rattle.top_duty.specs.Steps.{clients_by, drawn_or};
 ghost use Rattle.top_duty.specs.Views.{drawn_by, items_seen};
 
 use item_list::Items;
@@ -50,7 +50,6 @@ pub(crate) fn draw(alloc: Global, action: Action<'_>, blocks: u64) -> Result<Vec
 }
 
 /// Of the items of the script and those that are drawn those that the action runs.
-#[tactic(auto, unfolding(crate::specs::Duty::clients_by))]
 pub fn choose(action: Action<'_>, scripted: Vec<Items>, drawn: Vec<Items>) -> Vec<Items>
     ensures { (blocks : ℕ) → items_seen drawn.items ≡ drawn_by (action_seen action.entry) blocks →
         items_seen result.items

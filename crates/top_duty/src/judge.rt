@@ -5,7 +5,7 @@ ghost use Rattle.eng_cols.specs.Cols.{IsFor, is_set_filling, is_set_spread};
 ghost use Rattle.top_words.specs.Views.{action_seen};
 ghost use Rattle.eng_cols.specs.Stripes.{states_of};
 ghost use Rattle.top_close.specs.Ended.{IsLossBy};
-ghost use Rattle.top_duty.specs.Duty.{traces, with_killed};
+ghost use Rattle.top_duty.specs.Steps.{with_killed, traces};
 
 use eng_cols::{Cols, Column, Loss};
 use lay_core::Layout;

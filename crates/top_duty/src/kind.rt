@@ -1,7 +1,8 @@
 //! What an action makes of an array.
 ghost use Rattle.std.specs.Prelude.{◌≡◌};
 ghost use Rattle.top_words.specs.Views.{action_seen};
-ghost use Rattle.top_duty.specs.Opening.{kind_of, reads_fronts};
+ghost use Rattle.top_duty.specs.Opening.{kind_of};
+ghost use Rattle.top_duty.specs.Steps.{reads_fronts};
 
 use top_words::{Action, Kind};
 

@@ -2,7 +2,8 @@
 ghost use Rattle.std.specs.Prelude.{◌≡◌, IfOk, OnErr, length};
 ghost use Rattle.blk_disk.specs.Devices.{Changes};
 ghost use Rattle.top_words.specs.Views.{action_seen};
-ghost use Rattle.top_duty.specs.Opening.{reads_fronts, sizes_of};
+ghost use Rattle.top_duty.specs.Opening.{sizes_of};
+ghost use Rattle.top_duty.specs.Steps.{reads_fronts};
 ghost use Rattle.top_duty.specs.Taken.{Reads};
 
 use crate::kind::reads_fronts;

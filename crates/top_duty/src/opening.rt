@@ -5,7 +5,8 @@ ghost use Rattle.top_bay.specs.Views.{IsWithinLimits, asked_seen};
 ghost use Rattle.top_open.specs.Opening.{opened_seen};
 ghost use Rattle.raid_conf.specs.Form.{IsConf};
 ghost use Rattle.raid_conf.specs.Layouts.{shape_of};
-ghost use Rattle.top_duty.specs.Opening.{AreTableRows, filling_at, fronted_by, kept_if_large, left_at, opened_by, status_of, without_small};
+ghost use Rattle.top_duty.specs.Opening.{AreTableRows, filling_at, fronted_by, opened_by, status_of};
+ghost use Rattle.top_duty.specs.Steps.{left_at, without_small, kept_if_large};
 ghost use Rattle.top_duty.specs.Views.{OpensSo};
 
 use crate::layouts::layout_of;

@@ -2,7 +2,8 @@
 ghost use Rattle.std.specs.Prelude.{◌≡◌, ℕ, length, map, replicate, slice_index, IfOk};
 ghost use Rattle.std.specs.Option.{option_map_or};
 ghost use Rattle.raid_conf.specs.Form.{IsConf};
-ghost use Rattle.top_duty.specs.Opening.{is_named, plan_of, present_of, sizes_of};
+ghost use Rattle.top_duty.specs.Opening.{plan_of, sizes_of};
+ghost use Rattle.top_duty.specs.Steps.{present_of, is_named};
 
 use blk_disk::Disk;
 use raid_conf::{Conf, design_parameters, table_rows, table_stripes};

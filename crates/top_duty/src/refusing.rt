@@ -6,7 +6,8 @@ ghost use Rattle.eng_cols.specs.Cols.{IsFor, is_set_filling, is_set_spread};
 ghost use Rattle.top_bay.specs.Views.{IsWithinLimits, asked_seen};
 ghost use Rattle.eng_array.specs.Starts.{most_of};
 ghost use Rattle.eng_cols.specs.Stripes.{done_at, states_of};
-ghost use Rattle.top_duty.specs.Duty.{is_past, left_by, rebuilds_by, short_status, with_killed};
+ghost use Rattle.top_duty.specs.Duty.{left_by, rebuilds_by, short_status};
+ghost use Rattle.top_duty.specs.Steps.{with_killed, is_past};
 ghost use Rattle.top_duty.specs.Start.{other_filling};
 ghost use Rattle.top_duty.specs.Views.{ComesOver, GoesIf, GoesUnlost, RefusedIf, RefusedJoins, RefusedUnlost, graphs_with, views_of};
 

@@ -7,7 +7,8 @@ ghost use Rattle.top_bay.specs.Views.{asked_seen};
 ghost use Rattle.top_open.specs.Opening.{opened_seen};
 ghost use Rattle.top_open.specs.Seats.{is_unread};
 ghost use Rattle.top_words.specs.Views.{action_seen};
-ghost use Rattle.top_duty.specs.Start.{free_spare, has_failed, has_places, is_free, is_on, other_filling, rebuild_elsewhere, rebuilds, start_in, start_with, unless_named};
+ghost use Rattle.top_duty.specs.Start.{free_spare, has_failed, has_places, other_filling, rebuilds, start_in, start_with};
+ghost use Rattle.top_duty.specs.Steps.{rebuild_elsewhere, is_on, is_free, unless_named};
 
 use crate::opening::filling_at;
 use crate::plan::size_at;

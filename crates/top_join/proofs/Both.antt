@@ -18,7 +18,8 @@ use Rattle.graph_merge.proofs.Accepting as accepting
 use Rattle.graph_merge.proofs.Spans.{maps_follow, tasks_follow}
 use Rattle.raid_script.specs.Asked.{Asked}
 use Rattle.top_join.specs.Both.{AreAcceptedAlone, AreWritten, missing_behind}
-use Rattle.top_join.specs.Joining.{IsInTurn, IsJoint, IsOver, is_before, may_join, spans_in}
+use Rattle.top_join.specs.Joining.{IsOver}
+use Rattle.top_join.specs.Steps.{IsInTurn, IsJoint, is_before, may_join, spans_in}
 
 -- the task of a write of a split span
 task_is : (y : Shape) (map : Touched) → IsLayout y → IsMapOf y map → IsTask (task_of y Write map)

@@ -12,7 +12,8 @@ use Rattle.text_steps.specs.declared.at.At.{At}
 use Rattle.raid_script.specs.declared.join.Join.{Join}
 use Rattle.raid_script.specs.Asked.{Asked}
 use Rattle.top_bound.specs.Laws.{IsSmall}
-use Rattle.top_join.specs.Joining.{AreJoined, Follows, IsInTurn, IsJoint, IsOver, graph_at, is_before, may_join, spans_in}
+use Rattle.top_join.specs.Joining.{AreJoined, Follows, IsOver}
+use Rattle.top_join.specs.Steps.{IsInTurn, IsJoint, is_before, may_join, graph_at, spans_in}
 
 blank_small : (v : View) → ◌≡◌ {A = Result View ℕ} (Ok v) (Ok blank) → IsSmall v
 blank_small v h = let same : v ≡ blank = cc h in subst IsSmall (sym same) (let z : 0 ≤ 2048 = omega arith in z)

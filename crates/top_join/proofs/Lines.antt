@@ -9,7 +9,8 @@ use Rattle.raid_script.specs.Asked.{Asked}
 use Rattle.top_join.specs.declared.fault.JoinFault.{JoinFault}
 use Rattle.top_join.specs.declared.fault.JoinFault.TheVariants as fault
 use Rattle.top_join.specs.Answers.{RefusesAll, RefusesOne}
-use Rattle.top_join.specs.Joining.{AreJoined, IsLine}
+use Rattle.top_join.specs.Joining.{AreJoined}
+use Rattle.top_join.specs.Steps.{IsLine}
 
 -- these graphs in front of those of the other lines
 abbrev pub behind : List View → Result (List View) At → Result (List View) At

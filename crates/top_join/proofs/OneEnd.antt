@@ -14,7 +14,8 @@ use Rattle.graph_text.specs.Format.{Named}
 use Rattle.text_steps.specs.declared.at.At.{At}
 use Rattle.raid_script.specs.declared.join.Join.{Join}
 use Rattle.raid_script.specs.Asked.{Asked}
-use Rattle.top_join.specs.Joining.{AreJoined, Follows, IsInTurn, IsJoint, IsMerged, IsOver, code_of, graph_at, is_before, may_join, spans_in}
+use Rattle.top_join.specs.Joining.{AreJoined, Follows, IsOver, code_of}
+use Rattle.top_join.specs.Steps.{IsInTurn, IsJoint, IsMerged, is_before, may_join, graph_at, spans_in}
 
 -- ## Two graphs
 

@@ -9,11 +9,13 @@ use Rattle.blk_plain.specs.declared.op.Span.{Span}
 use Rattle.raid_text.specs.Text.{Numbered, Text, lines_in}
 use Rattle.graph_text.specs.Format.{Named}
 use Rattle.raid_script.specs.declared.join.Join.{Join}
-use Rattle.raid_script.specs.Asked.{Asked, AskedPatch, Writes, WritesAll, Reads, Syncs, Fails, Other, IsAsked, Request, Scripted, asked_by, by_first, joined_in, joins_of, scripted}
+use Rattle.raid_script.specs.Asked.{Asked, AskedPatch, Writes, WritesAll, Reads, Syncs, Fails, Other, IsAsked, Request, Scripted, by_first, joins_of, scripted}
+use Rattle.raid_script.specs.Steps.{asked_by, joined_in}
 use Rattle.raid_script.specs.Form.{AreLinesOf, IsJoin, IsSaid}
 use Rattle.raid_script.specs.Laws.{IsScriptOf}
 use Rattle.raid_script.proofs.ByClient.{by_first_more, by_first_none}
-use Rattle.top_join.specs.Joining.{spans_by, spans_in, spans_in_row}
+use Rattle.top_join.specs.Joining.{spans_by}
+use Rattle.top_join.specs.Steps.{spans_in_row, spans_in}
 use Rattle.top_join.specs.Lines.{IsLineOfItem}
 use Rattle.std.specs.Option.{option_or}
 
@@ -90,15 +92,12 @@ module _ (book : List Named) (columns : ℕ) where
 
 -- an item that doesn't name it is passed over
 passed : (n : ℕ) (a : Asked) (items : List Asked) → spans_by n a ≡ None → spans_in_row n (a ∷ items) ≡ spans_in_row n items
-unfolding spans_in_row
 passed n a items is = ap (λ (x : Option (List Span)). option_or x (spans_in_row n items)) is
 
 found : (n : ℕ) (a : Asked) (items : List Asked) (spans : List Span) → spans_by n a ≡ Some spans → spans_in_row n (a ∷ items) ≡ Some spans
-unfolding spans_in_row
 found n a items spans is = ap (λ (x : Option (List Span)). option_or x (spans_in_row n items)) is
 
 no_row : (n : ℕ) → spans_in_row n [] ≡ None
-unfolding spans_in_row
 no_row n = refl
 
 row_none : (n c : ℕ) (qs : List Request) → All (NamesOther n) qs → spans_in_row n (asked_by qs c) ≡ None
@@ -140,7 +139,6 @@ or_assoc None b c = refl
 or_assoc (Some x) b c = refl
 
 spans_append : (n : ℕ) (rows : List (List Asked)) (row : List Asked) → spans_in n (rows ++ row ∷ []) ≡ option_or (spans_in n rows) (spans_in_row n row)
-unfolding spans_in
 spans_append n [] row = or_none (spans_in_row n row)
 spans_append n (first ∷ rows) row =
     ap (λ (x : Option (List Span)). option_or (spans_in_row n first) x) (spans_append n rows row)
@@ -156,7 +154,6 @@ one_more client k spans = elim (cases_lt client k) [
 ]
 
 spans_none : (n : ℕ) → spans_in n [] ≡ None
-unfolding spans_in
 spans_none n = refl
 
 all_of : (n k client : ℕ) (qs : List Request) (spans : List Span) → ((c : ℕ) → spans_in_row n (asked_by qs c) ≡ if_so spans (nat_eq client c))

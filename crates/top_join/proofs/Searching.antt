@@ -10,9 +10,11 @@ use Rattle.blk_plain.specs.declared.op.Op.TheVariants as op
 use Rattle.blk_plain.specs.Plain.{spans_of, used_of}
 use Rattle.eng_world.specs.declared.item.Item.{Item}
 use Rattle.item_list.specs.ItemList.{ItemList}
-use Rattle.raid_script.specs.Asked.{AskedPatch, Other, WritesAll, seen, seen_op, seen_patches}
+use Rattle.raid_script.specs.Asked.{AskedPatch, Other, WritesAll, seen}
+use Rattle.raid_script.specs.Steps.{seen_op, seen_patches}
 use Rattle.top_bound.proofs.Patched.{spans-seen}
-use Rattle.top_join.specs.Joining.{spans_by, spans_in, spans_in_row}
+use Rattle.top_join.specs.Joining.{spans_by}
+use Rattle.top_join.specs.Steps.{spans_in_row, spans_in}
 use Rattle.std.specs.Option.{option_or}
 
 -- ## One item
@@ -32,20 +34,16 @@ by-number n named patches few = go (nat_le patches.used 8) (le-leb patches.used 
 
 pub row-step : (n : ℕ) (items : List Item) (i : ℕ) (d : Item) → i < length items
     → spans_in_row n (map seen (drop i items)) ≡ option_or (spans_by n (seen (get_or items i d))) (spans_in_row n (map seen (drop (i + 1) items)))
-unfolding spans_in_row
 row-step n items i d l = ap (λ (xs : List Item). spans_in_row n (map seen xs)) (drop_more items i d l)
 
 pub row-none : (n : ℕ) → spans_in_row n [] ≡ None
-unfolding spans_in_row
 row-none n = refl
 
 pub rows-step : (n : ℕ) (rows : List ItemList) (i : ℕ) (d : ItemList) → i < length rows
     → spans_in n (map (λ (row : ItemList). map seen row.items) (drop i rows)) ≡ option_or (spans_in_row n (map seen (get_or rows i d).items)) (spans_in n (map (λ (row : ItemList). map seen row.items) (drop (i + 1) rows)))
-unfolding spans_in
 rows-step n rows i d l = ap (λ (xs : List ItemList). spans_in n (map (λ (row : ItemList). map seen row.items) xs)) (drop_more rows i d l)
 
 pub rows-none : (n : ℕ) → spans_in n [] ≡ None
-unfolding spans_in
 rows-none n = refl
 
 -- ## Where there is one

@@ -8,7 +8,7 @@ use Rattle.graph_mean.specs.Graph.{View}
 use Rattle.graph_mean.specs.Ordered.{Accepted}
 use Rattle.graph_mean.specs.Task.{Missing, task_of}
 use Rattle.raid_script.specs.Asked.{Asked}
-use Rattle.top_join.specs.Joining.{may_join, spans_in}
+use Rattle.top_join.specs.Steps.{may_join, spans_in}
 
 -- An item writes these two spans by the graph of this number, within the blocks and over at most
 -- 16 stripes. They are split so into stripes and parts: the one, the other, and both together.

@@ -1,4 +1,5 @@
 pub mod Joining
+pub mod Steps
 pub mod Answers
 pub mod Both
 pub mod Lines

@@ -5,7 +5,7 @@ use Rattle.graph_text.specs.Format.{Named}
 use Rattle.raid_script.specs.declared.join.Join.{Join}
 use Rattle.raid_script.specs.Asked.{AskedPatch, ArePatches, Request, Scripted, WritesAll, joins_of}
 use Rattle.raid_script.specs.Laws.{IsScriptOf}
-use Rattle.top_join.specs.Joining.{spans_in}
+use Rattle.top_join.specs.Steps.{spans_in}
 
 -- A line is join line j of the script: its item writes two spans by the graph of that number, and
 -- these are the spans over which this graph is joined.

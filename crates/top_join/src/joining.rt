@@ -6,7 +6,8 @@ ghost use Rattle.graph_merge.specs.Form.{IsRoomy};
 ghost use Rattle.raid_script.specs.Asked.{IsJoinOf, seen};
 ghost use Rattle.top_bound.specs.Bound.{MayBeAsked};
 ghost use Rattle.top_join.specs.Answers.{RefusesAll, RefusesOne, outcome_of};
-ghost use Rattle.top_join.specs.Joining.{AreJoined, IsLine, IsMerged, IsOver};
+ghost use Rattle.top_join.specs.Joining.{AreJoined, IsOver};
+ghost use Rattle.top_join.specs.Steps.{IsMerged, IsLine};
 
 use crate::fault::JoinFault;
 use crate::spans::{is_before, may_join, stripe_count};

@@ -14,7 +14,8 @@ ghost use Rattle.raid_script.specs.declared.join.Join.{Join};
 ghost use Rattle.raid_script.specs.Asked.{Asked};
 ghost use Rattle.top_bound.specs.Laws.{IsSmall};
 ghost use Rattle.top_join.specs.Both.{AreAcceptedAlone, AreWritten};
-ghost use Rattle.top_join.specs.Joining.{AreJoined, IsLine, graph_at};
+ghost use Rattle.top_join.specs.Joining.{AreJoined};
+ghost use Rattle.top_join.specs.Steps.{IsLine, graph_at};
 ghost use Rattle.top_join.specs.Lines.{LinesHaveTheirItems};
 
 /// One thing alone comes of join lines: these graphs, or this refusal.

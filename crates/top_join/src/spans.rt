@@ -3,7 +3,7 @@ ghost use Rattle.std.specs.Prelude.{◌≡◌, ◌<◌, ◌≤◌, ◌+◌, ◌-
 ghost use Rattle.blk_plain.specs.Plain.{AreSound, spans_of};
 ghost use Rattle.lay_core.specs.Layout.{blocks_in, stripe_of};
 ghost use Rattle.lay_core.specs.Touched.{stripe_count};
-ghost use Rattle.top_join.specs.Joining.{is_before, may_join};
+ghost use Rattle.top_join.specs.Steps.{is_before, may_join};
 
 use blk_plain::{Patches, Span, limits};
 use lay_core::{Layout, blocks, count_all, home, some_passes_end};

@@ -1,9 +1,11 @@
 //! The item that names a graph.
 ghost use Rattle.std.specs.Prelude.{◌≡◌, ◌≤◌, ℕ, Some, None, map, option_map, All, IfSome};
 ghost use Rattle.blk_plain.specs.Plain.{AreSound, spans_of};
-ghost use Rattle.raid_script.specs.Asked.{seen, seen_op};
+ghost use Rattle.raid_script.specs.Asked.{seen};
+ghost use Rattle.raid_script.specs.Steps.{seen_op};
 ghost use Rattle.top_bound.specs.Bound.{MayBeAsked};
-ghost use Rattle.top_join.specs.Joining.{spans_by, spans_in, spans_in_row};
+ghost use Rattle.top_join.specs.Joining.{spans_by};
+ghost use Rattle.top_join.specs.Steps.{spans_in_row, spans_in};
 
 use blk_plain::{Op, Patches};
 use eng_world::Item;

@@ -9,11 +9,12 @@ use Rattle.lay_core.specs.Layout.{IsLayout, Shape}
 use Rattle.lay_core.specs.declared.layout.Layout.{Ghosts as LayoutGhosts}
 use Rattle.eng_array.proofs.Promised.{library-promises}
 use Rattle.eng_array.specs.declared.start.Start.{Start}
+use Rattle.eng_array.specs.Starts.{column_of}
 use Rattle.eng_array.specs.declared.start.Start.TheVariants as start
 use Rattle.eng_cols.specs.declared.column.Column.{Column}
 use Rattle.eng_cols.specs.declared.spot.Loss.{Loss}
 use Rattle.eng_cols.specs.Cols.{HasDevice, is_set_filling, HasDeviceOn}
-use Rattle.eng_cols.specs.Deaths.{Dies}
+use Rattle.eng_cols.specs.Deaths.{Dies, LosesDevice}
 use Rattle.eng_cols.specs.Lost.{NotLost}
 use Rattle.eng_cols.specs.Settable.{IsSettable}
 use Rattle.eng_world.specs.Planning.{Graphs}
@@ -33,7 +34,6 @@ use Rattle.top_acts.specs.Mapped.{LooksAtMaps, is_any_marked, unmarked}
 use Rattle.top_acts.proofs.Having.{has_live}
 use Rattle.top_acts.proofs.Named.{live_of}
 use Rattle.top_close.specs.Calls.{MoreOn}
-use Rattle.top_close.specs.Settled.{LosesDevice}
 use Rattle.top_close.specs.Stage.{IsInUse}
 use Rattle.top_close.proofs.StageLaws.{live_before}
 use Rattle.top_rounds.specs.Calls.{label_writes}
@@ -45,12 +45,12 @@ use Rattle.top_run.specs.Works.{work_of}
 use Rattle.top_run.specs.Ends.{EndsSo}
 use Rattle.top_run.specs.Ran.{Ran}
 use Rattle.top_run.proofs.All.{runs, runs-graphs, runs-kept, runs-now}
-use Rattle.top_labelled.specs.Begun.{BeginsLabelled, IsColumnWithin, began_of, is_kept, notice_in, opened_as, sweeps_in, without, writes_maps}
+use Rattle.top_labelled.specs.Begun.{BeginsLabelled, IsColumnWithin, is_kept, opened_as, sweeps_in, without}
+use Rattle.top_labelled.specs.Words.{began_of, notice_in, writes_maps, closing_label, clear_if, MarksAsked, line_of}
 use Rattle.top_labelled.specs.Between.{HasEnded}
 use Rattle.top_labelled.specs.Given.{RebuildsIf}
-use Rattle.top_labelled.specs.Maps.{MapsEnd, MapsInOrder, blank, clear_if}
-use Rattle.top_labelled.specs.Marked.{MarksAsked}
-use Rattle.top_labelled.specs.Ran.{ClosesInSteps, HasFailedSince, IsRelabelled, LeavesLabelled, MayChangeLabelled, RanLabelled, closing_label, line_of, onto}
+use Rattle.top_labelled.specs.Maps.{MapsEnd, MapsInOrder}
+use Rattle.top_labelled.specs.Ran.{ClosesInSteps, IsRelabelled, LeavesLabelled, MayChangeLabelled, RanLabelled, onto}
 use Rattle.top_labelled.proofs.Ending.{count, ends}
 use Rattle.top_labelled.proofs.Exactly.{exactly}
 use Rattle.top_labelled.proofs.Holding.{holding}
@@ -135,12 +135,13 @@ module _ {L D : Type 0} (lay : LayoutGhosts L) (disk : DiskGhosts D) (old : Setu
   lost-since = loses lay disk old asked began faulty map devices columns begun closed newest first layout filling can begins named began_is s clear clears device v back e
 
   -- where no rebuild begins that was asked, its device had failed
-  unbegun : began ≡ None → (asked ≡ None) ⊎ ((faulty ≡ true) ⊎ HasFailedSince disk a newest old.devices.items v back devices.items)
+  unbegun : began ≡ None → (asked ≡ None) ⊎ ((faulty ≡ true) ⊎ ((col : ℕ) × (device : ℕ) × (onto a.start a.columns ≡ Some device)
+      × ((rebuild : Start) → a.start ≡ Some rebuild → column_of rebuild ≡ col) × HasDeviceOn a.columns col device × RisesOn disk old.devices.items devices.items device))
   unbegun none = elim (why-unbegun disk old.devices.items devices.items old.columns.items begun lost-since faulty asked (sym began_is ∙ none)) [
     | inl h ↦ inl h
     | inr h ↦ inr (elim h [
       | inl f ↦ inl f
-      | inr w ↦ inr (record { col = w.col; device = w.device; asked = w.asked; column = w.column; had = w.had; rose = w.rose })
+      | inr w ↦ inr (w.col, w.device, w.asked, w.column, w.had, w.rose)
     ])
   ]
 
@@ -220,9 +221,9 @@ module _ {L D : Type 0} (lay : LayoutGhosts L) (disk : DiskGhosts D) (old : Setu
 
   -- ## The end, step by step
 
-  steps-now : EndsInSteps disk (clear_if (writes_maps (is_kept map newest) begins.union && not (is_some s.now.lost)) (blank disk a newest taken)) y s.now.lost (closing_label first) e.last closed.columns.items v.ending.columns back-from back v.ending.lost
+  steps-now : EndsInSteps disk (clear_if (writes_maps (is_kept map newest) begins.union && not (is_some s.now.lost)) (unmarked a.layout.stripes newest.serial)) y s.now.lost (closing_label first) e.last closed.columns.items v.ending.columns back-from back v.ending.lost
   steps-now =
-      subst (λ (o : Option Loss). EndsInSteps disk (clear_if (writes_maps (is_kept map newest) begins.union && not (is_some o)) (blank disk a newest taken)) y o (closing_label first) e.last closed.columns.items v.ending.columns back-from back v.ending.lost) s.tells.lost
+      subst (λ (o : Option Loss). EndsInSteps disk (clear_if (writes_maps (is_kept map newest) begins.union && not (is_some o)) (unmarked a.layout.stripes newest.serial)) y o (closing_label first) e.last closed.columns.items v.ending.columns back-from back v.ending.lost) s.tells.lost
       (subst (λ (m : Option Map). EndsInSteps disk m y closed.lost (closing_label first) e.last closed.columns.items v.ending.columns back-from back v.ending.lost) clear_is
       (subst (λ l. EndsInSteps disk clear (lay.shape l) closed.lost (closing_label first) e.last closed.columns.items v.ending.columns back-from back v.ending.lost) s.tells.layout e.steps))
 

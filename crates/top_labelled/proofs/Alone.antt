@@ -11,7 +11,7 @@ use Rattle.eng_cols.specs.Changes.{killed}
 use Rattle.eng_cols.specs.Cols.{ColumnState, Dead, is_done, is_done_on, state_set}
 use Rattle.eng_cols.specs.Stripes.{filled_in, states_of}
 use Rattle.eng_cols.proofs.Lists.{get_set_other, get_set_same}
-use Rattle.top_acts.specs.Killed.{IsWithout}
+use Rattle.top_acts.specs.Alive.{IsWithout}
 use Rattle.top_close.specs.Closes.{FillingEnds, SpreadEnds}
 use Rattle.top_close.proofs.SettledLaws.{set_here}
 use Rattle.top_labelled.proofs.Lists.{same-list}

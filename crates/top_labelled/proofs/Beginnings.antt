@@ -29,10 +29,10 @@ use Rattle.raid_label.specs.declared.label.Label.{Label}
 use Rattle.top_serve.specs.Setups.{shape_in}
 use Rattle.top_labelled.specs.declared.labelled.Labelled.{Labelled}
 use Rattle.top_labelled.specs.declared.beginning.Started.{Started}
-use Rattle.top_labelled.specs.Begun.{is_in_place, is_kept, notice_in, writes_maps}
+use Rattle.top_labelled.specs.Begun.{is_in_place, is_kept}
+use Rattle.top_labelled.specs.Words.{notice_in, writes_maps, MarksAsked}
 use Rattle.top_labelled.specs.Between.{HasOpened, IsBegun}
 use Rattle.top_labelled.specs.Given.{CanRunLabelled}
-use Rattle.top_labelled.specs.Marked.{MarksAsked}
 use Rattle.top_labelled.specs.Ran.{onto}
 use Rattle.top_labelled.proofs.Arrays.{array-of, settable-of}
 

@@ -11,7 +11,7 @@ use Rattle.eng_cols.specs.declared.column.Column.{Column}
 use Rattle.eng_cols.specs.Cols.{ColumnState}
 use Rattle.eng_cols.specs.Seats.{is_available}
 use Rattle.eng_cols.specs.Lost.{NotLost}
-use Rattle.eng_cols.specs.Contents.{Contents, AnyStripe, InSync, byte_if, byte_of, decode, xor_others}
+use Rattle.eng_cols.specs.Contents.{Contents, AnyStripe, InSync, byte_of, decode, xor_others}
 use Rattle.eng_cols.proofs.Decoding.{agrees-decode, agrees-only}
 use Rattle.eng_cols.proofs.Sums.{below_one, others_more, others_same, xor_twice}
 use Rattle.eng_cols.specs.Stripes.{states_of}
@@ -25,7 +25,8 @@ use Rattle.top_close.proofs.DyingLaws.{agrees_by_devices, lost_no_less, still_ag
 use Rattle.top_acts.specs.Begun.{MayBegin, MaySweep}
 use Rattle.top_acts.specs.Sweeps.{Sweeps, Nothing, Over, Marked, Notice, Round, Marks}
 use Rattle.top_acts.proofs.Later.{OfCheck, of_check}
-use Rattle.top_labelled.specs.Begun.{sums_of_others}
+use Rattle.top_labelled.specs.Words.{sums_of_others}
+use Rattle.eng_cols.proofs.Words.{byte_if}
 
 -- ## What may have changed as it was begun
 

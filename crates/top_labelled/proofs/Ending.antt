@@ -11,12 +11,11 @@ use Rattle.eng_cols.specs.declared.column.Column.{Column}
 use Rattle.eng_cols.specs.declared.column.Column.TheVariants as column
 use Rattle.eng_cols.specs.declared.spot.Loss.{Loss}
 use Rattle.eng_cols.specs.Cols.{device_set, is_set_filling, passes, HasDeviceOn}
-use Rattle.eng_cols.specs.Deaths.{Dies}
+use Rattle.eng_cols.specs.Deaths.{Dies, LosesDevice}
 use Rattle.eng_world.specs.World.{World}
 use Rattle.raid_label.specs.declared.label.Label.{Label}
 use Rattle.top_acts.proofs.Having.{has_live}
 use Rattle.top_acts.proofs.Named.{live_of}
-use Rattle.top_close.specs.Settled.{LosesDevice}
 use Rattle.top_close.specs.Stage.{IsGivenUp}
 use Rattle.top_close.proofs.SettledLaws.{set_here}
 use Rattle.top_close.proofs.StageLaws.{live_before}
@@ -24,16 +23,31 @@ use Rattle.top_serve.specs.Served as served
 use Rattle.top_serve.specs.Served.{IsKeptAs, WasFailed}
 use Rattle.top_serve.specs.Setups.{with_start}
 use Rattle.top_run.specs.Work.{Service, Work}
-use Rattle.top_run.specs.Ran.{IsDeadBy, RisesAt, Ran}
+use Rattle.top_run.specs.Ran.{RisesAt, Ran}
+use Rattle.top_run.specs.Steps.{IsDeadBy}
 use Rattle.top_run.specs.declared.service.Line.{Line}
 use Rattle.top_run.specs.declared.service.Told.TheVariants as told
 use Rattle.top_labelled.specs.Begun.{IsAnew, IsColumnWithin, opened_as, without}
 use Rattle.top_run.specs.Told.{IsToldUnbuilt}
-use Rattle.top_labelled.specs.Ran.{line_of, told_at_end, told_on}
+use Rattle.top_labelled.specs.Ran.{told_of}
+use Rattle.top_labelled.specs.Words.{told_at_end, told_on, line_of}
 use Rattle.top_labelled.proofs.Kept.{kept-dead, started-other}
 use Rattle.top_labelled.proofs.Without.{anew-column, anew-or-not, never, not-some, some-same, without-dead, without-dies, without-other}
 
 -- ## The line
+
+-- it tells at once how far the rebuild came, and that the array is lost
+pub told-once : (y : Shape) (kept : List Column) (lost : Option Loss) (c : ℕ) (o : Option Column) → told_at_end lost (told_on y kept c o) ≡ told_of y kept lost c o
+told-once y kept None c None = refl
+told-once y kept None c (Some (column.Live d)) = refl
+told-once y kept None c (Some column.Dead) = refl
+told-once y kept None c (Some (column.Filling d m)) = refl
+told-once y kept None c (Some column.Spread) = refl
+told-once y kept (Some loss) c None = refl
+told-once y kept (Some loss) c (Some (column.Live d)) = refl
+told-once y kept (Some loss) c (Some column.Dead) = refl
+told-once y kept (Some loss) c (Some (column.Filling d m)) = refl
+told-once y kept (Some loss) c (Some column.Spread) = refl
 
 -- of a rebuild that is stopped in the end
 line-stopped : (y : Shape) (asked : Option Start) (device : Option ℕ) (t : Start) (kept : List Column) (lost : Option Loss) → asked ≡ Some t → told_at_end lost (told_on y kept (column_of t) (slice_get kept (column_of t))) ≡ told.Stopped
@@ -41,10 +55,11 @@ line-stopped : (y : Shape) (asked : Option Start) (device : Option ℕ) (t : Sta
 line-stopped y None device t kept lost is stopped = not-some t is
 line-stopped y (Some u) device t kept lost is stopped =
     let same : u ≡ t = some-same u t is in (
-      record { column = column_of u; device = device; told = told_at_end lost (told_on y kept (column_of u) (slice_get kept (column_of u))) },
+      record { column = column_of u; device = device; told = told_of y kept lost (column_of u) (slice_get kept (column_of u)) },
       refl,
       ap column_of same,
-      subst (λ (w : Start). told_at_end lost (told_on y kept (column_of w) (slice_get kept (column_of w))) ≡ told.Stopped) (sym same) stopped,
+      sym (told-once y kept lost (column_of u) (slice_get kept (column_of u)))
+          ∙ subst (λ (w : Start). told_at_end lost (told_on y kept (column_of w) (slice_get kept (column_of w))) ≡ told.Stopped) (sym same) stopped,
     )
 
 still-stopped : (lost : Option Loss) → told_at_end lost told.Stopped ≡ told.Stopped
@@ -76,10 +91,7 @@ started-slot (start.Resume c most) xs ys of one two = absurd of
 started-slot (start.Spread c) xs ys of one two = set_here xs c column.Spread one ∙ sym (set_here ys c column.Spread two)
 
 unbuilt-anew : (y : Shape) (began : Option Start) (now : World) (c : ℕ) → served.IsUnbuilt y began now c → IsAnew began c
-unbuilt-anew y None now c left = absurd left
-unbuilt-anew y (Some (start.Fill k d most)) now c left = absurd left
-unbuilt-anew y (Some (start.Resume k most)) now c left = absurd left
-unbuilt-anew y (Some (start.Spread k)) now c left = left.0
+unbuilt-anew y began now c left = subst (λ (o : Option Start). IsAnew o c) (sym left.0) refl
 
 dead-or-not : (o : Option Column) → (o ≡ Some column.Dead) ⊎ (o ≡ Some column.Dead → ⊥)
 dead-or-not None = inr (λ h. let z : None ≡ Some column.Dead = h in let u : ⊥ = cc in u)

@@ -18,7 +18,8 @@ use Rattle.raid_map.specs.Reading.{Grows}
 use Rattle.raid_map.specs.Regions.{Marks as Map, is_marked, region_of, regions_in}
 use Rattle.raid_map.proofs.Readers.{quiet-library}
 use Rattle.top_acts.specs.Mapped.{unmarked}
-use Rattle.top_labelled.specs.Marked.{IsAskedOf, MarksAsked, MarksExactly, RebuildMayWrite}
+use Rattle.top_labelled.specs.Marked.{IsAskedOf, MarksExactly}
+use Rattle.top_labelled.specs.Words.{MarksAsked, RebuildMayWrite}
 use Rattle.top_labelled.proofs.Without.{never}
 
 none-marked : (n r : ℕ) → is_marked (replicate n false) r ≡ false

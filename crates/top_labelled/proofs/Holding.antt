@@ -12,7 +12,7 @@ use Rattle.lay_core.specs.Sums.{xor_below}
 use Rattle.eng_cols.specs.declared.column.Column.{Column}
 use Rattle.eng_cols.specs.Cols.{ColumnState, AtMostOne, is_set_filling}
 use Rattle.eng_cols.specs.Contents.{AnyStripe, Contents, InSync, byte_of, decode}
-use Rattle.eng_cols.specs.Deaths.{Dies}
+use Rattle.eng_cols.specs.Deaths.{Dies, LosesDevice}
 use Rattle.eng_cols.specs.Fewer.{DieApart}
 use Rattle.eng_cols.specs.Settable.{IsSettable}
 use Rattle.eng_cols.proofs.Lists.{count_at_most}
@@ -30,7 +30,8 @@ use Rattle.raid_map.specs.Regions.{IsMap, Marks as Map, is_marked, region_of, re
 use Rattle.raid_map.specs.Sweeping.{UnsoundAreMarked, marks_stripe}
 use Rattle.raid_map.specs.Union.{IsUnsound, UnionMarks}
 use Rattle.raid_map.proofs.Unions.{region-within}
-use Rattle.top_acts.specs.Begun.{AreLast, HasBegun, MayBegin, SweepHas}
+use Rattle.top_acts.specs.Begun.{HasBegun, MayBegin, SweepHas}
+use Rattle.top_acts.specs.Behind.{AreLast}
 use Rattle.top_acts.specs.Mapped.{LooksAtMaps, ReadsMap, is_any_marked, unmarked}
 use Rattle.top_acts.specs.Marking.{AreNotice}
 use Rattle.top_acts.specs.Stages.{AreStaged}
@@ -42,12 +43,13 @@ use Rattle.top_acts.proofs.Named.{apart_in, only_lose}
 use Rattle.top_close.proofs.Counts.{deaths_pass_less}
 use Rattle.top_close.specs.Dying.{OnlyDie}
 use Rattle.top_close.proofs.DyingLaws.{columns_die, still_agrees}
-use Rattle.top_close.specs.Settled.{LosesDevice}
 use Rattle.top_close.specs.Stage.{DiesIn, IsStage}
 use Rattle.top_run.specs.Work.{Work}
-use Rattle.top_run.specs.Ran.{Opens, states_in}
+use Rattle.top_run.specs.Ran.{Opens}
+use Rattle.top_run.specs.Steps.{states_in}
 use Rattle.top_run.proofs.InTurnSame.{decode-same}
-use Rattle.top_labelled.specs.Begun.{HoldsBlocks, IsAlone, IsAnew, IsBlockOf, IsColumnWithin, WasSound, notice_in, opened_as, sweeps_in, without}
+use Rattle.top_labelled.specs.Begun.{HoldsBlocks, IsAlone, IsAnew, IsColumnWithin, WasSound, opened_as, sweeps_in, without}
+use Rattle.top_labelled.specs.Words.{notice_in, IsBlockOf}
 use Rattle.top_labelled.proofs.Blocks.{MayCheck, may-check, may-low, same-blocks, swept-block}
 use Rattle.top_labelled.proofs.Looking.{back-read, begun-stage, quiet-read}
 use Rattle.top_labelled.proofs.Unmade.{unmade}

@@ -16,24 +16,26 @@ use Rattle.eng_cols.specs.Cols.{device_set, is_set_filling, HasDeviceOn}
 use Rattle.eng_cols.specs.Stripes.{states_of}
 use Rattle.raid_map.specs.Marking.{IsMapSector}
 use Rattle.raid_map.specs.Regions.{Marks as Map}
-use Rattle.top_acts.specs.Begun.{AreLast, HasBegun, MayBegin, MaySweep, Opens}
+use Rattle.top_acts.specs.Begun.{HasBegun, MayBegin, MaySweep, Opens}
+use Rattle.top_acts.specs.Behind.{AreLast}
 use Rattle.top_acts.specs.Cleared.{EndsMapped}
 use Rattle.top_acts.specs.Mapped.{LooksAtMaps, ReadsMap, unmarked}
 use Rattle.top_acts.specs.Marking.{AreNotice}
 use Rattle.top_acts.specs.Stages.{AreStaged}
 use Rattle.top_acts.specs.Sweeps.{Notice, Round, Marks, Sweeps, rounds_for, wrote_round}
 use Rattle.top_acts.proofs.Later.{sweep_high}
-use Rattle.top_close.specs.Settled.{LosesDevice}
 use Rattle.top_rounds.specs.Labels.{Seating, for_column, seating_in, with_round}
 use Rattle.top_close.specs.Stage.{DiesIn, HaveFailed, IsGivenUp, IsInUse, IsStage}
 use Rattle.top_rounds.specs.Rounds.{IsTriedOn, clean_in_end}
 use Rattle.top_run.specs.Work.{Service, Work}
-use Rattle.top_labelled.specs.Begun.{notice_in, sweeps_in}
-use Rattle.top_labelled.specs.Ran.{IsRelabelled, closing_label}
+use Rattle.top_labelled.specs.Begun.{sweeps_in}
+use Rattle.top_labelled.specs.Words.{notice_in, closing_label}
+use Rattle.top_labelled.specs.Ran.{IsRelabelled}
 use Rattle.top_labelled.proofs.Lists.{pairs-append, in-use-or-not}
 use Rattle.top_labelled.proofs.Looking.{begun-stage}
 use Rattle.top_labelled.proofs.Without.{some-same}
 use Rattle.top_acts.proofs.Words.{MayEnd}
+use Rattle.eng_cols.specs.Deaths.{LosesDevice}
 
 same-device : (o : Option Column) (d e : ℕ) → device_set o ≡ Some d → device_set o ≡ Some e → d ≡ e
 same-device o d e one two = some-same d e (sym one ∙ two)
@@ -173,7 +175,7 @@ module _ {D : Type 0} (g : Ghosts D) (a : Work) (newest : Label) (taken opened s
             | inl never ↦ let z = never.0 in let u : ⊥ = cc in u
             | inr swept ↦ omega (arith, sweep_high g a.layout sweep read looked d 0 swept)
           ])
-          ∙ changes_sector g (IsMapSector read) looked b.dev d 0 marks.marked.frame tells (λ h. let e = h.second in omega (arith, e))
+          ∙ changes_sector g (IsMapSector read) looked b.dev d 0 marks.marked.frame tells (λ h. let e = h.1 in omega (arith, e))
 
   -- sector 0 of a device that is in use as it was begun
   opened-first : (n : Notice) → HasBegun g n sweep a.layout newest first read columns looked opened None found → g.tells → (c d : ℕ) → HasDeviceOn columns c d

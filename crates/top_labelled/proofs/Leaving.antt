@@ -13,7 +13,7 @@ use Rattle.lay_core.specs.declared.layout.Layout.{Ghosts as LayoutGhosts}
 use Rattle.eng_cols.specs.declared.column.Column.{Column}
 use Rattle.eng_cols.specs.declared.spot.Loss.{Loss}
 use Rattle.eng_cols.specs.Cols.{HasDevice, device_set, is_set_filling, HasDeviceOn, has_device}
-use Rattle.eng_cols.specs.Deaths.{Dies}
+use Rattle.eng_cols.specs.Deaths.{Dies, LosesDevice}
 use Rattle.eng_cols.specs.Stripes.{states_of}
 use Rattle.eng_cols.proofs.DeathLaws.{dies-more}
 use Rattle.eng_cols.proofs.Spots.{seat-device, seat-within}
@@ -27,7 +27,8 @@ use Rattle.raid_label.specs.declared.label.Label.{Label}
 use Rattle.raid_map.specs.Regions.{Marks as Map}
 use Rattle.raid_recon.specs.Array.{IsCheckSector}
 use Rattle.raid_recon.proofs.Frames.{last-unit}
-use Rattle.top_acts.specs.Begun.{AreLast, MayBegin, MaySweep}
+use Rattle.top_acts.specs.Begun.{MayBegin, MaySweep}
+use Rattle.top_acts.specs.Behind.{AreLast}
 use Rattle.top_acts.specs.Cleared.{AreEndingInTurn, EndsInTurn}
 use Rattle.top_acts.specs.Closed.{settled_in_end}
 use Rattle.top_acts.specs.Mapped.{ReadsMap, unmarked}
@@ -42,7 +43,6 @@ use Rattle.top_acts.proofs.Staged.{settles-ending}
 use Rattle.top_close.specs.Calls.{MoreOn}
 use Rattle.top_rounds.specs.Calls.{IsLabelWrite}
 use Rattle.top_close.specs.Reserved.{IsReserved}
-use Rattle.top_close.specs.Settled.{LosesDevice}
 use Rattle.top_close.proofs.SettledLaws.{device_within}
 use Rattle.top_close.specs.Stage.{DiesIn, IsGivenUp, IsInUse, IsStage}
 use Rattle.top_close.proofs.StageLaws.{live_before}
@@ -52,7 +52,8 @@ use Rattle.top_serve.proofs.Deaths.{later}
 use Rattle.top_run.specs.Work.{Service, Work}
 use Rattle.top_run.specs.Works.{work_of}
 use Rattle.top_run.specs.Ends.{EndsSo}
-use Rattle.top_labelled.specs.Begun.{BeginsLabelled, IsAnew, began_of, is_kept, notice_in, sweeps_in, without, writes_maps}
+use Rattle.top_labelled.specs.Begun.{BeginsLabelled, IsAnew, is_kept, sweeps_in, without}
+use Rattle.top_labelled.specs.Words.{began_of, notice_in, writes_maps}
 use Rattle.top_labelled.specs.Between.{HasEnded}
 use Rattle.top_labelled.specs.Given.{RebuildsIf}
 use Rattle.top_labelled.specs.Ran.{LeavesLabelled, MayChangeLabelled}

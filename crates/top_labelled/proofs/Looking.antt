@@ -20,9 +20,10 @@ use Rattle.top_close.specs.Stage.{DiesIn, IsGivenUpIn, IsStage}
 use Rattle.top_close.proofs.StageLaws.{dies_over, live_before, stage-then, stage_as}
 use Rattle.top_rounds.specs.Calls.{IsLabelWrite}
 use Rattle.top_rounds.proofs.RoundLaws.{none_given_in}
-use Rattle.top_acts.specs.Begun.{AreLast, HasBegun, MayBegin}
+use Rattle.top_acts.specs.Begun.{HasBegun, MayBegin}
+use Rattle.top_acts.specs.Behind.{AreLast}
 use Rattle.top_acts.specs.Mapped.{LooksAtMaps, ReadsMap}
-use Rattle.top_acts.specs.Marking.{AreNotice, IsMapWrite}
+use Rattle.top_acts.specs.Marking.{AreNotice}
 use Rattle.top_acts.specs.Stages.{AreStaged}
 use Rattle.top_acts.specs.Sweeps.{Notice, Round, Marks, Sweeps}
 use Rattle.top_acts.proofs.Backs.{died}
@@ -30,8 +31,8 @@ use Rattle.top_acts.proofs.Later.{Quiet, sweep_was}
 use Rattle.top_acts.proofs.Looked.{looks_dies, looks_stage}
 use Rattle.top_acts.proofs.Named.{apart_in}
 use Rattle.top_acts.proofs.Staged.{none_last, staged-read, staged-reads}
-use Rattle.top_labelled.specs.Begun.{BeginsUnless}
-use Rattle.top_acts.proofs.Words.{IsMapRead}
+use Rattle.top_labelled.specs.Words.{BeginsUnless}
+use Rattle.top_acts.proofs.Words.{IsMapRead, IsMapWrite}
 
 none-announced : (notice : Notice) → AreNotice notice []
 none-announced Round = All-nil IsLabelWrite

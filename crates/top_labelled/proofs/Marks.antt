@@ -15,7 +15,8 @@ use Rattle.raid_map.specs.Asking.{MarksAlso, ScriptMayWrite}
 use Rattle.raid_map.specs.Regions.{Adds, IsBytesOf, IsMapOf, Marks as Map, bit_at, is_marked, region_of, regions_in}
 use Rattle.raid_map.proofs.Spans.{also-none, also-same, also-then}
 use Rattle.raid_map.proofs.Unions.{regions-few}
-use Rattle.top_labelled.specs.Marked.{MarksAsked, MarksOf, RebuildMayWrite, StripesFrom}
+use Rattle.top_labelled.specs.Marked.{MarksOf, StripesFrom}
+use Rattle.top_labelled.specs.Words.{MarksAsked, RebuildMayWrite}
 use Rattle.lay_core.specs.Touched.{count_below}
 
 -- ## Another map

@@ -16,7 +16,8 @@ use Rattle.lay_core.specs.Layout.{Shape}
 use Rattle.raid_label.specs.declared.label.Label.{Label}
 use Rattle.eng_cols.specs.Cols.{is_set_filling, HasDeviceOn}
 use Rattle.raid_map.specs.Regions.{Marks as Map}
-use Rattle.top_acts.specs.Begun.{AreLast, MayBegin}
+use Rattle.top_acts.specs.Begun.{MayBegin}
+use Rattle.top_acts.specs.Behind.{AreLast}
 use Rattle.top_acts.specs.Mapped.{LooksAtMaps, ReadsMap}
 use Rattle.top_acts.specs.Marking.{AreNotice}
 use Rattle.top_acts.specs.Stages.{AreStaged}

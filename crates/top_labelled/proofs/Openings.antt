@@ -16,7 +16,7 @@ use Rattle.top_acts.specs.Mapped.{FitsLayout, IsOpeningFor}
 use Rattle.top_acts.specs.Sweeps.{Notice, Round, Sweeps}
 use Rattle.top_close.specs.Dying.{AnyCause}
 use Rattle.top_close.specs.Stage.{DiesIn}
-use Rattle.top_labelled.specs.Begun.{BeginsUnless, notice_in}
+use Rattle.top_labelled.specs.Words.{BeginsUnless, notice_in}
 
 pub opening_for : (y : Shape) (keeps : Bool) (marks : Map) → marks.stripes ≡ y.stripes → IsOpeningFor y (notice_in keeps marks)
 opening_for y true marks same = same

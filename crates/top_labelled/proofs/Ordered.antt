@@ -6,15 +6,16 @@ use Rattle.std.proofs.lemmas.List.Elements.{All-append}
 use Rattle.blk_disk.specs.declared.disk.Call.{Call}
 use Rattle.blk_disk.specs.declared.disk.Disk.{Ghosts}
 use Rattle.blk_disk.specs.Disk.{Tells, call_of}
-use Rattle.blk_disk.specs.Devices.{calls_of, device_at, Changes, StaysIf, TellsOn}
+use Rattle.blk_disk.specs.Devices.{calls_of, device_at, Changes, StaysIf}
 use Rattle.raid_map.specs.Marking.{MarkCalls, MarksOn}
 use Rattle.top_close.specs.Calls.{IsSettle, MoreOn}
 use Rattle.top_close.proofs.CallLaws.{more-then}
 use Rattle.top_rounds.specs.Calls.{IsLabelWrite}
 use Rattle.top_acts.specs.Cleared.{IsEndingCall}
-use Rattle.top_acts.specs.Marking.{IsMapWrite}
-use Rattle.top_labelled.specs.Maps.{ClearsLast, MarksFirst, WritesMap, WritesRows}
-use Rattle.top_acts.proofs.Words.{EndCleared, IsMapRead}
+use Rattle.top_labelled.specs.Maps.{WritesMap, WritesRows}
+use Rattle.top_labelled.specs.Words.{ClearsLast, MarksFirst}
+use Rattle.top_acts.proofs.Words.{EndCleared, IsMapRead, IsMapWrite}
+use Rattle.blk_disk.proofs.Words.{TellsOn}
 
 -- ## Lists
 

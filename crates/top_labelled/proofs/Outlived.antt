@@ -8,18 +8,18 @@ use Rattle.eng_cols.specs.declared.column.Column.{Column}
 use Rattle.eng_array.specs.declared.start.Start.{Start}
 use Rattle.eng_cols.specs.declared.spot.Loss.{Loss}
 use Rattle.eng_cols.specs.Cols.{is_set_filling, passes, HasDeviceOn}
-use Rattle.eng_cols.specs.Deaths.{Dies}
+use Rattle.eng_cols.specs.Deaths.{Dies, LosesDevice}
 use Rattle.eng_cols.proofs.DeathLaws.{dies-more, dies-then}
 use Rattle.eng_cols.proofs.Losing.{lost-excludes}
 use Rattle.eng_cols.specs.Stripes.{states_of}
 use Rattle.raid_label.specs.declared.label.Label.{Label}
-use Rattle.raid_script.specs.Drawn.{AreApart, drawn, share}
+use Rattle.raid_script.specs.Drawn.{AreApart, drawn}
+use Rattle.raid_script.specs.Steps.{share}
 use Rattle.raid_script.specs.Asked.{Asked}
 use Rattle.raid_script.proofs.DrawnShares.{drawn_apart}
 use Rattle.top_acts.specs.Mapped.{unmarked}
 use Rattle.top_acts.proofs.Having.{has_live}
 use Rattle.top_acts.proofs.Named.{live_of, only_lose}
-use Rattle.top_close.specs.Settled.{LosesDevice}
 use Rattle.top_close.specs.Stage.{DiesIn}
 use Rattle.top_close.proofs.StageLaws.{live_before}
 use Rattle.top_run.specs.Work.{Ending, Service, Work}
@@ -27,7 +27,8 @@ use Rattle.top_run.specs.Outliving.{IsRebuiltIn, MayDie, OutlivesCall}
 use Rattle.top_run.specs.InTurn.{SweptInTurn}
 use Rattle.top_run.proofs.InTurn.{runs-in-turn}
 use Rattle.top_run.proofs.Outlived.{runs-outlived}
-use Rattle.top_labelled.specs.Begun.{IsAnew, began_of, is_kept, notice_in, opened_as, sweeps_in, without, writes_maps}
+use Rattle.top_labelled.specs.Begun.{IsAnew, is_kept, opened_as, sweeps_in, without}
+use Rattle.top_labelled.specs.Words.{began_of, notice_in, writes_maps}
 use Rattle.top_labelled.specs.Ran.{IsLostBefore, MayChangeLabelled, RanLabelled}
 use Rattle.top_labelled.proofs.Looking.{begins-changes, begins-dies}
 use Rattle.top_labelled.proofs.Without.{anew-column, began-asked, began-none, without-dies}

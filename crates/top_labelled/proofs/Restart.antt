@@ -34,7 +34,8 @@ use Rattle.top_close.proofs.SettledLaws.{set_here}
 use Rattle.top_close.proofs.StageLaws.{live_before}
 use Rattle.top_serve.specs.Setups.{IsFreeDevice, IsUnfilled, HasSparePlaces, MayRebuild, MayStart}
 use Rattle.top_serve.proofs.Deaths.{alive-less, events-less, get-device, later, row-less, there-later}
-use Rattle.top_labelled.specs.Begun.{IsAlone, IsSeated, IsSeatedIf, IsColumnWithin, began_of, without}
+use Rattle.top_labelled.specs.Begun.{IsAlone, IsSeated, IsSeatedIf, IsColumnWithin, without}
+use Rattle.top_labelled.specs.Words.{began_of}
 use Rattle.top_labelled.specs.Given.{RebuildsIf, with_dead}
 use Rattle.top_labelled.proofs.Kept.{free-two}
 use Rattle.top_labelled.proofs.Without.{began-asked, dies-behind, filling-at, never, none-beside, not-some, some-same, still-filling}

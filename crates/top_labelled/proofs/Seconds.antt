@@ -11,7 +11,8 @@ use Rattle.eng_cols.specs.Cols.{ColumnState, is_set_filling, HasDeviceOn}
 use Rattle.eng_cols.specs.Stripes.{states_of}
 use Rattle.raid_label.specs.declared.label.Label.{Label}
 use Rattle.raid_map.specs.Regions.{IsBytesOf, Marks as Map}
-use Rattle.top_acts.specs.Begun.{AreLast, MayBegin}
+use Rattle.top_acts.specs.Begun.{MayBegin}
+use Rattle.top_acts.specs.Behind.{AreLast}
 use Rattle.top_acts.specs.Cleared.{EndsMapped}
 use Rattle.top_acts.specs.Mapped.{ReadsMap, is_any_marked, unmarked}
 use Rattle.top_acts.specs.Marking.{AreNotice}
@@ -21,9 +22,9 @@ use Rattle.top_close.specs.Ended.{IsLossBy}
 use Rattle.top_close.specs.Stage.{DiesIn, IsInUse, IsStage}
 use Rattle.top_close.proofs.StageLaws.{live_before}
 use Rattle.top_run.specs.Work.{Service, Work}
-use Rattle.top_labelled.specs.Begun.{BeginsLabelled, BeginsUnless, is_kept, notice_in, sweeps_in, writes_maps}
-use Rattle.top_labelled.specs.Maps.{IsKeptOrMap, clear_if}
-use Rattle.top_labelled.specs.Ran.{closing_label}
+use Rattle.top_labelled.specs.Begun.{BeginsLabelled, is_kept, sweeps_in}
+use Rattle.top_labelled.specs.Words.{BeginsUnless, notice_in, writes_maps, closing_label, clear_if}
+use Rattle.top_labelled.specs.Maps.{IsKeptOrMap}
 use Rattle.top_labelled.proofs.Looking.{begins-stage}
 use Rattle.top_labelled.proofs.Unserved.{kept-clean, map-of, second-marks, second-round}
 use Rattle.top_labelled.proofs.Without.{never}

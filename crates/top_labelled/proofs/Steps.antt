@@ -49,11 +49,11 @@ use Rattle.top_labelled.specs.declared.labelled.Outcome.{Outcome}
 use Rattle.top_labelled.specs.declared.labelled.Outcome.TheVariants as outcome
 use Rattle.top_labelled.specs.declared.beginning.Started.{Started}
 use Rattle.top_labelled.specs.declared.opening.AskedOpening.{AskedOpening}
-use Rattle.top_labelled.specs.Begun.{BeginsLabelled, BeginsUnless, IsAlone, IsSeatedIf, IsColumnWithin, is_kept, notice_in, sweeps_in, without, writes_maps}
+use Rattle.top_labelled.specs.Begun.{BeginsLabelled, IsAlone, IsSeatedIf, IsColumnWithin, is_kept, sweeps_in, without}
+use Rattle.top_labelled.specs.Words.{BeginsUnless, notice_in, writes_maps, closing_label, clear_if, line_of}
 use Rattle.top_labelled.specs.Between.{CanServe, HasEnded, HasOpened, HasServed, IsBegun, IsLeftBy, MayClose, asked_of}
 use Rattle.top_labelled.specs.Given.{CameTo, CanRunLabelled}
-use Rattle.top_labelled.specs.Maps.{clear_if}
-use Rattle.top_labelled.specs.Ran.{RanLabelled, closing_label, line_of, onto}
+use Rattle.top_labelled.specs.Ran.{RanLabelled, onto}
 use Rattle.top_labelled.proofs.Arrays.{array-of, settable-of}
 use Rattle.top_labelled.proofs.All.{ran}
 use Rattle.top_labelled.proofs.All.{moved as moved-all}

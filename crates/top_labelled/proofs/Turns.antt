@@ -22,21 +22,21 @@ use Rattle.top_acts.specs.Sweeps.{Notice, Round, Marks, Sweeps}
 use Rattle.top_acts.proofs.Looked.{looks_stage}
 use Rattle.top_acts.proofs.Marked.{IsMarkCall, marks_dies, marks_stage}
 use Rattle.top_close.specs.Calls.{MoreOn}
-use Rattle.top_close.specs.Settled.{LosesDevice}
 use Rattle.top_close.specs.Stage.{DiesIn}
 use Rattle.top_close.proofs.CallLaws.{more-none, more-then}
 use Rattle.top_close.proofs.SettledLaws.{device_within}
 use Rattle.top_close.proofs.StageLaws.{live_before}
 use Rattle.top_run.specs.Work.{Service, Work}
-use Rattle.top_labelled.specs.Begun.{BeginsLabelled, BeginsUnless, notice_in, sweeps_in}
-use Rattle.top_labelled.specs.Maps.{ClearsLast, MapsInOrder, MarksFirst}
-use Rattle.top_labelled.specs.Ran.{closing_label}
+use Rattle.top_labelled.specs.Begun.{BeginsLabelled, sweeps_in}
+use Rattle.top_labelled.specs.Words.{BeginsUnless, notice_in, closing_label, ClearsLast, MarksFirst}
+use Rattle.top_labelled.specs.Maps.{MapsInOrder}
 use Rattle.top_labelled.proofs.Lists.{in-use-or-not}
 use Rattle.top_labelled.proofs.Ordered.{IsMarkOrRead, came-so, still-tells, told-cleared, told-marked, told-quiet}
 use Rattle.top_labelled.proofs.Without.{never}
 use Rattle.top_acts.proofs.Words.{MayEnd, IsMapRead}
 use Rattle.eng_cols.specs.Cols.{HasDeviceOn}
 use Rattle.top_close.proofs.Words.{NoCalls}
+use Rattle.eng_cols.specs.Deaths.{LosesDevice}
 
 -- any sector may change
 abbrev Anywhere : ℕ → ℕ → Type 0

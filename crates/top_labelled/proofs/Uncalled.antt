@@ -11,7 +11,6 @@ use Rattle.eng_world.specs.declared.item.Traced.{Traced}
 use Rattle.eng_world.specs.declared.item.Traced.TheVariants as event
 use Rattle.eng_world.specs.World.{Running, World, RunsAs}
 use Rattle.eng_world.specs.Planning.{Graphs, Promises}
-use Rattle.eng_world.specs.Nodes.{Told}
 use Rattle.eng_world.specs.Step.{EventsLead, IsOpening}
 use Rattle.eng_world.specs.Rows.{HasHad}
 use Rattle.eng_world.specs.Invariant.{Invariant}
@@ -27,6 +26,7 @@ use Rattle.top_serve.specs.Served.{BeginsBy}
 use Rattle.top_serve.proofs.Behind.{start-is}
 use Rattle.top_serve.proofs.Between.{all-own}
 use Rattle.top_labelled.proofs.Kept.{FillsOn}
+use Rattle.eng_world.proofs.Words.{Told}
 
 -- the call is another device's
 told-same : (y : Shape) (g : View) (node : Node) (at : Option Spot) (answer : Bool) (old new : World) (d : ℕ) → ((s : Spot) → at ≡ Some s → d ≢ s.device) → Told y g node at answer old new → new.calls d ≡ old.calls d

@@ -22,7 +22,8 @@ use Rattle.top_acts.proofs.Marked.{marks_second, marks_stage}
 use Rattle.top_close.specs.Ended.{IsLossBy}
 use Rattle.top_close.specs.Stage.{DiesIn}
 use Rattle.top_run.specs.Work.{Work}
-use Rattle.top_labelled.specs.Begun.{BeginsUnless, IsAnew, IsColumnWithin, is_kept, notice_in, sweeps_in, without}
+use Rattle.top_labelled.specs.Begun.{IsAnew, IsColumnWithin, is_kept, sweeps_in, without}
+use Rattle.top_labelled.specs.Words.{BeginsUnless, notice_in}
 use Rattle.top_labelled.specs.Between.{HasOpened, asked_of}
 use Rattle.top_labelled.specs.Maps.{IsKeptOrMap}
 use Rattle.top_labelled.specs.Ran.{IsLostBefore}

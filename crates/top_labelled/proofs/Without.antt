@@ -12,14 +12,14 @@ use Rattle.eng_array.specs.declared.start.Start.TheVariants as start
 use Rattle.eng_cols.specs.declared.column.Column.{Column}
 use Rattle.eng_cols.specs.declared.column.Column.TheVariants as column
 use Rattle.eng_cols.specs.Cols.{device_set, is_set_filling, passes, HasDeviceOn}
-use Rattle.eng_cols.specs.Deaths.{Dies}
+use Rattle.eng_cols.specs.Deaths.{Dies, LosesDevice}
 use Rattle.eng_cols.specs.Fewer.{DieApart}
 use Rattle.eng_cols.proofs.DeathLaws.{dies-refl}
 use Rattle.eng_cols.proofs.Lists.{get_set_either, get_set_other}
 use Rattle.top_close.specs.Dying.{AnyCause}
-use Rattle.top_close.specs.Settled.{LosesDevice}
 use Rattle.top_close.proofs.SettledLaws.{set_here}
-use Rattle.top_labelled.specs.Begun.{IsAlone, IsAnew, IsColumnWithin, anew_of, began_of, is_in_place, lives_on, without}
+use Rattle.top_labelled.specs.Begun.{IsAlone, IsAnew, IsColumnWithin, anew_of, is_in_place, without}
+use Rattle.top_labelled.specs.Words.{began_of, lives_on}
 use Rattle.top_labelled.specs.Ran.{onto}
 use Rattle.top_labelled.proofs.Lists.{none-passing}
 

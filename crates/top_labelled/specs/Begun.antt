@@ -1,13 +1,14 @@
 -- How an array that has labels is begun: what its devices and columns are as a core is opened, and what the blocks are then.
-use Rattle.std.specs.Prelude.{◌≡◌, ◌⊎◌, ◌<◌, ◌+◌, ℕ, List, Bool, true, false, ◌&&◌, ◌||◌, not, if◌then◌else◌, Option, Some, None, ◌==◌, slice_get, slice_set}
+use Rattle.std.specs.Prelude.{◌≡◌, ◌⊎◌, ◌<◌, ◌+◌, ℕ, List, Bool, true, false, ◌&&◌, if◌then◌else◌, Option, Some, None, ◌==◌, slice_get, slice_set, ◌%◌, MatchOption}
+use Rattle.std.specs.Option.{option_map_or}
 use Rattle.blk_disk.specs.declared.disk.Disk.{Ghosts}
 use Rattle.blk_disk.specs.Devices.{contents_of}
-use Rattle.lay_core.specs.Layout.{Shape, Blocks, blocks_in, stripe_of, unit_of, offset_of}
+use Rattle.lay_core.specs.Layout.{Blocks, blocks_in, stripe_of, unit_of}
 use Rattle.eng_cols.specs.declared.column.Column.{Column}
 use Rattle.eng_cols.specs.declared.column.Column.TheVariants as column
 use Rattle.eng_cols.specs.declared.spot.Loss.{Loss}
-use Rattle.eng_cols.specs.Cols.{ColumnState, is_set_filling, passes}
-use Rattle.eng_cols.specs.Contents.{Contents, InSync, byte_of, decode, xor_others}
+use Rattle.eng_cols.specs.Cols.{is_set_filling, passes, device_set}
+use Rattle.eng_cols.specs.Contents.{InSync, byte_of, decode, xor_others}
 use Rattle.eng_cols.specs.Seats.{is_available, is_unit_of}
 use Rattle.eng_array.specs.Starts.{column_of}
 use Rattle.eng_array.specs.declared.start.Start.{Start}
@@ -19,12 +20,12 @@ use Rattle.raid_map.specs.Union.{IsUnsound, UnionMarks}
 use Rattle.top_acts.specs.Begun.{HasBegun}
 use Rattle.top_acts.specs.Failed.{StaysBegun}
 use Rattle.top_acts.specs.Mapped.{LooksAtMaps, is_any_marked, unmarked}
-use Rattle.top_acts.specs.Sweeps.{Sweeps, Nothing, Over, Marked, Notice, Round, Marks}
+use Rattle.top_acts.specs.Sweeps.{Sweeps, Nothing, Over, Marked, Round, Marks}
 use Rattle.eng_cols.specs.Stripes.{states_of}
 use Rattle.top_close.specs.Ended.{IsLossBy}
-use Rattle.top_close.specs.Settled.{LosesDevice}
 use Rattle.top_run.specs.Work.{Work}
-use Rattle.top_run.specs.Ran.{WasInSync, states_in}
+use Rattle.top_run.specs.Ran.{WasInSync}
+use Rattle.eng_cols.specs.Deaths.{LosesDevice}
 
 -- which check units are rewritten: all then; else those of the stripes that the union of the maps marks, if it marks any
 abbrev pub sweeps_in : Label → Map → Sweeps
@@ -75,49 +76,20 @@ without (Some (start.Fill c d most)) columns = slice_set columns c column.Dead
 without (Some (start.Resume c most)) columns = columns
 without (Some (start.Spread c)) columns = slice_set columns c column.Dead
 
--- the column is live on this device, or filling it
-abbrev pub lives_on : Option Column → ℕ → Bool
-lives_on (Some (column.Live device)) d = device == d
-lives_on (Some column.Dead) d = false
-lives_on (Some (column.Filling device done)) d = device == d
-lives_on (Some column.Spread) d = false
-lives_on None d = false
-
 -- the column that is to be rebuilt is live on the device onto which it is rebuilt, or filling it; one that goes on is filling
 abbrev pub is_in_place : Option Start → List Column → Bool
 is_in_place None columns = false
-is_in_place (Some (start.Fill c d most)) columns = lives_on (slice_get columns c) d
+is_in_place (Some (start.Fill c d most)) columns = option_map_or (λ e. e == d) (device_set (slice_get columns c)) false
 is_in_place (Some (start.Resume c most)) columns = passes is_set_filling (slice_get columns c)
 is_in_place (Some (start.Spread c)) columns = false
-
--- Of what is to be rebuilt, what is begun: none of it where the device onto which it goes has failed, before, or since it was the column's own and the column has died.
-abbrev pub began_of : Bool → Option Start → List Column → List Column → Option Start
-began_of faulty s columns begun = if faulty || (is_in_place s columns && not (is_in_place s begun)) then None else s
 
 -- what is asked, of an array whose columns are these by now, and of which this rebuild begins
 abbrev pub opened_as : Work → List Column → Option Start → Work
 opened_as a columns began = record a { columns = columns; start = began }
 
--- each block as the sum of its stripe's other units
-abbrev pub sums_of_others : Shape → Contents → List ColumnState → Blocks
-sums_of_others y contents cols b k = xor_others (λ j. byte_of y contents cols (stripe_of y b) j (offset_of y b) k) (unit_of y b) y.width
-
 -- a map is kept of an array that was closed in order, where one is asked for
 abbrev pub is_kept : Bool → Label → Bool
 is_kept map newest = map && (newest.clean == 1)
-
--- by what it is announced that sectors of the rows are going to be written: by a map with these marks, where one is kept
-abbrev pub notice_in : Bool → Map → Notice
-notice_in keeps marks = if keeps then Marks marks else Round
-
--- maps are written in the call, and cleared in the end: one is kept, or the union of those that were read has a mark
-abbrev pub writes_maps : Bool → Map → Bool
-writes_maps keeps union = keeps || is_any_marked union
-
--- An array that isn't lost is begun; one that is, as its maps were read, is left as it is.
-abbrev pub BeginsUnless : {D : Type 0} → Ghosts D → Option Loss → Notice → Sweeps → Shape → Label → Label → List Column → List Column → List (Option D) → List (Option D) → Option Loss → ℕ → Type 0
-BeginsUnless g None notice sweeps y newest first columns after old new lost n = HasBegun g notice sweeps y newest first columns after old new lost n
-BeginsUnless g (Some loss) notice sweeps y newest first columns after old new lost n = StaysBegun g newest first columns after old new × (lost ≡ Some loss)
 
 module _ {D : Type 0} (g : Ghosts D) (a : Work) (newest : Label) (taken : List (Option D)) where
   -- The check units fit the data; or the labels say that the array was in use, and wasn't closed; or they say that it was closed in order, and each stripe that lacks no unit by `columns` and doesn't sum to zero lies in a region that the maps mark of those devices in use that could be read, which the columns `read` have.
@@ -127,7 +99,7 @@ module _ {D : Type 0} (g : Ghosts D) (a : Work) (newest : Label) (taken : List (
       → UnionMarks a.layout newest.serial (states_of a.layout read) (contents_of g taken) (region_of a.layout.stripes s))))
 
   module _ (opened : List (Option D)) (begun : List Column) where
-    -- The array was begun: the maps of its devices were read, which left the columns `read` and the devices `looked`; unless it was lost by that, labels were written in an opening round, or, where a map is kept, each device in use got the map `marks` in the place of that; and then check units were swept: all where the newest label said that the array was in use, else those of the stripes that its maps mark. By the columns that are left the array is lost or isn't.
+    -- The array was begun: the maps of its devices were read, which left the columns `read` and the devices `looked`; unless it was lost by that, as which it is left as it is, labels were written in an opening round, or, where a map is kept, each device in use got the map `marks` in the place of that; and then check units were swept: all where the newest label said that the array was in use, else those of the stripes that its maps mark. By the columns that are left the array is lost or isn't.
     pub record BeginsLabelled (keeps : Bool) (first : Label) (lost : Option Loss) : Type 0 where
       pub looked : List (Option D)
       pub read : List Column
@@ -136,23 +108,22 @@ module _ {D : Type 0} (g : Ghosts D) (a : Work) (newest : Label) (taken : List (
       pub looks : LooksAtMaps g a.layout (unmarked a.layout.stripes newest.serial) union a.columns read taken looked unread
       pub marks : Map
       pub found : ℕ
-      pub has : BeginsUnless g unread (notice_in keeps marks) (sweeps_in newest union) a.layout newest first read begun looked opened lost found
+      pub has : MatchOption unread (HasBegun g (if keeps then Marks marks else Round) (sweeps_in newest union) a.layout newest first read begun looked opened lost found)
+          (λ loss. StaysBegun g newest first read begun looked opened × (lost ≡ Some loss))
       pub lost_is : IsLossBy a.layout None (states_of a.layout begun) lost
 
     -- The block's unit was available, and is of a column that has died since; or it stands there, as the unit of a spread one.
     pub record IsUnmade (b : ℕ) : Type 0 where
       pub col : ℕ
-      pub of_column : is_unit_of a.layout (states_in a) (stripe_of a.layout b) (unit_of a.layout b) col ≡ true
-      pub was : is_available a.layout (states_in a) (stripe_of a.layout b) (unit_of a.layout b) ≡ true
+      pub of_column : is_unit_of a.layout (states_of a.layout a.columns) (stripe_of a.layout b) (unit_of a.layout b) col ≡ true
+      pub was : is_available a.layout (states_of a.layout a.columns) (stripe_of a.layout b) (unit_of a.layout b) ≡ true
       pub dead : slice_get begun col ≡ Some column.Dead
       pub loses : LosesDevice g a.columns taken opened col
 
-    -- the block is what the devices held as they were taken; or, where the labels said that the array was in use, or the union of its maps had marks, and the block's unit was made missing, the sum of the others of its stripe as they were held then
-    abbrev pub IsBlockOf : Map → Blocks → ℕ → Type 0
-    IsBlockOf union blocks b = ((k : ℕ) → k < 512 → blocks b k ≡ decode a.layout (contents_of g taken) (states_in a) b k)
-        ⊎ (((newest.clean ≡ 0) ⊎ (is_any_marked union ≡ true)) × IsUnmade b × ((k : ℕ) → k < 512 → blocks b k ≡ sums_of_others a.layout (contents_of g taken) (states_in a) b k))
-
-    -- Where it was sound by the columns that were left as maps were read, the array is in sync as the core is opened, once the column is dead that is to be rebuilt; and where it was so by all columns, its blocks are these.
+    -- Where it was sound by the columns that were left as maps were read, the array is in sync as the core is opened, once the column is dead that is to be rebuilt; and where it was so by all columns, its blocks are what the devices held as they were taken; or, where the labels said that the array was in use, or the union of its maps had marks, and the block's unit was made missing, the sum of the others of its stripe as they were held then.
     pub record HoldsBlocks (read : List Column) (union : Map) (start : Blocks) : Type 0 where
       pub in_sync : g.tells → WasSound read read → InSync a.layout (contents_of g opened) (states_of a.layout (without a.start begun))
-      pub blocks : g.tells → WasSound a.columns read → (b : ℕ) → b < blocks_in a.layout → IsBlockOf union start b
+      pub blocks : g.tells → WasSound a.columns read → (b : ℕ) → b < blocks_in a.layout
+          → ((k : ℕ) → k < 512 → start b k ≡ decode a.layout (contents_of g taken) (states_of a.layout a.columns) b k)
+          ⊎ (((newest.clean ≡ 0) ⊎ (is_any_marked union ≡ true)) × IsUnmade b × ((k : ℕ) → k < 512 → start b k
+          ≡ xor_others (λ j. byte_of a.layout (contents_of g taken) (states_of a.layout a.columns) (stripe_of a.layout b) j (b % a.layout.unit_sectors) k) (unit_of a.layout b) a.layout.width))

@@ -34,11 +34,10 @@ use Rattle.top_labelled.specs.declared.labelled.Labelled.{Labelled}
 use Rattle.top_labelled.specs.declared.labelled.Outcome.{Outcome}
 use Rattle.top_labelled.specs.declared.labelled.Outcome.TheVariants as outcome
 use Rattle.top_labelled.specs.declared.beginning.Started.{Started}
-use Rattle.top_labelled.specs.Begun.{BeginsUnless, IsSeatedIf, IsColumnWithin, is_in_place, is_kept, notice_in, sweeps_in, without, writes_maps}
-use Rattle.top_labelled.specs.Maps.{clear_if}
-use Rattle.top_labelled.specs.Marked.{MarksAsked}
+use Rattle.top_labelled.specs.Begun.{IsSeatedIf, IsColumnWithin, is_in_place, is_kept, sweeps_in, without}
+use Rattle.top_labelled.specs.Words.{BeginsUnless, notice_in, writes_maps, closing_label, clear_if, MarksAsked, line_of}
 use Rattle.top_labelled.specs.declared.opening.AskedOpening.{AskedOpening}
-use Rattle.top_labelled.specs.Ran.{closing_label, line_of, onto}
+use Rattle.top_labelled.specs.Ran.{onto}
 
 -- Unless the array was lost, as its maps were read, it was begun, and then the column was made dead that is to be rebuilt anew, where one is; and this begins of the rebuild. What was before that death is named.
 pub record HasOpened {D : Type 0} (g : DiskGhosts D) (y : Shape) (asked : AskedOpening) (notice : Notice) (union : Map) (unread : Option Loss) (newest next : Label) (columns after : List Column) (old new : List (Option D)) (lost : Option Loss) (began : Option Start) : Type 0 where

@@ -16,26 +16,17 @@ use Rattle.top_labelled.specs.Begun.{is_kept}
 use Rattle.top_labelled.specs.Marked.{MarksExactly}
 use Rattle.eng_cols.specs.Cols.{HasDeviceOn}
 
--- the map by which maps are cleared, if they are to be
-abbrev pub clear_if : Bool → Map → Option Map
-clear_if false map = None
-clear_if true map = Some map
-
 module _ {D : Type 0} (g : Ghosts D) (a : Work) (newest : Label) (taken : List (Option D)) where
-  -- a map without marks of the array
-  abbrev pub blank : Map
-  blank = unmarked a.layout.stripes newest.serial
-
-  -- sector 1 of device d is what it was, or such a map; or, of an array that was closed in order, it is some map of it
+  -- sector 1 of device d is what it was, or a map without marks of the array; or, of an array that was closed in order, it is some map of it
   abbrev pub IsKeptOrMap : List (Option D) → ℕ → Type 0
-  IsKeptOrMap back d = ((sector_of g back d 1 ≡ sector_of g taken d 1) ⊎ IsBytesOf blank (sector_of g back d 1))
-      ⊎ ((newest.clean ≡ 1) × ((marks : ℕ → Bool) × IsMap blank.serial blank.stripes marks (slice_index (sector_of g back d 1))))
+  IsKeptOrMap back d = ((sector_of g back d 1 ≡ sector_of g taken d 1) ⊎ IsBytesOf (unmarked a.layout.stripes newest.serial) (sector_of g back d 1))
+      ⊎ ((newest.clean ≡ 1) × ((marks : ℕ → Bool) × IsMap newest.serial a.layout.stripes marks (slice_index (sector_of g back d 1))))
 
   -- What sector 1 of the devices holds in the end, where it is told, and a device has one. Where no map is asked for and the union of the maps as they were read had no mark, it is what it was. Where one is kept, or the union had a mark, each device in use in the end has a map without marks, unless the array is lost. Where one is asked for, and the array was lost as the core closed, each device that is in use in the end and was as the array was opened has one map, which marks exactly what the union marked and what is asked. All other sectors, of devices whose count of faults didn't rise, are what they were, or maps of the array.
   pub record MapsEnd (s : Service) (back : List (Option D)) (map : Bool) (read : List Column) (union marks : Map) (graphs : Graphs) (now : World) : Type 0 where
     pub untouched : g.tells → map ≡ false → is_any_marked union ≡ false → (d : ℕ) → 2 ≤ size_of g taken d → sector_of g back d 1 ≡ sector_of g taken d 1
     pub cleared : g.tells → (is_kept map newest ≡ true) ⊎ (is_any_marked union ≡ true) → s.ending.lost ≡ None
-        → (c d : ℕ) → HasDeviceOn s.ending.columns c d → IsBytesOf blank (sector_of g back d 1)
+        → (c d : ℕ) → HasDeviceOn s.ending.columns c d → IsBytesOf (unmarked a.layout.stripes newest.serial) (sector_of g back d 1)
     pub asked : newest.clean ≡ 1 → map ≡ true → MarksExactly a.layout graphs now read a.start union marks
     pub exact : g.tells → newest.clean ≡ 1 → map ≡ true → (loss : Loss) → now.lost ≡ Some loss
         → (c e d : ℕ) → HasDeviceOn a.columns c d → HasDeviceOn s.ending.columns e d → IsBytesOf marks (sector_of g back d 1)
@@ -60,18 +51,12 @@ pub record IsMarkedIn (calls : List Call) : Type 0 where
   pub split : calls ≡ before ++ write ∷ (between ++ call_of 2 0 0 true ∷ after)
   pub writes : WritesMap write
 
--- each write to the rows comes behind a write of the map and a settle behind that
-abbrev pub MarksFirst : List Call → Type 0
-MarksFirst calls = (before after : List Call) (call : Call) → calls ≡ before ++ call ∷ after → WritesRows call → IsMarkedIn before
-
--- The last write of the map comes behind a settle that went well, and no write to the rows comes behind that settle.
-abbrev pub ClearsLast : List Call → Type 0
-ClearsLast calls = (before after : List Call) (call : Call) → calls ≡ before ++ call ∷ after → WritesMap call → ((later : Call) → Contains after later → WritesMap later → ⊥)
-    → (front : List Call) × (back : List Call) × (before ≡ front ++ call_of 2 0 0 true ∷ back) × ((later : Call) → Contains (back ++ call ∷ after) later → WritesRows later → ⊥)
-
 module _ {D : Type 0} (g : Ghosts D) (a : Work) (taken : List (Option D)) (s : Service) (back : List (Option D)) where
-  -- Of each device that tells its calls, by those that came since it was taken: on one that was in use as the array was opened, maps are marked before its rows are written. And unless the array is lost, on each device in use in the end whose count of faults didn't rise, they are cleared behind the last such write.
+  -- Of each device that tells its calls, by those that came since it was taken: on one that was in use as the array was opened, each write to the rows comes behind a write of the map and a settle behind that. And unless the array is lost, on each device in use in the end whose count of faults didn't rise, the last write of the map comes behind a settle that went well, and no write to the rows comes behind that settle.
   pub record MapsInOrder : Type 0 where
-    pub marked : (c d : ℕ) (was came : List Call) → HasDeviceOn a.columns c d → calls_of g taken d ≡ Some was → calls_of g back d ≡ Some (was ++ came) → MarksFirst came
+    pub marked : (c d : ℕ) (was came : List Call) → HasDeviceOn a.columns c d → calls_of g taken d ≡ Some was → calls_of g back d ≡ Some (was ++ came)
+        → (before after : List Call) (call : Call) → came ≡ before ++ call ∷ after → WritesRows call → IsMarkedIn before
     pub cleared : s.ending.lost ≡ None → (c d : ℕ) (was came : List Call) → HasDeviceOn s.ending.columns c d → (RisesOn g taken back d → ⊥)
-        → calls_of g taken d ≡ Some was → calls_of g back d ≡ Some (was ++ came) → ClearsLast came
+        → calls_of g taken d ≡ Some was → calls_of g back d ≡ Some (was ++ came)
+        → (before after : List Call) (call : Call) → came ≡ before ++ call ∷ after → WritesMap call → ((later : Call) → Contains after later → WritesMap later → ⊥)
+        → (front : List Call) × (back : List Call) × (before ≡ front ++ call_of 2 0 0 true ∷ back) × ((later : Call) → Contains (back ++ call ∷ after) later → WritesRows later → ⊥)

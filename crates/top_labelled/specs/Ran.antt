@@ -1,5 +1,6 @@
 -- What a run of clients over an array with labels is, and what it leaves.
-use Rattle.std.specs.Prelude.{◌≡◌, ◌⊎◌, ◌<◌, ◌≤◌, ◌+◌, ◌&&◌, not, ℕ, List, ◌∷◌, ◌++◌, length, All, Bool, true, false, Option, Some, None, is_some, slice_get}
+use Rattle.std.specs.Prelude.{◌≡◌, ◌⊎◌, ◌<◌, ◌≤◌, ◌+◌, ◌*◌, ◌&&◌, ◌||◌, not, if◌then◌else◌, ℕ, List, ◌∷◌, ◌++◌, length, All, Bool, true, false, Option, Some, None, is_some, option_map, slice_get}
+use Rattle.std.specs.Option.{option_map_or}
 use Rattle.blk_disk.specs.declared.disk.Call.{Call}
 use Rattle.blk_disk.specs.declared.disk.Disk.{Ghosts}
 use Rattle.blk_disk.specs.Disk.{call_of}
@@ -16,13 +17,13 @@ use Rattle.eng_cols.specs.Deaths.{Dies}
 use Rattle.eng_cols.specs.Lost.{IsLost, NotLost}
 use Rattle.eng_cols.specs.Stripes.{states_of, is_stripe_of}
 use Rattle.eng_world.specs.World.{World}
-use Rattle.eng_world.specs.Rows.{IsInRows}
 use Rattle.raid_label.specs.declared.label.Label.{Label}
 use Rattle.raid_label.specs.Bytes.{bytes_of}
 use Rattle.top_acts.specs.Begun.{HasSeats, MayBegin}
 use Rattle.top_acts.specs.Failed.{EndsFailed}
 use Rattle.top_acts.specs.Cleared.{AreEndingInTurn, EndsInSteps, EndsInTurn}
-use Rattle.top_acts.specs.Sweeps.{Notice, rounds_for, wrote_round}
+use Rattle.top_acts.specs.Mapped.{is_any_marked, unmarked}
+use Rattle.top_acts.specs.Sweeps.{Notice, Round, Marks, rounds_for, wrote_round}
 use Rattle.top_close.specs.Calls.{EndsSettled}
 use Rattle.top_rounds.specs.Calls.{IsLabelWrite, label_writes}
 use Rattle.top_close.specs.Reserved.{IsReserved}
@@ -34,12 +35,11 @@ use Rattle.top_run.specs.Work.{Work, Ending, Service}
 use Rattle.top_run.specs.declared.service.Line.{Line}
 use Rattle.top_run.specs.declared.service.Told.{Told}
 use Rattle.top_run.specs.declared.service.Told.TheVariants as told
-use Rattle.top_run.specs.Told.{IsToldUnbuilt}
-use Rattle.top_run.specs.Ran.{RisesAt, Ran, states_in}
+use Rattle.top_run.specs.Ran.{RisesAt, Ran}
 use Rattle.top_serve.specs.Setups.{with_start}
 use Rattle.top_serve.specs.Served.{IsKeptAs, WasFailed}
-use Rattle.top_labelled.specs.Begun.{BeginsLabelled, HoldsBlocks, IsAnew, began_of, is_kept, notice_in, sweeps_in, without, writes_maps}
-use Rattle.top_labelled.specs.Maps.{IsKeptOrMap, MapsEnd, MapsInOrder, blank, clear_if}
+use Rattle.top_labelled.specs.Begun.{BeginsLabelled, HoldsBlocks, IsAnew, is_in_place, is_kept, sweeps_in, without}
+use Rattle.top_labelled.specs.Maps.{IsKeptOrMap, MapsEnd, MapsInOrder}
 use Rattle.lay_core.specs.Touched.{count_below}
 
 -- ## The line of a rebuild
@@ -51,39 +51,15 @@ onto (Some (start.Fill c d most)) columns = Some d
 onto (Some (start.Resume c most)) columns = device_set (slice_get columns c)
 onto (Some (start.Spread c)) columns = None
 
--- how far the rebuild of a column came, by what that is as it is kept: done with the number of its stripes
-abbrev pub told_on : Shape → List Column → ℕ → Option Column → Told
-told_on y kept c None = told.Stopped
-told_on y kept c (Some column.Dead) = told.Stopped
-told_on y kept c (Some (column.Live d)) = told.Done (count_below (is_stripe_of y (states_of y kept) c) y.stripes)
-told_on y kept c (Some (column.Filling d m)) = told.Paused m
-told_on y kept c (Some column.Spread) = told.Done (count_below (is_stripe_of y (states_of y kept) c) y.stripes)
-
--- and once the array has ended: where it is lost, no rebuild is paused
-abbrev pub told_at_end : Option Loss → Told → Told
-told_at_end None told = told
-told_at_end (Some loss) (told.Done n) = told.Done n
-told_at_end (Some loss) (told.Paused m) = told.Stopped
-told_at_end (Some loss) told.Stopped = told.Stopped
-
--- what is told of a rebuild that was asked, and goes onto this device or into the spare places, where a core was closed with these columns
-abbrev pub line_kept : Shape → Option Start → Option ℕ → List Column → Option Line
-line_kept y None device kept = None
-line_kept y (Some s) device kept = Some (record { column = column_of s; device = device; told = told_on y kept (column_of s) (slice_get kept (column_of s)) })
-
-abbrev pub line_at_end : Option Loss → Option Line → Option Line
-line_at_end lost None = None
-line_at_end lost (Some line) = Some (record line { told = told_at_end lost line.told })
-
--- and where the array ended so
-abbrev pub line_of : Shape → Option Start → Option ℕ → List Column → Option Loss → Option Line
-line_of y start device kept lost = line_at_end lost (line_kept y start device kept)
+-- how far the rebuild of a column came, by what that is as it is kept: done with the number of its stripes; where the array is lost in the end, no rebuild is paused
+abbrev pub told_of : Shape → List Column → Option Loss → ℕ → Option Column → Told
+told_of y kept lost c None = told.Stopped
+told_of y kept lost c (Some column.Dead) = told.Stopped
+told_of y kept lost c (Some (column.Live d)) = told.Done (count_below (is_stripe_of y (states_of y kept) c) y.stripes)
+told_of y kept lost c (Some (column.Filling d m)) = option_map_or (λ loss. told.Stopped) lost (told.Paused m)
+told_of y kept lost c (Some column.Spread) = told.Done (count_below (is_stripe_of y (states_of y kept) c) y.stripes)
 
 -- ## The end of a run
-
--- the label of a round that says that the array was closed in order
-abbrev pub closing_label : Label → Label
-closing_label label = record label { clean = 1 }
 
 -- `a` says what is asked, over the array as it was opened: the column that is to be rebuilt is what it was then.
 module _ {D : Type 0} (g : Ghosts D) (a : Work) (newest : Label) (taken : List (Option D)) where
@@ -92,8 +68,8 @@ module _ {D : Type 0} (g : Ghosts D) (a : Work) (newest : Label) (taken : List (
   module _ (s : Service) (back : List (Option D)) where
     -- the sector may have changed: it is the label's, or the map's where maps are written, or one of the array's rows, on a device that was in a column, or onto which the rebuild goes that began; or the device has no such sector
     abbrev pub MayChangeLabelled : (mapped : Bool) → Option Start → ℕ → ℕ → Type 0
-    MayChangeLabelled mapped began d n = ((((c : ℕ) × HasDevice (states_in a) c d) ⊎ ((c : ℕ) × (most : ℕ) × (began ≡ Some (start.Fill c d most))))
-        × (IsReserved mapped n ⊎ IsInRows a.layout n)) ⊎ (size_of g taken d ≤ n)
+    MayChangeLabelled mapped began d n = ((((c : ℕ) × HasDevice (states_of a.layout a.columns) c d) ⊎ ((c : ℕ) × (most : ℕ) × (began ≡ Some (start.Fill c d most))))
+        × (IsReserved mapped n ⊎ ((64 ≤ n) × (n < 64 + a.layout.rows * a.layout.unit_sectors)))) ⊎ (size_of g taken d ≤ n)
 
     -- Devices hold what they do at the run's end, but for labels and maps, and have changed nowhere else since they were taken. `kept` are the columns as the core was closed. Behind the run the device of each that had one was called in turn: label writes, writes of maps where these are cleared, and settles none of which comes right behind another, all of which went well, but that the last failed where the column hasn't it in the end; of a column that was filling on a lost array all may have gone well. Where the array wasn't lost in the run the first is a settle; where it was, all are label writes; where it isn't lost in the end the last of a device in use is one. No other device was called.
     pub record LeavesLabelled (mapped : Bool) (began : Option Start) (kept : List Column) (now : World) : Type 0 where
@@ -111,7 +87,7 @@ module _ {D : Type 0} (g : Ghosts D) (a : Work) (newest : Label) (taken : List (
       pub served : List (Option D)
       pub holds : g.tells → (d n k : ℕ) → k < 512 → contents_of g served d n k ≡ now.contents d n k
       pub calls : (d : ℕ) (told : List Call) → calls_of g served d ≡ Some told → told ≡ now.calls d
-      pub steps : EndsInSteps g (clear_if (mapped && not (is_some now.lost)) (blank g a newest taken)) a.layout now.lost (closing_label first) last kept s.ending.columns served back s.ending.lost
+      pub steps : EndsInSteps g (if mapped && not (is_some now.lost) then Some (unmarked a.layout.stripes newest.serial) else None) a.layout now.lost (record first { clean = 1 }) last kept s.ending.columns served back s.ending.lost
       pub labelled : (c d : ℕ) (told : List Call) → HasDeviceOn s.ending.columns c d → calls_of g back d ≡ Some told → (closing : List Call) × (told ≡ now.calls d ++ closing) × (1 ≤ label_writes closing)
       pub times : (d : ℕ) (told : List Call) → calls_of g back d ≡ Some told → (closing : List Call) × (told ≡ now.calls d ++ closing) × (first.counter + label_writes closing ≤ last.counter)
 
@@ -129,18 +105,9 @@ module _ {D : Type 0} (g : Ghosts D) (a : Work) (newest : Label) (taken : List (
       pub held : (c d : ℕ) → HasDeviceOn s.ending.columns c d → HoldsLabel g back last c d
       pub rest : g.tells → (d : ℕ) → 1 ≤ size_of g taken d → ((c : ℕ) → HasDeviceOn s.ending.columns c d → ⊥) → (RisesOn g taken back d → ⊥)
           → (sector_of g back d 0 ≡ sector_of g taken d 0)
-          ⊎ (((c : ℕ) × (wrote_round notice None ≡ true) × HasDeviceOn begun c d × (sector_of g back d 0 ≡ bytes_of (record first { column = c }))) ⊎ ((c : ℕ) × IsGivenUp s.ending.lost kept c × HasDeviceOn kept c d × IsTriedOn g (closing_label first) last.counter back c d))
+          ⊎ (((c : ℕ) × (wrote_round notice None ≡ true) × HasDeviceOn begun c d × (sector_of g back d 0 ≡ bytes_of (record first { column = c }))) ⊎ ((c : ℕ) × IsGivenUp s.ending.lost kept c × HasDeviceOn kept c d × IsTriedOn g (record first { clean = 1 }) last.counter back c d))
 
-    -- the device onto which the rebuild goes was the column's own, and has failed as the array was begun
-    pub record HasFailedSince (opened : List (Option D)) : Type 0 where
-      pub col : ℕ
-      pub device : ℕ
-      pub asked : onto a.start a.columns ≡ Some device
-      pub column : (rebuild : Start) → a.start ≡ Some rebuild → column_of rebuild ≡ col
-      pub had : HasDeviceOn a.columns col device
-      pub rose : RisesOn g taken opened device
-
-    -- The array was begun, and the column was made dead that is to be rebuilt anew; it isn't lost. Its rebuild began, unless the device onto which it goes had failed, be it before, where that is `faulty`. A run of what is asked, over the devices and columns as they were then, tells this and leaves the columns so; then the array was closed. No more has changed since the core was opened. In all a column is kept as what it was, or as its rebuild began, or has died since an item was replied ok by which it failed, its device's count of faults rose, it was to be rebuilt anew and that was stopped, or it was filling as the array was opened and that is lost.
+    -- The array was begun, and the column was made dead that is to be rebuilt anew; it isn't lost. Its rebuild began, unless the device onto which it goes had failed, be it before, where that is `faulty`, or since it was the column's own, as the array was begun. A run of what is asked, over the devices and columns as they were then, tells this and leaves the columns so; then the array was closed. No more has changed since the core was opened. In all a column is kept as what it was, or as its rebuild began, or has died since an item was replied ok by which it failed, its device's count of faults rose, it was to be rebuilt anew and that was stopped, or it was filling as the array was opened and that is lost.
     pub record RanLabelled (faulty map : Bool) : Type 0 where
       pub opened : List (Option D)
       pub begun : List Column
@@ -149,19 +116,24 @@ module _ {D : Type 0} (g : Ghosts D) (a : Work) (newest : Label) (taken : List (
       pub began : Option Start
       pub begins : BeginsLabelled g a newest taken opened begun (is_kept map newest) first None
       pub kept : NotLost a.layout (states_of a.layout (without a.start begun))
-      pub began_is : began ≡ began_of faulty a.start a.columns begun
-      pub unbegun : began ≡ None → (a.start ≡ None) ⊎ ((faulty ≡ true) ⊎ HasFailedSince opened)
+      pub began_is : began ≡ (if faulty || (is_in_place a.start a.columns && not (is_in_place a.start begun)) then None else a.start)
+      pub unbegun : began ≡ None → (a.start ≡ None) ⊎ ((faulty ≡ true) ⊎ ((col : ℕ) × (device : ℕ) × (onto a.start a.columns ≡ Some device)
+          × ((rebuild : Start) → a.start ≡ Some rebuild → column_of rebuild ≡ col) × HasDeviceOn a.columns col device × RisesOn g taken opened device))
       pub run : Ran g (record a { columns = without a.start begun; start = began }) opened s back
-      pub line : s.line ≡ line_at_end s.ending.lost (line_kept a.layout a.start (onto a.start a.columns) run.ends.kept)
+      pub line : s.line ≡ option_map (λ (how : Start). record {
+        column = column_of how;
+        device = onto a.start a.columns;
+        told = told_of a.layout run.ends.kept s.ending.lost (column_of how) (slice_get run.ends.kept (column_of how));
+      }) a.start
       pub holds : HoldsBlocks g a newest taken opened begun begins.read begins.union run.start.blocks
-      pub leaves : LeavesLabelled (writes_maps (is_kept map newest) begins.union) began run.ends.kept run.now
-      pub since : Changes g (MayChangeLabelled (writes_maps (is_kept map newest) begins.union) began) opened back
-      pub closes : ClosesInSteps (writes_maps (is_kept map newest) begins.union) run.ends.kept first last run.now
+      pub leaves : LeavesLabelled (is_kept map newest || is_any_marked begins.union) began run.ends.kept run.now
+      pub since : Changes g (MayChangeLabelled (is_kept map newest || is_any_marked begins.union) began) opened back
+      pub closes : ClosesInSteps (is_kept map newest || is_any_marked begins.union) run.ends.kept first last run.now
       pub maps : MapsEnd g a newest taken s back map begins.read begins.union begins.marks run.graphs run.now
       pub order : is_kept map newest ≡ true → MapsInOrder g a taken s back
-      pub labels : IsRelabelled (notice_in (is_kept map newest) begins.marks) begun run.ends.kept first last
+      pub labels : IsRelabelled (if is_kept map newest then Marks begins.marks else Round) begun run.ends.kept first last
       pub count : length s.ending.columns ≡ length a.columns
-      pub ends : (c : ℕ) → IsKeptAs (slice_get (with_start a.start a.columns) c) (slice_get s.ending.columns c) ⊎ ((slice_get s.ending.columns c ≡ Some column.Dead) × (WasFailed run.now c ⊎ (RisesAt g a taken s back c ⊎ ((IsAnew a.start c × IsToldUnbuilt s c) ⊎ IsGivenUp s.ending.lost a.columns c))))
+      pub ends : (c : ℕ) → IsKeptAs (slice_get (with_start a.start a.columns) c) (slice_get s.ending.columns c) ⊎ ((slice_get s.ending.columns c ≡ Some column.Dead) × (WasFailed run.now c ⊎ (RisesAt g a taken s back c ⊎ ((IsAnew a.start c × ((line : Line) × (s.line ≡ Some line) × (line.column ≡ c) × (line.told ≡ told.Stopped))) ⊎ IsGivenUp s.ending.lost a.columns c))))
 
   -- ## No run
 
@@ -178,7 +150,7 @@ module _ {D : Type 0} (g : Ghosts D) (a : Work) (newest : Label) (taken : List (
     pub lost : e.lost ≡ Some loss
     pub lost_is : IsLost a.layout (states_of a.layout e.columns) loss
     pub named : (c : ℕ) → IsAnew a.start c → slice_get e.columns c ≡ Some column.Dead
-    pub frame : Changes g (MayBegin g (notice_in (is_kept map newest) begins.marks) (sweeps_in newest begins.union) a.layout a.columns taken) taken back
+    pub frame : Changes g (MayBegin g (if is_kept map newest then Marks begins.marks else Round) (sweeps_in newest begins.union) a.layout a.columns taken) taken back
     pub maps : g.tells → (d : ℕ) → (RisesOn g taken back d → ⊥) → IsKeptOrMap g a newest taken back d
     pub dies : Dies (λ c. IsAnew a.start c ⊎ DiesIn g (Some loss) a.columns taken back c) a.columns e.columns
     pub given_up : IsGivenUpIn e.lost e.columns

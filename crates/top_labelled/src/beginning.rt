@@ -3,7 +3,8 @@ ghost use Rattle.std.specs.Prelude.{◌≡◌};
 ghost use Rattle.top_acts.specs.Mapped.{AreUnmarked};
 ghost use Rattle.top_serve.specs.Setups.{shape_in};
 ghost use Rattle.top_labelled.specs.Given.{CanRunLabelled};
-ghost use Rattle.top_labelled.specs.Begun.{is_kept, writes_maps};
+ghost use Rattle.top_labelled.specs.Begun.{is_kept};
+ghost use Rattle.top_labelled.specs.Words.{writes_maps};
 ghost use Rattle.top_labelled.specs.Between.{IsBegun, asked_of};
 
 use crate::in_place::is_in_place;

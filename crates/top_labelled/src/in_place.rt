@@ -1,7 +1,8 @@
 //! Whether a rebuild may begin.
 ghost use Rattle.std.specs.Prelude.{◌≡◌, ◌&&◌, ◌||◌, not, if◌then◌else◌, None};
 ghost use Rattle.eng_cols.specs.Cols.{is_set_filling, passes};
-ghost use Rattle.top_labelled.specs.Begun.{is_in_place, lives_on};
+ghost use Rattle.top_labelled.specs.Begun.{is_in_place};
+ghost use Rattle.top_labelled.specs.Words.{lives_on};
 
 use eng_array::{Column, Start};
 

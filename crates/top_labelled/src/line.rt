@@ -2,7 +2,8 @@
 ghost use Rattle.std.specs.Prelude.{◌≡◌, ◌<◌, length, slice_get};
 ghost use Rattle.eng_cols.specs.Cols.{device_set};
 ghost use Rattle.top_labelled.specs.Begun.{IsColumnWithin};
-ghost use Rattle.top_labelled.specs.Ran.{line_at_end, line_kept, onto, told_at_end, told_on};
+ghost use Rattle.top_labelled.specs.Ran.{onto};
+ghost use Rattle.top_labelled.specs.Words.{line_at_end, line_kept, told_at_end, told_on};
 
 use eng_array::{Column, Start};
 use eng_cols::Loss;

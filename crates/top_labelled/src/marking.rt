@@ -6,7 +6,8 @@ ghost use Rattle.raid_map.specs.Asking.{IsSpanned, MarksAlso, file_of};
 ghost use Rattle.raid_map.specs.Regions.{regions_in};
 ghost use Rattle.top_acts.specs.Mapped.{AreMaps};
 ghost use Rattle.top_labelled.specs.Begun.{IsColumnWithin};
-ghost use Rattle.top_labelled.specs.Marked.{MarksAsked, MarksOf, RebuildMayWrite, StripesFrom, done_on};
+ghost use Rattle.top_labelled.specs.Marked.{MarksOf, StripesFrom, done_on};
+ghost use Rattle.top_labelled.specs.Words.{MarksAsked, RebuildMayWrite};
 
 use blk_disk::SECTOR;
 use eng_array::{Column, Start};

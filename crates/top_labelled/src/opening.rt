@@ -9,7 +9,8 @@ ghost use Rattle.top_acts.specs.Sweeps.{Round, notice_seen, sweeps_seen};
 ghost use Rattle.eng_cols.specs.Stripes.{states_of};
 ghost use Rattle.top_close.specs.Ended.{IsLossBy};
 ghost use Rattle.top_rounds.specs.Labels.{IsLabelFor};
-ghost use Rattle.top_labelled.specs.Begun.{BeginsUnless, IsAlone, IsColumnWithin, anew_of, notice_in, sweeps_in, without};
+ghost use Rattle.top_labelled.specs.Begun.{IsAlone, IsColumnWithin, anew_of, sweeps_in, without};
+ghost use Rattle.top_labelled.specs.Words.{BeginsUnless, notice_in};
 ghost use Rattle.top_labelled.specs.Between.{HasOpened};
 
 use crate::in_place::{is_in_place, unless_failed};

@@ -13,8 +13,9 @@ use Rattle.top_open.specs.declared.plan.Needs.{Needs}
 use Rattle.top_open.specs.First.{first_below}
 use Rattle.top_open.specs.Plan.{is_present, sectors_for}
 use Rattle.top_open.specs.Labels.{label_at, newest_below, shape_refusal}
-use Rattle.top_open.specs.Seats.{columns_below, is_sound, is_spread_below, judged_at, kept_if_sound, read_disk, seat_at, seat_of}
-use Rattle.top_open.specs.Opening.{Opened, columns_in, counter_refusal, is_unlabelled, judged_in, labelled_if, labelled_in, opened_in, seats_in, small_in, unlabelled_in, unlabelled_refusal}
+use Rattle.top_open.specs.Seats.{columns_below, is_sound, judged_at, seat_of}
+use Rattle.top_open.specs.Opening.{Opened, columns_in, counter_refusal, judged_in, labelled_in, opened_in, seats_in, small_in, unlabelled_in, unlabelled_refusal}
+use Rattle.top_open.specs.Steps.{is_unlabelled, labelled_if, is_spread_below, kept_if_sound, read_disk, seat_at}
 use Rattle.top_open.proofs.Below.{length-columns_below}
 use Rattle.top_open.proofs.Filled.{live, was}
 use Rattle.top_open.proofs.LargeEnough.{columns_of, get_there}

@@ -14,35 +14,26 @@ use Rattle.top_open.specs.Seats.{is_unread}
 
 -- ## The columns
 
--- How a column of n is served. A device below n serves its own column, for the columns' disks are
--- numbered as these, and behind them come the spares; of one that is rebuilt it is said how many
--- stripes are done.
-abbrev pub column_state : ℕ → Option Column → List ℕ
-column_state n None = codes "failed"
-column_state n (Some (column.Live device)) =
-    if nat_lt device n then codes "optimal" else codes "spared " ++ decimal (device - n)
-column_state n (Some column.Spread) = codes "spread"
-column_state n (Some column.Dead) = codes "failed"
-column_state n (Some (column.Filling device done)) = codes "rebuilding " ++ decimal done
-
--- `column C NAME STATE` of column c, where the columns' disks have these names
+-- `column C NAME STATE` of column c, where the columns' disks have these names. A device below their
+-- number serves its own column, for the columns' disks are numbered as these, and behind them come
+-- the spares; of one that is rebuilt it is said how many stripes are done.
 abbrev pub column_text : List Text → List Column → ℕ → List ℕ
 column_text disks columns c = line
     (codes "column " ∷ decimal c ∷ codes " " ∷ disk_word (unwrap_or (slice_get disks c) [])
-    ∷ codes " " ∷ column_state (length disks) (slice_get columns c) ∷ codes "\n" ∷ [])
+    ∷ codes " " ∷ (elim (slice_get columns c) [
+      | Some (column.Live device) ↦ if nat_lt device (length disks) then codes "optimal"
+          else codes "spared " ++ decimal (device - length disks)
+      | Some column.Spread ↦ codes "spread"
+      | Some (column.Filling device done) ↦ codes "rebuilding " ++ decimal done
+      | _ ↦ codes "failed"
+    ]) ∷ codes "\n" ∷ [])
 
 -- ## The spares
 
--- the column has this device
-abbrev pub is_seat_of : ℕ → Column → Bool
-is_seat_of device (column.Live of) = of == device
-is_seat_of device column.Spread = false
-is_seat_of device column.Dead = false
-is_seat_of device (column.Filling of done) = of == device
-
 -- how a spare stands that is this device: the first that holds of these, a column has it, there are labels and its own couldn't be read, and it has fewer sectors than the rows need
 unfoldable pub spare_state : ℕ → Opened → List ℕ → List Front → ℕ → List ℕ
-spare_state unit o sizes fronts device = if list_any (is_seat_of device) o.seats then codes "used"
+spare_state unit o sizes fronts device =
+    if list_any (elim [ column.Live of ↦ of == device | column.Filling of done ↦ of == device | _ ↦ false ]) o.seats then codes "used"
     else (if not (is_none o.newest) && is_unread (slice_get fronts device) then codes "failed"
     else (if nat_lt (slice_index sizes device) (64 + o.rows * unit) then codes "small"
     else codes "free"))

@@ -3,8 +3,8 @@ ghost use Rattle.std.specs.Prelude.{◌≡◌, ◌≤◌, ◌<◌, ◌+◌, ◌+
 ghost use Rattle.blk_disk.specs.Disk.{Rose};
 ghost use Rattle.raid_bay.specs.Sink.{Puts};
 ghost use Rattle.raid_conf.specs.Form.{IsDiskName, disk_word};
-ghost use Rattle.top_looks.specs.Show.{column_state, column_text};
-ghost use Rattle.top_looks.specs.Steps.{column_line, columns_text, filling_state, live_state};
+ghost use Rattle.top_looks.specs.Show.{column_text};
+ghost use Rattle.top_looks.specs.Steps.{column_line, columns_text, filling_state, live_state, column_state};
 
 use blk_disk::Failed;
 use eng_cols::Column;

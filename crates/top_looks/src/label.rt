@@ -3,8 +3,8 @@ ghost use Rattle.std.specs.Prelude.{◌≡◌, ◌≤◌, is_ok, length, OnErr};
 ghost use Rattle.blk_disk.specs.Disk.{Rose};
 ghost use Rattle.raid_bay.specs.Sink.{Puts};
 ghost use Rattle.raid_label.specs.Bytes.{label_in};
-ghost use Rattle.top_looks.specs.Labels.{label_text, line_of, numbers_line};
-ghost use Rattle.top_looks.specs.Steps.{label_line};
+ghost use Rattle.top_looks.specs.Labels.{label_text, numbers_line};
+ghost use Rattle.top_looks.specs.Steps.{label_line, line_of};
 
 use blk_disk::Failed;
 use put_line::Line;

@@ -5,8 +5,8 @@ ghost use Rattle.blk_disk.specs.Disk.{Rose};
 ghost use Rattle.raid_bay.specs.Sink.{Puts};
 ghost use Rattle.raid_conf.specs.Form.{IsConf};
 ghost use Rattle.top_open.specs.Opening.{opened_seen};
-ghost use Rattle.top_looks.specs.Show.{is_seat_of, spare_state, spare_text};
-ghost use Rattle.top_looks.specs.Steps.{spare_line, spares_text};
+ghost use Rattle.top_looks.specs.Show.{spare_state, spare_text};
+ghost use Rattle.top_looks.specs.Steps.{spare_line, spares_text, is_seat_of};
 ghost use Rattle.top_open.specs.Seats.{is_unread};
 
 use blk_disk::{DATA_SECTOR, Failed};

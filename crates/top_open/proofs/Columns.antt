@@ -15,8 +15,9 @@ use Rattle.top_open.specs.declared.plan.Needs.{Needs}
 use Rattle.top_open.specs.First.{first_below}
 use Rattle.top_open.specs.Plan.{is_present, sectors_for}
 use Rattle.top_open.specs.Labels.{label_at, newest_below, shape_refusal, label_of}
-use Rattle.top_open.specs.Seats.{columns_below, own_disk, read_disk, is_unread, is_sound, kept_if_sound, judged_at, seat_of, seat_at, is_spread_below}
-use Rattle.top_open.specs.Opening.{Opened, judged_in, unlabelled_in, labelled_in, labelled_if, is_unlabelled, unlabelled_refusal, counter_refusal, small_in, seats_in, columns_in}
+use Rattle.top_open.specs.Seats.{columns_below, own_disk, is_unread, is_sound, judged_at, seat_of}
+use Rattle.top_open.specs.Opening.{Opened, judged_in, unlabelled_in, labelled_in, unlabelled_refusal, counter_refusal, small_in, seats_in, columns_in}
+use Rattle.top_open.specs.Steps.{labelled_if, is_unlabelled, read_disk, kept_if_sound, seat_at, is_spread_below}
 use Rattle.top_open.proofs.Below.{length-columns_below}
 use Rattle.top_open.proofs.Counting.{count_none, count_one}
 use Rattle.top_open.proofs.OneSpread.{one_spread}

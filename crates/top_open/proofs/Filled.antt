@@ -13,8 +13,8 @@ use Rattle.top_open.specs.declared.fault.OpenFault.TheVariants as fault
 use Rattle.top_open.specs.declared.opened.Opened as declared_opened
 use Rattle.top_open.specs.declared.plan.Plan.{Plan}
 use Rattle.top_open.specs.declared.plan.Needs.{Needs}
-use Rattle.top_open.specs.Opening.{Opened, OpensAs, filled_if, filling_of, judged_in, opened_in, opened_seen, with_filling, filled_by}
-use Rattle.top_open.specs.Steps.{as_filled}
+use Rattle.top_open.specs.Opening.{Opened, OpensAs, judged_in, opened_in, opened_seen, with_filling, filled_by}
+use Rattle.top_open.specs.Steps.{as_filled, filled_if, filling_of}
 use Rattle.top_open.proofs.Counting.{count_one}
 use Rattle.top_open.proofs.Columns.{columns_count, no_filling}
 use Rattle.top_open.proofs.OneSpread.{one_spread}

@@ -15,7 +15,8 @@ use Rattle.top_open.specs.First.{first_below}
 use Rattle.top_open.specs.Plan.{sectors_for}
 use Rattle.top_open.specs.Labels.{label_at, newer, newest_below, shape_refusal, label_of}
 use Rattle.top_open.specs.Seats.{judged_at}
-use Rattle.top_open.specs.Opening.{Opened, judged_in, unlabelled_in, labelled_in, labelled_if, is_unlabelled, unlabelled_refusal, counter_refusal, small_in, seats_in}
+use Rattle.top_open.specs.Opening.{Opened, judged_in, unlabelled_in, labelled_in, unlabelled_refusal, counter_refusal, small_in, seats_in}
+use Rattle.top_open.specs.Steps.{labelled_if, is_unlabelled}
 use Rattle.top_open.proofs.OwnDevices.{not_refused}
 use Rattle.top_open.proofs.LargeEnough.{no_refusal}
 

@@ -11,12 +11,12 @@ use Rattle.top_open.specs.declared.fault.OpenFault.TheVariants as fault
 use Rattle.top_open.specs.declared.plan.Plan.{Plan}
 use Rattle.top_open.specs.declared.plan.Needs.{Needs}
 use Rattle.top_open.specs.Plan.{AreWholeTables, IsPlan, are_rows, is_present, sectors_for, tables_below}
-use Rattle.top_open.specs.Steps.{tables_in, configured}
+use Rattle.top_open.specs.Steps.{tables_in, configured, labelled_if, is_unlabelled}
 use Rattle.raid_label.specs.Judged.{fault_in}
 use Rattle.top_open.specs.Labels.{newest_below, shape_refusal, refusal_of}
 use Rattle.top_open.specs.Seats.{columns_below, judged_at, own_disk}
 use Rattle.top_open.specs.First.{first_below}
-use Rattle.top_open.specs.Opening.{Opened, judged_in, unlabelled_in, labelled_in, labelled_if, is_unlabelled, unlabelled_refusal, counter_refusal, small_in, seats_in, own_seats}
+use Rattle.top_open.specs.Opening.{Opened, judged_in, unlabelled_in, labelled_in, unlabelled_refusal, counter_refusal, small_in, seats_in, own_seats}
 use Rattle.top_open.proofs.OwnDevices.{not_refused}
 use Rattle.top_open.proofs.LargeEnough.{columns_below-at, no_refusal, rows_of, small_seat}
 use Rattle.std.specs.Option.{option_or}

@@ -1,7 +1,8 @@
 //! The column that is filling.
 ghost use Rattle.std.specs.Prelude.{◌≡◌, ◌-◌, ◌<◌, ◌==◌, length, if◌then◌else◌, slice_index_or, slice_set};
 ghost use Rattle.eng_cols.specs.declared.column.Column.TheVariants as set;
-ghost use Rattle.top_open.specs.Opening.{filled_by, filling_of, kept_if_left, with_filling};
+ghost use Rattle.top_open.specs.Opening.{filled_by, with_filling};
+ghost use Rattle.top_open.specs.Steps.{filling_of, kept_if_left};
 
 use eng_cols::Column;
 use raid_label::Label;

@@ -10,10 +10,10 @@ use Rattle.blk_disk.proofs.DeviceLaws.{changes-more, changes-refl, changes-then,
 use Rattle.eng_cols.specs.declared.column.Column.{Column}
 use Rattle.eng_cols.specs.declared.column.Column.TheVariants as column
 use Rattle.eng_cols.specs.Cols.{device_set, HasDeviceOn, has_device}
-use Rattle.eng_cols.specs.Deaths.{Dies}
+use Rattle.eng_cols.specs.Deaths.{Dies, LosesDevice}
 use Rattle.eng_cols.proofs.DeathLaws.{dies-refl, dies-more, dies-then}
 use Rattle.raid_label.specs.declared.label.Label.{Label}
-use Rattle.top_close.specs.Settled.{HaveDevices, LosesDevice}
+use Rattle.top_close.specs.Settled.{HaveDevices}
 use Rattle.top_close.proofs.CallLaws.{more_all-none, more_all-one, more_all-then}
 use Rattle.top_close.proofs.SettledLaws.{device_within, if_dies, if_live, if_other, set_here}
 use Rattle.top_close.proofs.StageLaws.{live_before}

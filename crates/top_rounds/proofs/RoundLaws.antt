@@ -16,26 +16,27 @@ use Rattle.eng_cols.specs.declared.column.Column.{Column}
 use Rattle.eng_cols.specs.declared.column.Column.TheVariants as column
 use Rattle.eng_cols.specs.declared.spot.Loss.{Loss}
 use Rattle.eng_cols.specs.Cols.{ColumnState, device_set, is_set_filling, is_set_spread, passes, HasDeviceOn, has_device}
-use Rattle.eng_cols.specs.Deaths.{Dies}
+use Rattle.eng_cols.specs.Deaths.{Dies, LosesDevice}
 use Rattle.eng_cols.specs.Lost.{NotLost}
 use Rattle.eng_cols.proofs.DeathLaws.{dies-more, dies-refl, dies-then}
 use Rattle.raid_label.specs.declared.label.Label.{Label}
 use Rattle.lay_core.specs.Layout.{Shape}
 use Rattle.top_close.specs.Dying.{AnyCause}
 use Rattle.top_close.specs.Ended.{IsLossBy}
-use Rattle.top_close.specs.Settled.{HaveDevices, LosesDevice}
+use Rattle.top_close.specs.Settled.{HaveDevices}
 use Rattle.top_close.proofs.Counts.{counted, deaths_pass_less, nothing}
 use Rattle.top_close.proofs.CallLaws.{more_all-none, more_all-then}
 use Rattle.top_close.proofs.SettledLaws.{device_within, set_here}
 use Rattle.top_rounds.specs.Labels.{IsNumbered, Seating, given_up, seating_in, seating_of, unless_filling, with_round}
 use Rattle.top_rounds.specs.Passes.{AreLabelled, CanBeLabelled, EndsByDeath, EndsPass}
-use Rattle.top_close.specs.Stage.{DiesIn, IsGivenUp, IsGivenUpIn, IsInUse, IsStage, IsUncalled, device_count}
+use Rattle.top_close.specs.Stage.{DiesIn, IsGivenUp, IsGivenUpIn, IsInUse, IsStage, device_count}
 use Rattle.top_rounds.specs.Rounds.{AreRounds, CountsRounds, HaveRounds, HaveTried, HoldsTried, clean_in_end}
 use Rattle.top_rounds.specs.Calls.{IsLabelWrite, IsLabelled, WritesOn, WritesSome, WritesTo, WritesUntil, WritesWell, WritesWithin}
 use Rattle.eng_cols.specs.Settable.{IsSettable}
 use Rattle.top_rounds.proofs.CallLaws.{some-to, to-until, well-to, within-none, within-then, within_as}
 use Rattle.top_close.proofs.StageLaws.{given_before, live_before, live_less, told-others}
 use Rattle.top_rounds.proofs.Words.{AreWritten, IsFirstInUse}
+use Rattle.top_close.proofs.Words.{IsUncalled}
 
 -- ## Columns that die
 

@@ -20,9 +20,9 @@ device_seat n device = if nat_lt device n then 0 else device + 1 - n
 
 -- the seat of a column: that of its device; 254 for the spare places of the other columns; 255 where it is dead
 abbrev pub seat_of : ℕ → Column → ℕ
-seat_of n (column.Live device) = device_seat n device
+seat_of n (column.Live device) = if nat_lt device n then 0 else device + 1 - n
 seat_of n column.Dead = 255
-seat_of n (column.Filling device done) = device_seat n device
+seat_of n (column.Filling device done) = if nat_lt device n then 0 else device + 1 - n
 seat_of n column.Spread = 254
 
 -- a seat for each column, and 0 past them, 32 in all

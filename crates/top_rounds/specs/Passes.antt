@@ -5,11 +5,11 @@ use Rattle.blk_disk.specs.Disk.{Tells, call_of}
 use Rattle.blk_disk.specs.Devices.{device_at, size_of, sector_of, calls_of, RisesOn, Changes}
 use Rattle.eng_cols.specs.declared.column.Column.{Column}
 use Rattle.eng_cols.specs.declared.column.Column.TheVariants as column
-use Rattle.eng_cols.specs.Deaths.{Dies}
+use Rattle.eng_cols.specs.Deaths.{Dies, LosesDevice}
 use Rattle.raid_label.specs.declared.label.Label.{Label}
 use Rattle.raid_label.specs.Bytes.{bytes_of}
 use Rattle.top_close.specs.Reserved.{IsReserved}
-use Rattle.top_close.specs.Settled.{HaveDevices, LosesDevice}
+use Rattle.top_close.specs.Settled.{HaveDevices}
 use Rattle.top_rounds.specs.Calls.{WritesOn, WritesWithin}
 use Rattle.top_rounds.specs.Labels.{IsNumbered, for_column}
 use Rattle.eng_cols.specs.Cols.{HasDeviceOn, has_device}

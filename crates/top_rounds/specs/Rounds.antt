@@ -1,19 +1,20 @@
 -- Rounds of labels, one behind the other, until one is whole or the array is lost.
-use Rattle.std.specs.Prelude.{◌≡◌, ◌⊎◌, ◌≤◌, ◌+◌, ℕ, List, length, Option, Some, None, All, slice_get, false}
+use Rattle.std.specs.Prelude.{◌≡◌, ◌⊎◌, ◌≤◌, ◌+◌, ℕ, List, length, Option, Some, None, All, slice_get, false, ◌++◌, [], ◌∷◌, true}
 use Rattle.blk_disk.specs.declared.disk.Disk.{Ghosts}
-use Rattle.blk_disk.specs.Devices.{sector_of, calls_of, RisesOn, Changes}
+use Rattle.blk_disk.specs.Devices.{sector_of, calls_of, RisesOn, Changes, device_at}
 use Rattle.eng_cols.specs.declared.column.Column.{Column}
 use Rattle.eng_cols.specs.declared.spot.Loss.{Loss}
-use Rattle.eng_cols.specs.Deaths.{Dies}
+use Rattle.eng_cols.specs.Deaths.{Dies, LosesDevice}
 use Rattle.raid_label.specs.declared.label.Label.{Label}
 use Rattle.raid_label.specs.Bytes.{bytes_of}
-use Rattle.top_close.specs.Settled.{LosesDevice}
-use Rattle.top_rounds.specs.Calls.{EndsBy, IsLabelWrite, IsLabelled, WritesOn, WritesUntil, WritesWithin, label_writes}
+use Rattle.top_rounds.specs.Calls.{IsLabelWrite, WritesOn, WritesUntil, WritesWithin, label_writes}
 use Rattle.top_rounds.specs.Labels.{given_up, seating_in, seating_of, with_round}
 use Rattle.top_rounds.specs.Passes.{HoldsLabel, IsKeptInUse}
-use Rattle.top_close.specs.Stage.{DiesIn, HaveFailed, IsGivenUp, IsGivenUpIn, IsInUse, IsUncalled, device_count}
+use Rattle.top_close.specs.Stage.{DiesIn, HaveFailed, IsGivenUp, IsGivenUpIn, IsInUse, device_count}
 use Rattle.top_close.specs.Calls.{MoreOn}
 use Rattle.eng_cols.specs.Cols.{HasDeviceOn, has_device}
+use Rattle.blk_disk.specs.declared.disk.Call.{Call}
+use Rattle.blk_disk.specs.Disk.{call_of}
 
 -- the clean field of the last round: as it was to be, but 0 where the array is lost
 abbrev pub clean_in_end : Option Loss → ℕ → ℕ
@@ -52,7 +53,7 @@ module _ {D : Type 0} (g : Ghosts D) where
     pub gone : All (λ d. (c : ℕ) → HasDeviceOn mid c d → ⊥) rises
     pub fewer : device_count mid + length rises ≤ device_count columns
     pub frame : Changes g (IsKeptInUse false columns) old new
-    pub others : IsUncalled columns old new
+    pub others : (d : ℕ) → ((c : ℕ) → HasDeviceOn columns c d → ⊥) → device_at new d ≡ device_at old d
     pub dies : Dies (LosesDevice g columns old new) columns mid
     pub told : (d : ℕ) → WritesOn (calls_of g old d) (calls_of g new d)
     pub times : (d : ℕ) → WritesWithin label.counter next.counter (calls_of g old d) (calls_of g new d)
@@ -71,15 +72,15 @@ module _ {D : Type 0} (g : Ghosts D) where
     pub seating : seating_in next ≡ seating_of mid
     pub held : (c d : ℕ) → HasDeviceOn after c d → HoldsLabel g new next c d
     pub frame : Changes g (IsKeptInUse false columns) old new
-    pub others : IsUncalled columns old new
+    pub others : (d : ℕ) → ((c : ℕ) → HasDeviceOn columns c d → ⊥) → device_at new d ≡ device_at old d
     pub began : Dies (DiesIn g lost columns old new) columns mid
     pub ended : Dies (LosesDevice g columns old new) mid after
     pub given_up : IsGivenUpIn lost after
     pub told : (d : ℕ) → MoreOn (All IsLabelWrite) (calls_of g old d) (calls_of g new d)
     pub times : (d : ℕ) → MoreOn (λ more. label.counter + label_writes more ≤ next.counter) (calls_of g old d) (calls_of g new d)
     pub each : (c d : ℕ) → HasDeviceOn columns c d
-        → MoreOn (EndsBy (has_device (slice_get after c))) (calls_of g old d) (calls_of g new d)
-        ⊎ (IsGivenUp lost columns c × MoreOn (All IsLabelled) (calls_of g old d) (calls_of g new d))
+        → MoreOn (λ more. (front : List Call) × (more ≡ front ++ call_of 1 0 512 (has_device (slice_get after c)) ∷ []) × All (λ call. call ≡ call_of 1 0 512 true) front) (calls_of g old d) (calls_of g new d)
+        ⊎ (IsGivenUp lost columns c × MoreOn (All (λ call. call ≡ call_of 1 0 512 true)) (calls_of g old d) (calls_of g new d))
     pub given : (c d : ℕ) → IsGivenUp lost columns c → HasDeviceOn columns c d → (RisesOn g old new d → ⊥) → HoldsTried label next.counter old new c d
 
   -- the last round of an array that isn't lost began with the columns of the end; that of a lost one with some that it may have left dead

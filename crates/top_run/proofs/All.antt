@@ -13,7 +13,8 @@ use Rattle.top_serve.specs.Served as served
 use Rattle.top_run.specs.Work.{Service}
 use Rattle.top_run.specs.Works.{work_of}
 use Rattle.top_run.specs.Ends.{RunIsEnded, EndsSo}
-use Rattle.top_run.specs.Ran.{LeavesSettled, Ran, RanPlain, Rests, Tells}
+use Rattle.top_run.specs.Ran.{Ran, RanPlain, Rests, Tells}
+use Rattle.top_run.specs.Steps.{LeavesSettled}
 use Rattle.top_run.proofs.FromServed.{opens-from, rests-from, tells-from, stands-from}
 use Rattle.top_run.proofs.Finishing.{ends-so, leaves}
 use Rattle.top_run.proofs.AtEnd.{columns-end, ends-kept}
@@ -69,12 +70,19 @@ module _ {L D : Type 0} (lay : LayoutGhosts L) (disk : DiskGhosts D) (setup : Se
   abbrev run : Ran disk (work_of lay setup None) setup.devices.items v back
   run = runs lay disk setup None closed given few s v back so law
 
+  left : LeavesSettled disk (work_of lay setup None) setup.devices.items v back run.ends.kept run.now
+  left =
+      subst (λ w. LeavesSettled disk (work_of lay setup None) setup.devices.items v back run.ends.kept w) (sym (runs-now lay disk setup None closed given few s v back so law))
+      (subst (λ kept. LeavesSettled disk (work_of lay setup None) setup.devices.items v back kept s.now) (sym (runs-kept lay disk setup None closed given few s v back so law)) (leaves lay disk setup closed given s none v back e))
+
   pub has-run : RanPlain disk (work_of lay setup None) setup.devices.items v back
   has-run = record {
     run = run;
-    leaves =
-        subst (λ w. LeavesSettled disk (work_of lay setup None) setup.devices.items v back run.ends.kept w) (sym (runs-now lay disk setup None closed given few s v back so law))
-        (subst (λ kept. LeavesSettled disk (work_of lay setup None) setup.devices.items v back kept s.now) (sym (runs-kept lay disk setup None closed given few s v back so law)) (leaves lay disk setup closed given s none v back e));
+    contents = left.contents;
+    once = left.once;
+    others = left.others;
+    settled = left.settled;
+    frame = left.frame;
     none = (refl, ap (λ (u : Service). u.line) e.told);
   }
 

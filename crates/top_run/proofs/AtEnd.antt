@@ -29,7 +29,8 @@ use Rattle.top_serve.specs.Served as served
 use Rattle.top_run.specs.Work.{Service}
 use Rattle.top_run.specs.Works.{work_of}
 use Rattle.top_run.specs.Ends.{EndsSo}
-use Rattle.top_run.specs.Ran.{AsksAsScripts, IsStoppedBy, ColumnsEnd}
+use Rattle.top_run.specs.Ran.{AsksAsScripts, ColumnsEnd}
+use Rattle.top_run.specs.Steps.{IsStoppedBy}
 use Rattle.top_run.proofs.Columns.{ending-dies}
 use Rattle.top_run.proofs.Causing.{came, dead-by}
 

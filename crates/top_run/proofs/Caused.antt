@@ -11,7 +11,8 @@ use Rattle.eng_world.proofs.Answered.{run-causes}
 use Rattle.eng_world.proofs.Losses.{loss-of}
 use Rattle.eng_array.proofs.Promised.{library-promises}
 use Rattle.top_run.specs.Work.{Work, Service}
-use Rattle.top_run.specs.Ran.{AreGraphsOf, Ran}
+use Rattle.top_run.specs.Ran.{Ran}
+use Rattle.top_run.specs.Steps.{AreGraphsOf}
 
 -- graphs that are the library's promise what those do
 promise : (views : List View) (graphs : Graphs) → AreGraphsOf views graphs → Promises graphs
@@ -24,7 +25,7 @@ promise views graphs are = record {
 
 module _ {D : Type 0} (g : Ghosts D) (a : Work) (taken back : List (Option D)) (s : Service) (ran : Ran g a taken s back) where
   pub replies-caused : HaveCauses a.layout ran.graphs ran.start ran.events ran.now
-  replies-caused = run-causes a.layout ran.graphs ran.start ran.law (promise a.graphs ran.graphs ran.rests.graphs_are) ran.opens.opening ran.events ran.now ran.rests.run
+  replies-caused = run-causes a.layout ran.graphs ran.start ran.law (promise a.graphs ran.graphs (record { file = ran.rests.file; drawn = ran.rests.drawn })) ran.opens.opening ran.events ran.now ran.rests.run
 
   pub loss-caused : (loss : Loss) → ran.now.lost ≡ Some loss → IsLossOf a.layout ran.graphs ran.start ran.events ran.now loss
   loss-caused loss is = loss-of a.layout ran.graphs ran.start ran.events ran.now ran.opens.opening ran.rests.run loss is

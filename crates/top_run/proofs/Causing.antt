@@ -19,7 +19,8 @@ use Rattle.top_serve.specs.Served.{IsKeptAs, WasFailed}
 use Rattle.top_run.specs.Work.{Service}
 use Rattle.top_run.specs.Works.{work_of}
 use Rattle.top_run.specs.Ends.{EndsSo}
-use Rattle.top_run.specs.Ran.{RisesAt, IsDeadBy, IsFailedBy, EndsAs, Causes}
+use Rattle.top_run.specs.Ran.{RisesAt, IsFailedBy, EndsAs, Causes}
+use Rattle.top_run.specs.Steps.{IsDeadBy}
 use Rattle.top_run.proofs.Columns.{rise-before, ending-dies, kept-filling, not-so}
 
 module _ {L D : Type 0} (lay : LayoutGhosts L) (disk : DiskGhosts D) (setup : Setup L D) (how : Option Start) (closed : Closed L D) (given : IsSetup lay disk setup) (s : served.IsServed lay disk setup how closed) (v : Service) (back : List (Option D)) (e : EndsSo lay closed disk v back) where

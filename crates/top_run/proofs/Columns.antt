@@ -11,7 +11,7 @@ use Rattle.eng_cols.specs.declared.column.Column.{Column}
 use Rattle.eng_cols.specs.declared.column.Column.TheVariants as set
 use Rattle.eng_cols.specs.declared.spot.Loss.{Loss}
 use Rattle.eng_cols.specs.Cols.{Live, Filling, HasDevice, AtMostOne, device_set, state_set, is_set_filling, is_set_spread, passes, HasDeviceOn}
-use Rattle.eng_cols.specs.Deaths.{Dies}
+use Rattle.eng_cols.specs.Deaths.{Dies, LosesDevice}
 use Rattle.eng_cols.specs.Fewer.{DieApart}
 use Rattle.eng_cols.specs.Stripes.{filled_in, spreads, states_of}
 use Rattle.eng_cols.proofs.DeathLaws.{dies-more}
@@ -21,7 +21,6 @@ use Rattle.eng_parts.specs.declared.setup.Closed.{Closed}
 use Rattle.eng_events.specs.Opened.{IsSetup}
 use Rattle.eng_array.specs.declared.start.Start.{Start}
 use Rattle.top_close.specs.Reserved.{IsReserved}
-use Rattle.top_close.specs.Settled.{LosesDevice}
 use Rattle.top_close.proofs.DyingLaws.{dies_apart, unspread}
 use Rattle.top_close.specs.Stage.{IsGivenUp, IsGivenUpIn}
 use Rattle.top_serve.specs.Setups.{with_start}

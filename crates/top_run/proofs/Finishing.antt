@@ -13,16 +13,16 @@ use Rattle.eng_state.specs.Shows.{AreTold}
 use Rattle.eng_parts.specs.declared.setup.Setup.{Setup}
 use Rattle.eng_parts.specs.declared.setup.Closed.{Closed}
 use Rattle.top_close.specs.Reserved.{IsReserved}
-use Rattle.top_close.specs.Settled.{LosesDevice}
 use Rattle.top_close.proofs.SettledLaws.{device_within}
 use Rattle.top_close.specs.Stage.{IsGivenUp}
 use Rattle.top_serve.specs.Served as served
 use Rattle.top_run.specs.Work.{Service}
 use Rattle.top_run.specs.Works.{service_of, work_of}
 use Rattle.top_run.specs.Ends.{RunIsEnded, EndsSo}
-use Rattle.top_run.specs.Ran.{LeavesSettled, MayChange}
+use Rattle.top_run.specs.Steps.{MayChange, LeavesSettled}
 use Rattle.top_run.proofs.Columns.{NoneFilling, device-on, none-given, none-later}
 use Rattle.eng_cols.specs.Cols.{HasDeviceOn, has_device}
+use Rattle.eng_cols.specs.Deaths.{LosesDevice}
 
 -- one call that is told, behind those of the run
 one-behind : {D : Type 0} (g : DiskGhosts D) (o : Option (List Call)) (calls told : List Call) (call : Call) → AreTold g o calls → Tells o (Some told) call → told ≡ calls ++ call ∷ []

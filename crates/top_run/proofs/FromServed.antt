@@ -27,6 +27,7 @@ use Rattle.eng_clients.specs.Replied.{replies_in}
 use Rattle.eng_array.specs.declared.start.Start.{Start}
 use Rattle.raid_script.specs.Asked.{seen}
 use Rattle.raid_script.specs.Replies as told
+use Rattle.raid_script.specs.Steps as pieces
 use Rattle.top_bound.proofs.Below.{below-get, below-same}
 use Rattle.top_bound.proofs.Limits.{sum-same, sectors-alike}
 use Rattle.top_serve.specs.Setups.{graphs_in}
@@ -34,7 +35,7 @@ use Rattle.top_serve.specs.Served as served
 use Rattle.top_run.specs.declared.service.Line.{Line}
 use Rattle.top_run.specs.Work.{Work, Ending, Service}
 use Rattle.top_run.specs.Works.{work_of, service_of}
-use Rattle.top_run.specs.Ran.{AreGraphsOf, told_byte, Opens, Rests, Tells}
+use Rattle.top_run.specs.Ran.{told_byte, Opens, Rests, Tells}
 
 -- ## Clients
 
@@ -56,11 +57,11 @@ asked-same (x ∷ a) (y ∷ b) count same =
     let rest = asked-same a b (omega (arith, count)) (λ c. same (suc c)) in
     ap (λ l. map seen l ∷ map (λ (items : ItemList). map seen items.items) a) (same zero) ∙ ap (λ l. map seen y.items ∷ l) rest
 
-items-alike : (o : Option ItemList) → told.items_in o ≡ items_in o
+items-alike : (o : Option ItemList) → pieces.items_in o ≡ items_in o
 items-alike None = refl
 items-alike (Some items) = refl
 
-replies-alike : (o : Option (Vec Reply Global)) → told.replies_in o ≡ replies_in o
+replies-alike : (o : Option (Vec Reply Global)) → pieces.replies_in o ≡ replies_in o
 replies-alike None = refl
 replies-alike (Some replies) = refl
 
@@ -120,15 +121,10 @@ module _ {L D : Type 0} (lay : LayoutGhosts L) (disk : DiskGhosts D) (setup : Se
     calls = s.opens.calls;
   }
 
-  pub graphs-from : AreGraphsOf a.graphs (graphs_in setup)
-  graphs-from = record {
-    file = λ n graph is. drawn-at setup.graphs.items n graph is;
-    drawn = λ t missing. refl;
-  }
-
   pub rests-from : Rests disk a setup.devices.items service (graphs_in setup) s.start s.events s.now
   rests-from = record {
-    graphs_are = graphs-from;
+    file = λ n graph is. drawn-at setup.graphs.items n graph is;
+    drawn = λ t missing. refl;
     begins = s.rests.begins;
     run = s.rests.run;
     rebuilds = s.rests.rebuilds;

@@ -5,10 +5,12 @@ use Rattle.std.proofs.lemmas.Option.{slice_get_past}
 use Rattle.blk_disk.specs.declared.disk.Disk.{Ghosts}
 use Rattle.eng_world.specs.declared.item.Item.{Item}
 use Rattle.eng_world.specs.declared.item.Reply.{Reply}
-use Rattle.raid_script.specs.Replies.{items_in, items_at, replies_in, replies_at}
+use Rattle.raid_script.specs.Replies.{items_at, replies_at}
+use Rattle.raid_script.specs.Steps.{items_in, replies_in}
 use Rattle.top_serve.specs.Served.{IsRebuiltBy}
 use Rattle.top_run.specs.Work.{Work, Service}
-use Rattle.top_run.specs.Ran.{Ran, begun_for}
+use Rattle.top_run.specs.Ran.{Ran}
+use Rattle.top_run.specs.Steps.{columns_in}
 
 no-replies : (l : List Reply) → length l ≡ 0 → l ≡ []
 no-replies [] none = refl
@@ -16,7 +18,7 @@ no-replies (x ∷ l) none = absurd (omega (arith, none))
 
 module _ {D : Type 0} (g : Ghosts D) (a : Work) (taken : List (Option D)) (s : Service) (back : List (Option D)) (r : Ran g a taken s back) (alone : a.start ≡ None) where
   no-items : (r.now.clients 16).items ≡ []
-  no-items = subst (λ how. IsRebuiltBy a.layout (begun_for a) how (r.now.clients 16).items) alone r.rests.rebuilds
+  no-items = subst (λ how. IsRebuiltBy a.layout (columns_in a) how (r.now.clients 16).items) alone r.rests.rebuilds
 
   pub items-all : (c : ℕ) → items_at s.clients c ≡ (r.now.clients c).items
   items-all c = elim (cases_eq c 16) [

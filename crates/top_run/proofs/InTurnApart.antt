@@ -18,7 +18,8 @@ use Rattle.item_list.specs.ItemList.{ItemList}
 use Rattle.eng_cols.specs.Stripes.{states_of}
 use Rattle.raid_script.specs.Asked.{seen}
 use Rattle.raid_script.specs.Drawn.{AreApart, IsOwn}
-use Rattle.raid_script.specs.Replies.{items_in, items_at}
+use Rattle.raid_script.specs.Replies.{items_at}
+use Rattle.raid_script.specs.Steps.{items_in}
 use Rattle.raid_script.proofs.OwnItems.{own_items}
 use Rattle.top_sweep.specs.Apart.{Touches, IsApart, id_of}
 use Rattle.top_run.specs.Work.{Work, Service}

@@ -11,14 +11,16 @@ use Rattle.eng_cols.specs.Cols.{ColumnState}
 use Rattle.eng_cols.specs.Contents.{decode}
 use Rattle.eng_world.specs.declared.item.Item.TheVariants as item
 use Rattle.eng_cols.specs.Stripes.{states_of}
-use Rattle.raid_script.specs.Drawn.{AreApart, IsOwn, drawn, share}
+use Rattle.raid_script.specs.Drawn.{AreApart, IsOwn, drawn}
+use Rattle.raid_script.specs.Steps.{share}
 use Rattle.raid_script.proofs.DrawnShares.{drawn_apart}
 use Rattle.raid_script.specs.Asked.{Asked}
 use Rattle.raid_script.specs.Replies.{items_at}
 use Rattle.raid_script.specs.Summary.{all_sum}
 use Rattle.top_sweep.proofs.OneAfterAnother.{replay_same}
 use Rattle.top_run.specs.Work.{Work, Service}
-use Rattle.top_run.specs.Ran.{RanPlain, Ran, states_in}
+use Rattle.top_run.specs.Ran.{RanPlain, Ran}
+use Rattle.top_run.specs.Steps.{states_in}
 use Rattle.top_run.specs.InTurn.{SweptInTurn, asks, place_of, turn_text}
 use Rattle.top_run.proofs.InTurnApart as apart
 use Rattle.top_run.proofs.InTurnMeans as means

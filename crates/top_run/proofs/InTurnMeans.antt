@@ -20,7 +20,8 @@ use Rattle.eng_world.specs.Legal.{AreOps, ReplyOf}
 use Rattle.eng_cols.specs.Stripes.{states_of}
 use Rattle.raid_script.specs.Asked.{seen}
 use Rattle.raid_script.specs.Drawn.{AreApart}
-use Rattle.raid_script.specs.Replies.{items_in, items_at, item_sectors, no_item, replies_at}
+use Rattle.raid_script.specs.Replies.{items_at, item_sectors, no_item, replies_at}
+use Rattle.raid_script.specs.Steps.{items_in}
 use Rattle.top_sweep.specs.Apart.{id_of, in_turn}
 use Rattle.top_sweep.proofs.OneAfterAnother.{get_in_turn}
 use Rattle.top_sweep.proofs.InAnyOrder.{leaves_in_turn, reads_in_turn}

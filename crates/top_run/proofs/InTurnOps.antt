@@ -10,9 +10,10 @@ use Rattle.eng_world.specs.declared.item.Item.{Item}
 use Rattle.eng_world.specs.declared.item.Item.TheVariants as item
 use Rattle.eng_world.specs.World.{op_of}
 use Rattle.item_list.specs.ItemList.{ItemList}
-use Rattle.raid_script.specs.Asked.{Asked, seen, seen_op}
-use Rattle.raid_script.specs.Replies.{op_sectors, item_sectors, row_sectors, items_in, items_at}
-use Rattle.raid_script.specs.Summary.{op_writes, item_writes, row_writes}
+use Rattle.raid_script.specs.Asked.{Asked, seen}
+use Rattle.raid_script.specs.Steps.{seen_op, op_sectors, items_in, op_writes, row_writes}
+use Rattle.raid_script.specs.Replies.{item_sectors, row_sectors, items_at}
+use Rattle.raid_script.specs.Summary.{item_writes}
 use Rattle.top_sweep.specs.Apart.{in_turn}
 use Rattle.top_run.specs.InTurn.{asks, one_after_another}
 

@@ -18,7 +18,8 @@ use Rattle.eng_world.specs.World.{World, IsRead}
 use Rattle.eng_world.specs.Planning.{Graphs, IsOut, IsLong}
 use Rattle.eng_world.specs.Legal.{ReplyOf, HasCommitted}
 use Rattle.eng_world.specs.Causes.{IsCause, ItemAt, HaveCauses}
-use Rattle.raid_script.specs.Asked.{Other, WritesAll, seen_patches}
+use Rattle.raid_script.specs.Asked.{Other, WritesAll}
+use Rattle.raid_script.specs.Steps.{seen_patches}
 use Rattle.raid_script.specs.Drawn.{IsOwn, IsOwnSpan}
 use Rattle.top_run.specs.InTurn.{plain_reply, asks}
 

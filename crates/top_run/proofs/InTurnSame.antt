@@ -9,7 +9,7 @@ use Rattle.lay_core.specs.Layout.{Shape, Blocks, blocks_in, block_of, data_units
 use Rattle.eng_cols.specs.declared.spot.Spot.{Spot}
 use Rattle.eng_cols.specs.Cols.{ColumnState}
 use Rattle.eng_cols.specs.Seats.{is_available, spot}
-use Rattle.eng_cols.specs.Contents.{Agrees, AnyStripe, Contents, byte_if, byte_of, decode, sector_at, xor_others}
+use Rattle.eng_cols.specs.Contents.{Agrees, AnyStripe, Contents, byte_of, decode, sector_at, xor_others}
 use Rattle.eng_world.specs.Plain.{apply, replay}
 use Rattle.eng_world.proofs.Shared.{code-same, xor_below-same}
 use Rattle.top_sweep.specs.Apart.{in_turn}
@@ -17,6 +17,7 @@ use Rattle.top_sweep.proofs.Turns.{apply_same}
 use Rattle.top_sweep.proofs.OneAfterAnother.{replay_same}
 use Rattle.top_run.specs.InTurn.{reply_sum, replies_sum}
 use Rattle.top_run.proofs.InTurnSums.{blocks-sum-same}
+use Rattle.eng_cols.proofs.Words.{byte_if}
 
 -- ## What contents mean
 

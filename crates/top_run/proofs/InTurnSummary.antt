@@ -14,7 +14,8 @@ use Rattle.eng_world.specs.declared.item.Reply.TheVariants as reply
 use Rattle.eng_world.specs.Plain.{replay}
 use Rattle.raid_script.specs.Drawn.{AreApart}
 use Rattle.raid_script.specs.Replies.{items_at, item_sectors, item_bytes, no_item, replies_at, row_sectors, sectors_before}
-use Rattle.raid_script.specs.Summary.{all_sum, client_sum, data_sum, place_sum, row_writes, summary_text, sweep_line, written_line}
+use Rattle.raid_script.specs.Summary.{all_sum, data_sum, summary_text}
+use Rattle.raid_script.specs.Steps.{client_sum, place_sum, row_writes, sweep_line, written_line}
 use Rattle.top_sweep.specs.Apart.{in_turn}
 use Rattle.top_sweep.proofs.OneAfterAnother.{replay-append, take_in_turn}
 use Rattle.top_run.specs.Work.{Work, Service}
@@ -39,6 +40,7 @@ module _ {D : Type 0} (g : Ghosts D) (a : Work) (taken : List (Option D)) (s : S
   clients-many = sym (length-map s.clients row_asks) ∙ ap (λ l. length l) r.tells.asked
 
   pub counts : (sum : ℕ) → sum ≡ all_sum s.clients s.replies s.sectors → summary_text s.clients s.replies s.sectors ≡ turn_text (length a.clients) turn sum
+  unfolding sweep_line written_line
   counts sum is =
       ap (λ (l : List ℕ). l ++ written_line (sum_by (λ row. row_writes row.items) s.clients) (sum_by (λ row. row_sectors row.items) s.clients) (all_sum s.clients s.replies s.sectors))
       (ap₂ sweep_line clients-many (sym (turn-many s.clients (apart.all-run g a taken s back r alone count ops wide blocks given within none))))

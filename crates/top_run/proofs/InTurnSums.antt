@@ -9,7 +9,7 @@ use Rattle.blk_plain.specs.declared.op.Op.TheVariants.{Read}
 use Rattle.blk_plain.specs.declared.op.Span.{Span}
 use Rattle.lay_core.specs.Layout.{Blocks}
 use Rattle.eng_world.specs.Plain.{apply, replay}
-use Rattle.raid_script.specs.Summary.{byte_sum}
+use Rattle.raid_script.specs.Steps.{byte_sum}
 use Rattle.top_sweep.specs.Apart.{in_turn}
 use Rattle.top_run.specs.InTurn.{block_sum, reply_sum, replies_sum}
 

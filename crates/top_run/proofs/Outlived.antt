@@ -32,7 +32,8 @@ use Rattle.eng_array.specs.Starts.{column_of}
 use Rattle.eng_array.specs.declared.start.Start.{Start}
 use Rattle.eng_array.specs.declared.start.Start.TheVariants as start
 use Rattle.raid_script.specs.Asked.{seen, Fails}
-use Rattle.raid_script.specs.Replies.{items_in, items_at}
+use Rattle.raid_script.specs.Replies.{items_at}
+use Rattle.raid_script.specs.Steps.{items_in}
 use Rattle.top_close.specs.Dying.{AnyCause}
 use Rattle.top_close.specs.Ended.{IsLossBy}
 use Rattle.top_close.proofs.DyingLaws.{columns_die, dies_apart, dies_unfilled, lost_no_less}
@@ -44,7 +45,8 @@ use Rattle.top_serve.proofs.Alike.{IsOther, other-or-not, start-other}
 use Rattle.top_serve.proofs.Behind.{IsFresh}
 use Rattle.top_serve.proofs.Closings.{none-count}
 use Rattle.top_run.specs.Work.{Work, Service}
-use Rattle.top_run.specs.Ran.{IsDeadBy, EndsAs, RisesAt, IsFailedBy, begun_for, Ran, RanPlain}
+use Rattle.top_run.specs.Ran.{EndsAs, RisesAt, IsFailedBy, Ran, RanPlain}
+use Rattle.top_run.specs.Steps.{IsDeadBy, columns_in}
 use Rattle.top_run.specs.Outliving.{HasFail, done_reply, MayDie, OutlivesCall, HasFaulted, IsAnswered, IsReplyTo, AllAnswered}
 use Rattle.top_run.proofs.AtEnd.{not-before}
 use Rattle.top_run.proofs.Columns.{device-on, device-same, given-unspread, kept-same, kept-unspread, no-device, not-so}
@@ -66,17 +68,13 @@ spread-back n l (Some set.Spread) done h = refl
 
 -- a column that is to be spread isn't dead as the run ends
 unbuilt-lives : (y : Shape) (now : World) (how : Option Start) (c : ℕ) → IsUnbuilt y how now c → slice_get now.columns c ≡ Some Dead → ⊥
-unbuilt-lives y now None c unbuilt dead = unbuilt
-unbuilt-lives y now (Some (start.Fill k d most)) c unbuilt dead = unbuilt
-unbuilt-lives y now (Some (start.Resume k most)) c unbuilt dead = unbuilt
-unbuilt-lives y now (Some (start.Spread k)) c unbuilt dead = unbuilt.1 dead
+unbuilt-lives y now how c unbuilt dead = unbuilt.1 dead
 
 -- and it is the one that is rebuilt
 unbuilt-other : {A : Type 0} (y : Shape) (now : World) (how : Option Start) (c : ℕ) → IsUnbuilt y how now c → IsOther how c → A
-unbuilt-other y now None c unbuilt other = absurd unbuilt
-unbuilt-other y now (Some (start.Fill k d most)) c unbuilt other = absurd unbuilt
-unbuilt-other y now (Some (start.Resume k most)) c unbuilt other = absurd unbuilt
-unbuilt-other y now (Some (start.Spread k)) c unbuilt other = absurd (other (sym unbuilt.0))
+unbuilt-other y now how c unbuilt other =
+    let apart : IsOther (Some (start.Spread c)) c = subst (λ (h : Option Start). IsOther h c) unbuilt.0 other in
+    absurd (apart refl)
 
 done-by : (o : Op) → (IsRead (Some o) → ⊥) → reply.Done ≡ done_reply o
 done-by (op.Write span pattern) h = refl
@@ -156,7 +154,7 @@ module _ {D : Type 0} (g : Ghosts D) (a : Work) (taken back : List (Option D)) (
   asked-fail c w = by (slice_get s.clients w.id.client) refl
     where
       other : w.id.client ≢ 16
-      other is = rebuilds-none y (begun_for a) a.start (ran.now.clients 16).items w.id.index c ran.rests.rebuilds (ap (λ k. slice_get (ran.now.clients k).items w.id.index) (sym is) ∙ w.asked)
+      other is = rebuilds-none y (columns_in a) a.start (ran.now.clients 16).items w.id.index c ran.rests.rebuilds (ap (λ k. slice_get (ran.now.clients k).items w.id.index) (sym is) ∙ w.asked)
 
       at : slice_get (items_at s.clients w.id.client) w.id.index ≡ Some (item.Fail c)
       at = ap (λ (l : List AnyItem). slice_get l w.id.index) (ran.tells.items w.id.client other) ∙ w.asked

@@ -20,7 +20,7 @@ use Rattle.eng_array.specs.declared.start.Start.TheVariants as start
 use Rattle.top_close.specs.Closes.{FillingEnds, SpreadEnds}
 use Rattle.top_close.proofs.ClosingLaws.{closing_dead}
 use Rattle.top_serve.specs.Setups.{with_start}
-use Rattle.top_serve.specs.Served.{IsKeptAs, SpreadsAlone}
+use Rattle.top_serve.specs.Served.{IsKeptAs}
 use Rattle.top_serve.proofs.Behind.{begun-set, unfilled}
 use Rattle.top_serve.proofs.Closings.{not-whole, set-whole}
 use Rattle.top_serve.proofs.Columns.{AreSet, SetIn, run-sets, set-states}
@@ -164,7 +164,7 @@ module _ {D : Type 0} (g : Ghosts D) (a : Work) (taken back : List (Option D)) (
       by (start.Resume m most) is = here (subst (λ x. passes is_filling (slice_get b.world.columns (starts.column_of x)) ≡ true) (sym is) (b.at (start.Resume m most) (started (start.Resume m most) is)))
       by (start.Spread m) is =
           let begins = started (start.Spread m) is in
-          let none = unfilled a.columns (subst (λ x. SpreadsAlone x a.columns) begins ran.rests.alone) m k in
+          let none = unfilled a.columns (ran.rests.alone m begins) m k in
           elim (ran.ends.came k) [
             | inl kept ↦
                 let was = kept-filling (slice_get (with_start a.start a.columns) k) (slice_get columns k) kept h in

@@ -5,7 +5,7 @@ use Rattle.std.proofs.lemmas.Option.{slice_get-map}
 use Rattle.lay_core.specs.Layout.{Shape}
 use Rattle.eng_cols.specs.declared.column.Column.{Column}
 use Rattle.eng_cols.specs.declared.column.Column.TheVariants as set
-use Rattle.eng_cols.specs.Cols.{ColumnState, Live, Dead, Filling, Spread, state_set}
+use Rattle.eng_cols.specs.Cols.{ColumnState, Live, Dead, Filling, Spread, state_set, Columns}
 use Rattle.eng_cols.specs.Stripes.{filled_in, states_of}
 use Rattle.eng_world.specs.declared.item.Item.{Item}
 use Rattle.eng_world.specs.declared.item.Item.TheVariants as item
@@ -107,6 +107,6 @@ none-fails [] i c is = let z : None ≡ Some (item.Fail c) = is in let u : ⊥ =
 none-fails (s ∷ stripes) zero c is = let z : Some (rebuild s) ≡ Some (item.Fail c) = is in let same : rebuild s ≡ item.Fail c = cc in subst IsRun same tt
 none-fails (s ∷ stripes) (suc i) c is = none-fails stripes i c is
 
-pub rebuilds-none : (y : Shape) (begun : List ColumnState) (how : Option Start) (items : List Item) (i c : ℕ) → IsRebuiltBy y begun how items → slice_get items i ≡ Some (item.Fail c) → ⊥
-rebuilds-none y begun None items i c are is = none-fails [] i c (subst (λ l. slice_get l i ≡ Some (item.Fail c)) are is)
-rebuilds-none y begun (Some how) items i c are is = none-fails are.stripes i c (subst (λ l. slice_get l i ≡ Some (item.Fail c)) are.is is)
+pub rebuilds-none : (y : Shape) (cols : Columns) (how : Option Start) (items : List Item) (i c : ℕ) → IsRebuiltBy y cols how items → slice_get items i ≡ Some (item.Fail c) → ⊥
+rebuilds-none y cols None items i c are is = none-fails [] i c (subst (λ l. slice_get l i ≡ Some (item.Fail c)) are is)
+rebuilds-none y cols (Some how) items i c are is = none-fails are.stripes i c (subst (λ l. slice_get l i ≡ Some (item.Fail c)) are.is is)

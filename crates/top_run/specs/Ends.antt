@@ -5,11 +5,11 @@ use Rattle.blk_disk.specs.Devices.{Changes, calls_of}
 use Rattle.lay_core.specs.Layout.{IsLayout}
 use Rattle.lay_core.specs.declared.layout.Layout.{Ghosts as LayoutGhosts}
 use Rattle.eng_cols.specs.Cols.{is_set_filling, is_set_spread, HasDeviceOn}
-use Rattle.eng_cols.specs.Deaths.{Dies}
+use Rattle.eng_cols.specs.Deaths.{Dies, LosesDevice}
 use Rattle.eng_parts.specs.declared.setup.Closed.{Closed}
 use Rattle.top_close.specs.Calls.{EndsSettled}
 use Rattle.top_close.specs.Reserved.{IsReserved}
-use Rattle.top_close.specs.Settled.{HaveDevices, LosesDevice, AreSettled}
+use Rattle.top_close.specs.Settled.{HaveDevices, AreSettled}
 use Rattle.eng_cols.specs.Stripes.{states_of}
 use Rattle.top_close.specs.Ended.{IsLossBy}
 use Rattle.top_close.specs.Stage.{IsGivenUp, IsGivenUpIn}

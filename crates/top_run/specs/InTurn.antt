@@ -12,9 +12,10 @@ use Rattle.eng_world.specs.declared.item.Reply.{Reply}
 use Rattle.eng_world.specs.declared.item.Reply.TheVariants.{Done, Data}
 use Rattle.eng_world.specs.Plain.{apply, replay}
 use Rattle.eng_cols.specs.Stripes.{states_of}
-use Rattle.raid_script.specs.Asked.{Asked, seen_op}
-use Rattle.raid_script.specs.Replies.{op_sectors, replies_at}
-use Rattle.raid_script.specs.Summary.{op_writes, sweep_line, written_line, summary_text}
+use Rattle.raid_script.specs.Asked.{Asked}
+use Rattle.raid_script.specs.Steps.{seen_op, op_sectors, op_writes, sweep_line, written_line}
+use Rattle.raid_script.specs.Replies.{replies_at}
+use Rattle.raid_script.specs.Summary.{summary_text}
 use Rattle.top_run.specs.Work.{Work, Service}
 use Rattle.top_run.specs.Ran.{WasInSync, told_byte}
 

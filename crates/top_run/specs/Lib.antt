@@ -1,6 +1,7 @@
 pub mod Work
 pub mod Works
 pub mod Ran
+pub mod Steps
 pub mod Rebuilding
 pub mod InTurn
 pub mod Outliving

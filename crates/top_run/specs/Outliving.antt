@@ -25,7 +25,8 @@ use Rattle.raid_script.specs.Asked.{Asked as Item, Fails}
 use Rattle.raid_script.specs.Replies.{items_at, replies_at}
 use Rattle.top_run.specs.Work.{Work, Service}
 use Rattle.top_serve.specs.Setups.{with_start}
-use Rattle.top_run.specs.Ran.{states_in, begun_in, Ran}
+use Rattle.top_run.specs.Ran.{begun_in, Ran}
+use Rattle.top_run.specs.Steps.{states_in}
 
 -- ## The array
 

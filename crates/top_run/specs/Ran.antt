@@ -1,20 +1,20 @@
 -- What a run of clients is, and what it leaves.
-use Rattle.std.specs.Prelude.{◌≡◌, ◌≢◌, ◌⊎◌, ◌<◌, ◌≤◌, ◌+◌, ◌*◌, ℕ, List, [], ◌∷◌, ◌++◌, length, true, false, Option, Some, None, map, drop, slice_get, slice_index, slice_index_or, sum_by, unwrap_or, Contains}
+use Rattle.std.specs.Prelude.{◌≡◌, ◌≢◌, ◌⊎◌, ◌<◌, ◌≤◌, ◌+◌, ◌*◌, ℕ, List, [], ◌∷◌, ◌++◌, length, true, false, Option, Some, None, MatchOption, if◌then◌else◌, map, drop, reverse, count_by, slice_get, slice_index, slice_index_or, sum_by, unwrap_or, Contains, option_and_then}
 use Rattle.blk_plain.specs.declared.op.Op.{Op}
 use Rattle.blk_plain.specs.declared.op.OpId.{OpId}
 use Rattle.blk_disk.specs.declared.disk.Call.{Call}
 use Rattle.blk_disk.specs.declared.disk.Disk.{Ghosts}
 use Rattle.blk_disk.specs.Disk.{call_of}
 use Rattle.blk_disk.specs.Devices.{size_of, contents_of, calls_of, RisesOn, Changes}
-use Rattle.lay_core.specs.Layout.{Shape, IsLayout}
-use Rattle.graph_lib.specs.Library.{library}
+use Rattle.lay_core.specs.Layout.{IsLayout}
 use Rattle.graph_mean.specs.Task.{Aim, Missing}
 use Rattle.graph_mean.specs.Graph.{View}
 use Rattle.eng_cols.specs.declared.column.Column.{Column}
 use Rattle.eng_cols.specs.declared.column.Column.TheVariants as column
 use Rattle.eng_cols.specs.declared.spot.Loss.{Loss}
-use Rattle.eng_cols.specs.Cols.{ColumnState, HasDevice, HasDeviceOn, has_device}
-use Rattle.eng_cols.specs.Contents.{Agrees, AnyStripe, InSync}
+use Rattle.eng_cols.specs.Cols.{ColumnState, Dead, HasDevice, HasDeviceOn, has_device, is_set_filling}
+use Rattle.eng_cols.specs.Contents.{Agrees, InSync}
+use Rattle.eng_cols.specs.Seats.{HasStripeLeft}
 use Rattle.eng_cols.specs.Deaths.{Dies}
 use Rattle.eng_world.specs.declared.item.Reply.TheVariants as reply
 use Rattle.eng_world.specs.declared.item.Traced.{Traced}
@@ -24,30 +24,29 @@ use Rattle.eng_world.specs.Plain.{replay}
 use Rattle.eng_world.specs.World.{World}
 use Rattle.eng_world.specs.Step.{IsOpening, EventsLead}
 use Rattle.eng_world.specs.Legal.{AreOps, RepliesFit}
-use Rattle.eng_world.specs.Invariant.{IsTold, AllReplied}
-use Rattle.eng_world.specs.Rebuilding.{SpreadAlike}
-use Rattle.eng_world.specs.Rows.{IsInRows}
-use Rattle.eng_cols.specs.Stripes.{done_at, states_of}
+use Rattle.eng_world.specs.Invariant.{IsTold}
+use Rattle.eng_cols.specs.Stripes.{states_of, are_spread, done_set}
+use Rattle.eng_rest.specs.Left.{IsOwn}
+use Rattle.eng_starts.specs.Rebuilding.{AreRebuildsBelow}
 use Rattle.eng_state.specs.Shows.{AreTold}
-use Rattle.eng_array.specs.Starts.{column_of}
+use Rattle.eng_array.specs.Starts.{column_of, event_of, begun_by, most_of}
+use Rattle.eng_array.specs.Tickets.{AllOf}
 use Rattle.eng_array.specs.declared.start.Start.{Start}
+use Rattle.eng_array.specs.declared.start.Start.TheVariants as rebuild
 use Rattle.raid_script.specs.Asked.{Asked, Other, seen}
 use Rattle.raid_script.specs.Replies.{StandFor, item_bytes, item_sectors, items_at, no_item, replies_at, row_sectors, sectors_before}
-use Rattle.top_serve.specs.Setups.{started_from, with_start}
+use Rattle.top_serve.specs.Setups.{with_start}
 use Rattle.top_serve.specs.Caused.{RestsOn, WentBadOn}
-use Rattle.top_serve.specs.Served.{BeginsBy, FillsBy, IsKeptAs, IsRebuiltBy, IsUnbuilt, SpreadsAlone, WasFailed, trace_of}
+use Rattle.top_serve.specs.Served.{FillsBy, IsKeptAs, WasFailed}
 use Rattle.top_close.specs.Calls.{EndsSettled}
 use Rattle.top_close.specs.Closes.{ClosesAs}
 use Rattle.top_close.specs.Ended.{IsLossBy}
 use Rattle.top_close.specs.Stage.{IsGivenUp, IsGivenUpIn}
 use Rattle.top_run.specs.Work.{Work, Service}
+use Rattle.graph_lib.specs.Library.{pieces_upto}
+use Rattle.graph_lib.specs.Assembled.{assembled}
 
 -- ## Words of a run
-
--- the graphs that operations may have: those of the file, by number, and the library's, in which a rebuild without target has its unit counted as there
-pub record AreGraphsOf (views : List View) (graphs : Graphs) : Type 0 where
-  pub file : (n : ℕ) (graph : View) → slice_get views n ≡ Some graph → graphs.file n ≡ graph
-  pub drawn : (t : Aim) (missing : Missing) → graphs.library t missing ≡ library t missing true
 
 -- byte k of block b of what item i of client c is handed, by what is printed
 abbrev pub told_byte : Service → ℕ → ℕ → ℕ → ℕ → ℕ
@@ -57,43 +56,37 @@ told_byte s c i b k = slice_index (item_bytes (items_at s.clients c) (drop (512 
 abbrev pub AsksAsScripts : Work → Type 0
 AsksAsScripts a = (row : List Asked) → Contains a.clients row → Contains row Other → ⊥
 
--- the columns as the array is opened: each stripe of a spread one is done
-abbrev pub states_in : Work → List ColumnState
-states_in a = states_of a.layout a.columns
-
--- and once a rebuild has begun, if one does; only which columns there are is meant by these, and not which stripes are done
+-- the columns once a rebuild has begun, if one does; only which columns there are is meant by these, and not which stripes are done
 abbrev pub begun_in : Work → List ColumnState
 begun_in a = states_of a.layout (with_start a.start a.columns)
-
--- the columns as the rebuild's own event leaves them: of a spread one no stripe is done
-abbrev pub begun_for : Work → List ColumnState
-begun_for a = started_from (record { states = states_in a; stripes = a.layout.stripes }) a.start
 
 module _ {D : Type 0} (g : Ghosts D) (a : Work) (taken : List (Option D)) where
   -- the check units of the array fit its data, by what its devices hold as they are taken
   abbrev pub WasInSync : Type 0
-  WasInSync = InSync a.layout (contents_of g taken) (states_in a)
+  WasInSync = InSync a.layout (contents_of g taken) (states_of a.layout a.columns)
 
   -- ## The run
 
   -- An opening of what is asked: its columns and items; no device has failed; devices hold and tell what they did as they were taken, and the blocks are what they decode to. What a device holds is said where devices of this type tell it, and its calls where it tells them.
   pub record Opens (w : World) : Type 0 where
     pub opening : IsOpening a.layout w
-    pub columns : w.columns ≡ states_in a
+    pub columns : w.columns ≡ states_of a.layout a.columns
     pub items : (c : ℕ) → map seen (w.clients c).items ≡ slice_index_or a.clients c []
     pub failed : (d : ℕ) → w.failed d ≡ false
     pub contents : g.tells → (d n k : ℕ) → k < 512 → w.contents d n k ≡ contents_of g taken d n k
     pub calls : (d : ℕ) → AreTold g (calls_of g taken d) (w.calls d)
 
   module _ (s : Service) where
-    -- The events, the newest first, lead to rest: each item has its reply, and no job is out. All are the clients' own, but for the start of a rebuild, if there is one, which is the first; then client 16 has a rebuild of each of the first of the column's stripes that aren't done, as many as are asked, and nothing else. Beside a rebuild into the spare places no column is filling.
+    -- The events, the newest first, lead to rest: each item has its reply, and no job is out. The graphs that operations may have are those of the file, by number, and the library's, in which a rebuild without target has its unit counted as there. All events are the clients' own, but for the start of a rebuild, if there is one, which is the first; then client 16 has a rebuild of each of the first of the column's stripes that aren't done, as many as are asked, and nothing else. Beside a rebuild into the spare places no column is filling.
     pub record Rests (graphs : Graphs) (start : World) (events : List Traced) (now : World) : Type 0 where
-      pub graphs_are : AreGraphsOf a.graphs graphs
-      pub begins : BeginsBy a.start (length (now.clients 16).items) events
+      pub file : (n : ℕ) (graph : View) → slice_get a.graphs n ≡ Some graph → graphs.file n ≡ graph
+      pub drawn : (t : Aim) (missing : Missing) → graphs.library t missing ≡ assembled (pieces_upto t missing true t.stripes)
+      pub begins : MatchOption a.start (AllOf IsOwn events) (λ how. (own : List Traced) × (events ≡ own ++ event_of how (length (now.clients 16).items) ∷ []) × AllOf IsOwn own)
       pub run : EventsLead a.layout graphs start events now
-      pub rebuilds : IsRebuiltBy a.layout (begun_for a) a.start (now.clients 16).items
-      pub alone : SpreadsAlone a.start a.columns
-      pub replied : AllReplied now
+      pub rebuilds : MatchOption a.start ((now.clients 16).items ≡ [])
+          (λ how. AreRebuildsBelow a.layout (begun_by (record { states = states_of a.layout a.columns; stripes = a.layout.stripes }) how) (column_of how) (most_of how) a.layout.stripes (now.clients 16).items)
+      pub alone : (c : ℕ) → a.start ≡ Some (rebuild.Spread c) → count_by is_set_filling a.columns ≡ 0
+      pub replied : (c : ℕ) → length (now.clients c).replies ≡ length (now.clients c).items
       pub out : now.out ≡ 0
 
     -- What is told of it: the items that were asked of at most sixteen clients, a reply to each, the history and the events, and what reads hand out, a sector for each block that they ask and none else: where the reply is data its blocks, where devices tell what they hold, and zeros where it's another one. Of client 16, which rebuilds, neither items nor replies are told.
@@ -104,7 +97,7 @@ module _ {D : Type 0} (g : Ghosts D) (a : Work) (taken : List (Option D)) where
       pub rows : length s.replies ≡ length s.clients
       pub replies : (c : ℕ) → c ≢ 16 → replies_at s.replies c ≡ (now.clients c).replies
       pub history : s.history ≡ now.history
-      pub trace : s.trace ≡ trace_of a.trace events
+      pub trace : s.trace ≡ (if a.trace then reverse events else [])
       pub stands : StandFor s.clients s.replies s.sectors
       pub sectors : length s.sectors ≡ 512 * sum_by (λ row. row_sectors row.items) s.clients
       pub handed : g.tells → (c i b k : ℕ) → slice_get (now.clients c).replies i ≡ Some reply.Data → b < item_sectors (slice_index_or (items_at s.clients c) i no_item) → k < 512 → (now.clients c).handed i b k ≡ told_byte s c i b k
@@ -118,39 +111,30 @@ module _ {D : Type 0} (g : Ghosts D) (a : Work) (taken : List (Option D)) where
         pub legal : IsTold start.blocks now
         pub fits : g.tells → WasInSync → RepliesFit start.blocks now
         pub agrees : g.tells → WasInSync → s.ending.lost ≡ None → (ops : List Op) × AreOps now now.history ops
-            × Agrees a.layout (contents_of g back) (states_of a.layout s.ending.columns) (replay start.blocks ops) AnyStripe
+            × Agrees a.layout (contents_of g back) (states_of a.layout s.ending.columns) (replay start.blocks ops) (λ _. Unit {0})
 
       -- ## How it ends
-
-      -- the sector may have changed: it is one of the array's rows, on a device that was in a column or that a column was rebuilt onto; or the device has no such sector
-      abbrev pub MayChange : ℕ → ℕ → Type 0
-      MayChange d n = (((c : ℕ) × HasDevice (begun_in a) c d) × IsInRows a.layout n) ⊎ (size_of g taken d ≤ n)
 
       -- the device of the column had its count of faults rise
       abbrev pub RisesAt : ℕ → Type 0
       RisesAt c = (d : ℕ) × HasDevice (begun_in a) c d × RisesOn g taken back d
 
-      -- The array was lost in the run; or a column that the rebuild rests on was dead as it started, or an item was replied ok by which it failed, or its device's count of faults rose.
-      abbrev pub IsStoppedBy : World → Start → Type 0
-      IsStoppedBy now start = ((loss : Loss) × (now.lost ≡ Some loss)) ⊎ ((c : ℕ) × RestsOn a.layout start c × ((slice_get (with_start a.start a.columns) c ≡ Some column.Dead) ⊎ (WasFailed now c ⊎ RisesAt c)))
-
-      -- an item was replied ok by which the column failed, or its device's count of faults rose, or it was to be spread and not all of its stripes were rebuilt
-      abbrev pub IsDeadBy : World → ℕ → Type 0
-      IsDeadBy now c = WasFailed now c ⊎ (RisesAt c ⊎ IsUnbuilt a.layout a.start now c)
-
-      -- a column is kept as what it was, or it is dead for a cause
+      -- a column is kept as what it was; or it is dead, as an item was replied ok by which it failed, or its device's count of faults rose, or it was to be spread and not all of its stripes were rebuilt
       abbrev pub EndsAs : World → Option Column → Option Column → ℕ → Type 0
-      EndsAs now was kept c = IsKeptAs was kept ⊎ ((kept ≡ Some column.Dead) × IsDeadBy now c)
+      EndsAs now was kept c = IsKeptAs was kept
+          ⊎ ((kept ≡ Some column.Dead) × (WasFailed now c ⊎ (RisesAt c
+          ⊎ ((a.start ≡ Some (rebuild.Spread c)) × (slice_get now.columns c ≡ Some Dead → ⊥) × HasStripeLeft a.layout now.columns c))))
 
-      -- The columns as they are kept are those of the run's end, where a column that was being rebuilt is live if it is whole, and else filling still, or dead where it was to be spread; in the end some more may have died, as they were settled, or as the array was lost while they were filling; and the loss is the run's, or that of the columns in the end. A rebuild that began and left its column dead was stopped by something.
+      -- The columns as they are kept are those of the run's end, where a column that was being rebuilt is live if it is whole, and else filling still, or dead where it was to be spread; in the end some more may have died, as they were settled, or as the array was lost while they were filling; and the loss is the run's, or that of the columns in the end. A rebuild that began and left its column dead was stopped by something: the array was lost in the run; or a column that the rebuild rests on was dead as it started, or an item was replied ok by which it failed, or its device's count of faults rose.
       pub record ColumnsEnd (now : World) : Type 0 where
         pub kept : List Column
         pub closes : ClosesAs a.layout now.columns kept
         pub count : length kept ≡ length a.columns
         pub came : (c : ℕ) → EndsAs now (slice_get (with_start a.start a.columns) c) (slice_get kept c) c
         pub paused : s.ending.lost ≡ None → (c d n most : ℕ) → FillsBy a.start c most → slice_get kept c ≡ Some (column.Filling d n) → length (now.clients 16).items ≡ most
-        pub far : s.ending.lost ≡ None → AsksAsScripts a → (c d n most : ℕ) → FillsBy a.start c most → slice_get kept c ≡ Some (column.Filling d n) → SpreadAlike (begun_in a) now.columns → n ≡ unwrap_or (done_at (with_start a.start a.columns) c) 0 + most
-        pub stopped : (start : Start) → a.start ≡ Some start → slice_get kept (column_of start) ≡ Some column.Dead → IsStoppedBy now start
+        pub far : s.ending.lost ≡ None → AsksAsScripts a → (c d n most : ℕ) → FillsBy a.start c most → slice_get kept c ≡ Some (column.Filling d n) → ((k : ℕ) → are_spread now.columns k ≡ are_spread (begun_in a) k) → n ≡ unwrap_or (option_and_then done_set (slice_get (with_start a.start a.columns) c)) 0 + most
+        pub stopped : (how : Start) → a.start ≡ Some how → slice_get kept (column_of how) ≡ Some column.Dead
+            → ((loss : Loss) × (now.lost ≡ Some loss)) ⊎ ((c : ℕ) × RestsOn a.layout how c × ((slice_get (with_start a.start a.columns) c ≡ Some column.Dead) ⊎ (WasFailed now c ⊎ RisesAt c)))
         pub dies : Dies (λ c. RisesAt c ⊎ IsGivenUp s.ending.lost kept c) kept s.ending.columns
         pub given_up : IsGivenUpIn s.ending.lost s.ending.columns
         pub lost : IsLossBy a.layout now.lost (states_of a.layout s.ending.columns) s.ending.lost
@@ -186,16 +170,12 @@ module _ {D : Type 0} (g : Ghosts D) (a : Work) (taken : List (Option D)) where
 
       -- ## Without labels
 
-      -- Devices hold what they do at the run's end, and have changed nowhere else. Behind the run the device of each column that had one has one call more, a settle, which went well exactly where the column has it in the end; no other device was called; so each device of a column in the end has been settled last.
-      pub record LeavesSettled (kept : List Column) (now : World) : Type 0 where
-        pub contents : g.tells → (d n k : ℕ) → k < 512 → contents_of g back d n k ≡ now.contents d n k
-        pub once : (c d : ℕ) (told : List Call) → HasDeviceOn kept c d → calls_of g back d ≡ Some told → told ≡ now.calls d ++ call_of 2 0 0 (has_device (slice_get s.ending.columns c)) ∷ []
-        pub others : (d : ℕ) (told : List Call) → ((c : ℕ) → HasDeviceOn kept c d → ⊥) → calls_of g back d ≡ Some told → told ≡ now.calls d
-        pub settled : (c d : ℕ) → HasDevice (states_of a.layout s.ending.columns) c d → EndsSettled (calls_of g back d)
-        pub frame : Changes g MayChange taken back
-
-      -- A run over an array without labels: nothing is rebuilt, and each device in use is settled in the end.
+      -- A run over an array without labels: nothing is rebuilt. Devices hold what they do at the run's end, and have changed nowhere else: only the array's rows, on a device that was in a column or that a column was rebuilt onto, or sectors that a device hasn't. Behind the run the device of each column that had one has one call more, a settle, which went well exactly where the column has it in the end; no other device was called; so each device of a column in the end has been settled last.
       pub record RanPlain : Type 0 where
         pub run : Ran
-        pub leaves : LeavesSettled run.ends.kept run.now
+        pub contents : g.tells → (d n k : ℕ) → k < 512 → contents_of g back d n k ≡ run.now.contents d n k
+        pub once : (c d : ℕ) (told : List Call) → HasDeviceOn run.ends.kept c d → calls_of g back d ≡ Some told → told ≡ run.now.calls d ++ call_of 2 0 0 (has_device (slice_get s.ending.columns c)) ∷ []
+        pub others : (d : ℕ) (told : List Call) → ((c : ℕ) → HasDeviceOn run.ends.kept c d → ⊥) → calls_of g back d ≡ Some told → told ≡ run.now.calls d
+        pub settled : (c d : ℕ) → HasDevice (states_of a.layout s.ending.columns) c d → EndsSettled (calls_of g back d)
+        pub frame : Changes g (λ d n. (((c : ℕ) × HasDevice (begun_in a) c d) × ((64 ≤ n) × (n < 64 + a.layout.rows * a.layout.unit_sectors))) ⊎ (size_of g taken d ≤ n)) taken back
         pub none : (a.start ≡ None) × (s.line ≡ None)

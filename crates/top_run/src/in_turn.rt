@@ -6,7 +6,8 @@ ghost use Rattle.lay_core.specs.Layout.{blocks_in};
 ghost use Rattle.eng_cols.specs.Contents.{decode};
 ghost use Rattle.raid_script.specs.Drawn.{AreApart, drawn};
 ghost use Rattle.top_run.specs.Work.{Work, Service};
-ghost use Rattle.top_run.specs.Ran.{RanPlain, states_in};
+ghost use Rattle.top_run.specs.Ran.{RanPlain};
+ghost use Rattle.top_run.specs.Steps.{states_in};
 ghost use Rattle.top_run.specs.InTurn.{SweptInTurn};
 
 use blk_disk::Disk;

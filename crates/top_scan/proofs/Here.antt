@@ -7,8 +7,8 @@ use Rattle.raid_assemble.specs.declared.sets.Standing.{Standing}
 use Rattle.raid_text.specs.Text.{Text}
 use Rattle.top_open.specs.declared.fronts.Front.{Front}
 use Rattle.top_open.specs.declared.fronts.Front.TheVariants.{Away}
-use Rattle.top_scan.specs.Lines.{bare_front, bare_text, line_if, other_front, other_text, set_at, set_line, set_text}
-use Rattle.top_scan.specs.Steps.{members_text, others_text, name_at, standing_at}
+use Rattle.top_scan.specs.Lines.{bare_text, line_if, other_text, set_line, set_text}
+use Rattle.top_scan.specs.Steps.{members_text, others_text, name_at, standing_at, bare_front, other_front, set_at}
 
 -- what stands in a place, whatever is taken where nothing does
 pub at_place : {X : Type 0} (xs : List X) (place : ℕ) (d x : X) → place < length xs → x ≡ get_or xs place x → get_or xs place d ≡ x

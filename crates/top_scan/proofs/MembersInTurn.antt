@@ -8,8 +8,8 @@ use Rattle.std.proofs.lemmas.List.Sums.{position_or_len_is}
 use Rattle.raid_assemble.specs.declared.sets.Standing.{Standing}
 use Rattle.raid_assemble.specs.declared.sets.Standing.TheVariants.{Member, Double, Foreign, Stale, Bare}
 use Rattle.raid_text.specs.Text.{Text}
-use Rattle.top_scan.specs.Lines.{is_member_at, member_text, named_line}
-use Rattle.top_scan.specs.Steps.{member_front, name_at, standing_at}
+use Rattle.top_scan.specs.Lines.{member_text, named_line}
+use Rattle.top_scan.specs.Steps.{member_front, name_at, standing_at, is_member_at}
 use Rattle.top_scan.specs.Places.{HasColumnsBelow, IsNext, NoneFrom}
 use Rattle.top_scan.specs.declared.members.Found.{Found}
 use Rattle.top_scan.proofs.Printed.{from_place, place_more, place_none, places_skip}

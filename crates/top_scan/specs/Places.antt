@@ -3,9 +3,8 @@ use Rattle.std.specs.Prelude.{◌≡◌, ℕ, ◌<◌, ◌≤◌, List, length, 
 use Rattle.raid_assemble.specs.declared.sets.Set.{Set}
 use Rattle.raid_assemble.specs.declared.sets.Standing.{Standing}
 use Rattle.raid_assemble.specs.declared.sets.Standing.TheVariants.{Member}
-use Rattle.top_scan.specs.Lines.{set_at}
 use Rattle.top_scan.specs.declared.members.Found.{Found}
-use Rattle.top_scan.specs.Steps.{standing_at}
+use Rattle.top_scan.specs.Steps.{standing_at, set_at}
 
 -- all members of the set have a column below this one
 abbrev pub HasColumnsBelow : List Standing → ℕ → ℕ → Type 0

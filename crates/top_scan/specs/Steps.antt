@@ -1,10 +1,10 @@
 -- What the functions that read a list, or print a scan, find piece by piece; List, Lines and
 -- Scanned say it in one.
-use Rattle.std.specs.Prelude.{ℕ, List, [], ◌∷◌, codes, decimal, slice_index_or, Bool, Result, length, flat_map}
+use Rattle.std.specs.Prelude.{ℕ, List, [], ◌∷◌, codes, decimal, slice_index_or, Bool, Result, length, flat_map, ◌==◌, ◌&&◌, false, Option, Some, None, position, if◌then◌else◌}
 use Rattle.put_line.specs.Line.{line}
 use Rattle.raid_assemble.specs.declared.sets.Set.{Set}
 use Rattle.raid_assemble.specs.declared.sets.Standing.{Standing}
-use Rattle.raid_assemble.specs.declared.sets.Standing.TheVariants.{Bare}
+use Rattle.raid_assemble.specs.declared.sets.Standing.TheVariants.{Bare, Member, Double, Foreign, Stale}
 use Rattle.raid_text.specs.Text.{Text, Numbered, lines_in}
 use Rattle.std.specs.List.{list_any, range_with_len}
 use Rattle.std.specs.Str.{bytes_eq}
@@ -13,6 +13,7 @@ use Rattle.text_steps.specs.declared.at.At.{At}
 use Rattle.top_scan.specs.List.{name_of, names_behind}
 use Rattle.top_open.specs.declared.fronts.Front.{Front}
 use Rattle.top_scan.specs.Lines.{member_text, other_text, set_text, bare_text}
+use Rattle.top_open.specs.declared.fronts.Front.TheVariants.{Away, Unread, Held}
 
 -- the name in a place
 abbrev pub name_at : List Text → ℕ → Text
@@ -59,3 +60,34 @@ line_name names line = words_in line >>= λ words. name_of names words
 -- the names of a text, in the order of its lines
 unfoldable pub list_of : Text → Result (List Text) At
 list_of text = names_behind [] (lines_in text)
+
+-- a set's member for a column
+abbrev pub is_member_at : ℕ → ℕ → Standing → Bool
+is_member_at set column (Member s c) = (s == set) && (c == column)
+is_member_at set column (Double s) = false
+is_member_at set column (Foreign s) = false
+is_member_at set column (Stale s) = false
+is_member_at set column Bare = false
+
+-- what a label is that belongs to a set and isn't its member
+abbrev pub other_front : ℕ → Standing → Option (List ℕ)
+other_front set (Member s c) = None
+other_front set (Double s) = if s == set then Some (codes "double ") else None
+other_front set (Foreign s) = if s == set then Some (codes "foreign ") else None
+other_front set (Stale s) = if s == set then Some (codes "stale ") else None
+other_front set Bare = None
+
+-- what a component without a label is, by what was read of it
+abbrev pub bare_front : Front → Standing → Option (List ℕ)
+bare_front Unread Bare = Some (codes "unread ")
+bare_front Away Bare = Some (codes "bare ")
+bare_front (Held bytes) Bare = Some (codes "bare ")
+bare_front front (Member s c) = None
+bare_front front (Double s) = None
+bare_front front (Foreign s) = None
+bare_front front (Stale s) = None
+
+-- the set in a position; a set of nothing where there is none
+abbrev pub set_at : List Set → ℕ → Set
+set_at sets position = slice_index_or sets position
+    (record { serial = 0; counter = 0; columns = 0; level = 0; members = 0; wanted = 0 })

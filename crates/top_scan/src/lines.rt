@@ -2,8 +2,8 @@
 ghost use Rattle.std.specs.Prelude.{◌≡◌, ◌≤◌, ◌<◌, length, is_ok, option_copied, OnErr};
 ghost use Rattle.blk_disk.specs.Disk.{Rose};
 ghost use Rattle.raid_bay.specs.Sink.{Puts};
-ghost use Rattle.top_scan.specs.Lines.{bare_front, bare_text, scan_text};
-ghost use Rattle.top_scan.specs.Steps.{bares_text};
+ghost use Rattle.top_scan.specs.Lines.{bare_text, scan_text};
+ghost use Rattle.top_scan.specs.Steps.{bares_text, bare_front};
 ghost use Rattle.top_scan.specs.Scanned.{IsComplete};
 
 use crate::named::{name_at, put_if};

@@ -2,8 +2,8 @@
 ghost use Rattle.std.specs.Prelude.{◌≡◌, ◌≤◌, ◌<◌, length, is_ok, option_copied, OnErr};
 ghost use Rattle.blk_disk.specs.Disk.{Rose};
 ghost use Rattle.raid_bay.specs.Sink.{Puts};
-ghost use Rattle.top_scan.specs.Lines.{other_front, other_text, set_line, set_text};
-ghost use Rattle.top_scan.specs.Steps.{others_text, sets_text};
+ghost use Rattle.top_scan.specs.Lines.{other_text, set_line, set_text};
+ghost use Rattle.top_scan.specs.Steps.{others_text, sets_text, other_front};
 ghost use Rattle.top_scan.specs.Places.{HaveColumnsBelow};
 
 use crate::members::put_members;

@@ -1,13 +1,13 @@
 -- The run begins with an opening of what was handed in, and comes to rest.
 use Rattle.std.proofs.Common.{◌≡◌, ℕ, zero, suc, ◌<◌, List, [], ◌++◌, length, false, Option, Some, None, refl, sym, ◌∙◌, ap, subst, arith}
-use Rattle.std.specs.Prelude.{replicate, slice_index, slice_index_or, option_and_then}
+use Rattle.std.specs.Prelude.{replicate, slice_index, slice_index_or, option_and_then, count_by}
 use Rattle.std.specs.Option.{option_map_or}
 use Rattle.blk_disk.specs.declared.disk.Disk.{Ghosts as DiskGhosts}
 use Rattle.blk_disk.specs.Devices.{device_at, contents_of, calls_of}
 use Rattle.lay_core.specs.Layout.{Shape}
 use Rattle.lay_core.specs.declared.layout.Layout.{Ghosts as LayoutGhosts}
 use Rattle.eng_cols.specs.declared.spot.Loss.{Loss}
-use Rattle.eng_cols.specs.Cols.{ColumnState, Columns}
+use Rattle.eng_cols.specs.Cols.{ColumnState, Columns, is_set_filling}
 use Rattle.eng_world.specs.declared.item.Item.{Item}
 use Rattle.eng_world.specs.declared.item.Reply.{Reply}
 use Rattle.eng_world.specs.Invariant.{AllReplied}
@@ -25,7 +25,7 @@ use Rattle.eng_array.specs.declared.start.Start.TheVariants as start
 use Rattle.eng_array.specs.Starts as starts
 use Rattle.top_serve.specs.Judged.{HasStarted}
 use Rattle.top_serve.specs.Setups.{shape_in, graphs_in, begun_for, columns_in, MayStart}
-use Rattle.top_serve.specs.Served.{IsRebuiltBy, SpreadsAlone, CoreOpens, CoreRests}
+use Rattle.top_serve.specs.Served.{IsRebuiltBy, CoreOpens, CoreRests}
 use Rattle.top_serve.proofs.Devices.{device_of, brought-at}
 use Rattle.top_serve.proofs.Between.{Course, no-items}
 use Rattle.top_serve.proofs.Meaning.{lost-replied}
@@ -37,11 +37,11 @@ none-failed zero d = refl
 none-failed (suc n) zero = refl
 none-failed (suc n) (suc d) = none-failed n d
 
-alone : {L D : Type 0} (lay : LayoutGhosts L) (disk : DiskGhosts D) (setup : Setup L D) (how : Option Start) → MayStart lay disk setup how → SpreadsAlone how setup.columns.items
-alone lay disk setup None may = tt
-alone lay disk setup (Some (start.Fill c device most)) may = tt
-alone lay disk setup (Some (start.Resume c most)) may = tt
-alone lay disk setup (Some (start.Spread c)) may = may.target.0.none_filling
+alone : {L D : Type 0} (lay : LayoutGhosts L) (disk : DiskGhosts D) (setup : Setup L D) (how : Option Start) → MayStart lay disk setup how
+    → (c : ℕ) → how ≡ Some (start.Spread c) → count_by is_set_filling setup.columns.items ≡ 0
+alone lay disk setup how may c is =
+    let m : MayStart lay disk setup (Some (start.Spread c)) = subst (λ (h : Option Start). MayStart lay disk setup h) is may in
+    m.target.0.none_filling
 
 module _ {D : Type 0} (disk : DiskGhosts D) where
   -- what is seen of a device, by the device
@@ -111,10 +111,10 @@ module _ {L D : Type 0} (lay : LayoutGhosts L) (disk : DiskGhosts D) (setup : Se
   abbrev Rebuilt : Start → List ColumnState → List Item → Type 0
   Rebuilt rebuild cols items = AreRebuildsBelow (shape_in lay setup) cols (starts.column_of rebuild) (starts.most_of rebuild) (shape_in lay setup).stripes items
 
-  rebuilds : IsRebuiltBy (shape_in lay setup) (begun_for lay setup how) how (p.now.clients 16).items
+  rebuilds : IsRebuiltBy (shape_in lay setup) (columns_in lay setup) how (p.now.clients 16).items
   rebuilds = by how p.between.begins
     where
-      by : (h : Option Start) → HasStarted lay disk first h p.between.begun → IsRebuiltBy (shape_in lay setup) (begun_for lay setup h) h (p.now.clients 16).items
+      by : (h : Option Start) → HasStarted lay disk first h p.between.begun → IsRebuiltBy (shape_in lay setup) (columns_in lay setup) h (p.now.clients 16).items
       by None same =
           begun-items
           ∙ (ap (λ (core : Array L D). (desk_at core.clients 16).items) same

@@ -44,7 +44,7 @@ IsBegun old new id = (x : Item) × ItemAt old id x × ((c : ℕ) → x ≡ item.
 
 module _ (y : Shape) (graphs : Graphs) where
   begins-okay : (id : OpId) (old new : World) → length (old.clients id.client).replies ≡ id.index → Begins y id.client old new → IsBegun old new id
-  begins-okay id old new now f = (f.can.item, ap (slice_get (old.clients id.client).items) (sym now) ∙ f.can.next, λ c is. okay c f.can.item is f.begun)
+  begins-okay id old new now f = (f.0.item, ap (slice_get (old.clients id.client).items) (sym now) ∙ f.0.next, λ c is. okay c f.0.item is f.1)
     where
       if-alive : (column : ℕ) (mid : World) → FailsIfAlive y column mid new → ReplyOf mid id reply.Okay → ReplyOf new id reply.Okay
       if-alive column mid (inl h) r = subst (λ (w : World). ReplyOf w id reply.Okay) (sym h.1) r

@@ -123,12 +123,12 @@ module _ {L D : Type 0} (lay : LayoutGhosts L) (disk : DiskGhosts D) (setup : Se
           let set = subst (SetIn (shape_in lay setup).stripes) spread.1 (now-set lay disk setup how first last closed p c other) in
           not-whole (shape_in lay setup) p.now.columns c (set-whole (shape_in lay setup) p.now.columns c spread.0 spread.1 set) left
 
-      by : (h : Option Start) → how ≡ h → IsUnbuilt (shape_in lay setup) h p.now c
+      by : (h : Option Start) → how ≡ h → IsUnbuilt (shape_in lay setup) how p.now c
       by None is = settled (λ k also. let z : None ≡ Some (start.Spread k) = sym is ∙ also in absurd (let u : ⊥ = cc in u))
       by (Some (start.Fill j device most)) is = settled (λ k also. let z : Some (start.Fill j device most) ≡ Some (start.Spread k) = sym is ∙ also in absurd (let u : ⊥ = cc in u))
       by (Some (start.Resume j most)) is = settled (λ k also. let z : Some (start.Resume j most) ≡ Some (start.Spread k) = sym is ∙ also in absurd (let u : ⊥ = cc in u))
       by (Some (start.Spread j)) is = elim (cases_eq c j) [
-        | inl e ↦ (sym e, alive, left)
+        | inl e ↦ (is ∙ ap (λ (k : ℕ). Some (start.Spread k)) (sym e), alive, left)
         | inr ne ↦ settled (λ k also. let z : Some (start.Spread j) ≡ Some (start.Spread k) = sym is ∙ also in let e : j ≡ k = cc in subst (λ i. c ≢ i) e ne)
       ]
 

@@ -7,7 +7,7 @@ use Rattle.eng_cols.specs.declared.spot.Spot.{Spot}
 use Rattle.eng_cols.specs.declared.spot.Loss.{Loss}
 use Rattle.eng_cols.specs.Cols.{ColumnState}
 use Rattle.eng_cols.specs.Seats.{spot}
-use Rattle.eng_cols.specs.Contents.{Contents, byte_if, byte_of, InSync, Agrees, AnyStripe}
+use Rattle.eng_cols.specs.Contents.{Contents, byte_of, InSync, Agrees, AnyStripe}
 use Rattle.eng_cols.specs.Lost.{NotLost}
 use Rattle.eng_cols.proofs.Sums.{below_same}
 use Rattle.eng_world.specs.declared.item.Traced.{Traced}
@@ -19,6 +19,7 @@ use Rattle.eng_world.specs.Legal.{AreOps, RepliesFit}
 use Rattle.eng_world.specs.Invariant.{IsTold, AllReplied, Invariant, Reached}
 use Rattle.eng_world.proofs.Promised.{not-lost, encodes, reached-told, reached-fit, reached-replied}
 use Rattle.eng_world.proofs.Reaching.{reaches}
+use Rattle.eng_cols.proofs.Words.{byte_if}
 
 -- the same bytes in all sectors
 abbrev pub SameBytes : Contents → Contents → Type 0

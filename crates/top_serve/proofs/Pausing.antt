@@ -33,7 +33,7 @@ use Rattle.eng_array.specs.declared.start.Start.{Start}
 use Rattle.eng_array.specs.declared.start.Start.TheVariants as start
 use Rattle.eng_array.specs.Starts as starts
 use Rattle.top_close.specs.Closes.{SpreadEnds, FillingEnds, ClosesAs}
-use Rattle.top_serve.specs.Setups.{shape_in, graphs_in, begun_for, begun_in, with_start, MayStart}
+use Rattle.top_serve.specs.Setups.{shape_in, graphs_in, begun_for, begun_in, with_start, MayStart, columns_in}
 use Rattle.top_serve.specs.Served.{FillsBy, IsRebuiltBy, done_before}
 use Rattle.top_serve.proofs.Alike.{AreBegun, bare, kind, kind-filling, spread-kind}
 use Rattle.top_serve.proofs.Begins.{replied, rests}
@@ -411,8 +411,8 @@ module _ {L D : Type 0} (lay : LayoutGhosts L) (disk : DiskGhosts D) (setup : Se
       l : ((done : List Bool) × (slice_get p.now.columns c ≡ Some (Filling d done))) × HasStripeLeft (shape_in lay setup) p.now.columns c × (n ≡ leading (shape_in lay setup) p.now.columns c)
       l = left-now c d n most fills is
 
-      listed : (h : Option Start) → how ≡ h → IsRebuiltBy (shape_in lay setup) (begun_for lay setup h) h (p.now.clients 16).items
-      listed h at = subst (λ z. IsRebuiltBy (shape_in lay setup) (begun_for lay setup z) z (p.now.clients 16).items) at (rests lay disk setup how first last closed p).rebuilds
+      listed : (h : Option Start) → how ≡ h → IsRebuiltBy (shape_in lay setup) (columns_in lay setup) h (p.now.clients 16).items
+      listed h at = subst (λ z. IsRebuiltBy (shape_in lay setup) (columns_in lay setup) z (p.now.clients 16).items) at (rests lay disk setup how first last closed p).rebuilds
 
       by : (h : Option Start) → how ≡ h → FillsBy h c most → length (p.now.clients 16).items ≡ most
       by None at fills = ap (λ (xs : List Item). length xs) (listed None at) ∙ sym fills

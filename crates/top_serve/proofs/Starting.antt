@@ -5,7 +5,7 @@ use Rattle.lay_core.specs.Layout.{Shape, IsLayout, stripe_of, unit_of, offset_of
 use Rattle.eng_cols.specs.declared.spot.Spot.{Spot}
 use Rattle.eng_cols.specs.Cols.{ColumnState}
 use Rattle.eng_cols.specs.Seats.{is_available, seat, spot}
-use Rattle.eng_cols.specs.Contents.{Contents, byte_if, byte_of, xor_others, decoded, decode}
+use Rattle.eng_cols.specs.Contents.{Contents, byte_of, xor_others, decode}
 use Rattle.eng_cols.specs.Contents as contents
 use Rattle.eng_cols.proofs.Began.{filling-same, filling-kept, spreading-same, spreading-kept}
 use Rattle.eng_cols.proofs.Spots.{available-seat}
@@ -13,12 +13,14 @@ use Rattle.eng_cols.proofs.Sums.{others_same}
 use Rattle.eng_world.specs.declared.item.Traced.{Traced}
 use Rattle.eng_world.specs.World.{World, Client}
 use Rattle.eng_world.specs.Planning.{Graphs, Promises}
-use Rattle.eng_world.specs.Serving.{columns_of, StartsRebuild}
+use Rattle.eng_world.specs.Serving.{StartsRebuild}
 use Rattle.eng_world.specs.Step.{IsOpening, StepBy, Step, EventsLead}
 use Rattle.eng_array.specs.declared.start.Start.{Start}
 use Rattle.eng_array.specs.declared.start.Start.TheVariants as start
 use Rattle.eng_array.specs.Starts.{event_of, begun_by}
 use Rattle.top_serve.proofs.Meaning.{invariant}
+use Rattle.eng_world.proofs.Words.{columns_of}
+use Rattle.eng_cols.proofs.Words.{byte_if, decoded}
 
 -- the events by which a rebuild starts, if one does, with so many rebuilds
 abbrev pub first_of : Option Start → ℕ → List Traced

@@ -11,7 +11,7 @@ use Rattle.eng_cols.specs.declared.spot.Loss.{Loss}
 use Rattle.eng_cols.specs.declared.column.Column.{Column}
 use Rattle.eng_cols.specs.declared.column.Column.TheVariants as set
 use Rattle.eng_cols.specs.Cols.{ColumnState, Live, Dead, Filling, Spread, InOrder, is_done, is_done_on, is_spread, none_done, passes}
-use Rattle.eng_cols.specs.Seats.{open_on, spare_open, seat_on, seat, is_unit_of, HasStripeLeft, IsStripeOf}
+use Rattle.eng_cols.specs.Seats.{open_on, seat_on, seat, is_unit_of, HasStripeLeft, IsStripeOf}
 use Rattle.eng_cols.proofs.Lists.{get_set_same}
 use Rattle.eng_cols.proofs.Wholes.{lies-on as lies-there}
 use Rattle.blk_plain.specs.declared.op.Op.TheVariants as op
@@ -41,6 +41,7 @@ use Rattle.top_serve.proofs.Closings.{Ends, ends-as}
 use Rattle.top_serve.proofs.Alike.{bare, kind, kind-spread}
 use Rattle.top_serve.proofs.Meaning.{invariant}
 use Rattle.top_serve.proofs.Starting.{first_of}
+use Rattle.eng_cols.proofs.Words.{spare_open}
 
 -- ## The first seat that is gone
 

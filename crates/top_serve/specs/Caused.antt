@@ -1,5 +1,5 @@
 -- What the bad nodes of a run come from, and which columns a rebuild writes on.
-use Rattle.std.specs.Prelude.{◌≡◌, ◌<◌, ◌⊎◌, ◌++◌, ℕ, List, [], ◌∷◌, length, Some, slice_get}
+use Rattle.std.specs.Prelude.{◌≡◌, ◌<◌, ◌⊎◌, ◌++◌, ℕ, List, [], ◌∷◌, Some}
 use Rattle.blk_plain.specs.declared.op.OpId.{OpId}
 use Rattle.lay_core.specs.declared.place.Place.{Place}
 use Rattle.lay_core.specs.Layout.{Shape}
@@ -9,7 +9,7 @@ use Rattle.eng_cols.specs.declared.spot.Spot.{Spot}
 use Rattle.eng_cols.specs.Cols.{ColumnState, HasDevice}
 use Rattle.eng_world.specs.declared.item.Traced.{Traced}
 use Rattle.eng_world.specs.declared.item.Traced.TheVariants as event
-use Rattle.eng_world.specs.World.{Running, World, RunsAs}
+use Rattle.eng_world.specs.World.{Running, World, Runs}
 use Rattle.eng_world.specs.Planning.{Graphs}
 use Rattle.eng_world.specs.Step.{EventsLead}
 use Rattle.eng_array.specs.declared.start.Start.{Start}
@@ -21,7 +21,7 @@ pub record WentBadOn (y : Shape) (graphs : Graphs) (begun : List ColumnState) (o
   pub reached : EventsLead y graphs opening before world
   pub leads : EventsLead y graphs world (later ++ event.Bad id node ∷ []) now
   pub was : Running
-  pub runs : RunsAs world id.client was
+  pub runs : (world.clients id.client).current ≡ Runs was
   pub index : was.plan.index ≡ id.index
   pub call : IsCall (kind_at was.plan.graph node)
   pub at : Spot

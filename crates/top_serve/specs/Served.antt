@@ -1,5 +1,5 @@
 -- What becomes of what was handed in, once it is served: a run of events from an opening to rest, and what is handed back.
-use Rattle.std.specs.Prelude.{◌≡◌, ◌≢◌, ◌<◌, ◌≤◌, ◌+◌, ◌*◌, ◌⊎◌, ◌++◌, ℕ, List, [], ◌∷◌, length, Bool, true, false, Option, Some, None, slice_get, slice_index_or, reverse, unwrap_or, count_by}
+use Rattle.std.specs.Prelude.{◌≡◌, ◌≢◌, ◌<◌, ◌≤◌, ◌+◌, ◌*◌, ◌⊎◌, ◌++◌, ℕ, List, [], ◌∷◌, length, Bool, Option, Some, None, slice_get, slice_index_or, reverse, unwrap_or, count_by, MatchOption, if◌then◌else◌, true, false}
 use Rattle.blk_plain.specs.declared.op.Op.{Op}
 use Rattle.blk_plain.specs.declared.op.OpId.{OpId}
 use Rattle.blk_disk.specs.declared.disk.Disk.{Ghosts as DiskGhosts}
@@ -9,7 +9,7 @@ use Rattle.lay_core.specs.declared.layout.Layout.{Ghosts as LayoutGhosts}
 use Rattle.eng_cols.specs.declared.column.Column.{Column}
 use Rattle.eng_cols.specs.declared.column.Column.TheVariants as column
 use Rattle.eng_cols.specs.declared.spot.Loss.{Loss}
-use Rattle.eng_cols.specs.Cols.{ColumnState, Dead, HasDevice, is_set_filling, is_set_spread}
+use Rattle.eng_cols.specs.Cols.{Dead, HasDevice, is_set_filling, is_set_spread, Columns}
 use Rattle.eng_cols.specs.Contents.{Agrees, AnyStripe}
 use Rattle.eng_cols.specs.Lost.{NotLost}
 use Rattle.eng_cols.specs.Seats.{HasStripeLeft}
@@ -22,9 +22,9 @@ use Rattle.eng_world.specs.World.{World}
 use Rattle.eng_world.specs.Planning.{Graphs}
 use Rattle.eng_world.specs.Plain.{replay}
 use Rattle.eng_world.specs.Step.{IsOpening, EventsLead}
-use Rattle.eng_world.specs.Legal.{AreOps, ReplyOf, RepliesFit}
+use Rattle.eng_world.specs.Legal.{AreOps, RepliesFit}
 use Rattle.eng_world.specs.Invariant.{IsTold, AllReplied}
-use Rattle.eng_world.specs.Causes.{ItemAt, HaveCauses, IsLossOf}
+use Rattle.eng_world.specs.Causes.{HaveCauses, IsLossOf}
 use Rattle.eng_world.specs.Rows.{IsInRows}
 use Rattle.eng_rest.specs.Left.{IsOwn}
 use Rattle.eng_parts.specs.declared.setup.Setup.{Setup}
@@ -38,23 +38,22 @@ use Rattle.eng_world.specs.Rebuilding.{OneRebuilds, SpreadAlike}
 use Rattle.eng_starts.specs.Rebuilding.{AreRebuildsBelow}
 use Rattle.eng_state.specs.Shows.{AreTold}
 use Rattle.eng_array.specs.declared.start.Start.{Start}
-use Rattle.eng_array.specs.declared.start.Start.TheVariants as start
-use Rattle.eng_array.specs.Starts.{column_of, event_of, most_of}
+use Rattle.eng_array.specs.declared.start.Start.TheVariants as rebuild
+use Rattle.eng_array.specs.Starts.{column_of, event_of, most_of, begun_by}
 use Rattle.eng_array.specs.Tickets.{AllOf}
 use Rattle.top_close.specs.Closes.{ClosesAs}
-use Rattle.top_serve.specs.Setups.{shape_in, states_in, graphs_in, begun_for, begun_in, with_start, WasInSync}
+use Rattle.top_serve.specs.Setups.{shape_in, states_in, graphs_in, begun_in, with_start, WasInSync, columns_in}
 use Rattle.top_serve.specs.Caused.{WentBadOn, RestsOn}
 
 -- the events of a run, the newest first, as a trace has them, if it is kept
 abbrev pub trace_of : Bool → List Traced → List Traced
-trace_of true events = reverse events
-trace_of false events = []
+trace_of keeps events = if keeps then reverse events else []
 
 -- an item asks that the column fail, and was replied ok
 pub record WasFailed (now : World) (c : ℕ) : Type 0 where
   pub id : OpId
-  pub asked : ItemAt now id (item.Fail c)
-  pub replied : ReplyOf now id reply.Okay
+  pub asked : slice_get (now.clients id.client).items id.index ≡ Some (item.Fail c)
+  pub replied : slice_get (now.clients id.client).replies id.index ≡ Some reply.Okay
 
 -- not lost by the columns as they are now; or lost by those that one event left, which have only died since
 abbrev pub IsLossIn : Shape → Graphs → World → List Traced → World → Option Loss → Type 0
@@ -63,27 +62,15 @@ IsLossIn y graphs start events now (Some loss) = IsLossOf y graphs start events 
 
 -- The events, the newest first, are the clients' own; where a rebuild starts, that comes before all of them, with the number of its rebuilds.
 abbrev pub BeginsBy : Option Start → ℕ → List Traced → Type 0
-BeginsBy None rebuilds events = AllOf IsOwn events
-BeginsBy (Some how) rebuilds events = (own : List Traced) × (events ≡ own ++ event_of how rebuilds ∷ []) × AllOf IsOwn own
+BeginsBy start rebuilds events = MatchOption start (AllOf IsOwn events) (λ how. (own : List Traced) × (events ≡ own ++ event_of how rebuilds ∷ []) × AllOf IsOwn own)
 
--- the items of client 16: a rebuild of each of the first stripes that aren't done of the column that is rebuilt, if one is, as many as are asked
-abbrev pub IsRebuiltBy : Shape → List ColumnState → Option Start → List Item → Type 0
-IsRebuiltBy y begun None items = items ≡ []
-IsRebuiltBy y begun (Some how) items = AreRebuildsBelow y begun (column_of how) (most_of how) y.stripes items
-
--- beside a rebuild into the spare places no column is filling
-abbrev pub SpreadsAlone : Option Start → List Column → Type 0
-SpreadsAlone None columns = Unit {0}
-SpreadsAlone (Some (start.Fill column device most)) columns = Unit {0}
-SpreadsAlone (Some (start.Resume column most)) columns = Unit {0}
-SpreadsAlone (Some (start.Spread column)) columns = count_by is_set_filling columns ≡ 0
+-- the items of client 16, if a rebuild starts, by the columns just before: a rebuild of each of the first stripes that aren't done of the column that is rebuilt, as many as are asked; else none
+abbrev pub IsRebuiltBy : Shape → Columns → Option Start → List Item → Type 0
+IsRebuiltBy y cols start items = MatchOption start (items ≡ []) (λ how. AreRebuildsBelow y (begun_by cols how) (column_of how) (most_of how) y.stripes items)
 
 -- it is the column that is to be spread, it isn't dead, and one of its stripes is left to do
 abbrev pub IsUnbuilt : Shape → Option Start → World → ℕ → Type 0
-IsUnbuilt y None now c = ⊥
-IsUnbuilt y (Some (start.Fill column device most)) now c = ⊥
-IsUnbuilt y (Some (start.Resume column most)) now c = ⊥
-IsUnbuilt y (Some (start.Spread column)) now c = (column ≡ c) × (slice_get now.columns c ≡ Some Dead → ⊥) × HasStripeLeft y now.columns c
+IsUnbuilt y how now c = (how ≡ Some (rebuild.Spread c)) × (slice_get now.columns c ≡ Some Dead → ⊥) × HasStripeLeft y now.columns c
 
 -- a column as it is kept that was this one: the same, but one that was filling may be live, or have other stripes done
 abbrev pub IsKeptAs : Option Column → Option Column → Type 0
@@ -100,9 +87,9 @@ done_before how columns c = unwrap_or (done_at (with_start how columns) c) 0
 -- of the column so many stripes are rebuilt onto its device at most; where no rebuild starts, none of any
 abbrev pub FillsBy : Option Start → ℕ → ℕ → Type 0
 FillsBy None c most = most ≡ 0
-FillsBy (Some (start.Fill column device asked)) c most = (column ≡ c) × (asked ≡ most)
-FillsBy (Some (start.Resume column asked)) c most = (column ≡ c) × (asked ≡ most)
-FillsBy (Some (start.Spread column)) c most = ⊥
+FillsBy (Some (rebuild.Fill column device asked)) c most = (column ≡ c) × (asked ≡ most)
+FillsBy (Some (rebuild.Resume column asked)) c most = (column ≡ c) × (asked ≡ most)
+FillsBy (Some (rebuild.Spread column)) c most = ⊥
 
 -- what reads handed out, with the region of each item
 abbrev pub handed_in : {L D : Type 0} → Closed L D → Handout
@@ -126,8 +113,8 @@ module _ {L D : Type 0} (lay : LayoutGhosts L) (disk : DiskGhosts D) (setup : Se
     pub begins : BeginsBy how (length (now.clients 16).items) events
     pub run : EventsLead (shape_in lay setup) (graphs_in setup) start events now
     pub items : (c : ℕ) → c ≢ 16 → (now.clients c).items ≡ items_at setup.clients.items c
-    pub rebuilds : IsRebuiltBy (shape_in lay setup) (begun_for lay setup how) how (now.clients 16).items
-    pub alone : SpreadsAlone how setup.columns.items
+    pub rebuilds : IsRebuiltBy (shape_in lay setup) (columns_in lay setup) how (now.clients 16).items
+    pub alone : (c : ℕ) → how ≡ Some (rebuild.Spread c) → count_by is_set_filling setup.columns.items ≡ 0
     pub replied : AllReplied now
     pub out : now.out ≡ 0
 

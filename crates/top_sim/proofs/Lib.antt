@@ -2,3 +2,4 @@ pub mod LinesInTurn
 pub mod RequestsInTurn
 pub mod NumberText
 pub mod WorkloadInTurn
+pub mod Same

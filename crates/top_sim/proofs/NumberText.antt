@@ -4,7 +4,8 @@ use Rattle.std.proofs.lemmas.Option.{get_or_from_slice_get}
 use Rattle.blk_plain.specs.declared.op.Op.{Op}
 use Rattle.sim_queue.specs.declared.request.Request.{Request}
 use Rattle.sim_queue.specs.Service.{request_at}
-use Rattle.top_sim.specs.Lines.{number_text, reply_text}
+use Rattle.top_sim.specs.Lines.{number_text}
+use Rattle.top_sim.specs.Steps.{reply_text}
 
 pub number_is : (requests : List Request) (replies : List (List (List ℕ))) (number : ℕ) (op : Op)
     (sectors : List (List ℕ))

@@ -1,6 +1,5 @@
 -- What a request asks for, as its line says it.
 use Rattle.std.specs.Prelude.{ℕ, List, map}
-use Rattle.blk_plain.specs.declared.op.Op.{Op as AnyOp}
 use Rattle.blk_plain.specs.declared.op.Op.TheVariants as op
 use Rattle.raid_text.specs.Pattern.{pattern_bytes}
 use Rattle.sim_queue.specs.declared.request.Request.{Request}
@@ -17,17 +16,6 @@ pub record Asked : Type 0 where
   pub tick : ℕ
   pub transfer : Transfer
 
--- what an operation asks for
-abbrev pub op_seen : AnyOp → Transfer
-op_seen (op.Write span pattern) = Writes span.first span.count (pattern_bytes pattern)
-op_seen (op.Read span) = Reads span.first span.count
-op_seen (op.Writes patches) = Other
-op_seen (op.Rebuild stripe) = Other
-op_seen (op.Sync stripe) = Other
-
-abbrev pub seen : Request → Asked
-seen r = record { tick = r.tick; transfer = op_seen r.op }
-
 -- how many sectors it reads
 abbrev pub read_sectors : Transfer → ℕ
 read_sectors (Writes first count bytes) = 0
@@ -39,6 +27,16 @@ pub record Workload : Type 0 where
   pub sectors : ℕ
   pub asked : List Asked
 
--- the same of requests
+-- what requests ask for
 abbrev pub workload_by : ℕ → List Request → Workload
-workload_by sectors requests = record { sectors = sectors; asked = map seen requests }
+workload_by sectors requests = record {
+  sectors = sectors;
+  asked = map (λ (r : Request). record {
+    tick = r.tick;
+    transfer = elim r.op [
+      | op.Write span pattern ↦ Writes span.first span.count (pattern_bytes pattern)
+      | op.Read span ↦ Reads span.first span.count
+      | _ ↦ Other
+    ];
+  }) requests;
+}

@@ -1,12 +1,12 @@
--- Requests to one simulated disk: what a text asks for, or the first line that is refused and the
--- code of its refusal.
+-- What the functions that read requests to one simulated disk find: what each line says, or the code
+-- by which it is refused; Texts says it in one.
 use Rattle.std.specs.Prelude.{ℕ, ◌+◌, ◌&&◌, not, List, [], ◌∷◌, Result, Ok, Err, if◌then◌else◌, ok_or, nat_eq, nat_le, nat_lt, codes}
 use Rattle.std.specs.Str.{bytes_eq}
 use Rattle.raid_text.specs.Pattern.{pattern_of}
 use Rattle.raid_text.specs.Text.{Text, Numbered}
-use Rattle.text_steps.specs.Steps.{◌>>=◌, after_word, at_end, at_line, next_line, next_number, next_word, only_if, whole, words_in, Rest}
+use Rattle.text_steps.specs.Steps.{◌>>=◌, after_word, at_end, at_line, next_line, next_number, next_word, only_if, words_in, Rest}
 use Rattle.text_steps.specs.declared.at.At.{At}
-use Rattle.top_sim.specs.Asked.{Asked, Reads, Transfer, Workload, Writes, read_sectors}
+use Rattle.top_sim.specs.Asked.{Asked, Reads, Transfer, Writes, read_sectors}
 
 -- ---- the first line
 
@@ -96,10 +96,3 @@ disk_line rest = do
   first ← next_line 1 rest
   sectors ← at_line first.at (disk_of first.words)
   Ok (sectors, first.rest.lines)
-
--- what a text asks for
-unfoldable pub workload_of : Text → Result Workload At
-workload_of text = do
-  disk ← disk_line (whole text)
-  asked ← requests_behind disk.0 0 0 0 disk.1
-  Ok (record { sectors = disk.0; asked = asked })

@@ -1,5 +1,6 @@
 pub mod Asked
 pub mod Format
+pub mod Texts
 pub mod Answers
 pub mod Views
 pub mod Lines

@@ -3,9 +3,9 @@ ghost use Rattle.std.specs.Prelude.{◌≡◌, ◌<◌, ◌≤◌, flat_map, len
 ghost use Rattle.blk_disk.specs.Disk.{Rose};
 ghost use Rattle.raid_bay.specs.Sink.{Puts};
 ghost use Rattle.sim_queue.specs.Service.{request_at};
-ghost use Rattle.top_sim.specs.Lines.{data_text, number_text, reply_text};
-ghost use Rattle.top_sim.specs.Steps.{replies_text, reply_line};
-ghost use Rattle.top_sim.specs.Lines.{reply_word, served_line, sim_text};
+ghost use Rattle.top_sim.specs.Lines.{data_text, number_text};
+ghost use Rattle.top_sim.specs.Steps.{replies_text, reply_line, reply_text, reply_word, served_line};
+ghost use Rattle.top_sim.specs.Lines.{sim_text};
 
 use crate::simulating::Simulated;
 use blk_disk::Failed;
@@ -16,7 +16,7 @@ use raid_script::put_blocks;
 use sim_queue::{Replies, Request, Served};
 
 // The line of a service.
-#[tactic(auto, unfolding(crate::specs::Lines::served_line))]
+#[tactic(auto, unfolding(crate::specs::Steps::served_line))]
 fn set_served(line: &mut Line, served: Served)
     ensures { line.new ≡ served_line served }
 {

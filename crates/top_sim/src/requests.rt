@@ -6,8 +6,9 @@ ghost use Rattle.sim_queue.specs.Service.{IsAsked};
 ghost use Rattle.text_steps.specs.Answers.{Gives};
 ghost use Rattle.text_steps.specs.Steps.{rest_of};
 ghost use Rattle.top_sim.specs.Answers.{GivesIfRoom};
-ghost use Rattle.top_sim.specs.Asked.{seen};
-ghost use Rattle.top_sim.specs.Format.{disk_line, requests_behind, workload_of};
+ghost use Rattle.top_sim.specs.Steps.{seen};
+ghost use Rattle.top_sim.specs.Format.{disk_line, requests_behind};
+ghost use Rattle.top_sim.specs.Texts.{workload_of};
 ghost use Rattle.top_sim.specs.Views.{workload_seen};
 ghost use Rattle.top_sim.specs.declared.requests.RequestsFault.TheVariants.{At as Refused, Memory};
 
@@ -98,7 +99,6 @@ fn read_requests(
 
 /// The requests of a text of at most 16,777,216 bytes, and the sectors of the disk that they are
 /// for.
-#[tactic(auto, unfolding(crate::specs::Format::workload_of))]
 pub(crate) fn read_workload(alloc: Global, text: &[u8]) -> Result<Workload, RequestsFault>
     requires { length text.now ≤ 16777216 }
     ensures workload { GivesIfRoom workload_seen result (workload_of text.now) }

@@ -6,9 +6,9 @@ ghost use Rattle.raid_text.specs.Pattern.{pattern_bytes};
 ghost use Rattle.raid_text.specs.Seen.{seen as seen_line, words_left};
 ghost use Rattle.sim_queue.specs.Service.{IsTransfer};
 ghost use Rattle.text_steps.specs.Answers.{Gives};
-ghost use Rattle.top_sim.specs.Asked.{op_seen, read_sectors, seen};
+ghost use Rattle.top_sim.specs.Asked.{read_sectors};
 ghost use Rattle.top_sim.specs.Format.{disk_of, next_of, next_pattern, next_span};
-ghost use Rattle.top_sim.specs.Steps.{line_request, read_of, write_of};
+ghost use Rattle.top_sim.specs.Steps.{line_request, read_of, write_of, op_seen, seen};
 ghost use Rattle.top_sim.specs.Format.{next_tick, op_of, request_of};
 
 use blk_plain::{Op, Pattern, Span};

@@ -6,8 +6,7 @@ use Rattle.raid_bay.specs.Sink.{Puts}
 use Rattle.raid_bay.specs.SinkLaws.{puts_then, puts_cut}
 use Rattle.std.proofs.lemmas.Option.{slice_get-get_or}
 use Rattle.eng_cols.specs.declared.column.Column.{Column}
-use Rattle.top_status.specs.Dead.{is_dead_column}
-use Rattle.top_status.specs.Steps.{dead_line}
+use Rattle.top_status.specs.Steps.{dead_line, is_dead_column}
 
 -- the dead columns of so many from one on
 abbrev dead_among : List Column → ℕ → ℕ → List ℕ

@@ -2,8 +2,8 @@
 ghost use Rattle.std.specs.Prelude.{◌≡◌, ◌≤◌, is_ok, OnErr, Some, slice_get};
 ghost use Rattle.blk_disk.specs.Disk.{Rose};
 ghost use Rattle.raid_bay.specs.Sink.{Puts};
-ghost use Rattle.top_status.specs.Dead.{is_dead_column, dead_columns, dead_text};
-ghost use Rattle.top_status.specs.Steps.{dead_line};
+ghost use Rattle.top_status.specs.Dead.{dead_columns, dead_text};
+ghost use Rattle.top_status.specs.Steps.{dead_line, is_dead_column};
 
 use blk_disk::Failed;
 use eng_cols::Column;

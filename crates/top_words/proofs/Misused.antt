@@ -8,7 +8,8 @@ use Rattle.clap.specs.declared.error.kind.ErrorKind.{ErrorKind}
 use Rattle.clap.specs.declared.error.kind.ErrorKind.TheVariants as kind
 use Rattle.clap.specs.declared.parser.matches.ArgMatches.{ArgMatches}
 use Rattle.raid_text.specs.Text.{Text}
-use Rattle.top_words.specs.App.{raid_app, refusals, rows_in}
+use Rattle.top_words.specs.App.{raid_app}
+use Rattle.top_words.specs.Steps.{refusals, rows_in}
 use Rattle.top_words.specs.Given.{Given, given_of}
 use Rattle.top_words.specs.Misuse.{misuse_of, misused, misused_if_taken, unformed}
 use Rattle.top_words.proofs.OfTheApp.{is_exact, simple}

@@ -5,11 +5,10 @@ use Rattle.std.specs.Prelude.{option_and_then, if◌then◌else◌}
 use Rattle.clap.specs.Words.{Kinds}
 use Rattle.raid_text.specs.Text.{Text}
 use Rattle.sim_queue.specs.declared.request.Queue.{Queue}
-use Rattle.top_words.specs.App.{refusals, rows_in}
 use Rattle.top_words.specs.Asked.{Action, action_in, has_one_action, is_apart}
 use Rattle.top_words.specs.Given.{Given, given_of}
 use Rattle.top_words.specs.Judged.{Invocation, Tell, OnArray, Scan, Simulate, invocation_in, invocation_of, judged, judged_if_taken, name_in, queue_of, topic_in}
-use Rattle.top_words.specs.Steps.{command_in, simulation_in, taken_as}
+use Rattle.top_words.specs.Steps.{command_in, simulation_in, taken_as, refusals, rows_in}
 use Rattle.top_words.specs.declared.invocation.Topic.{Topic}
 
 simulation_not : (name word : Text) (t : Topic) → simulation_in name word ≡ Some (Tell t) → ⊥
@@ -66,5 +65,5 @@ taken_not words t h = go (refusals words) h
 
 -- no text is asked for
 pub not_told : (words : List Text) (t : Topic) → topic_in words ≡ None → invocation_of words ≡ Ok (Tell t) → ⊥
-unfolding invocation_of taken_as
+unfolding invocation_of taken_as refusals rows_in
 not_told words t none h = taken_not words t (sym (ap (λ (o : Option Topic). option_map_or (λ x. Ok (Tell x)) o (taken_as words)) none) ∙ h)

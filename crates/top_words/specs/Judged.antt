@@ -3,11 +3,11 @@ use Rattle.std.specs.Prelude.{ℕ, ◌||◌, Bool, List, [], ◌∷◌, Option, 
 use Rattle.std.specs.List.{list_any}
 use Rattle.std.specs.Option.{option_map_or}
 use Rattle.std.specs.Str.{bytes_eq}
-use Rattle.clap.specs.Words.{Kinds}
+use Rattle.clap.specs.Words.{Kinds, fault_of, matches_of}
 use Rattle.raid_text.specs.Text.{Text}
 use Rattle.sim_queue.specs.declared.request.Queue.{Queue}
 use Rattle.sim_queue.specs.declared.request.Queue.TheVariants as queue
-use Rattle.top_words.specs.App.{refusals, rows_in}
+use Rattle.top_words.specs.App.{raid_app}
 use Rattle.top_words.specs.Asked.{AreNumbersInRange, Command, action_in, has_one_action, is_apart}
 use Rattle.top_words.specs.Given.{Given, given_of}
 use Rattle.top_words.specs.declared.invocation.Topic.{Topic}
@@ -65,19 +65,17 @@ judged_if_taken (kind ∷ kinds) g = Err 0
 
 -- ## The program's own texts
 
--- this word stands there
-abbrev pub has_word : Text → List Text → Bool
-has_word word words = list_any (λ w. bytes_eq w word) words
-
 -- which of the program's own texts is asked for, wherever the word stands: the help comes before
 -- the version
 unfoldable pub topic_in : List Text → Option Topic
 topic_in words =
-    if has_word (codes "--help") words || has_word (codes "-h") words then Some topic.Help
-    else (if has_word (codes "--version") words || has_word (codes "-V") words
+    let has : Text → Bool = λ word. list_any (λ w. bytes_eq w word) words in
+    if has (codes "--help") || has (codes "-h") then Some topic.Help
+    else (if has (codes "--version") || has (codes "-V")
     then Some topic.Version else None)
 
--- what the words ask for, or the first case of Usage
+-- what the words ask for, or the first case of Usage; the command refuses words for these faults, and
+-- else makes these rows of them
 unfoldable pub invocation_of : List Text → Result Invocation ℕ
 invocation_of words = option_map_or (λ t. Ok (Tell t)) (topic_in words)
-    (judged_if_taken (refusals words) (given_of (rows_in words)))
+    (judged_if_taken (fault_of raid_app words) (given_of (matches_of raid_app words)))

@@ -3,11 +3,10 @@ use Rattle.std.specs.Prelude.{ℕ, ◌==◌, ◌&&◌, not, List, [], ◌∷◌,
 use Rattle.std.specs.Option.{option_map_or, option_or}
 use Rattle.clap.specs.Words.{Kinds}
 use Rattle.raid_text.specs.Text.{Text}
-use Rattle.top_words.specs.App.{refusals, rows_in}
-use Rattle.top_words.specs.Asked.{actions_of, has_one_action, number_within}
+use Rattle.top_words.specs.Asked.{has_one_action, number_within}
 use Rattle.top_words.specs.Given.{Given, given_of}
 use Rattle.top_words.specs.Judged.{queue_of}
-use Rattle.top_words.specs.Steps.{has_limit_apart, has_map_apart, has_sweep_alone, has_workers_apart}
+use Rattle.top_words.specs.Steps.{has_limit_apart, has_map_apart, has_sweep_alone, has_workers_apart, actions_of, refusals, rows_in}
 use Rattle.top_words.specs.Unknown.{unknown_in}
 
 pub data Misuse : Type 0 where

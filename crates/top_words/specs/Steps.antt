@@ -1,16 +1,23 @@
 -- What the functions that judge the words find one by one; `judged`, `is_apart`, `action_in` and
 -- `invocation_in` say it in one.
-use Rattle.std.specs.Prelude.{ℕ, ◌&&◌, ◌||◌, Bool, not, List, Option, Some, None, Result, is_some, option_and_then}
+use Rattle.std.specs.Prelude.{ℕ, ◌&&◌, ◌||◌, Bool, not, List, Option, Some, None, Result, is_some, option_and_then, [], ◌∷◌, false, codes}
 use Rattle.std.specs.Option.{option_map_or}
 use Rattle.raid_text.specs.Text.{Text, number_of}
-use Rattle.top_words.specs.App.{refusals, rows_in}
-use Rattle.top_words.specs.Asked.{Action, Label, action_in, number_within, rebuilds, serves}
+use Rattle.top_words.specs.Asked.{Action, Label, action_in, number_within, rebuilds}
 use Rattle.top_words.specs.Given.{Given, given_of}
 use Rattle.top_words.specs.Judged.{Invocation, OnArray, Simulate, judged_if_taken, name_in, queue_of}
+use Rattle.std.specs.List.{list_any}
+use Rattle.std.specs.Str.{bytes_eq}
+use Rattle.clap.specs.Words.{Kinds, Row, fault_of, matches_of, first_of}
+use Rattle.top_words.specs.App.{raid_app}
 
 -- a script is run; beside a rebuild it isn't an action of its own
 abbrev pub runs_script : Given → Bool
 runs_script g = is_some g.io && not (rebuilds g)
+
+-- clients are served, or a column is rebuilt
+abbrev pub serves : Given → Bool
+serves g = (is_some g.io || is_some g.sweep) || rebuilds g
 
 -- -w without a run
 abbrev pub has_workers_apart : Given → Bool
@@ -58,6 +65,30 @@ unfoldable pub command_in : Given → Option Invocation
 command_in g = option_and_then
     (λ action. Some (OnArray (record { conf = name_in g; action = action }))) (action_in g)
 
+-- what it makes of words that it takes
+unfoldable pub rows_in : List Text → List Row
+rows_in words = matches_of raid_app words
+
+-- for which the command refuses the words; none where it takes them
+unfoldable pub refusals : List Text → Kinds
+refusals words = fault_of raid_app words
+
 -- what the words ask for that name none of the program's own texts, or the first case of Usage
 unfoldable pub taken_as : List Text → Result Invocation ℕ
 taken_as words = judged_if_taken (refusals words) (given_of (rows_in words))
+
+-- which of the actions stand there; a script beside a rebuild isn't an action of its own
+abbrev pub actions_of : Given → List Bool
+actions_of g =
+    (is_some g.io && not (rebuilds g)) ∷ is_some g.sweep
+    ∷ g.show ∷ g.show_map ∷ g.init ∷ g.check ∷ g.rewrite ∷ g.print
+    ∷ is_some g.fail ∷ is_some g.rebuild ∷ is_some g.in_place ∷ g.resume
+    ∷ is_some g.label ∷ is_some g.show_label ∷ g.scan ∷ is_some g.sim ∷ []
+
+-- this word stands there
+abbrev pub has_word : Text → List Text → Bool
+has_word word words = list_any (λ w. bytes_eq w word) words
+
+-- the flag of that name stands there
+abbrev pub has_flag : Text → List Row → Bool
+has_flag id rows = option_map_or (λ value. bytes_eq value (codes "true")) (first_of id rows) false

@@ -1,7 +1,7 @@
 //! What the words ask for.
 ghost use Rattle.std.specs.Prelude.{◌≡◌, ◌||◌, ℕ, IfOk, OnErr, Ok, Err};
-ghost use Rattle.top_words.specs.Judged.{IsInRange, Tell, has_word, invocation_of, topic_in};
-ghost use Rattle.top_words.specs.Steps.{taken_as};
+ghost use Rattle.top_words.specs.Judged.{IsInRange, Tell, invocation_of, topic_in};
+ghost use Rattle.top_words.specs.Steps.{taken_as, has_word};
 ghost use Rattle.top_words.specs.Views.{invocation_seen};
 ghost use Rattle.top_words.specs.declared.invocation.WordsFault.TheVariants.{Memory, Usage};
 
@@ -95,7 +95,7 @@ fn take<'a>(alloc: Global, words: &'a [Name]) -> Result<Invocation<'a>, WordsFau
 ///
 /// `--help` or `-h` anywhere among the words asks for the help; else `--version` or `-V` for the
 /// version.
-#[tactic(auto, unfolding(crate::specs::Judged::invocation_of, crate::specs::Steps::taken_as))]
+#[tactic(auto, unfolding(crate::specs::Judged::invocation_of, crate::specs::Steps::taken_as, crate::specs::Steps::refusals, crate::specs::Steps::rows_in))]
 pub fn read_words<'a>(alloc: Global, words: &'a [Name]) -> Result<Invocation<'a>, WordsFault>
     ensures invocation { IfOk result (λ i. invocation_of words.entry.now ≡ Ok (invocation_seen i)) }
     ensures range { IfOk result (λ i. IsInRange (invocation_seen i)) }

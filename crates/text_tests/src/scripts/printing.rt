@@ -1,6 +1,7 @@
 //! What is printed, against lines written out by hand, and what is printed where a sink fails.
 ghost use Rattle.std.specs.Prelude.{◌≡◌, ◌≤◌, ◌+◌, ◌*◌, IfOk, length};
-ghost use Rattle.raid_script.specs.Replies.{op_sectors, item_sectors, row_sectors, StandFor};
+ghost use Rattle.raid_script.specs.Replies.{item_sectors, row_sectors, StandFor};
+ghost use Rattle.raid_script.specs.Steps.{op_sectors};
 
 use crate::judging::{same, same_at};
 use crate::texts::joined;

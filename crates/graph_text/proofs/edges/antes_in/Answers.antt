@@ -1,5 +1,5 @@
 use Rattle.raid_text.specs.Seen.{words_left}
-use Rattle.graph_text.specs.FormatSteps.{numbers_of}
+use Rattle.text_steps.specs.Steps.{numbers_of}
 use Rattle.graph_text.specs.FormatLines.{antes_of}
 use Rattle.graph_text.proofs.FirstNumbers.{antes_kept, kept_end}
 use Rattle.graph_text.proofs.edges.antes_in.Goals as goal

@@ -1,6 +1,6 @@
 use Rattle.std.proofs.Common.{◌≡◌, ◌≤◌, length}
 use Rattle.raid_text.specs.Seen.{words_left}
-use Rattle.graph_text.specs.FormatSteps.{numbers_of}
+use Rattle.text_steps.specs.Steps.{numbers_of}
 use Rattle.graph_text.specs.Kept.{with_kept}
 use Rattle.graph_text.proofs.edges.numbers_in.Given as goal
 

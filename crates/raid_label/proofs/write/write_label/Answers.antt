@@ -1,7 +1,6 @@
 use Rattle.std.proofs.Common.{◌≡◌, ◌∙◌, ◌+◌, ◌*◌, ◌++◌, ap, sym, ℕ, List, length, take, get_or, replicate, refl, arith, rules, append_assoc}
 use Rattle.std.specs.Int.{w32, to_le_bytes}
-use Rattle.raid_label.specs.Bytes.{bytes_of_words}
-use Rattle.raid_label.specs.Steps.{magic}
+use Rattle.raid_label.specs.Steps.{magic, bytes_of_words}
 use Rattle.raid_label.proofs.WordLaws.{bytes_of_words-take, written}
 use Rattle.raid_label.proofs.write.write_label.Goals as goal
 

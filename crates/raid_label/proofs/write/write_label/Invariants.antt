@@ -1,6 +1,5 @@
 use Rattle.std.proofs.Common.{◌≡◌, ◌+◌, ◌*◌, ◌++◌, take}
-use Rattle.raid_label.specs.Bytes.{bytes_of_words}
-use Rattle.raid_label.specs.Steps.{magic}
+use Rattle.raid_label.specs.Steps.{magic, bytes_of_words}
 use Rattle.raid_label.proofs.write.write_label.Given as goal
 
 abbrev pub invariant-loop-i : goal.invariant-loop-i

@@ -1,5 +1,5 @@
 use Rattle.std.proofs.Common.{◌≡◌, ◌≤◌, ◌+◌, ◌*◌, ◌++◌, length, take}
-use Rattle.raid_script.specs.Replies.{numbers_text}
+use Rattle.raid_script.specs.Steps.{numbers_text}
 use Rattle.raid_script.proofs.causes.push_numbers.Given as goal
 
 -- the numbers so far stand behind what there was

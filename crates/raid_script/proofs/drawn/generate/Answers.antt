@@ -1,7 +1,8 @@
 use Rattle.std.proofs.Common.{◌≡◌, ◌∙◌, ℕ, ◌+◌, ◌*◌, ◌/◌, List, map, min, subst, sym, ap, arith}
 use Rattle.std.proofs.lemmas.List.{map_push}
 use Rattle.raid_script.specs.Asked.{AreFew, Asked, seen}
-use Rattle.raid_script.specs.Drawn.{AreApart, share}
+use Rattle.raid_script.specs.Drawn.{AreApart}
+use Rattle.raid_script.specs.Steps.{share}
 use Rattle.raid_script.specs.DrawnParts.{after, row_from, rows_from, seeded}
 use Rattle.raid_script.proofs.DrawnShares.{drawn_apart, drawn_few}
 use Rattle.raid_script.proofs.DrawnWords.{after_more, after_none, rows_more, rows_none, drawn_is}

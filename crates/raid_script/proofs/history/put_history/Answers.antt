@@ -1,7 +1,7 @@
 use Rattle.std.proofs.Common.{true, false, arith}
 use Rattle.std.proofs.lemmas.Result.{err_from_is_err_and}
 use Rattle.raid_bay.specs.SinkLaws.{puts_more, puts_less, puts_none}
-use Rattle.raid_script.specs.History.{commit_text}
+use Rattle.raid_script.specs.Steps.{commit_text}
 use Rattle.raid_script.proofs.history.put_history.Goals as goal
 
 pub loop-id-preserved : goal.loop-id-preserved

@@ -1,6 +1,6 @@
 use Rattle.std.proofs.Common.{◌≤◌, List, ℕ, Bool, flat_map, drop}
 use Rattle.raid_bay.specs.Sink.{Puts}
-use Rattle.raid_script.specs.History.{commit_text}
+use Rattle.raid_script.specs.Steps.{commit_text}
 use Rattle.raid_script.proofs.history.put_history.Given as goal
 
 -- whatever comes of the items that are left comes of all of them

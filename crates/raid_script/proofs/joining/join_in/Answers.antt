@@ -5,7 +5,7 @@ use Rattle.std.proofs.lemmas.Bool.Decides.{nat_tests}
 use Rattle.std.proofs.lemmas.List.Elements.{All-cons, All-nil}
 use Rattle.blk_plain.specs.declared.op.Patch.{Patch}
 use Rattle.blk_plain.specs.Plain.{used_of}
-use Rattle.raid_script.specs.Asked.{seen_patch}
+use Rattle.raid_script.specs.Steps.{seen_patch}
 use Rattle.raid_script.specs.Format.{are_apart, join_of}
 use Rattle.raid_script.proofs.PatchesApart.{test-is}
 use Rattle.raid_script.proofs.joining.join_in.Goals as goal

@@ -2,9 +2,8 @@ use Rattle.std.proofs.Common.{◌≡◌, ◌∙◌, true, false, refl}
 use Rattle.std.specs.Prelude.{nat_le}
 use Rattle.std.proofs.lemmas.Bool.{le-leb}
 use Rattle.blk_plain.specs.Plain.{used_of}
-use Rattle.raid_script.specs.Asked.{seen_patches}
 use Rattle.raid_script.specs.Format.{are_apart}
-use Rattle.raid_script.specs.Steps.{writes_of}
+use Rattle.raid_script.specs.Steps.{writes_of, seen_patches}
 use Rattle.raid_script.proofs.PatchesApart.{test-is}
 use Rattle.raid_script.proofs.kinds.writes_in.Goals as goal
 

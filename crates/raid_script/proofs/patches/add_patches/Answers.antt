@@ -5,7 +5,7 @@ use Rattle.std.proofs.lemmas.Result.{err_from_is_err_and}
 use Rattle.blk_plain.specs.declared.op.Patch.{Patch}
 use Rattle.blk_plain.specs.Plain.{used_of}
 use Rattle.raid_text.specs.Seen.{words_left}
-use Rattle.raid_script.specs.Asked.{seen_patch, seen_patches}
+use Rattle.raid_script.specs.Steps.{seen_patch, seen_patches}
 use Rattle.raid_script.proofs.PatchesInTurn.{are_done, none_more, one_more, one_refused}
 use Rattle.raid_script.proofs.patches.add_patches.Goals as goal
 

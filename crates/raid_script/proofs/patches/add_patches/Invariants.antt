@@ -3,7 +3,7 @@ use Rattle.blk_plain.specs.declared.op.Patch.{Patch}
 use Rattle.blk_plain.specs.Plain.{used_of}
 use Rattle.raid_text.specs.Seen.{words_left}
 use Rattle.raid_script.specs.Answers.{behind}
-use Rattle.raid_script.specs.Asked.{seen_patches}
+use Rattle.raid_script.specs.Steps.{seen_patches}
 use Rattle.raid_script.specs.Format.{patches_of}
 use Rattle.raid_script.proofs.patches.add_patches.Given as goal
 

@@ -2,7 +2,8 @@ use Rattle.std.proofs.Common.{◌≡◌, ◌∙◌, List, [], Ok, Err, length, a
 use Rattle.std.proofs.lemmas.List.{length-append}
 use Rattle.raid_text.specs.Seen.{left, seen as seen_line}
 use Rattle.raid_script.specs.declared.fault.ScriptFault.TheVariants as fault
-use Rattle.raid_script.specs.Asked.{Scripted, joined_in, joins_of, seen_entry}
+use Rattle.raid_script.specs.Asked.{Scripted, joins_of}
+use Rattle.raid_script.specs.Steps.{joined_in, seen_entry}
 use Rattle.raid_script.specs.declared.join.Join.{Join}
 use Rattle.raid_script.specs.Format.{next_of}
 use Rattle.raid_script.proofs.Refused.{are_asked, are_few, refused, sorted}

@@ -1,7 +1,8 @@
 use Rattle.std.proofs.Common.{is_ok}
 use Rattle.std.proofs.lemmas.Result.{err_from_is_err_and}
 use Rattle.raid_bay.specs.SinkLaws.{puts_then, puts_cut}
-use Rattle.raid_script.specs.Replies.{reply_line, bytes_from, data_text, item_first, item_sectors}
+use Rattle.raid_script.specs.Replies.{reply_line, data_text, item_first, item_sectors}
+use Rattle.raid_script.specs.Steps.{bytes_from}
 use Rattle.raid_script.proofs.replies.put_item.Goals as goal
 
 pub returns-in_err-put-clause-output : goal.returns-in_err-put-clause-output

@@ -1,6 +1,6 @@
 use Rattle.std.proofs.Common.{◌∙◌, ◌+◌, ◌*◌, ◌<◌, ◌++◌, ℕ, List, length, drop, min, true, false, refl, ap, arith, append-nil}
 use Rattle.std.proofs.lemmas.Result.{err_from_is_err_and}
-use Rattle.raid_script.specs.Replies.{client_text}
+use Rattle.raid_script.specs.Steps.{client_text}
 use Rattle.raid_script.proofs.Printed.{from_place, place_more, place_none, puts_on, puts_off}
 use Rattle.raid_script.proofs.ReplyTexts.{client_is, before_more, before_within}
 use Rattle.raid_script.proofs.replies.put_replies.Goals as goal

@@ -1,6 +1,7 @@
 use Rattle.std.proofs.Common.{◌≡◌, ◌≤◌, List, ℕ, Bool, length, min}
 use Rattle.raid_bay.specs.Sink.{Puts}
-use Rattle.raid_script.specs.Replies.{client_text, replies_text, sectors_before}
+use Rattle.raid_script.specs.Replies.{replies_text, sectors_before}
+use Rattle.raid_script.specs.Steps.{client_text}
 use Rattle.raid_script.proofs.Printed.{from_place}
 use Rattle.raid_script.proofs.replies.put_replies.Given as goal
 

@@ -1,7 +1,8 @@
 use Rattle.std.proofs.Common.{◌∙◌, ◌+◌, ◌*◌, ◌<◌, ◌++◌, ℕ, List, length, drop, true, false, refl, ap, arith, append-nil, sym}
 use Rattle.std.proofs.lemmas.Result.{err_from_is_err_and}
 use Rattle.std.proofs.lemmas.Option.{get_or_from_slice_get, slice_get_within}
-use Rattle.raid_script.specs.Replies.{item_sectors, bytes_from, place_text}
+use Rattle.raid_script.specs.Replies.{item_sectors}
+use Rattle.raid_script.specs.Steps.{bytes_from, place_text}
 use Rattle.raid_script.proofs.Printed.{from_place, place_more, place_none, puts_on, puts_off}
 use Rattle.raid_script.proofs.ReplyTexts.{place_is, row_more, row_within}
 use Rattle.raid_script.proofs.StoredSectors.{bytes-behind}

@@ -1,6 +1,7 @@
 use Rattle.std.proofs.Common.{◌≡◌, ◌≤◌, ◌*◌, List, ℕ, Bool, length, take, drop}
 use Rattle.raid_bay.specs.Sink.{Puts}
-use Rattle.raid_script.specs.Replies.{row_sectors, place_text, row_text}
+use Rattle.raid_script.specs.Replies.{row_sectors, row_text}
+use Rattle.raid_script.specs.Steps.{place_text}
 use Rattle.raid_script.proofs.Printed.{from_place}
 use Rattle.raid_script.proofs.replies.put_row.Given as goal
 

@@ -1,7 +1,7 @@
 use Rattle.std.proofs.Common.{◌≡◌, ◌≤◌, ◌*◌, take}
 use Rattle.std.specs.Prelude.{sum_by}
 use Rattle.item_list.specs.ItemList.{ItemList}
-use Rattle.raid_script.specs.Summary.{row_writes}
+use Rattle.raid_script.specs.Steps.{row_writes}
 use Rattle.raid_script.proofs.sums.count_written.Given as goal
 
 -- the sum so far

@@ -1,5 +1,5 @@
 use Rattle.std.proofs.Common.{◌*◌, ◌<◌, ℕ, length, drop, ap, refl, arith}
-use Rattle.raid_script.specs.Summary.{client_sum}
+use Rattle.raid_script.specs.Steps.{client_sum}
 use Rattle.raid_script.proofs.Printed.{sum_more}
 use Rattle.raid_script.proofs.ReplyTexts.{before_more, before_within}
 use Rattle.raid_script.proofs.Summed.{client_sum_is}

@@ -1,6 +1,7 @@
 use Rattle.std.proofs.Common.{◌≡◌, ◌≤◌, ◌+◌, ◌*◌, length}
 use Rattle.raid_script.specs.Replies.{sectors_before}
-use Rattle.raid_script.specs.Summary.{client_sum, all_sum}
+use Rattle.raid_script.specs.Summary.{all_sum}
+use Rattle.raid_script.specs.Steps.{client_sum}
 use Rattle.raid_script.proofs.Printed.{from_sum}
 use Rattle.raid_script.proofs.sums.sum_all.Given as goal
 

@@ -1,7 +1,6 @@
 use Rattle.std.proofs.Common.{◌≡◌, ◌∙◌, ◌+◌, ◌*◌, ◌<◌, ℕ, List, length, drop, sym, ap, arith}
 use Rattle.std.proofs.lemmas.Option.{get_or_from_slice_get, slice_get_within}
-use Rattle.raid_script.specs.Replies.{bytes_from}
-use Rattle.raid_script.specs.Summary.{place_sum}
+use Rattle.raid_script.specs.Steps.{bytes_from, place_sum}
 use Rattle.raid_script.proofs.Printed.{sum_more}
 use Rattle.raid_script.proofs.ReplyTexts.{row_more, row_within}
 use Rattle.raid_script.proofs.StoredSectors.{bytes-behind}

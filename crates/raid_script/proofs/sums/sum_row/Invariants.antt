@@ -1,6 +1,7 @@
 use Rattle.std.proofs.Common.{◌≡◌, ◌≤◌, ◌+◌, ◌*◌, length, take, drop}
 use Rattle.raid_script.specs.Replies.{row_sectors}
-use Rattle.raid_script.specs.Summary.{place_sum, row_sum}
+use Rattle.raid_script.specs.Summary.{row_sum}
+use Rattle.raid_script.specs.Steps.{place_sum}
 use Rattle.raid_script.proofs.Printed.{from_sum}
 use Rattle.raid_script.proofs.sums.sum_row.Given as goal
 

@@ -1,5 +1,5 @@
 use Rattle.std.proofs.Common.{◌≡◌, ◌∙◌, length, ap, arith}
-use Rattle.raid_script.specs.Summary.{byte_sum}
+use Rattle.raid_script.specs.Steps.{byte_sum}
 use Rattle.raid_script.proofs.StoredSectors.{sum-more}
 use Rattle.raid_script.proofs.sums.sum_sectors.Goals as goal
 

@@ -1,6 +1,5 @@
 use Rattle.std.proofs.Common.{◌≡◌, ◌≤◌, ◌*◌}
-use Rattle.raid_script.specs.Replies.{bytes_from}
-use Rattle.raid_script.specs.Summary.{byte_sum}
+use Rattle.raid_script.specs.Steps.{bytes_from, byte_sum}
 use Rattle.raid_script.proofs.sums.sum_sectors.Given as goal
 
 -- the sum so far

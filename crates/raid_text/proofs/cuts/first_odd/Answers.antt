@@ -2,7 +2,7 @@ use Rattle.std.proofs.Common.{◌≡◌, ◌∙◌, rules, arith, not}
 use borrow.Author.Tests.{tests}
 use Rattle.std.proofs.lemmas.Iterator.{YieldsList-from_slice}
 use Rattle.std.proofs.lemmas.Iterator.Search.{position_from_yields_List}
-use Rattle.raid_text.specs.Text.{may_stand}
+use Rattle.raid_text.specs.Steps.{may_stand}
 use Rattle.raid_text.proofs.LineCuts.{le_length, unwrap_first}
 use Rattle.std.specs.List.{position_or_len}
 use Rattle.raid_text.proofs.cuts.first_odd.Goals as goal

@@ -6,7 +6,8 @@ use Rattle.top_bay.specs.Asked.{names_for}
 use Rattle.top_fetch.specs.Told.{Told}
 use Rattle.top_bay.specs.Views.{asked_seen}
 use Rattle.top_duty.specs.Duty.{IsWanted}
-use Rattle.top_duty.specs.Opening.{reads_fronts, sizes_of}
+use Rattle.top_duty.specs.Opening.{sizes_of}
+use Rattle.top_duty.specs.Steps.{reads_fronts}
 use Rattle.top_duty.specs.Views.{duty_seen}
 use Rattle.top_duty.proofs.Wanting.{duty_wanted}
 use Rattle.top_words.specs.Views.{action_seen, command_seen}

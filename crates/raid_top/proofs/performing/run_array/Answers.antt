@@ -7,7 +7,7 @@ use Rattle.raid_conf.specs.contracts.layouts.AnyLayoutLayout.TheImpl as any
 use Rattle.raid_script.specs.Asked.{AreFew, IsAsked}
 use Rattle.top_bay.specs.Views.{asked_seen}
 use Rattle.top_duty.proofs.Drawing.{either_asked}
-use Rattle.top_duty.specs.Duty.{clients_by}
+use Rattle.top_duty.specs.Steps.{clients_by}
 use Rattle.top_duty.specs.Views.{admitted_by, graphs_with, views_of}
 use Rattle.top_duty.specs.Fit.{IsFit, IsStartIf}
 use Rattle.top_duty.specs.Opening.{sizes_of}

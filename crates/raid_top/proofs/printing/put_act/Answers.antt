@@ -4,7 +4,7 @@ use Rattle.raid_bay.specs.Sink.{Puts}
 use Rattle.raid_bay.specs.SinkLaws.{puts_cut, puts_then}
 use Rattle.top_acts.specs.Done.{done_text}
 use Rattle.top_status.specs.Status.{ending_text}
-use Rattle.raid_top.specs.Outcome.{status_of_done}
+use Rattle.raid_top.specs.Words.{status_of_done}
 use Rattle.raid_top.proofs.printing.put_act.Goals as goal
 
 pub returns-in_err-put_done-clause-output : goal.returns-in_err-put_done-clause-output

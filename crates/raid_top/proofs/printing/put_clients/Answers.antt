@@ -2,8 +2,7 @@ use Rattle.std.proofs.Common.{is_ok}
 use Rattle.std.proofs.lemmas.Result.{err_from_is_err_and}
 use Rattle.raid_bay.specs.SinkLaws.{puts_cut, puts_then}
 use Rattle.top_run.specs.Works.{service_seen}
-use Rattle.raid_top.specs.Outcome.{script_text}
-use Rattle.raid_top.specs.Rebuilt.{rebuild_text}
+use Rattle.raid_top.specs.Words.{rebuild_text, script_text}
 use Rattle.raid_top.proofs.printing.put_clients.Goals as goal
 
 pub returns-in_err-put_script-clause-output : goal.returns-in_err-put_script-clause-output

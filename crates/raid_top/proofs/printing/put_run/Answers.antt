@@ -6,7 +6,7 @@ use Rattle.top_run.specs.Works.{service_seen}
 use Rattle.top_status.specs.Status.{ending_text, status_of_loss}
 use Rattle.top_words.specs.Asked.{profile_of}
 use Rattle.top_words.specs.Views.{action_seen}
-use Rattle.raid_top.specs.Outcome.{run_text}
+use Rattle.raid_top.specs.Words.{run_text}
 use Rattle.raid_top.proofs.printing.put_run.Goals as goal
 
 pub returns-in_err-put_service-clause-output : goal.returns-in_err-put_service-clause-output

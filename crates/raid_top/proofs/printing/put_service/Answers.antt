@@ -2,7 +2,7 @@ use Rattle.std.proofs.Common.{is_ok, subst}
 use Rattle.raid_bay.specs.Sink.{Puts}
 use Rattle.top_run.specs.Works.{service_seen}
 use Rattle.top_words.specs.Asked.{Profile}
-use Rattle.raid_top.specs.Outcome.{run_text}
+use Rattle.raid_top.specs.Words.{run_text}
 use Rattle.raid_top.proofs.printing.put_service.Goals as goal
 
 pub returns-clause-output : goal.returns-clause-output

@@ -3,7 +3,7 @@ use Rattle.blk_disk.specs.Disk.{Rose}
 use Rattle.top_status.specs.Refusals.{refusal_text}
 use Rattle.top_status.specs.declared.status.Status.{Status}
 use Rattle.raid_top.specs.Calls.{Refuses, call_text}
-use Rattle.raid_top.specs.Ends.{Printed}
+use Rattle.raid_top.specs.Words.{Printed}
 use Rattle.raid_top.specs.Finished.{finished_seen}
 use Rattle.raid_top.proofs.Endings.{acts_of, finished_status, printed_of}
 use Rattle.raid_top.proofs.top.run.Goals as goal

@@ -1,6 +1,5 @@
 use Rattle.std.proofs.Common.{◌∙◌, sym}
 use Rattle.raid_map.specs.Marking.{IsMapSector}
-use Rattle.top_close.specs.Settled.{LosesDevice}
 use Rattle.top_rounds.proofs.RoundLaws.{any_death, can-after, settable_after}
 use Rattle.top_acts.specs.Sweeps.{Marks}
 use Rattle.top_acts.proofs.Announced.{announced, announced_few, no_bool, opens_kept, opens_lost}
@@ -8,6 +7,7 @@ use Rattle.top_acts.proofs.Held.{held_after}
 use Rattle.top_acts.proofs.Marked.{marks_dies}
 use Rattle.top_acts.proofs.Tried.{none_of}
 use Rattle.top_acts.proofs.beginning.mark.Goals as goal
+use Rattle.eng_cols.specs.Deaths.{LosesDevice}
 
 pub write_lost-requires-clause-array : goal.write_lost-requires-clause-array
 write_lost-requires-clause-array g c =

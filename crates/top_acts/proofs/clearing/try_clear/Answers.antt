@@ -1,6 +1,5 @@
 use Rattle.std.proofs.Common.{◌≡◌, ◌∙◌, ◌++◌, ap, drop, take, false, length, None, refl, subst, sym, true, arith}
 use Rattle.raid_map.specs.Marking.{AreMarked, IsMapSector}
-use Rattle.top_close.specs.Settled.{LosesDevice}
 use Rattle.top_close.specs.Stage.{device_count}
 use Rattle.top_rounds.proofs.RoundLaws.{any_death, can-after, settable_after, whole_slice}
 use Rattle.top_acts.specs.Cleared.{TriesToClear}
@@ -8,6 +7,7 @@ use Rattle.top_acts.proofs.Clears.{marks_fewer, marks_same, mapped_closed}
 use Rattle.top_acts.proofs.Marked.{marks_all, marks_dies}
 use Rattle.top_acts.proofs.Tried.{none_of}
 use Rattle.top_acts.proofs.clearing.try_clear.Goals as goal
+use Rattle.eng_cols.specs.Deaths.{LosesDevice}
 
 pub close_anew-requires-clause-array : goal.close_anew-requires-clause-array
 close_anew-requires-clause-array g c =

@@ -1,7 +1,7 @@
 use Rattle.std.proofs.Common.{◌≡◌, ◌∙◌, ap, length, subst, sym, arith}
 use Rattle.eng_cols.specs.Settable.{IsSettable}
 use Rattle.top_rounds.proofs.RoundLaws.{whole_slice}
-use Rattle.top_acts.specs.Killed.{IsWithout}
+use Rattle.top_acts.specs.Alive.{IsWithout}
 use Rattle.top_acts.proofs.judging.lose_column.Goals as goal
 
 pub lose_in-requires-clause-columns : goal.lose_in-requires-clause-columns

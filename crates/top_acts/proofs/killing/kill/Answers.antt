@@ -21,8 +21,14 @@ pub returns-in-Some-clause-killed : goal.returns-in-Some-clause-killed
 returns-in-Some-clause-killed g c = record {
   told = sym (ap (λ o. unless_lost o (done.Killed c.args.column)) c.in-Some.is);
   left = c.lose_column.new.hand.ending.columns.items;
-  without = c.lose_column.ensures.without;
-  ends = c.settle_and_close.ensures.ends;
+  entries = c.lose_column.ensures.without.entries;
+  kept = c.lose_column.ensures.without.kept;
+  mid = c.settle_and_close.ensures.ends.mid;
+  dev = c.settle_and_close.ensures.ends.dev;
+  before = c.settle_and_close.ensures.ends.before;
+  settles = c.settle_and_close.ensures.ends.settles;
+  before_is = c.settle_and_close.ensures.ends.lost_is;
+  ends = c.settle_and_close.ensures.ends.ends;
   lost_is = c.settle_and_close.ensures.lost;
 }
 
@@ -30,7 +36,13 @@ pub returns-in-None-clause-killed : goal.returns-in-None-clause-killed
 returns-in-None-clause-killed g c = record {
   told = sym (ap (λ o. unless_lost o (done.Killed c.args.column)) c.in-None.is);
   left = c.lose_column.new.hand.ending.columns.items;
-  without = c.lose_column.ensures.without;
-  ends = c.settle_and_close.ensures.ends;
+  entries = c.lose_column.ensures.without.entries;
+  kept = c.lose_column.ensures.without.kept;
+  mid = c.settle_and_close.ensures.ends.mid;
+  dev = c.settle_and_close.ensures.ends.dev;
+  before = c.settle_and_close.ensures.ends.before;
+  settles = c.settle_and_close.ensures.ends.settles;
+  before_is = c.settle_and_close.ensures.ends.lost_is;
+  ends = c.settle_and_close.ensures.ends.ends;
   lost_is = c.settle_and_close.ensures.lost;
 }

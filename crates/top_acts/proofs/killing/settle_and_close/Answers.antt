@@ -1,7 +1,6 @@
 use Rattle.std.proofs.Common.{◌∙◌, None, sym, arith}
 use Rattle.eng_cols.proofs.DeathLaws.{dies-more}
 use Rattle.top_close.specs.Dying.{AnyCause}
-use Rattle.top_close.specs.Settled.{LosesDevice}
 use Rattle.top_close.specs.Stage.{DiesIn}
 use Rattle.top_rounds.proofs.RoundLaws.{can-after}
 use Rattle.top_acts.proofs.Held.{held_after}
@@ -9,6 +8,7 @@ use Rattle.top_acts.proofs.Kills.{ends_closed, ends_left}
 use Rattle.top_acts.proofs.Settled.{settled}
 use Rattle.top_acts.proofs.killing.settle_and_close.Goals as goal
 use Rattle.top_rounds.proofs.Words.{IsFirstInUse}
+use Rattle.eng_cols.specs.Deaths.{LosesDevice}
 
 pub close-requires-clause-array : goal.close-requires-clause-array
 close-requires-clause-array g c =

@@ -1,5 +1,5 @@
 use Rattle.std.proofs.Common.{◌≡◌, ◌≤◌, take}
-use Rattle.top_acts.specs.Labelled.{alive}
+use Rattle.top_acts.specs.Counting.{alive}
 use Rattle.top_acts.proofs.labelling.count_alive.Given as goal
 
 -- those so far are counted

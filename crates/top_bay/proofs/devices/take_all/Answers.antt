@@ -2,7 +2,8 @@ use Rattle.std.proofs.Common.{◌≡◌, ◌∙◌, ⊎_elim, ℕ, List, [], ◌
 use Rattle.std.proofs.lemmas.Bool.{cases_lt}
 use Rattle.top_fetch.specs.Answers.{RefusedAs}
 use Rattle.top_words.specs.Views.{action_seen}
-use Rattle.top_bay.specs.Asked.{is_at_home, names_by}
+use Rattle.top_bay.specs.Asked.{names_by}
+use Rattle.top_bay.specs.Steps.{is_at_home}
 use Rattle.top_bay.proofs.NamesBy.{differ_by}
 use Rattle.top_bay.specs.Lent.{AreOut, IsLent}
 use Rattle.top_bay.proofs.Asking.{device_in-same, devices_all, found, refused_device}

@@ -1,6 +1,7 @@
 use Rattle.std.proofs.Common.{◌≡◌, ◌≤◌, ◌<◌, ℕ, List, Some, true, length, vec_len, vec_capacity, slice_get}
 use Rattle.top_words.specs.Views.{action_seen}
-use Rattle.top_bay.specs.Asked.{is_at_home, names_by}
+use Rattle.top_bay.specs.Asked.{names_by}
+use Rattle.top_bay.specs.Steps.{is_at_home}
 use Rattle.top_bay.specs.Lent.{AreOut, IsLent}
 use Rattle.top_bay.proofs.devices.take_all.Given as goal
 

@@ -1,6 +1,6 @@
 use Rattle.std.specs.Prelude.{[]}
 use Rattle.std.proofs.Common.{◌∙◌, ap}
-use Rattle.graph_text.specs.Format.{graphs_of}
+use Rattle.graph_text.specs.Texts.{graphs_of}
 use Rattle.top_bay.proofs.Empty.{no_graphs_in, ok_is}
 use Rattle.top_bay.proofs.opening.no_graphs.Goals as goal
 

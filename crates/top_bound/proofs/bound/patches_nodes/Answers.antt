@@ -1,8 +1,9 @@
 use Rattle.std.proofs.Common.{◌≡◌, ◌∙◌, ℕ, ap, sym}
 use Rattle.std.specs.Prelude.{Option}
 use Rattle.blk_plain.specs.Plain.{used_of}
-use Rattle.raid_script.specs.Asked.{seen_patches}
-use Rattle.top_bound.specs.Bound.{graphs_in, patches_nodes, spans_nodes}
+use Rattle.raid_script.specs.Steps.{seen_patches}
+use Rattle.top_bound.specs.Bound.{graphs_in, spans_nodes}
+use Rattle.top_bound.specs.Words.{patches_nodes}
 use Rattle.top_bound.proofs.Patched.{spans-seen}
 use Rattle.top_bound.proofs.bound.patches_nodes.Goals as goal
 

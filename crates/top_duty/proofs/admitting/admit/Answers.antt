@@ -9,7 +9,8 @@ use Rattle.top_bay.specs.Views.{asked_seen}
 use Rattle.top_bay.proofs.Homes.{home_again, lent_are_named}
 use Rattle.top_status.specs.Refusals.{Refused}
 use Rattle.top_words.specs.Views.{action_seen, command_seen}
-use Rattle.top_duty.specs.Opening.{reads_fronts, sizes_of}
+use Rattle.top_duty.specs.Opening.{sizes_of}
+use Rattle.top_duty.specs.Steps.{reads_fronts}
 use Rattle.top_duty.specs.Taken.{DevicesAreTaken, Reads, RefusedFor, RefusedOver}
 use Rattle.top_duty.specs.Views.{IsDutyOver, IsFitFor}
 use Rattle.top_duty.proofs.Returning.{back_named, home_stays, others_home, out_still, written_back}

@@ -3,7 +3,7 @@ use Rattle.std.proofs.lemmas.Result.{IfOk-weaker}
 use Rattle.std.proofs.Common.{◌∙◌}
 use Rattle.std.specs.Prelude.{[]}
 use Rattle.top_words.specs.Asked.{IsDrawable, Profile}
-use Rattle.top_duty.specs.Duty.{drawn_or}
+use Rattle.top_duty.specs.Steps.{drawn_or}
 use Rattle.top_duty.proofs.clients.draw.Goals as goal
 
 pub draw_by-requires-clause-range : goal.draw_by-requires-clause-range

@@ -2,7 +2,7 @@ use Rattle.std.specs.Prelude.{List}
 use Rattle.std.proofs.Common.{◌∙◌, ap}
 use Rattle.eng_cols.specs.Cols.{Columns, ColumnState}
 use Rattle.eng_cols.specs.Stripes.{states_of}
-use Rattle.top_duty.specs.Duty.{with_killed}
+use Rattle.top_duty.specs.Steps.{with_killed}
 use Rattle.top_duty.proofs.Losing.{loss_found}
 use Rattle.top_duty.proofs.judge.loss_of.Goals as goal
 

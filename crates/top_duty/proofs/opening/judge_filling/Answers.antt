@@ -4,8 +4,9 @@ use Rattle.lay_core.specs.Layout.{Shape}
 use Rattle.eng_cols.specs.declared.column.Column.TheVariants as column
 use Rattle.raid_conf.specs.Layouts.{shape_of}
 use Rattle.raid_conf.proofs.TableLaws.{shape-columns}
-use Rattle.top_open.specs.Opening.{kept_if_left}
-use Rattle.top_duty.specs.Opening.{filling_at, left_at, stripes_on}
+use Rattle.top_open.specs.Steps.{kept_if_left}
+use Rattle.top_duty.specs.Opening.{filling_at, stripes_on}
+use Rattle.top_duty.specs.Steps.{left_at}
 use Rattle.top_duty.proofs.Firsts.{filling_is}
 use Rattle.top_duty.proofs.opening.judge_filling.Goals as goal
 

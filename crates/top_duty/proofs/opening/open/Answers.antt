@@ -7,7 +7,8 @@ use Rattle.top_open.specs.declared.fault.OpenFault.TheVariants as fault
 use Rattle.top_open.specs.Opening.{Opened, opened_seen}
 use Rattle.top_rounds.proofs.RoundLaws.{whole_slice}
 use Rattle.top_status.specs.Refusals.{only}
-use Rattle.top_duty.specs.Opening.{filling_at, fronted_by, left_at, opened_by, status_of}
+use Rattle.top_duty.specs.Opening.{filling_at, fronted_by, opened_by, status_of}
+use Rattle.top_duty.specs.Steps.{left_at}
 use Rattle.top_duty.proofs.Deadened.{left_length}
 use Rattle.top_duty.proofs.Opens.{opened_is, opened_not}
 use Rattle.top_duty.proofs.opening.open.Goals as goal

@@ -6,7 +6,8 @@ use Rattle.top_open.specs.Plan.{IsPlan}
 use Rattle.top_open.specs.declared.fault.OpenFault.TheVariants as fault
 use Rattle.top_open.specs.declared.plan.Needs.{Needs}
 use Rattle.top_status.specs.Refusals.{only}
-use Rattle.top_duty.specs.Opening.{AreTableRows, needs_of, fronted_by, status_of, without_small}
+use Rattle.top_duty.specs.Opening.{AreTableRows, needs_of, fronted_by, status_of}
+use Rattle.top_duty.specs.Steps.{without_small}
 use Rattle.top_duty.proofs.Deadened.{small_length}
 use Rattle.top_duty.proofs.Opens.{as_rows, before_count, dead_within, opened_args, fronted_is, fronted_not}
 use Rattle.top_duty.proofs.Tables.{plan_is}

@@ -1,6 +1,6 @@
 use Rattle.std.proofs.Common.{◌≡◌, ◌∙◌, ℕ, Bool, List, [], ◌∷◌, ◌++◌, get_or, map, take, sym, ap}
 use Rattle.std.proofs.lemmas.Option.{get_or_from_slice_get, slice_get_within}
-use Rattle.top_duty.specs.Opening.{is_named}
+use Rattle.top_duty.specs.Steps.{is_named}
 use Rattle.top_duty.proofs.MapsMore.{map_more}
 use Rattle.top_duty.proofs.plan.present_of.Goals as goal
 

@@ -1,5 +1,5 @@
 use Rattle.std.proofs.Common.{◌≡◌, map, take}
-use Rattle.top_duty.specs.Opening.{is_named}
+use Rattle.top_duty.specs.Steps.{is_named}
 use Rattle.top_duty.proofs.plan.present_of.Given as goal
 
 abbrev pub invariant-loop-c : goal.invariant-loop-c

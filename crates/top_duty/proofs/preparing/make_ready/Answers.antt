@@ -6,7 +6,8 @@ use Rattle.top_open.specs.Opening.{opened_seen}
 use Rattle.top_status.specs.declared.status.Status.{Status}
 use Rattle.top_status.specs.Refusals.{Refused, only}
 use Rattle.top_words.specs.declared.profile.Kind.TheVariants as kind
-use Rattle.top_duty.specs.Duty.{IsWanted, WantsMemory, admitted_with, duty_for}
+use Rattle.top_duty.specs.Duty.{IsWanted, WantsMemory, duty_for}
+use Rattle.top_duty.specs.Steps.{admitted_with}
 use Rattle.top_duty.specs.Opening.{needs_of}
 use Rattle.top_duty.specs.Views.{RefusedHere, dead_beside}
 use Rattle.top_duty.proofs.Named.{start_named, start_within}

@@ -1,7 +1,8 @@
 use Rattle.std.proofs.lemmas.Result.{IfErr-weaker, IfOk-weaker}
 use Rattle.eng_cols.specs.Stripes.{states_of}
 use Rattle.top_bay.specs.Views.{asked_seen}
-use Rattle.top_duty.specs.Duty.{rebuilds_by, with_killed}
+use Rattle.top_duty.specs.Duty.{rebuilds_by}
+use Rattle.top_duty.specs.Steps.{with_killed}
 use Rattle.top_duty.specs.Start.{other_filling}
 use Rattle.top_duty.proofs.Unlost.{unlost_refused}
 use Rattle.top_duty.proofs.refusing.join_unless_refused.Goals as goal

@@ -2,7 +2,7 @@ use Rattle.std.specs.Prelude.{◌≡◌, ◌+◌, ◌*◌, true, false, List}
 use Rattle.std.proofs.Common.{sym, ap, ap₂, ℕ, ◌∙◌}
 use Rattle.eng_cols.specs.declared.column.Column.{Column}
 use Rattle.top_open.specs.Opening.{opened_seen}
-use Rattle.top_duty.specs.Start.{is_free}
+use Rattle.top_duty.specs.Steps.{is_free}
 use Rattle.top_duty.proofs.Firsts.{first_more, first_zero, spare_found}
 use Rattle.top_duty.proofs.start.free_spare.Goals as goal
 

@@ -1,6 +1,6 @@
 use Rattle.std.proofs.Common.{◌≡◌, ◌+◌, None}
 use Rattle.top_duty.specs.First.{first_of}
-use Rattle.top_duty.specs.Start.{is_free}
+use Rattle.top_duty.specs.Steps.{is_free}
 use Rattle.top_duty.proofs.start.free_spare.Given as goal
 
 -- none of the spares so far is free

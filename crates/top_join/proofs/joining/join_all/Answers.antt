@@ -6,7 +6,7 @@ use Rattle.item_list.specs.ItemList.{ItemList}
 use Rattle.raid_script.specs.declared.join.Join.{Join}
 use Rattle.raid_script.specs.Asked.{seen}
 use Rattle.top_join.specs.Answers.{RefusesOne}
-use Rattle.top_join.specs.Joining.{IsLine}
+use Rattle.top_join.specs.Steps.{IsLine}
 use Rattle.top_join.proofs.Lines.{Goes, all-gone, none-gone, one-gone, refused-all}
 use Rattle.top_join.proofs.joining.join_all.Goals as goal
 

@@ -1,4 +1,4 @@
-use Rattle.top_join.specs.Joining.{graph_at}
+use Rattle.top_join.specs.Steps.{graph_at}
 use Rattle.top_join.proofs.Both.{accepted, atomic}
 use Rattle.top_join.proofs.laws.joined_graph_writes_both_spans.Goals as goal
 

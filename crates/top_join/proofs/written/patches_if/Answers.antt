@@ -4,7 +4,7 @@ use Rattle.blk_plain.specs.declared.op.Op.TheVariants as op
 use Rattle.blk_plain.specs.declared.op.Patches.{Patches}
 use Rattle.blk_plain.specs.declared.op.Span.{Span}
 use Rattle.blk_plain.specs.Plain.{AreSound, spans_of}
-use Rattle.raid_script.specs.Asked.{seen_op}
+use Rattle.raid_script.specs.Steps.{seen_op}
 use Rattle.top_bound.proofs.Patched.{asked-few, has-blocks}
 use Rattle.top_join.specs.Joining.{spans_by}
 use Rattle.top_join.proofs.Searching.{by-number, if-then}

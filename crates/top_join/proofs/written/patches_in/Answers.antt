@@ -6,7 +6,7 @@ use Rattle.blk_plain.specs.Plain.{spans_of}
 use Rattle.item_list.specs.ItemList.{ItemList}
 use Rattle.raid_script.specs.Asked.{seen}
 use Rattle.top_bound.specs.Bound.{MayBeAsked}
-use Rattle.top_join.specs.Joining.{spans_in, spans_in_row}
+use Rattle.top_join.specs.Steps.{spans_in_row, spans_in}
 use Rattle.top_join.proofs.Searching.{rows-none, rows-step}
 use Rattle.top_join.proofs.written.patches_in.Goals as goal
 use Rattle.std.specs.Option.{option_or}

@@ -1,7 +1,7 @@
 use Rattle.std.proofs.Common.{◌≡◌, drop, map}
 use Rattle.item_list.specs.ItemList.{ItemList}
 use Rattle.raid_script.specs.Asked.{seen}
-use Rattle.top_join.specs.Joining.{spans_in}
+use Rattle.top_join.specs.Steps.{spans_in}
 use Rattle.top_join.proofs.written.patches_in.Given as goal
 
 -- the item is one of a client that is left, if there is one

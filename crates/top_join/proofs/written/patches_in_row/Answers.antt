@@ -6,7 +6,8 @@ use Rattle.blk_plain.specs.Plain.{spans_of}
 use Rattle.eng_world.specs.declared.item.Item.{Item}
 use Rattle.raid_script.specs.Asked.{seen}
 use Rattle.top_bound.proofs.Patched.{each-asked}
-use Rattle.top_join.specs.Joining.{spans_by, spans_in_row}
+use Rattle.top_join.specs.Joining.{spans_by}
+use Rattle.top_join.specs.Steps.{spans_in_row}
 use Rattle.top_join.proofs.Searching.{row-none, row-step}
 use Rattle.top_join.proofs.written.patches_in_row.Goals as goal
 use Rattle.std.specs.Option.{option_or}

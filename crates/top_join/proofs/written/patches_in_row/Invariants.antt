@@ -1,6 +1,6 @@
 use Rattle.std.proofs.Common.{◌≡◌, drop, map}
 use Rattle.raid_script.specs.Asked.{seen}
-use Rattle.top_join.specs.Joining.{spans_in_row}
+use Rattle.top_join.specs.Steps.{spans_in_row}
 use Rattle.top_join.proofs.written.patches_in_row.Given as goal
 
 -- the item is among those that are left, if there is one

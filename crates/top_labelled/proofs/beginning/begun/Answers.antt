@@ -9,10 +9,10 @@ use Rattle.raid_map.specs.Regions.{Marks as Map}
 use Rattle.top_close.specs.Stage.{DiesIn}
 use Rattle.top_acts.proofs.Looked.{looks_dies}
 use Rattle.top_run.proofs.Settled.{lent-back}
-use Rattle.top_labelled.specs.Begun.{IsAlone, IsColumnWithin, is_in_place, is_kept, notice_in, writes_maps}
+use Rattle.top_labelled.specs.Begun.{IsAlone, IsColumnWithin, is_in_place, is_kept}
+use Rattle.top_labelled.specs.Words.{notice_in, writes_maps, MarksAsked}
 use Rattle.top_labelled.specs.Between.{HasOpened, asked_of}
 use Rattle.top_labelled.specs.declared.opening.AskedOpening.{AskedOpening}
-use Rattle.top_labelled.specs.Marked.{MarksAsked}
 use Rattle.top_labelled.specs.Ran.{onto}
 use Rattle.top_labelled.proofs.Beginnings.{all-spanned, begun-so, can-act}
 use Rattle.top_labelled.proofs.Restart.{rebuilds-alone, rebuilds-within}

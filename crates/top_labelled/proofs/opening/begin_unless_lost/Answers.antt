@@ -1,5 +1,6 @@
 use Rattle.std.proofs.Common.{sym, ◌∙◌}
-use Rattle.top_labelled.specs.Begun.{notice_in, sweeps_in}
+use Rattle.top_labelled.specs.Begun.{sweeps_in}
+use Rattle.top_labelled.specs.Words.{notice_in}
 use Rattle.top_labelled.proofs.Openings.{begins-kept, begins-lost}
 use Rattle.top_labelled.proofs.opening.begin_unless_lost.Goals as goal
 

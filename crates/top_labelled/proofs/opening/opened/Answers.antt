@@ -1,7 +1,8 @@
 use Rattle.std.proofs.Common.{Bool, None, ◌∙◌, ap, subst, sym, arith}
 use Rattle.std.specs.Prelude.{◌&&◌, ◌||◌, not, if◌then◌else◌}
 use Rattle.top_close.specs.Dying.{AnyCause}
-use Rattle.top_labelled.specs.Begun.{IsColumnWithin, is_in_place, notice_in, sweeps_in}
+use Rattle.top_labelled.specs.Begun.{IsColumnWithin, is_in_place, sweeps_in}
+use Rattle.top_labelled.specs.Words.{notice_in}
 use Rattle.top_labelled.proofs.Openings.{begins-bounded, begins-die}
 use Rattle.top_labelled.proofs.Without.{alone-later}
 use Rattle.top_labelled.proofs.opening.opened.Goals as goal

@@ -8,9 +8,9 @@ use Rattle.top_close.proofs.DyingLaws.{dies_unfilled}
 use Rattle.eng_cols.specs.Stripes.{states_of}
 use Rattle.top_rounds.specs.Labels.{given_up, seating_in, unless_filling, with_round}
 use Rattle.top_rounds.proofs.RoundLaws.{any_death, can-after, given_death, gives_up, lost_clean, none_given_in, none_left, round_again, rounds_are, rounds_lost, settable_after}
-use Rattle.top_close.specs.Settled.{LosesDevice}
 use Rattle.top_rounds.proofs.rounds.rounds_of_kept.Goals as goal
 use Rattle.top_rounds.proofs.Words.{IsFirstInUse}
+use Rattle.eng_cols.specs.Deaths.{LosesDevice}
 
 pub last_round-requires-clause-array : goal.last_round-requires-clause-array
 last_round-requires-clause-array g c =

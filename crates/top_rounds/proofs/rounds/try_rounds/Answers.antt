@@ -3,10 +3,10 @@ use Rattle.eng_cols.specs.Lost.{NotLost}
 use Rattle.eng_cols.specs.Stripes.{states_of}
 use Rattle.raid_label.specs.declared.label.Label.{Label}
 use Rattle.top_rounds.specs.Labels.{seating_in}
-use Rattle.top_close.specs.Settled.{LosesDevice}
 use Rattle.top_rounds.proofs.RoundLaws.{can-after, fewer, round_kept, rounds_whole, tried-more, tried-none}
 use Rattle.top_rounds.proofs.rounds.try_rounds.Goals as goal
 use Rattle.top_rounds.proofs.Words.{IsFirstInUse}
+use Rattle.eng_cols.specs.Deaths.{LosesDevice}
 
 pub loop-devices-init : goal.loop-devices-init
 loop-devices-init g c = record { tried = tried-none g.D.Disk c.args.label.now c.args.columns.now c.args.devices.now; same = refl; held = c.requires.held; judge = c.requires.judge }

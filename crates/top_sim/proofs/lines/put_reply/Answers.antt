@@ -1,8 +1,8 @@
 use Rattle.std.proofs.Common.{is_ok}
 use Rattle.std.proofs.lemmas.Result.{err_from_is_err_and}
 use Rattle.raid_bay.specs.SinkLaws.{puts_then, puts_cut}
-use Rattle.top_sim.specs.Lines.{data_text, reply_word}
-use Rattle.top_sim.specs.Steps.{reply_line}
+use Rattle.top_sim.specs.Lines.{data_text}
+use Rattle.top_sim.specs.Steps.{reply_line, reply_word}
 use Rattle.top_sim.proofs.lines.put_reply.Goals as goal
 
 pub returns-in_err-put-clause-output : goal.returns-in_err-put-clause-output

@@ -1,7 +1,7 @@
 use Rattle.std.proofs.Common.{true, false, arith}
 use Rattle.std.proofs.lemmas.Result.{err_from_is_err_and}
 use Rattle.raid_bay.specs.SinkLaws.{puts_more, puts_less, puts_none}
-use Rattle.top_sim.specs.Lines.{served_line}
+use Rattle.top_sim.specs.Steps.{served_line}
 use Rattle.top_sim.proofs.lines.put_services.Goals as goal
 
 pub loop-served-preserved : goal.loop-served-preserved

@@ -1,6 +1,6 @@
 use Rattle.std.proofs.Common.{◌≤◌, List, ℕ, Bool, flat_map, drop}
 use Rattle.raid_bay.specs.Sink.{Puts}
-use Rattle.top_sim.specs.Lines.{served_line}
+use Rattle.top_sim.specs.Steps.{served_line}
 use Rattle.top_sim.proofs.lines.put_services.Given as goal
 
 -- whatever comes of the services that are left comes of all of them

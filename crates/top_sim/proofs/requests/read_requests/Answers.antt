@@ -1,7 +1,7 @@
 use Rattle.std.proofs.Common.{◌∙◌, length, map, arith, length-append}
 use Rattle.std.proofs.lemmas.List.{map-append}
 use Rattle.raid_text.specs.Seen.{left, seen as seen_line}
-use Rattle.top_sim.specs.Asked.{seen}
+use Rattle.top_sim.specs.Steps.{seen}
 use Rattle.top_sim.specs.Format.{requests_behind}
 use Rattle.top_sim.proofs.LinesInTurn.{at_first, ends, goes_on, is_done}
 use Rattle.top_sim.proofs.RequestsInTurn.{are_asked, are_within, no_request, one_more}

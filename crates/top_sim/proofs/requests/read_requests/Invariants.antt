@@ -1,6 +1,6 @@
 use Rattle.std.proofs.Common.{◌≡◌, ◌≤◌, length, map}
 use Rattle.raid_text.specs.Seen.{left}
-use Rattle.top_sim.specs.Asked.{seen}
+use Rattle.top_sim.specs.Steps.{seen}
 use Rattle.top_sim.specs.Format.{requests_behind}
 use Rattle.top_sim.proofs.LinesInTurn.{with_front}
 use Rattle.top_sim.proofs.RequestsInTurn.{AreFrom}

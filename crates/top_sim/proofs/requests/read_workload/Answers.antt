@@ -2,7 +2,7 @@ use Rattle.std.proofs.Common.{◌≡◌, Err, Ok, map, refl, subst}
 use Rattle.std.proofs.lemmas.Result.{err_from_is_err_and}
 use Rattle.raid_text.specs.Seen.{left}
 use Rattle.text_steps.specs.Steps.{Rest, rest_of, whole}
-use Rattle.top_sim.specs.Asked.{seen}
+use Rattle.top_sim.specs.Steps.{seen}
 use Rattle.top_sim.specs.Format.{disk_line}
 use Rattle.top_sim.proofs.WorkloadInTurn.{all_lines, disk_stops, lines_stop}
 use Rattle.top_sim.proofs.requests.read_workload.Goals as goal

@@ -1,7 +1,8 @@
 use Rattle.std.proofs.Common.{◌≡◌, ◌∙◌, ℕ, List, [], map, sym, ap, arith}
 use Rattle.std.proofs.lemmas.List.{map_push}
 use Rattle.eng_world.specs.declared.item.Item.{Item}
-use Rattle.raid_script.specs.Asked.{Asked, Scripted, asked_by, by_first, joins_of, seen}
+use Rattle.raid_script.specs.Asked.{Asked, Scripted, by_first, joins_of, seen}
+use Rattle.raid_script.specs.Steps.{asked_by}
 use Rattle.raid_script.specs.declared.join.Join.{Join}
 use Rattle.raid_script.proofs.ByClient.{by_first_more, by_first_none}
 use Rattle.raid_script.proofs.script.Script.empty.Goals as goal
