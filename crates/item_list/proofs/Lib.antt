@@ -1,2 +1,3 @@
 mod Keeping
+mod Patterns
 pub mod Sent
