@@ -31,6 +31,7 @@ use Rattle.std.specs.List.{range_with_len}
 use Rattle.blk_plain.specs.declared.op.Patches.{Patches}
 use Rattle.eng_world.specs.declared.item.Item.TheVariants.{Fail}
 use Rattle.raid_script.specs.declared.entry.Entry.{Entry}
+use Rattle.raid_script.specs.declared.entry.Room.{Room}
 use Rattle.raid_script.specs.declared.entry.Said.{Said}
 use Rattle.raid_script.specs.declared.entry.Said.TheVariants as said
 
@@ -267,13 +268,13 @@ joined sector (first ∷ others) =
 unfoldable pub lengths : List ℕ
 lengths = map (λ k. 2 ^ k) (range_with_len 0 10)
 
--- what a line says, where the patches of a write of several spans are these
-abbrev pub seen_said : Patches → Said → Asked
-seen_said patches (said.Write span pattern graph) = Writes span.first span.count (pattern_bytes pattern) graph
-seen_said patches (said.Writes graph) = if nat_le patches.used 8 then WritesAll (seen_patches patches) graph else Other
-seen_said patches (said.Read span graph) = Reads span.first span.count graph
-seen_said patches (said.Sync stripe) = Syncs stripe
-seen_said patches (said.Fail column) = Fails column
+-- what a line says, where what it writes is in this room
+abbrev pub seen_said : Room → Said → Asked
+seen_said room (said.Write span graph) = Writes span.first span.count (pattern_bytes room.pattern) graph
+seen_said room (said.Writes graph) = if nat_le room.patches.used 8 then WritesAll (seen_patches room.patches) graph else Other
+seen_said room (said.Read span graph) = Reads span.first span.count graph
+seen_said room (said.Sync stripe) = Syncs stripe
+seen_said room (said.Fail column) = Fails column
 
-abbrev pub seen_entry : Patches → Entry → Request
-seen_entry patches e = record { client = e.client; asked = seen_said patches e.said; joined = e.join }
+abbrev pub seen_entry : Room → Entry → Request
+seen_entry room e = record { client = e.client; asked = seen_said room e.said; joined = e.join }

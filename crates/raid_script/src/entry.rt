@@ -7,33 +7,20 @@ use crate::join::Join;
 use blk_plain::{Op, Patch, Patches, Pattern, Span};
 use eng_world::Item;
 
-/// An item as a line has it: the patches of a write of several spans stand in a room beside it, so that
-/// the value that each step of the reader hands on is a small one.
+/// An item as a line has it: what is written stands in a room beside it, so that the value that each step of
+/// the reader hands on is a small one.
 #[derive(Clone, Copy, Debug, PartialEq, Eq)]
 pub enum Said {
-    /// A write of one span.
-    Write {
-        span: Span,
-        pattern: Pattern,
-        graph: Option<u32>,
-    },
+    /// A write of one span, with the pattern that is in the room.
+    Write { span: Span, graph: Option<u32> },
     /// A write of those patches that are in the room.
-    Writes {
-        graph: Option<u32>,
-    },
+    Writes { graph: Option<u32> },
     /// A read.
-    Read {
-        span: Span,
-        graph: Option<u32>,
-    },
+    Read { span: Span, graph: Option<u32> },
     /// A stripe's check unit is made.
-    Sync {
-        stripe: u32,
-    },
+    Sync { stripe: u32 },
     /// A column fails.
-    Fail {
-        column: u32,
-    },
+    Fail { column: u32 },
 }
 
 /// A client's item, and which graphs are joined for it, if any are.
@@ -44,36 +31,47 @@ pub struct Entry {
     pub join: Option<Join>,
 }
 
-/// Room for patches, of which none is in use.
-pub fn patch_room() -> Patches
-    ensures { result.used ≡ 0 }
+/// Room for what is written: the pattern of a write of one span, and the patches of a write of several.
+#[derive(Clone, Copy)]
+pub struct Room {
+    pub pattern: Pattern,
+    pub patches: Patches,
+}
+
+/// Room for what is written, of whose patches none is in use.
+pub fn patch_room() -> Room
+    ensures { result.patches.used ≡ 0 }
 {
     let span = Span { first: 0, count: 0 };
     let pattern = Pattern {
         len: 1,
         bytes: [0; 32],
     };
-    Patches {
-        used: 0,
-        list: [Patch { span, pattern }; 8],
+    Room {
+        pattern,
+        patches: Patches {
+            used: 0,
+            list: [Patch { span, pattern }; 8],
+        },
     }
 }
 
-/// The item that a line says, with this room's patches where it has several spans.
-pub fn item_from(said: Said, room: &Patches) -> Item
+/// The item that a line says, with what this room has where it writes.
+pub fn item_from(said: Said, room: &Room) -> Item
     ensures { seen result ≡ seen_said room.now said }
 {
     match said {
-        Said::Write {
-            span,
-            pattern,
-            graph,
-        } => Item::Run {
-            op: Op::Write { span, pattern },
+        Said::Write { span, graph } => Item::Run {
+            op: Op::Write {
+                span,
+                pattern: room.pattern,
+            },
             graph,
         },
         Said::Writes { graph } => Item::Run {
-            op: Op::Writes { patches: *room },
+            op: Op::Writes {
+                patches: room.patches,
+            },
             graph,
         },
         Said::Read { span, graph } => Item::Run {

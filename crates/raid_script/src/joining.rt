@@ -7,11 +7,11 @@ ghost use Rattle.raid_script.specs.Steps.{joined_in, seen_entry};
 ghost use Rattle.raid_script.specs.Format.{halves_of, join_of};
 
 use crate::codes::{JOINED, SHARED};
-use crate::entry::{Entry, Said};
+use crate::entry::{Entry, Room, Said};
 use crate::join::{JOINS, Join};
 use crate::patches::{next_patch, two_patches};
 use crate::words::{next_graph, pass_end};
-use blk_plain::{Patch, Patches, are_apart};
+use blk_plain::{Patch, are_apart};
 use graph_text::Book;
 use raid_text::Words;
 
@@ -53,7 +53,7 @@ pub fn join_in(
     line: u32,
     client: u32,
     words: &mut Words,
-    room: &mut Patches,
+    room: &mut Room,
 ) -> Result<Entry, u8>
     ensures value { Gives (seen_entry room.new) result
         (join_of book.now joins line client (words_left words.old)) }
@@ -68,7 +68,7 @@ pub fn join_in(
     if joins >= JOINS {
         return Err(JOINED);
     }
-    *room = patches;
+    room.patches = patches;
     Ok(Entry {
         client,
         said: Said::Writes {

@@ -1,18 +1,18 @@
 //! The lines of a script.
 ghost use Rattle.std.specs.Prelude.{◌≡◌, ◌+◌, ◌<◌, ◌≤◌, ◌^◌, None, length, IfOk};
 ghost use Rattle.raid_text.specs.Seen.{seen as seen_line, words_left};
-ghost use Rattle.blk_plain.specs.declared.op.Patches.{Patches};
 ghost use Rattle.graph_text.specs.Answers.{Gives};
 ghost use Rattle.raid_script.specs.Asked.{read_sectors};
+ghost use Rattle.raid_script.specs.declared.entry.Room.{Room};
 ghost use Rattle.raid_script.specs.Format.{line_of, next_of};
 ghost use Rattle.raid_script.specs.Steps.{asked_of, plain_of, request_of, joined_in, seen_entry, seen_said};
 
 use crate::codes::{LIMIT, WORD};
-use crate::entry::{Entry, Said};
+use crate::entry::{Entry, Room, Said};
 use crate::joining::join_in;
 use crate::kinds::item_in;
 use crate::words::{next_client, next_word};
-use blk_plain::{Patches, limits};
+use blk_plain::limits;
 use graph_text::Book;
 use raid_text::{Line, Words};
 
@@ -23,7 +23,7 @@ fn plain_in(
     client: u32,
     kind: &[u8],
     words: &mut Words,
-    room: &mut Patches,
+    room: &mut Room,
 ) -> Result<Entry, u8>
     ensures value { Gives (seen_entry room.new) result
         (plain_of book.now columns client kind.now (words_left words.old)) }
@@ -47,7 +47,7 @@ fn asked_in(
     client: u32,
     kind: &[u8],
     words: &mut Words,
-    room: &mut Patches,
+    room: &mut Room,
 ) -> Result<Entry, u8>
     requires { joins ≤ 64 }
     ensures value { Gives (seen_entry room.new) result
@@ -69,7 +69,7 @@ fn entry_in(
     joins: u32,
     line: u32,
     words: &mut Words,
-    room: &mut Patches,
+    room: &mut Room,
 ) -> Result<Entry, u8>
     requires { joins ≤ 64 }
     ensures value { Gives (seen_entry room.new) result
@@ -88,7 +88,7 @@ fn read_line(
     columns: u32,
     joins: u32,
     line: &Line,
-    room: &mut Patches,
+    room: &mut Room,
 ) -> Result<Entry, u8>
     requires { joins ≤ 64 }
     ensures value { Gives (seen_entry room.new) result
@@ -102,9 +102,9 @@ fn read_line(
     entry_in(book, columns, joins, line.at(), &mut line.words(), room)
 }
 
-/// How many sectors an item reads, whatever the room's patches.
+/// How many sectors an item reads, whatever the room has.
 pub fn read_sectors(said: &Said) -> u64
-    ensures value { (p : Patches) → result ≡ read_sectors (seen_said p said.now) }
+    ensures value { (r : Room) → result ≡ read_sectors (seen_said r said.now) }
     ensures small { result < 2 ^ 32 }
 {
     match said {
@@ -114,7 +114,7 @@ pub fn read_sectors(said: &Said) -> u64
 }
 
 /// The item of a line, behind so many items whose reads have so many sectors, and so many join lines.
-/// Where it writes several spans, its patches are put into the room.
+/// What it writes is put into the room.
 #[tactic(auto, unfolding(crate::specs::Format::next_of))]
 pub fn next_entry(
     book: &Book,
@@ -123,7 +123,7 @@ pub fn next_entry(
     sectors: u64,
     joins: u32,
     line: &Line,
-    room: &mut Patches,
+    room: &mut Room,
 ) -> Result<Entry, u8>
     requires sectors { sectors ≤ 262144 }
     requires joins { joins ≤ 64 }

@@ -1,11 +1,13 @@
 //! The items of a script, by client.
-ghost use Rattle.std.specs.Prelude.{◌≡◌, ◌<◌, ◌++◌, [], length, map, IfOk, OnOk};
+ghost use Rattle.std.specs.Prelude.{◌≡◌, ◌<◌, ◌++◌, [], ◌∷◌, length, map, IfOk, OnOk};
+ghost use Rattle.blk_plain.specs.declared.op.Op.TheVariants as ops;
+ghost use Rattle.eng_world.specs.declared.item.Item.TheVariants as asked;
 ghost use Rattle.raid_script.specs.Asked.{scripted, seen, with_asked, with_request};
-ghost use Rattle.raid_script.specs.Steps.{joined_in, seen_entry};
+ghost use Rattle.raid_script.specs.Steps.{joined_in, seen_entry, seen_said};
 
-use crate::entry::{Entry, item_from};
+use crate::entry::{Entry, Room, Said, item_from};
 use crate::join::Join;
-use blk_plain::{Patches, limits};
+use blk_plain::{Pattern, Span, limits};
 use eng_world::Item;
 use item_list::Items;
 use std::alloc::{AllocError, Global};
@@ -27,12 +29,60 @@ impl Model for Script {
     ghost view = { λ s. record { clients = map (λ items. map seen items.items) s.clients.items; joins = s.joins.items } };
 }
 
-fn push_item(clients: &mut Vec<Items>, client: u32, item: Item) -> Result<(), AllocError>
+fn push_seen(items: &mut Items, item: Item) -> Result<(), AllocError>
+    ensures { OnOk result (map seen items.new.items ≡ map seen items.old.items ++ seen item ∷ []) }
+{
+    items.push(item)?;
+    Ok(())
+}
+
+fn push_write(
+    items: &mut Items,
+    span: Span,
+    pattern: &Pattern,
+    graph: Option<u32>,
+) -> Result<(), AllocError>
+    ensures { OnOk result (map seen items.new.items ≡ map seen items.old.items
+        ++ seen (asked.Run (ops.Write span pattern.now) graph) ∷ []) }
+{
+    items.push_write(span, pattern, graph)?;
+    Ok(())
+}
+
+fn push_read(items: &mut Items, span: Span, graph: Option<u32>) -> Result<(), AllocError>
+    ensures { OnOk result (map seen items.new.items ≡ map seen items.old.items
+        ++ seen (asked.Run (ops.Read span) graph) ∷ []) }
+{
+    items.push_read(span, graph)?;
+    Ok(())
+}
+
+// Puts what a line says behind the others. For a write and a read no item is built, which has the room of eight patches.
+fn push_said(items: &mut Items, said: Said, room: &Room) -> Result<(), AllocError>
+    ensures { OnOk result (map seen items.new.items
+        ≡ map seen items.old.items ++ seen_said room.now said ∷ []) }
+{
+    match said {
+        Said::Write { span, graph } => push_write(items, span, &room.pattern, graph),
+        Said::Read { span, graph } => push_read(items, span, graph),
+        Said::Writes { .. } | Said::Sync { .. } | Said::Fail { .. } => {
+            push_seen(items, item_from(said, room))
+        }
+    }
+}
+
+fn push_item(
+    clients: &mut Vec<Items>,
+    client: u32,
+    said: Said,
+    room: &Room,
+) -> Result<(), AllocError>
     requires { client < length clients.old.items }
     ensures { OnOk result (map (λ items. map seen items.items) clients.new.items
-        ≡ with_asked (map (λ items. map seen items.items) clients.old.items) client (seen item)) }
+        ≡ with_asked (map (λ items. map seen items.items) clients.old.items) client
+        (seen_said room.now said)) }
 {
-    clients[client as usize].push(item)?;
+    push_said(&mut clients[client as usize], said, room)?;
     Ok(())
 }
 
@@ -74,12 +124,12 @@ impl Script {
     }
 
     /// Puts an item behind those of its client, and its join line, if it has one, behind the others. The
-    /// room has its patches, where it writes several spans.
-    pub(crate) fn push(&mut self, entry: Entry, room: &Patches) -> Result<(), AllocError>
+    /// room has what it writes.
+    pub(crate) fn push(&mut self, entry: Entry, room: &Room) -> Result<(), AllocError>
         requires { entry.client < length self.old.clients }
         ensures { OnOk result (self.new ≡ with_request self.old (seen_entry room.now entry)) }
     {
-        push_item(&mut self.clients, entry.client, item_from(entry.said, room))?;
+        push_item(&mut self.clients, entry.client, entry.said, room)?;
         push_join(&mut self.joins, entry.join)?;
         Ok(())
     }

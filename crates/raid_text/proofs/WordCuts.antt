@@ -1,8 +1,8 @@
-use Rattle.std.proofs.Common.{◌≡◌, ◌∙◌, ℕ, ◌<◌, ◌≤◌, ◌+◌, ◌-◌, Bool, true, false, not, ltb, List, [], ◌∷◌, length, refl, sym, ap, arith, take, drop, suc, filter}
-use Rattle.std.specs.Prelude.{nat_lt, slice_get, Option, None}
+use Rattle.std.proofs.Common.{◌≡◌, ◌∙◌, ℕ, ◌<◌, ◌≤◌, ◌+◌, ◌-◌, Bool, true, false, not, ltb, List, [], ◌∷◌, length, refl, sym, ap, arith, take, drop, zero, suc, filter, eqb, ◌&&◌}
+use Rattle.std.specs.Prelude.{nat_le, nat_lt, slice_get, Option, None}
 use Rattle.std.proofs.lemmas.Option.{slice_get_past}
 use Rattle.std.specs.List.{before_first, after_first, position_or_len, slice_split, list_all, onto_first}
-use Rattle.std.proofs.lemmas.Bool.{and_parts, cond_both, ltb-false}
+use Rattle.std.proofs.lemmas.Bool.{and_parts, cond_both, eqb-true, leb-false, leb-true, le-leb, lt-leb, ltb-false}
 use Rattle.std.proofs.lemmas.List.{length-take, take_rest}
 use Rattle.std.proofs.lemmas.List.Splits.{slice_split_first}
 use Rattle.std.proofs.Math.Seq.{drop-length}
@@ -77,6 +77,47 @@ some_parts (part ∷ parts) h = let both = and_parts (list_all is_word_byte part
 pub sound_are_words : (body : Text) → is_sound body ≡ true → list_all is_word (words_of body) ≡ true
 unfolding words_of is_sound
 sound_are_words body h = some_parts (slice_split is_blank body) (sound_parts body h)
+
+-- what is behind a place of a sound text is sound
+pub sound_behind : (k : ℕ) (body : Text) → is_sound body ≡ true → is_sound (drop k body) ≡ true
+unfolding is_sound
+sound_behind zero body h = h
+sound_behind (suc k) [] h = refl
+sound_behind (suc k) (b ∷ bs) h = sound_behind k bs (and_parts (may_stand b) (list_all may_stand bs) h).1
+
+-- of the bytes of a sound text those up to a space are blanks
+low_blank : (b : ℕ) → may_stand b ≡ true → nat_le b 32 ≡ is_blank b
+low_blank b h = go (eqb b 32) refl (eqb b 9) refl h
+  where
+    go : (v : Bool) → eqb b 32 ≡ v → (w : Bool) → eqb b 9 ≡ w → may_stand b ≡ true → nat_le b 32 ≡ is_blank b
+    go true e w f h = rw e (le-leb b 32 (let is = eqb-true b 32 e in omega arith))
+    go false e true f h = rw (e, f) (le-leb b 32 (let is = eqb-true b 9 f in omega arith))
+    go false e false f h =
+        let word : is_word_byte b ≡ true = rw (e, f) at h in
+        let above = leb-true 33 b (and_parts (nat_le 33 b) (nat_le b 126) (and_parts (nat_le 33 b && nat_le b 126) (not (eqb b 35)) word).0).0 in
+        rw (e, f) (lt-leb b 32 (omega arith))
+
+pub low_place : (body : Text) → is_sound body ≡ true → position_or_len (λ b. nat_le b 32) body ≡ position_or_len is_blank body
+unfolding is_sound
+low_place [] h = refl
+low_place (b ∷ bs) h =
+    let both = and_parts (may_stand b) (list_all may_stand bs) h in
+    rw (low_blank b both.0, low_place bs both.1) refl
+
+-- and those above it are none
+high_other : (b : ℕ) → may_stand b ≡ true → nat_lt 32 b ≡ not (is_blank b)
+high_other b h = go (nat_le b 32) refl
+  where
+    go : (v : Bool) → nat_le b 32 ≡ v → nat_lt 32 b ≡ not (is_blank b)
+    go true e = rw (sym (low_blank b h), e) (let low = leb-true b 32 e in lt-leb 33 b (omega arith))
+    go false e = rw (sym (low_blank b h), e) (le-leb 33 b (let above = leb-false b 32 e in omega arith))
+
+pub high_place : (body : Text) → is_sound body ≡ true → position_or_len (λ b. nat_lt 32 b) body ≡ position_or_len (λ b. not (is_blank b)) body
+unfolding is_sound
+high_place [] h = refl
+high_place (b ∷ bs) h =
+    let both = and_parts (may_stand b) (list_all may_stand bs) h in
+    rw (high_other b both.0, high_place bs both.1) refl
 
 -- one word less to pass
 pub one_less : (words more : List Text) (w : Text) (i k : ℕ) (found : Option Text) → words ≡ w ∷ more → k < i → slice_get words (i - k) ≡ found → slice_get more (i - (k + 1)) ≡ found

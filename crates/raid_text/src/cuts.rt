@@ -1,8 +1,8 @@
 //! Where lines, comments and words begin and end.
-ghost use Rattle.std.specs.Prelude.{◌≡◌, ◌<◌, ◌≤◌, ◌∷◌, [], length, slice_index, IfSome, IfNone, not, ◌==◌};
+ghost use Rattle.std.specs.Prelude.{◌≡◌, ◌<◌, ◌≤◌, ◌∷◌, [], length, slice_index, IfSome, IfNone, IsTrue, not, ◌==◌};
 ghost use Rattle.std.specs.List.{position_or_len};
 ghost use Rattle.std.specs.Str.Lines.{strip_carriage_return};
-ghost use Rattle.raid_text.specs.Text.{raw_lines, body_of, has_word, is_sound, words_of, is_blank, is_word_byte};
+ghost use Rattle.raid_text.specs.Text.{raw_lines, body_of, has_word, is_sound, words_of, is_blank};
 ghost use Rattle.raid_text.specs.Steps.{may_stand};
 
 // The place of the first such byte, or the length where there is none.
@@ -54,12 +54,6 @@ fn is_blank(b: u8) -> bool
     b == b' ' || b == b'\t'
 }
 
-fn is_word_byte(b: u8) -> bool
-    ensures { result ≡ is_word_byte b }
-{
-    (33 <= b && b <= 126) && b != b'#'
-}
-
 // Whether each byte separates words or may stand in one.
 #[tactic(auto, unfolding(crate::specs::Text::is_sound))]
 fn is_sound(body: &[u8]) -> bool
@@ -68,11 +62,12 @@ fn is_sound(body: &[u8]) -> bool
     body.iter().all(|b| may_stand(*b))
 }
 
-// Whether a byte may stand outside a comment.
+// Whether a byte may stand outside a comment. Letters, digits and most others lie between `#` and 127, so they are told
+// first.
 fn may_stand(b: u8) -> bool
     ensures { result ≡ may_stand b }
 {
-    is_blank(b) || is_word_byte(b)
+    (b'$' <= b && b <= b'~') || b == b' ' || b == b'\t' || b == b'!' || b == b'"'
 }
 
 // The place of the first byte that may not stand outside a comment, or the length where there is none.
@@ -159,42 +154,43 @@ pub fn has_word(body: &[u8]) -> bool
     body.iter().any(|b| !is_blank(*b))
 }
 
-// The place of the first blank, or the length where there is none.
+// The place of the first blank of a sound line, or the length where there is none: none but blanks stand there of the
+// bytes up to a space.
 fn first_blank(bytes: &[u8]) -> usize
+    requires { IsTrue (is_sound bytes.now) }
     ensures place { result ≡ position_or_len is_blank bytes.now }
     ensures within { result ≤ length bytes.now }
 {
-    bytes
-        .iter()
-        .position(|b| is_blank(*b))
-        .unwrap_or(bytes.len())
+    bytes.iter().position(|b| *b <= b' ').unwrap_or(bytes.len())
 }
 
-// The place of the first byte that is no blank, or the length where there is none.
+// The place of the first byte of a sound line that is no blank, or the length where there is none.
 fn first_other(bytes: &[u8]) -> usize
+    requires { IsTrue (is_sound bytes.now) }
     ensures place { result ≡ position_or_len (λ b. not (is_blank b)) bytes.now }
     ensures within { result ≤ length bytes.now }
 {
-    bytes
-        .iter()
-        .position(|b| !is_blank(*b))
-        .unwrap_or(bytes.len())
+    bytes.iter().position(|b| *b > b' ').unwrap_or(bytes.len())
 }
 
 // The text behind the blanks that it begins with.
 fn skip_blanks(body: &[u8]) -> &[u8]
+    requires { IsTrue (is_sound body.now) }
     ensures same { words_of result.now ≡ words_of body.now }
     ensures within { length result.now ≤ length body.now }
     ensures starts { 0 < length result.now → 0 < position_or_len is_blank result.now }
+    ensures sound { IsTrue (is_sound result.now) }
 {
     &body[first_other(body)..]
 }
 
-// The first word of a text that begins with one, and what is behind it.
+// The first word of a sound text that begins with one, and what is behind it.
 fn cut_word(body: &[u8]) -> (&[u8], &[u8])
     requires some { 0 < length body.now }
     requires starts { 0 < position_or_len is_blank body.now }
-    ensures { words_of body.now ≡ result.0.now ∷ words_of result.1.now }
+    requires sound { IsTrue (is_sound body.now) }
+    ensures words { words_of body.now ≡ result.0.now ∷ words_of result.1.now }
+    ensures sound { IsTrue (is_sound result.1.now) }
 {
     let end = first_blank(body);
     if end < body.len() {
@@ -204,10 +200,12 @@ fn cut_word(body: &[u8]) -> (&[u8], &[u8])
     }
 }
 
-/// The first word, and what is behind it, or none where there is no word.
+/// The first word of a sound text, and what is behind it, or none where there is no word.
 pub fn split_word(body: &[u8]) -> Option<(&[u8], &[u8])>
+    requires { IsTrue (is_sound body.now) }
     ensures word { IfSome result (λ p. words_of body.now ≡ p.0.now ∷ words_of p.1.now) }
     ensures none { IfNone result (words_of body.now ≡ []) }
+    ensures sound { IfSome result (λ p. IsTrue (is_sound p.1.now)) }
 {
     let body = skip_blanks(body);
     if body.is_empty() {

@@ -26,4 +26,5 @@ pub struct Line<'a> {
 pub struct Words<'a> {
     pub(crate) rest: &'a [u8],
     ghost words: { IsTrue (list_all is_word (words_of rest.now)) },
+    ghost sound: { IsTrue (is_sound rest.now) },
 }

@@ -9,7 +9,7 @@ pub returns-then-eq : goal.returns-then-eq
 unfolding run_of write_of writes_of read_of
 returns-then-eq c =
     let test : bytes_eq c.args.kind.now (codes "write") ≡ true = sym (rw c.as_slice.ensures at c.eq.ensures) ∙ c.if-eq.true in
-    rw test (c.write_in.ensures c.args.room.now)
+    rw test c.write_in.ensures
 
 pub returns-then-eq-3 : goal.returns-then-eq-3
 unfolding run_of write_of writes_of read_of
