@@ -71,6 +71,15 @@ impl Model for Client {
     } };
 }
 
+// The item at a place comes where none is. It isn't called for each item, and has room for one of its own.
+#[inline(never)]
+fn bring_first(items: &Items, at: usize, item: &mut Option<Item>)
+    requires { at < length items.now.items }
+    ensures { item.new ≡ slice_get items.now.items at }
+{
+    *item = Some(items.get(at));
+}
+
 // The item at a place, if there is one, comes in the place of another.
 pub(crate) fn bring_item(items: &Items, at: usize, item: &mut Option<Item>)
     ensures { item.new ≡ slice_get items.now.items at }
@@ -81,7 +90,7 @@ pub(crate) fn bring_item(items: &Items, at: usize, item: &mut Option<Item>)
     }
     match item.as_mut() {
         Some(item) => items.copy_to(at, item),
-        None => *item = Some(items.get(at)),
+        None => bring_first(items, at, item),
     }
 }
 

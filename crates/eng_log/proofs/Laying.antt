@@ -1,16 +1,18 @@
 -- Regions one behind the other: what they are once all are laid out.
 use Rattle.std.proofs.Common.{◌≡◌, ℕ, zero, suc, ◌<◌, ◌≤◌, ◌+◌, ◌*◌, ◌⊎◌, List, [], ◌∷◌, ◌++◌, length, get_or, replicate, subst, sym, ap, ◌∙◌, arith, inl, inr, refl}
-use Rattle.std.specs.Prelude.{slice_index_or}
+use Rattle.std.specs.Prelude.{Option, Some, None, slice_get, slice_index_or}
 use Rattle.std.proofs.lemmas.Bool.{cases_lt, cases_eq}
-use Rattle.std.proofs.lemmas.Option.{slice_get_read}
 use Rattle.std.proofs.lemmas.List.{get_or_past, get_or_push, get_or_append_left, get_or-replicate, length-replicate, length_push}
+use Rattle.blk_plain.specs.declared.op.Op.TheVariants as op
+use Rattle.blk_plain.specs.declared.op.Span.{Span}
 use Rattle.eng_world.specs.declared.item.Item.{Item}
-use Rattle.item_list.specs.ItemList.{ItemList}
+use Rattle.eng_world.specs.declared.item.Item.TheVariants as item
+use Rattle.item_list.specs.ItemList.{ItemList, read_in, read_at}
 use Rattle.eng_rest.specs.Left.{below}
 use Rattle.eng_log.specs.declared.region.Region.{Region}
 use Rattle.eng_log.specs.Given.{items_at}
 use Rattle.eng_log.specs.Handed.{Handout, AreRegions, no_region, region_at, client_sectors, all_sectors}
-use Rattle.eng_log.specs.Laid.{item_sectors, sectors_in, sectors_at, row_sectors, sectors_before, IsRow, AreRows, IsLaidOut}
+use Rattle.eng_log.specs.Laid.{sectors_in, sectors_at, row_sectors, sectors_before, IsRow, AreRows, IsLaidOut}
 
 -- ## Sums
 
@@ -202,5 +204,22 @@ pub below-none : (f : ℕ → ℕ) → below f 0 ≡ 0
 unfolding below
 below-none f = refl
 
-pub sectors-read : (items : List Item) (i : ℕ) (x : Item) (n : ℕ) → i < length items → x ≡ get_or items i x → n ≡ item_sectors x → n ≡ sectors_at items i
-sectors-read items i x n lt is count = count ∙ sym (ap sectors_in (slice_get_read items (length items) i x refl lt is))
+-- the sectors of the span that is read, if one is
+abbrev counted : Option Span → ℕ
+counted None = 0
+counted (Some span) = span.count
+
+counted-read : (o : Option Item) → counted (read_in o) ≡ sectors_in o
+counted-read None = refl
+counted-read (Some (item.Run (op.Write span pattern) file)) = refl
+counted-read (Some (item.Run (op.Writes patches) file)) = refl
+counted-read (Some (item.Run (op.Read span) file)) = refl
+counted-read (Some (item.Run (op.Rebuild stripe) file)) = refl
+counted-read (Some (item.Run (op.Sync stripe) file)) = refl
+counted-read (Some (item.Fail column)) = refl
+
+pub some-read : (items : List Item) (i : ℕ) (span : Span) → read_at items i ≡ Some span → span.count ≡ sectors_at items i
+some-read items i span is = sym (ap counted is) ∙ counted-read (slice_get items i)
+
+pub none-read : (items : List Item) (i : ℕ) → read_at items i ≡ None → 0 ≡ sectors_at items i
+none-read items i is = sym (ap counted is) ∙ counted-read (slice_get items i)

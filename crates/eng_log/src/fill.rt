@@ -1,5 +1,5 @@
 //! The buffers of new data.
-ghost use Rattle.std.specs.Prelude.{◌≡◌, ◌≢◌, ◌≤◌, ◌<◌, ◌+◌, ◌-◌, ◌*◌, ℕ, Some, None, length, take, get_or, slice_index, false};
+ghost use Rattle.std.specs.Prelude.{◌≡◌, ◌≢◌, ◌≤◌, ◌<◌, ◌+◌, ◌-◌, ◌*◌, ℕ, List, Some, None, length, take, get_or, replicate, slice_index, false};
 ghost use Rattle.blk_disk.specs.Disk.{sector_at};
 ghost use Rattle.blk_disk.specs.Sectors.{put};
 ghost use Rattle.buf_pool.specs.Pool.{IsLease, seat_at};
@@ -17,6 +17,10 @@ use blk_plain::{Op, Patches, Pattern, fill as fill_sector};
 use buf_pool::{Lease, Reserve};
 use graph_mean::Graph;
 use lay_core::Layout;
+
+// So many sectors are set at once, and those behind them copied. A few KiB take longer set than copied: C libraries set more
+// than 2 KiB by an instruction that is slow to start.
+const AT_ONCE: u32 = 4;
 
 pub(crate) fn written(pattern: &Pattern) -> [u8; SECTOR]
     ensures bytes { (k : ℕ) → k < 512 → slice_index result k ≡ filled pattern.now k }
@@ -143,51 +147,12 @@ pub(crate) fn put_at(bytes: &mut [u8], first: usize, from: &[u8])
     part.copy_from_slice(from);
 }
 
-// Makes each byte of the first sector this one.
-fn set_first(bytes: &mut [u8], byte: u8)
-    requires { 512 ≤ length bytes.old }
-    ensures bytes { (k : ℕ) → k < 512 → slice_index bytes.new k ≡ byte }
-    ensures long { length bytes.new ≡ length bytes.old }
+// Makes each byte of the first so many sectors this one.
+fn set_front(bytes: &mut [u8], byte: u8, count: u32)
+    requires { 512 * count ≤ length bytes.old }
+    ensures { (j : ℕ) → j < count → sector_at bytes.new j ≡ replicate 512 byte }
 {
-    for k in 0..SECTOR {
-        bytes[k] = byte;
-    }
-}
-
-// Makes the first sector the pattern's.
-fn begin_pattern(bytes: &mut [u8], pattern: &Pattern)
-    requires { 512 ≤ length bytes.old }
-    ensures sector { sector_at bytes.new 0 ≡ sector_of pattern.now }
-    ensures long { length bytes.new ≡ length bytes.old }
-{
-    if pattern.len == 1 {
-        set_first(bytes, pattern.bytes[0]);
-    } else {
-        put_at(bytes, 0, &written(pattern));
-    }
-}
-
-// Makes the first sector zeros.
-fn begin_zeros(bytes: &mut [u8])
-    requires { 512 ≤ length bytes.old }
-    ensures sector { sector_at bytes.new 0 ≡ zero_sector }
-    ensures long { length bytes.new ≡ length bytes.old }
-{
-    set_first(bytes, 0);
-}
-
-// Makes the first sector the operation's.
-fn begin(bytes: &mut [u8], op: &Op)
-    requires room { 512 ≤ length bytes.old }
-    requires same { (patches : Patches) → op.now ≡ Op.Writes patches → ⊥ }
-    ensures sector { sector_at bytes.new 0 ≡ same_sector op.now }
-    ensures long { length bytes.new ≡ length bytes.old }
-{
-    match op {
-        Op::Write { pattern, .. } => begin_pattern(bytes, pattern),
-        Op::Writes { .. } => unreachable!(),
-        Op::Read { .. } | Op::Rebuild { .. } | Op::Sync { .. } => begin_zeros(bytes),
-    }
+    bytes[..SECTOR * count as usize].fill(byte);
 }
 
 // Puts the first so many sectors in the place of those from another on.
@@ -200,19 +165,54 @@ fn copy_front(bytes: &mut [u8], to: usize, count: usize)
     back[..SECTOR * count].copy_from_slice(&front[..SECTOR * count]);
 }
 
-// Makes each of the first so many sectors the first one. Those that are so already are copied at once.
-fn spread(bytes: &mut [u8], count: u32)
-    requires some { 1 ≤ count }
+// Makes each of the first so many sectors this one, which some at their front are. Those that are so already are copied at
+// once.
+fn spread(bytes: &mut [u8], front: u32, count: u32)
+    requires some { 1 ≤ front }
     requires room { 512 * count ≤ length bytes.old }
-    ensures { (j : ℕ) → j < count → sector_at bytes.new j ≡ sector_at bytes.old 0 }
+    ensures { (sector : List ℕ) → ((j : ℕ) → j < front → sector_at bytes.old j ≡ sector) →
+        (j : ℕ) → j < count → sector_at bytes.new j ≡ sector }
 {
     let count = count as usize;
-    let mut done = 1;
+    let mut done = front as usize;
     while done < count {
         let more = done.min(count - done);
         copy_front(bytes, done, more);
         done += more;
     }
+}
+
+// Makes each byte of the first so many sectors this one.
+fn set_all(bytes: &mut [u8], byte: u8, count: u32)
+    requires { 512 * count ≤ length bytes.old }
+    ensures { (j : ℕ) → j < count → sector_at bytes.new j ≡ replicate 512 byte }
+{
+    if count > 0 {
+        let front = count.min(AT_ONCE);
+        set_front(bytes, byte, front);
+        spread(bytes, front, count);
+    }
+}
+
+// Makes each of the first so many sectors the pattern's. A pattern of one byte is set in several of them at once.
+fn fill_pattern(bytes: &mut [u8], pattern: &Pattern, count: u32)
+    requires { 512 * count ≤ length bytes.old }
+    ensures { (j : ℕ) → j < count → sector_at bytes.new j ≡ sector_of pattern.now }
+{
+    if pattern.len == 1 {
+        set_all(bytes, pattern.bytes[0], count);
+    } else if count > 0 {
+        put_at(bytes, 0, &written(pattern));
+        spread(bytes, 1, count);
+    }
+}
+
+// Makes each of the first so many sectors zeros.
+fn fill_zeros(bytes: &mut [u8], count: u32)
+    requires { 512 * count ≤ length bytes.old }
+    ensures { (j : ℕ) → j < count → sector_at bytes.new j ≡ zero_sector }
+{
+    set_all(bytes, 0, count);
 }
 
 // Makes each of the first so many sectors the operation's.
@@ -221,8 +221,9 @@ fn fill_front(bytes: &mut [u8], op: &Op, count: u32)
     requires same { (patches : Patches) → op.now ≡ Op.Writes patches → ⊥ }
     ensures { (j : ℕ) → j < count → sector_at bytes.new j ≡ same_sector op.now }
 {
-    if count > 0 {
-        begin(bytes, op);
-        spread(bytes, count);
+    match op {
+        Op::Write { pattern, .. } => fill_pattern(bytes, pattern, count),
+        Op::Writes { .. } => unreachable!(),
+        Op::Read { .. } | Op::Rebuild { .. } | Op::Sync { .. } => fill_zeros(bytes, count),
     }
 }

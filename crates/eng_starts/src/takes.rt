@@ -6,6 +6,7 @@ ghost use Rattle.stripe_lock.specs.Table.{Conflict, HoldsNothing, Acquires, owne
 ghost use Rattle.eng_one.specs.Counts.{CanStart};
 ghost use Rattle.eng_cols.specs.Cols.{IsFor};
 ghost use Rattle.eng_cols.specs.Lost.{NotLost};
+ghost use Rattle.blk_plain.specs.declared.op.Op.TheVariants as ops;
 ghost use Rattle.eng_world.specs.declared.item.Traced.TheVariants as event;
 ghost use Rattle.eng_world.specs.declared.item.Reply.TheVariants as reply;
 ghost use Rattle.eng_state.specs.declared.array.Array.{Array};
@@ -23,7 +24,7 @@ ghost use Rattle.eng_state.specs.Steps.{Follows};
 ghost use Rattle.eng_state.specs.Taken.{PlannedFor, Settled, IsTaken};
 
 use blk_disk::Disk;
-use blk_plain::{Op, OpId};
+use blk_plain::{Op, OpId, Patches, Pattern, Span};
 use eng_clients::Asked;
 use eng_job::Job;
 use eng_plan::{lease_size, mode_by, span_count};
@@ -235,6 +236,58 @@ fn take_op<L: Layout, D: Disk>(array: &mut Array<L, D>, client: u32, op: &Op, fi
     }
 }
 
+// A write in the place of another operation. Each kind has a function of its own, which puts the few bytes that it has where
+// they belong: what is put by several arms of a match is built elsewhere first, with the room of eight patches.
+fn put_write(op: &mut Op, span: Span, pattern: &Pattern)
+    ensures { op.new ≡ ops.Write span pattern.now }
+{
+    *op = Op::Write {
+        span,
+        pattern: *pattern,
+    };
+}
+
+// A write of several spans in the place of another operation.
+fn put_writes(op: &mut Op, patches: &Patches)
+    ensures { op.new ≡ ops.Writes patches.now }
+{
+    *op = Op::Writes { patches: *patches };
+}
+
+// A read in the place of another operation.
+fn put_read(op: &mut Op, span: Span)
+    ensures { op.new ≡ ops.Read span }
+{
+    *op = Op::Read { span };
+}
+
+// A rebuild in the place of another operation.
+fn put_rebuild(op: &mut Op, stripe: u32)
+    ensures { op.new ≡ ops.Rebuild stripe }
+{
+    *op = Op::Rebuild { stripe };
+}
+
+// A sync in the place of another operation.
+fn put_sync(op: &mut Op, stripe: u32)
+    ensures { op.new ≡ ops.Sync stripe }
+{
+    *op = Op::Sync { stripe };
+}
+
+// An operation in the place of another: no more bytes than it has are copied.
+fn put_op(op: &mut Op, from: &Op)
+    ensures { op.new ≡ from.now }
+{
+    match from {
+        Op::Write { span, pattern } => put_write(op, *span, pattern),
+        Op::Writes { patches } => put_writes(op, patches),
+        Op::Read { span } => put_read(op, *span),
+        Op::Rebuild { stripe } => put_rebuild(op, *stripe),
+        Op::Sync { stripe } => put_sync(op, *stripe),
+    }
+}
+
 // What becomes of the core as the client's operation is taken.
 fn take_item<L: Layout, D: Disk>(array: &mut Array<L, D>, client: u32)
     requires sound { IsSound L.Layout D.Disk array.old }
@@ -253,8 +306,9 @@ fn take_item<L: Layout, D: Disk>(array: &mut Array<L, D>, client: u32)
         Item::Run { op, graph } => {
             // The item lies in the core, which changes; so its operation is copied, once.
             let graph = *graph;
-            let op = *op;
-            take_op(array, client, &op, graph);
+            let mut taken = Op::Sync { stripe: 0 };
+            put_op(&mut taken, op);
+            take_op(array, client, &taken, graph);
         }
         Item::Fail { .. } => unreachable!(),
     }

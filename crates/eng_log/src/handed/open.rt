@@ -1,15 +1,14 @@
 //! The regions of all items are laid out.
-ghost use Rattle.std.specs.Prelude.{◌≡◌, ◌≤◌, ◌+◌, length, replicate, IfOk, vec_capacity};
+ghost use Rattle.std.specs.Prelude.{◌≡◌, ◌≤◌, ◌<◌, ◌+◌, length, replicate, IfOk, vec_capacity};
 ghost use Rattle.eng_rest.specs.Left.{below};
 ghost use Rattle.eng_log.specs.Given.{items_at};
 ghost use Rattle.eng_log.specs.Handed.{no_region};
-ghost use Rattle.eng_log.specs.Laid.{op_sectors, item_sectors, sectors_at, row_sectors, sectors_before, IsRow, AreRows, IsLaidOut};
+ghost use Rattle.eng_log.specs.Laid.{sectors_at, row_sectors, sectors_before, IsRow, AreRows, IsLaidOut};
 
 use crate::handed::{Handed, Regions};
 use crate::memory::Memory;
 use crate::region::Region;
-use blk_plain::{Op, limits};
-use eng_world::Item;
+use blk_plain::limits;
 use item_list::Items;
 use sector_store::Store;
 use std::alloc::Global;
@@ -17,23 +16,14 @@ use std::alloc::Global;
 // The most clients, the engine's own included.
 const CLIENTS: usize = limits::CLIENTS as usize + 1;
 
-// How many sectors the operation hands out.
-fn op_sectors(op: &Op) -> u32
-    ensures { result ≡ op_sectors op.now }
+// How many sectors the item at a place hands out.
+fn sectors_at(items: &Items, at: usize) -> u32
+    requires { at < length items.now.items }
+    ensures { result ≡ sectors_at items.now.items at }
 {
-    match op {
-        Op::Read { span } => span.count,
-        Op::Write { .. } | Op::Writes { .. } | Op::Rebuild { .. } | Op::Sync { .. } => 0,
-    }
-}
-
-// How many sectors the item hands out.
-fn item_sectors(item: &Item) -> u32
-    ensures { result ≡ item_sectors item.now }
-{
-    match item {
-        Item::Run { op, .. } => op_sectors(op),
-        Item::Fail { .. } => 0,
+    match items.read_span(at) {
+        Some(span) => span.count,
+        None => 0,
     }
 }
 
@@ -49,7 +39,7 @@ impl Regions {
         let mut list = Vec::with_capacity(alloc, items.len())?;
         let mut next = first;
         for i in 0..items.len() {
-            let count = item_sectors(&items.get(i));
+            let count = sectors_at(items, i);
             list.push_reserved(Region { first: next, count });
             next += count;
         }

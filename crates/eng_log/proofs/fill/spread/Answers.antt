@@ -12,5 +12,8 @@ loop-done-preserved c =
     record {
       some = omega (arith, inv.some);
       long = omega (arith, c.copy_front.auto.bytes, inv.long);
-      same = λ j h. ap (λ (l : List ℕ). sector_at l j) c.copy_front.ensures ∙ doubled c.loop-done.bytes (sector_at c.args.bytes.now 0) c.loop-done.done c.min-more.result apart room inv.same j h;
+      same = λ sector front j h. ap (λ (l : List ℕ). sector_at l j) c.copy_front.ensures ∙ doubled c.loop-done.bytes sector c.loop-done.done c.min-more.result apart room (inv.same sector front) j h;
     }
+
+pub returns : goal.returns
+returns c = λ sector front j h. c.loop-done.invariant.same sector front j (omega (arith, h, c.loop-done-test.false))
