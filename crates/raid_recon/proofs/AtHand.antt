@@ -61,6 +61,17 @@ ahead-same g y most cols s rows now devices hands bytes same h = record {
       ∙ h.holds told t i at le tw iw is (ap (λ r. is_at_hand r at.row) (sym (same at.device)) ∙ hand) o k ou ku;
 }
 
+-- where one row alone is read none is at hand, so that any bytes hold what is
+pub ahead-alone : {D : Type 0} (g : Ghosts D) (y : Shape) (most : ℕ) (cols : List ColumnState) (s : ℕ) (rows : ℕ → Rows) (devices : List (Option D)) (hands : List Rows) (bytes others : List ℕ) → most ≡ 1 → AreHands most hands
+    → IsAhead g y most cols s rows devices hands bytes → IsAhead g y most cols s rows devices hands others
+ahead-alone g y most cols s rows devices hands bytes others one are h = record {
+  agrees = h.agrees;
+  holds = λ told t i at le tw iw is hand o k ou ku.
+      let within = at_hand-is (rows at.device) at.row hand in
+      let short : (rows at.device).end ≤ (rows at.device).first + most = subst (λ (r : Rows). r.end ≤ r.first + most) (h.agrees at.column at.device (seat-device y cols t i at is)) (are.few at.column) in
+      absurd (omega (arith, within.0, within.1, short, one));
+}
+
 -- fewer columns, later stripes, and devices that hold the same of these
 pub ahead-later : {D : Type 0} (g : Ghosts D) (y : Shape) (most : ℕ) (old new : List ColumnState) (s r : ℕ) (rows : ℕ → Rows) (devices after : List (Option D)) (hands : List Rows) (bytes : List ℕ) → Back y new old → s ≤ r
     → (g.tells → (t i o k : ℕ) (at : Spot) → r ≤ t → t < y.stripes → i < y.width → seat y old t i ≡ Some at → o < y.unit_sectors → k < 512 → byte_at y (contents_of g after) at o k ≡ byte_at y (contents_of g devices) at o k)

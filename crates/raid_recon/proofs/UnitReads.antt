@@ -12,8 +12,9 @@ use Rattle.eng_cols.specs.Contents.{byte_of}
 use Rattle.raid_recon.specs.declared.ahead.Rows.{Rows}
 use Rattle.raid_recon.specs.declared.kind.FailedAt.{FailedAt}
 use Rattle.raid_recon.specs.Turns.{TellsMore}
-use Rattle.raid_recon.specs.Ahead.{seat_rows, seat_reads, read_rows, reads_ahead}
+use Rattle.raid_recon.specs.Ahead.{AreHands, seat_rows, seat_reads, read_rows, reads_ahead}
 use Rattle.raid_recon.specs.Units.{IsAhead, IsSum, IsUnitAt, LoadsUnit, AllRead, Stopped, Tested}
+use Rattle.raid_recon.proofs.AtHand.{ahead-alone}
 use Rattle.raid_recon.proofs.Calls.{tells_more-nil, tells_more-then}
 use Rattle.raid_recon.proofs.Bytes.{zero-from, not-zero}
 use Rattle.raid_recon.proofs.Frames.{byte-same}
@@ -24,6 +25,28 @@ nothing d n = ⊥
 module _ {D : Type 0} (g : Ghosts D) (y : Shape) (most : ℕ) (cols : List ColumnState) (s : ℕ) (rows : ℕ → Rows) where
   pub all-none : (old : List (Option D)) (hands : List Rows) (bytes : List ℕ) → IsAhead g y most cols s rows old hands bytes → AllRead g y most cols s 0 rows old old hands bytes
   all-none old hands bytes h = record { same = changes-refl g nothing old; told = λ d. tells_more-nil (calls_of g old d); ahead = h }
+
+  -- where one row alone is read what was read is told alike of any bytes
+  module _ (old new : List (Option D)) (n : ℕ) (hands : List Rows) (bytes others : List ℕ) where
+    pub all-alone : most ≡ 1 → AreHands most hands → AllRead g y most cols s n rows old new hands bytes → AllRead g y most cols s n rows old new hands others
+    all-alone single are h = record {
+      same = h.same;
+      told = h.told;
+      ahead = ahead-alone g y most cols s (λ d. read_rows y most cols s n d (rows d)) new hands bytes others single are h.ahead;
+    }
+
+    pub stopped-alone : (e : FailedAt) → most ≡ 1 → AreHands most hands → Stopped g y most cols s n rows old new hands bytes e → Stopped g y most cols s n rows old new hands others e
+    stopped-alone e single are st = record {
+      unit = st.unit;
+      within = st.within;
+      at = st.at;
+      stands = st.stands;
+      column = st.column;
+      rose = st.rose;
+      same = st.same;
+      told = st.told;
+      ahead = ahead-alone g y most cols s (λ d. seat_rows y most (seat y cols s st.unit) false d (read_rows y most cols s st.unit d (rows d))) new hands bytes others single are st.ahead;
+    }
 
   module _ (old mid new : List (Option D)) (n : ℕ) (before hands : List Rows) (at_first bytes : List ℕ) (r : Result ℕ FailedAt) (read : AllRead g y most cols s n rows old mid before at_first)
       (one : LoadsUnit g y most cols s n (λ d. read_rows y most cols s n d (rows d)) mid new hands bytes r) where

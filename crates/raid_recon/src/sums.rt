@@ -104,6 +104,50 @@ pub(crate) fn write_check<L: Layout, D: Disk>(
     }
 }
 
+/// Reads the first unit, and makes `sum` it. Where one row alone is read it needs no window of its own.
+fn load_first<L: Layout, D: Disk>(
+    layout: &L,
+    devices: &mut [Option<D>],
+    cols: &Cols,
+    stripe: u32,
+    most: u32,
+    hands: &mut [Rows],
+    ahead: &mut [u8],
+    sum: &mut [u8],
+) -> Result<(), FailedAt>
+    requires fit { IsFor (L.shape layout.now) cols.now }
+    requires array { AreSeated D.Disk (L.shape layout.now) cols.now.states devices.old }
+    requires stripe { stripe < (L.shape layout.now).stripes }
+    requires complete { IsComplete (L.shape layout.now) cols.now.states stripe }
+    requires windows { HasWindows (L.shape layout.now) most (length ahead.old) }
+    requires hands { AreHands most hands.old }
+    requires sum { length sum.old ≡ 512 * (L.shape layout.now).unit_sectors }
+    ensures sums { (rows : ℕ → HandRows) → IsAhead D.Disk (L.shape layout.now) most
+        cols.now.states stripe rows devices.old hands.old ahead.old
+        → SumsUnits D.Disk (L.shape layout.now) most cols.now.states
+        stripe 1 rows devices.old devices.new hands.new ahead.new sum.new result }
+    ensures same { Changes D.Disk (λ _ _. ⊥) devices.old devices.new }
+    ensures hands { AreHands most hands.new }
+    ensures long { length ahead.new ≡ length ahead.old }
+    ensures whole { length sum.new ≡ length sum.old }
+{
+    if most == 1 {
+        match load(layout, devices, cols, stripe, 0, most, hands, sum) {
+            Ok(_) => Ok(()),
+            Err(failed) => Err(failed),
+        }
+    } else {
+        let bytes = sum.len();
+        match load(layout, devices, cols, stripe, 0, most, hands, ahead) {
+            Ok(from) => {
+                sum.copy_from_slice(&ahead[from..from + bytes]);
+                Ok(())
+            }
+            Err(failed) => Err(failed),
+        }
+    }
+}
+
 /// Reads the data units, and makes `sum` their sum.
 pub(crate) fn sum_data<L: Layout, D: Disk>(
     layout: &L,
@@ -132,8 +176,8 @@ pub(crate) fn sum_data<L: Layout, D: Disk>(
     ensures long { length ahead.new ≡ length ahead.old }
 {
     let bytes = sum.len();
-    match load(layout, devices, cols, stripe, 0, most, hands, ahead) {
-        Ok(from) => sum.copy_from_slice(&ahead[from..from + bytes]),
+    match load_first(layout, devices, cols, stripe, most, hands, ahead, sum) {
+        Ok(()) => {}
         Err(failed) => return Err(failed),
     }
     for i in 1..layout.width() - layout.checks() {

@@ -1,48 +1,36 @@
-use Rattle.std.proofs.Common.{◌≡◌, ◌+◌, ◌*◌, ◌<◌, ◌∙◌, suc, length, ap, subst, refl, arith}
-use Rattle.std.specs.Prelude.{is_ok, slice_index}
+use Rattle.std.proofs.Common.{◌≡◌, ◌+◌, ◌*◌, ◌<◌, ◌≤◌, ◌∙◌, suc, ap, subst, arith}
+use Rattle.std.specs.Prelude.{is_ok}
 use Rattle.blk_disk.specs.Devices.{contents_of}
 use Rattle.blk_disk.proofs.DeviceLaws.{changes-then}
 use Rattle.lay_core.specs.Layout.{data_units}
 use Rattle.raid_recon.specs.Ahead.{read_rows}
 use Rattle.raid_recon.specs.Units.{AllRead, IsSum}
-use Rattle.raid_recon.proofs.Bytes.{sum-one, sum-more}
+use Rattle.raid_recon.proofs.Bytes.{sum-more}
 use Rattle.raid_recon.proofs.Places.{seated-kept}
-use Rattle.raid_recon.proofs.UnitReads.{nothing, all-none, all-more, stopped-at, unit-at, part-at}
+use Rattle.raid_recon.proofs.UnitReads.{nothing, all-more, stopped-at, stopped-wider, unit-at, part-at}
 use Rattle.raid_recon.proofs.sums.sum_data.Goals as goal
 
 pub returns-in-Err-clause-sums : goal.returns-in-Err-clause-sums
 returns-in-Err-clause-sums g c rows h =
     let y = g.L.Layout.shape c.args.layout.now in
     let law = g.met.L.Layout.is_layout c.args.layout.now in
-    let cols = c.args.cols.now.states in
-    let some : 0 < data_units y = omega (arith, law.checks_below) in
-    stopped-at g.D.Disk y c.args.most cols c.args.stripe rows c.args.devices.now c.args.devices.now c.load.new.devices 0 c.args.hands.now c.load.new.hands c.args.ahead.now c.load.new.ahead c.load.result
-    (all-none g.D.Disk y c.args.most cols c.args.stripe rows c.args.devices.now c.args.hands.now c.args.ahead.now h) (c.load.ensures.loads rows h) (data_units y) c.in-Err.failed some c.in-Err.is
+    let r = c.load_first in
+    let some : 1 ≤ data_units y = omega (arith, law.checks_below) in
+    stopped-wider g.D.Disk y c.args.most c.args.cols.now.states c.args.stripe 1 (data_units y) rows c.args.devices.now r.new.devices r.new.hands r.new.ahead c.in-Err.failed some (c.in-Err.ensures.sums rows h)
 
 pub loop-i-init : goal.loop-i-init
-loop-i-init g c =
-    let y = g.L.Layout.shape c.args.layout.now in
-    let cols = c.args.cols.now.states in
-    let m = c.args.most in
-    let s = c.args.stripe in
-    let dev = c.args.devices.now in
-    record {
-      read = λ rows h. all-more g.D.Disk y m cols s rows dev dev c.load.new.devices 0 c.args.hands.now c.load.new.hands c.args.ahead.now c.load.new.ahead c.load.result
-          (all-none g.D.Disk y m cols s rows dev c.args.hands.now c.args.ahead.now h) (c.load.ensures.loads rows h) 1 refl (ap is_ok c.in-Ok.is);
-      sum = λ rows h told. sum-one y (contents_of g.D.Disk dev) cols s c.copy_from_slice.new.self (λ o k ou ku.
-          ap (λ l. slice_index l (512 * o + k)) c.copy_from_slice.ensures.after
-          ∙ (part-at c.load.new.ahead c.in-Ok.from _ (512 * y.unit_sectors) (512 * o + k) (omega (arith, c.requires.sum)) (omega (arith, ou, ku))
-          ∙ unit-at g.D.Disk y m cols s rows dev dev c.load.new.devices 0 c.args.hands.now c.load.new.hands c.args.ahead.now c.load.new.ahead c.load.result
-          (all-none g.D.Disk y m cols s rows dev c.args.hands.now c.args.ahead.now h) (c.load.ensures.loads rows h) told c.in-Ok.from c.in-Ok.is o k ou ku));
-      same = c.load.ensures.same;
-      hands = c.load.ensures.hands;
-      long = c.load.ensures.long;
-      whole = c.copy_from_slice.ensures.len ∙ c.requires.sum;
-      some = omega arith;
-    }
+loop-i-init g c = record {
+  read = λ rows h. (c.in-Ok.ensures.sums rows h).0;
+  sum = λ rows h. (c.in-Ok.ensures.sums rows h).1;
+  same = c.load_first.ensures.same;
+  hands = c.load_first.ensures.hands;
+  long = c.load_first.ensures.long;
+  whole = c.load_first.ensures.whole ∙ c.requires.sum;
+  some = omega arith;
+}
 
-pub load-requires-in-loop-i-clause-array : goal.load-requires-in-loop-i-clause-array
-load-requires-in-loop-i-clause-array g c =
+pub load-requires-clause-array : goal.load-requires-clause-array
+load-requires-clause-array g c =
     let y = g.L.Layout.shape c.args.layout.now in
     seated-kept g.D.Disk nothing y c.args.cols.now.states c.args.devices.now c.loop-i.devices c.requires.array c.loop-i.invariant.same
 
@@ -55,11 +43,11 @@ returns-in-Err-load-clause-sums g c rows h =
     let i = c.loop-i.i in
     let read = c.loop-i.invariant.read rows h in
     let less : i < data_units y = omega (arith, c.loop-i-test.true, c.width.ensures, c.checks.ensures) in
-    stopped-at g.D.Disk y m cols s rows c.args.devices.now c.loop-i.devices c.load-in-loop-i.new.devices i c.loop-i.hands c.load-in-loop-i.new.hands c.loop-i.ahead c.load-in-loop-i.new.ahead c.load-in-loop-i.result
-    read (c.load-in-loop-i.ensures.loads (λ d. read_rows y m cols s i d (rows d)) read.ahead) (data_units y) c.in-Err-load.failed less c.in-Err-load.is
+    stopped-at g.D.Disk y m cols s rows c.args.devices.now c.loop-i.devices c.load.new.devices i c.loop-i.hands c.load.new.hands c.loop-i.ahead c.load.new.ahead c.load.result
+    read (c.load.ensures.loads (λ d. read_rows y m cols s i d (rows d)) read.ahead) (data_units y) c.in-Err-load.failed less c.in-Err-load.is
 
 pub returns-in-Err-load-clause-same : goal.returns-in-Err-load-clause-same
-returns-in-Err-load-clause-same g c = changes-then g.D.Disk nothing c.args.devices.now c.loop-i.devices c.load-in-loop-i.new.devices c.loop-i.invariant.same c.load-in-loop-i.ensures.same
+returns-in-Err-load-clause-same g c = changes-then g.D.Disk nothing c.args.devices.now c.loop-i.devices c.load.new.devices c.loop-i.invariant.same c.load.ensures.same
 
 pub loop-i-preserved : goal.loop-i-preserved
 loop-i-preserved g c =
@@ -69,7 +57,7 @@ loop-i-preserved g c =
     let s = c.args.stripe in
     let i = c.loop-i.i in
     let dev = c.args.devices.now in
-    let l = c.load-in-loop-i in
+    let l = c.load in
     let next : i + 1 ≡ suc i = omega arith in
     record {
       read = λ rows h.
