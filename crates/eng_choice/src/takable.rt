@@ -18,17 +18,11 @@ use eng_clients::Stage;
 use eng_plan::{lease_size, span_count};
 use eng_state::Array;
 use eng_world::Item;
-use lay_core::{Layout, count_all, home};
+use lay_core::{Layout, SpanStripes, count_all, span_stripes};
 use stripe_lock::Mode;
 
-// Stripes that follow one another.
-#[derive(Clone, Copy)]
-struct Stripes {
-    first: u32,
-    count: u32,
-}
-
-fn stripes_of<L: Layout>(layout: &L, span: Span) -> Stripes
+// The stripes of the span of an operation.
+fn stripes_of<L: Layout>(layout: &L, span: Span) -> SpanStripes
     requires some { 1 ≤ span.count }
     requires inside { PassesEnd (L.shape layout.now) span → ⊥ }
     requires few { stripe_count (L.shape layout.now) span ≤ 16 }
@@ -37,12 +31,7 @@ fn stripes_of<L: Layout>(layout: &L, span: Span) -> Stripes
     ensures few { result.count ≤ 16 }
     ensures within { result.first + result.count ≤ (L.shape layout.now).stripes }
 {
-    let first = home(layout, span.first).stripe;
-    let last = home(layout, span.first + (u64::from(span.count) - 1)).stripe;
-    Stripes {
-        first,
-        count: last - first + 1,
-    }
+    span_stripes(layout, span)
 }
 
 fn count_stripes<L: Layout>(layout: &L, op: &Op) -> u32

@@ -1,5 +1,5 @@
 //! How many buffers an item can lease, and all items of a client.
-ghost use Rattle.std.specs.Prelude.{◌≡◌, ◌≤◌, ℕ, Some, None, List, sum_by, slice_get};
+ghost use Rattle.std.specs.Prelude.{◌≡◌, ◌≤◌, ◌+◌, ◌-◌, ◌/◌, ℕ, Some, None, List, sum_by, slice_get};
 ghost use Rattle.blk_plain.specs.Plain.{spans_of};
 ghost use Rattle.lay_core.specs.Layout.{Shape, IsLayout};
 ghost use Rattle.graph_mean.specs.Graph.{Held};
@@ -23,12 +23,25 @@ fn stripe_blocks<L: Layout>(layout: &L) -> u32
     (layout.width() - layout.checks()) * layout.unit_sectors()
 }
 
+// How many stripes so many blocks take from the first block of one on. That they take one is told without a division.
+fn stripes_over(reach: u64, blocks: u64) -> u64
+    requires reach { reach ≤ 4294971392 }
+    requires some { 1 ≤ blocks }
+    requires few { blocks ≤ 4096 }
+    ensures { result ≡ (reach + blocks - 1) / blocks }
+{
+    if 1 <= reach && reach <= blocks {
+        return 1;
+    }
+    (reach + blocks - 1) / blocks
+}
+
 fn most_of_span<L: Layout>(layout: &L, span: Span) -> u32
     ensures most { result ≡ most_of_span (L.shape layout.now) span }
     ensures few { result ≤ 16 }
 {
     let blocks = u64::from(stripe_blocks(layout));
-    let stripes = (span.first % blocks + u64::from(span.count) + blocks - 1) / blocks;
+    let stripes = stripes_over(span.first % blocks + u64::from(span.count), blocks);
     stripes.min(u64::from(limits::TASK_STRIPES)) as u32
 }
 

@@ -22,7 +22,7 @@ use eng_fails::{fail_column, is_dead};
 use eng_job::Job;
 use eng_state::Array;
 use eng_world::{Item, Reply, Traced};
-use lay_core::{Layout, blocks, count_all, home, some_passes_end};
+use lay_core::{Layout, blocks, count_all, some_passes_end, span_stripes};
 
 // Whether a span is refused: it passes the end, or touches more than 16 stripes.
 fn judge_span<L: Layout, D: Disk>(array: &Array<L, D>, span: Span) -> Result<(), Reply>
@@ -35,9 +35,7 @@ fn judge_span<L: Layout, D: Disk>(array: &Array<L, D>, span: Span) -> Result<(),
     if span.first > all || count > all - span.first {
         return Err(Reply::Range);
     }
-    let first = home(&array.layout, span.first).stripe;
-    let last = home(&array.layout, span.first + (count - 1)).stripe;
-    if last >= first && last - first >= limits::TASK_STRIPES {
+    if span_stripes(&array.layout, span).count > limits::TASK_STRIPES {
         return Err(Reply::Long);
     }
     Ok(())
