@@ -1,6 +1,7 @@
 pub mod Pools
 pub mod Gathering
 pub mod MadeDesk
+pub mod Padded
 pub mod Closing
 pub mod MoreDesks
 pub mod Keeping

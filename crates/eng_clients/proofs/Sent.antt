@@ -18,6 +18,7 @@ use Rattle.eng_world.specs.contracts.item.Reply as reply
 use Rattle.eng_clients.specs.contracts.client.Client as client
 use Rattle.eng_clients.specs.contracts.clients.Clients as clients
 use Rattle.eng_clients.specs.contracts.rebuilds.Rebuilds as rebuilds
+use Rattle.eng_clients.specs.contracts.spots.Spots as spots
 use Rattle.eng_clients.specs.contracts.stage.Stage as stage
 use Rattle.eng_log.proofs.Sent.{byte_send, number_send}
 
@@ -34,6 +35,9 @@ reply_send = search sendable depth 60 fits 10000
 
 spot_send : IsSend spot.the_row
 spot_send = search sendable depth 20
+
+spots_send : IsSend spots.the_row
+spots_send = view_send _ _ _ _ _ (declared_send spots.TheInside.the_type (Vec-send (option.the_row spot.the_row) (option_send spot.the_row spot_send), tt))
 
 stage_send : IsSend stage.the_row
 stage_send = search sendable depth 20
@@ -62,7 +66,7 @@ client_send = view_send _ _ _ _ _ (declared_send client.TheInside.the_type (
                   (
                     lease_send,
                     (
-                      Vec-send (option.the_row spot.the_row) (option_send spot.the_row spot_send),
+                      spots_send,
                       (option_send u32-field.row number_send, (option_send u32-field.row number_send, tt)),
                     ),
                   ),

@@ -8,3 +8,4 @@ pub mod Listing
 pub mod Replied
 pub mod Fresh
 pub mod Scattered
+pub mod Spots

@@ -10,6 +10,7 @@ ghost use Rattle.eng_clients.specs.Desk.{Desk, Lends, spot_at, with_fired, with_
 mod fails;
 mod open;
 
+use crate::spots::Spots;
 use crate::stage::Stage;
 use blk_plain::Outcome;
 use buf_pool::{Buffer, Lease, Reserve};
@@ -36,7 +37,7 @@ pub struct Client {
     pub(crate) map: StripeMap,
     pub(crate) missing: Vec<Option<u8>>,
     pub(crate) lease: Lease,
-    pub(crate) spots: Vec<Option<Spot>>,
+    pub(crate) spots: Spots,
     pub(crate) by: Option<u32>,
     pub(crate) file: Option<u32>,
 }
@@ -57,7 +58,7 @@ impl Model for Client {
       map = c.map;
       missing = c.missing.items;
       lease = c.lease;
-      spots = c.spots.items;
+      spots = c.spots;
       by = c.by;
       file = c.file;
     } };
@@ -66,7 +67,6 @@ impl Model for Client {
       replies : (length c.items.items ≤ 4294967295) × (length c.replies.items ≤ length c.items.items) × (length c.items.items ≤ vec_capacity c.replies);
       item : c.item ≡ slice_get c.items.items (length c.replies.items);
       missing : 16 ≤ vec_capacity c.missing;
-      spots : length c.spots.items ≡ 2048;
       graph : (c.graph.node_room ≡ 2048) × (c.graph.buf_room ≡ 2048) × (c.graph.edge_room ≡ 16384);
     } };
 }
@@ -178,7 +178,7 @@ impl Client {
             None => self.run.fire(&self.graph, node),
             Some(n) => self.run.fire(&graphs[n as usize], node),
         }
-        self.spots[node as usize] = at;
+        self.spots.set(node, at);
     }
 
     /// A node that is out ends.
@@ -200,7 +200,7 @@ impl Client {
         requires { node < 2048 }
         ensures { result ≡ spot_at self.now node }
     {
-        self.spots[node as usize]
+        self.spots.get(node)
     }
 
     /// Its item is replied, and it has no operation and no lease any more.

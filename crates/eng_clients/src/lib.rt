@@ -13,6 +13,7 @@ mod returns;
 mod rewritten;
 mod scatter;
 mod serving;
+mod spots;
 mod stage;
 mod turns;
 

@@ -1,5 +1,5 @@
 //! The room for a client is taken, its items are brought in, and it is closed.
-ghost use Rattle.std.specs.Prelude.{None, ◌≡◌, ◌≢◌, ◌≤◌, ◌+◌, ◌-◌, ◌++◌, ℕ, [], length, replicate, IfOk, vec_capacity};
+ghost use Rattle.std.specs.Prelude.{None, ◌≡◌, ◌≢◌, ◌≤◌, ◌+◌, ◌-◌, ◌++◌, ℕ, [], length, replicate, slice_get, IfOk, vec_capacity};
 ghost use Rattle.eng_world.specs.declared.item.Reply.TheVariants as reply;
 ghost use Rattle.eng_log.specs.Given.{items_at};
 ghost use Rattle.eng_clients.specs.Replied.{told_of};
@@ -7,12 +7,13 @@ ghost use Rattle.eng_clients.specs.Fresh.{new_desk};
 
 use crate::client::{Client, bring_item};
 use crate::memory::Memory;
+use crate::spots::Spots;
 use crate::stage::Stage;
 use blk_plain::limits;
 use buf_pool::Lease;
-use eng_cols::{Loss, Spot};
+use eng_cols::Loss;
 use eng_one::Run;
-use eng_world::Reply;
+use eng_world::{Item, Reply};
 use graph_mean::{Graph, Task};
 use item_list::Items;
 use lay_core::StripeMap;
@@ -30,25 +31,21 @@ fn reply_lost(replies: &mut Vec<Reply>, count: usize)
     }
 }
 
-// No spot yet for each node that there may be.
-fn no_spots(alloc: Global) -> Result<Vec<Option<Spot>>, Memory>
-    ensures { IfOk result (λ spots. spots.items ≡ replicate 2048 None) }
-{
-    let mut spots = Vec::with_capacity(alloc, limits::NODES as usize)?;
-    for i in 0..limits::NODES {
-        spots.push_reserved(None);
-    }
-    Ok(spots)
-}
-
 /// Room for a client of so many items. Contracts see how many.
+///
+/// It holds the parts of the client that take memory. A lease takes none and is long: the client gets it as it is made.
 #[derive(Drop)]
 pub struct ClientRoom {
     most: u32,
     // No items, for a client that isn't given any.
     none: Items,
     replies: Vec<Reply>,
-    client: Client,
+    run: Run,
+    graph: Graph,
+    task: Task,
+    map: StripeMap,
+    missing: Vec<Option<u8>>,
+    spots: Spots,
 }
 
 impl Model for ClientRoom {
@@ -62,7 +59,12 @@ impl Model for ClientRoom {
     ghost invariant = { λ r. record {
       none : r.none.items ≡ [];
       replies : (r.replies.items ≡ []) × (r.most ≤ vec_capacity r.replies);
-      client : r.client ≡ new_desk [];
+      run : r.run ≡ (new_desk []).run;
+      graph : r.graph ≡ (new_desk []).graph;
+      task : r.task ≡ (new_desk []).task;
+      map : r.map ≡ (new_desk []).map;
+      missing : (r.missing.items ≡ []) × (16 ≤ vec_capacity r.missing);
+      spots : r.spots ≡ (new_desk []).spots;
     } };
 }
 
@@ -80,6 +82,15 @@ fn take_items(given: &mut [Items], client: u32, none: Items) -> Items
     }
 }
 
+// The first of some items, if there is one.
+fn first_item(items: &Items) -> Option<Item>
+    ensures { result ≡ slice_get items.now.items 0 }
+{
+    let mut item = None;
+    bring_item(items, 0, &mut item);
+    item
+}
+
 impl ClientRoom {
     /// The room that any so many items take. The only error is want of memory.
     pub fn open(alloc: Global, most: u32) -> Result<ClientRoom, Memory>
@@ -89,7 +100,12 @@ impl ClientRoom {
             most,
             none: Items::new(alloc),
             replies: Vec::with_capacity(alloc, most as usize)?,
-            client: Client::open(alloc)?,
+            run: Run::open(alloc)?,
+            graph: Graph::with_room(alloc, limits::NODES, limits::BUFFERS, limits::EDGES)?,
+            task: Task::with_room(alloc)?,
+            map: StripeMap::with_room(alloc)?,
+            missing: Vec::with_capacity(alloc, limits::TASK_STRIPES as usize)?,
+            spots: Spots::open(alloc)?,
         })
     }
 
@@ -102,31 +118,20 @@ impl ClientRoom {
         let ClientRoom {
             none,
             replies,
-            mut client,
+            run,
+            graph,
+            task,
+            map,
+            missing,
+            spots,
             ..
         } = self;
-        client.items = take_items(given, number, none);
-        bring_item(&client.items, 0, &mut client.item);
-        client.replies = replies;
-        client
-    }
-}
-
-impl Client {
-    // A client without items. The only error is want of memory.
-    fn open(alloc: Global) -> Result<Client, Memory>
-        ensures { IfOk result (λ client. client ≡ new_desk []) }
-    {
-        let run = Run::open(alloc)?;
-        let graph = Graph::with_room(alloc, limits::NODES, limits::BUFFERS, limits::EDGES)?;
-        let task = Task::with_room(alloc)?;
-        let map = StripeMap::with_room(alloc)?;
-        let missing = Vec::with_capacity(alloc, limits::TASK_STRIPES as usize)?;
-        let spots = no_spots(alloc)?;
-        Ok(Client {
-            items: Items::new(alloc),
-            item: None,
-            replies: Vec::new(alloc),
+        let items = take_items(given, number, none);
+        let item = first_item(&items);
+        Client {
+            items,
+            item,
+            replies,
             stage: Stage::Nothing,
             run,
             graph,
@@ -137,9 +142,11 @@ impl Client {
             spots,
             by: None,
             file: None,
-        })
+        }
     }
+}
 
+impl Client {
     /// Its items, and a reply for each that has one; once the array is lost, every other is replied so.
     pub fn close(self, lost: Option<Loss>) -> (Items, Vec<Reply>)
         ensures items { result.0.items ≡ self.items }
