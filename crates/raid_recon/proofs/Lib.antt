@@ -8,6 +8,7 @@ pub mod UnitReads
 pub mod Backs
 pub mod AtHand
 pub mod Loads
+pub mod Placed
 pub mod Alone
 pub mod Windows
 pub mod Visits

@@ -1,7 +1,7 @@
 -- A unit that was at hand or was read.
-use Rattle.std.proofs.Common.{◌≡◌, ◌⊎◌, ℕ, ◌+◌, ◌*◌, ◌-◌, ◌<◌, ◌≤◌, List, length, Bool, true, false, Option, Some, Result, Ok, IfErr, is_ok, inl, inr, sym, ap, ◌∙◌, subst, arith}
+use Rattle.std.proofs.Common.{◌≡◌, ◌⊎◌, ℕ, suc, ◌+◌, ◌*◌, ◌-◌, ◌<◌, ◌≤◌, List, length, Bool, true, false, Option, Some, Result, Ok, IfErr, is_ok, inl, inr, sym, ap, ◌∙◌, subst, arith}
 use Rattle.std.specs.Prelude.{◌==◌, if◌then◌else◌, slice_index, slice_set}
-use Rattle.std.proofs.Math.Nat.{mul-le-mul_right, mul-add, mul_comm}
+use Rattle.std.proofs.Math.Nat.{mul-le-mul_left, mul-le-mul_right, mul-add, mul-suc, mul_comm}
 use Rattle.blk_disk.specs.declared.disk.Disk.{Ghosts}
 use Rattle.blk_disk.specs.Devices.{contents_of, calls_of}
 use Rattle.blk_disk.proofs.DeviceLaws.{changes-refl, changes_sector}
@@ -13,7 +13,7 @@ use Rattle.eng_cols.specs.Contents.{sector_at}
 use Rattle.raid_recon.specs.declared.ahead.Rows.{Rows}
 use Rattle.raid_recon.specs.declared.kind.FailedAt.{FailedAt}
 use Rattle.raid_recon.specs.Turns.{TellsMore, call_if}
-use Rattle.raid_recon.specs.Ahead.{AreHands, byte_in, is_at_hand, rows_at, seat_rows, window_at}
+use Rattle.raid_recon.specs.Ahead.{AreHands, IsInWindow, IsOutside, byte_in, is_at_hand, rows_at, seat_rows, window_at}
 use Rattle.raid_recon.specs.Units.{IsAhead, IsReadInto, LoadsUnit, call_from}
 use Rattle.raid_recon.proofs.AtHand.{ahead-same, ahead-later, hit-rows, hit-reads, miss-reads, miss-agrees, miss-holds, rows_at-same, rows_at-other, put-outside, put-inside}
 use Rattle.raid_recon.proofs.Backs.{back-refl}
@@ -26,6 +26,32 @@ nothing d n = ⊥
 
 ok-same : {A E : Type 0} (a b : A) → (let x : Result A E = Ok a in x) ≡ Ok b → a ≡ b
 ok-same a b e = cc
+
+-- a unit at hand stands in its window
+pub hit-window : (y : Shape) (most c far from : ℕ) → far < most → from ≡ 512 * (y.unit_sectors * (window_at most c + far)) → IsInWindow y most c from
+hit-window y most c far from short is =
+    let least : y.unit_sectors * window_at most c ≤ y.unit_sectors * (window_at most c + far) = mul-le-mul_left y.unit_sectors (omega arith) in
+    let last : suc (window_at most c + far) ≤ window_at most c + most = omega (arith, short) in
+    let sectors : y.unit_sectors * suc (window_at most c + far) ≤ y.unit_sectors * (window_at most c + most) = mul-le-mul_left y.unit_sectors last in
+    (omega (arith, least, is), omega (arith, sectors, mul-suc y.unit_sectors (window_at most c + far), is))
+
+-- one that was read stands at the front of its window
+pub miss-window : (y : Shape) (most c begin : ℕ) → 1 ≤ most → begin ≡ y.unit_sectors * window_at most c → IsInWindow y most c (512 * begin)
+miss-window y most c begin some is = hit-window y most c 0 (512 * begin) some
+    (ap (λ n. 512 * n) (is ∙ ap (λ w. y.unit_sectors * w) (let e : window_at most c ≡ window_at most c + 0 = omega arith in e)))
+
+-- a read changes no byte outside the window of its column
+pub read-outside : {D : Type 0} (g : Ghosts D) (y : Shape) (most : ℕ) (at : Spot) (old new : List (Option D)) (begin n : ℕ) (before bytes : List ℕ) (good : Bool) → begin ≡ y.unit_sectors * window_at most at.column → n ≤ most → 512 * begin + 512 * (n * y.unit_sectors) ≤ length before
+    → IsReadInto g at y.unit_sectors (n * y.unit_sectors) old new begin before bytes good → (m : ℕ) → IsOutside y most at.column m → slice_index bytes m ≡ slice_index before m
+read-outside g y most at old new begin n before bytes good start few inside w m outside =
+    ap (λ (l : List ℕ). slice_index l m) w.put_is ∙ put-outside before w.part begin m (omega (arith, inside, w.long)) (away outside)
+  where
+    away : IsOutside y most at.column m → (m < 512 * begin) ⊎ (512 * begin + length w.part ≤ m)
+    away (inl lt) = inl (omega (arith, lt, start))
+    away (inr le) =
+        let rows : window_at most at.column + n ≤ window_at most at.column + most = omega (arith, few) in
+        let sectors : y.unit_sectors * (window_at most at.column + n) ≤ y.unit_sectors * (window_at most at.column + most) = mul-le-mul_left y.unit_sectors rows in
+        inr (omega (arith, le, start, sectors, w.long, mul-add y.unit_sectors (window_at most at.column) n, mul_comm y.unit_sectors n))
 
 module _ {D : Type 0} (g : Ghosts D) (y : Shape) (most : ℕ) (cols : List ColumnState) (s i : ℕ) (at : Spot) (sw : s < y.stripes) (iw : i < y.width) (stands : seat y cols s i ≡ Some at) (there : is_available y cols s i ≡ true)
     (rows : ℕ → Rows) (old : List (Option D)) (hands : List Rows) (before : List ℕ) (h : IsAhead g y most cols s rows old hands before) where

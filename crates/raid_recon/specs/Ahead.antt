@@ -1,5 +1,5 @@
 -- Rows that are read ahead, and which calls read the units of a sweep then.
-use Rattle.std.specs.Prelude.{◌≡◌, ℕ, zero, suc, ◌+◌, ◌*◌, ◌-◌, ◌<◌, ◌≤◌, List, [], ◌∷◌, ◌++◌, length, Bool, true, false, Option, Some, None, ◌==◌, ◌&&◌, not, min, max, ◌/◌, nat_lt, if◌then◌else◌, slice_index, slice_index_or}
+use Rattle.std.specs.Prelude.{◌≡◌, ◌⊎◌, ℕ, zero, suc, ◌+◌, ◌*◌, ◌-◌, ◌<◌, ◌≤◌, List, [], ◌∷◌, ◌++◌, length, Bool, true, false, Option, Some, None, ◌==◌, ◌&&◌, not, min, max, ◌/◌, nat_lt, if◌then◌else◌, slice_index, slice_index_or}
 use Rattle.blk_disk.specs.declared.disk.Call.{Call}
 use Rattle.lay_core.specs.Layout.{Shape, data_units}
 use Rattle.eng_cols.specs.declared.column.Column.{Column}
@@ -31,6 +31,14 @@ pub record HasWindows (y : Shape) (most bytes : ℕ) : Type 0 where
   pub some : 1 ≤ most
   pub few : most * y.unit_sectors ≤ 128
   pub within : (c : ℕ) → c < y.columns → 512 * (y.unit_sectors * (window_at most c + most)) ≤ bytes
+
+-- a unit stands in the window of column c, from this byte on
+abbrev pub IsInWindow : Shape → (most c from : ℕ) → Type 0
+IsInWindow y most c from = (512 * (y.unit_sectors * window_at most c) ≤ from) × (from + 512 * y.unit_sectors ≤ 512 * (y.unit_sectors * (window_at most c + most)))
+
+-- a byte is none of that window
+abbrev pub IsOutside : Shape → (most c n : ℕ) → Type 0
+IsOutside y most c n = (n < 512 * (y.unit_sectors * window_at most c)) ⊎ (512 * (y.unit_sectors * (window_at most c + most)) ≤ n)
 
 -- ## Which rows are at hand
 

@@ -1,9 +1,13 @@
 -- The sums of a stripe's units, as the devices hold them.
-use Rattle.std.specs.Prelude.{◌≡◌, ◌≢◌, ℕ, ◌<◌, List}
+use Rattle.std.specs.Prelude.{◌≡◌, ◌≢◌, ℕ, ◌+◌, ◌<◌, List, slice_index}
 use Rattle.lay_core.specs.Sums.{xor_below}
 use Rattle.lay_core.specs.Layout.{Shape, data_units}
 use Rattle.eng_cols.specs.Cols.{ColumnState}
 use Rattle.eng_cols.specs.Contents.{Contents, byte_of}
+
+-- byte j of the exclusive-or of what stands in some bytes from the first n places on
+abbrev pub places_sum : List ℕ → List ℕ → ℕ → ℕ → ℕ
+places_sum bytes places n j = xor_below (λ i. slice_index bytes (slice_index places i + j)) n
 
 -- byte k at offset o of the exclusive-or of the stripe's first n units
 abbrev pub sum_of : Shape → Contents → List ColumnState → ℕ → ℕ → ℕ → ℕ → ℕ

@@ -37,6 +37,10 @@ call_from u at kind count good = record { kind = kind; first = 64 + at.row * u; 
 abbrev pub IsUnitAt : Shape → Contents → List ColumnState → ℕ → ℕ → List ℕ → ℕ → Type 0
 IsUnitAt y contents cols s i bytes from = (o k : ℕ) → o < y.unit_sectors → k < 512 → slice_index bytes (from + (512 * o + k)) ≡ byte_of y contents cols s i o k
 
+-- from these places on the bytes are the stripe's first n units
+abbrev pub AreUnitsAt : Shape → Contents → List ColumnState → ℕ → ℕ → List ℕ → List ℕ → Type 0
+AreUnitsAt y contents cols s n bytes places = (i : ℕ) → i < n → IsUnitAt y contents cols s i bytes (slice_index places i)
+
 module _ {D : Type 0} (g : Ghosts D) where
   -- So many sectors were read from the one on that stands there, or its device failed. No sector changed.
   pub record IsRead (at : Spot) (u count : ℕ) (old new : List (Option D)) (into : List ℕ) (good : Bool) : Type 0 where
@@ -99,6 +103,11 @@ module _ {D : Type 0} (g : Ghosts D) where
     pub same : Changes g (λ d n. ⊥) old new
     pub told : (d : ℕ) → TellsMore (calls_of g old d) (calls_of g new d) (reads_ahead y most cols s unit d (rows d) ++ seat_reads y most (seat y cols s unit) false d (read_rows y most cols s unit d (rows d)))
     pub ahead : IsAhead y most cols s (λ d. seat_rows y most (seat y cols s unit) false d (read_rows y most cols s unit d (rows d))) new hands bytes
+
+  -- what comes of reading the first n units, each in the window of its column
+  abbrev pub LoadsUnits : Shape → ℕ → List ColumnState → (s n : ℕ) → (ℕ → Rows) → (old new : List (Option D)) → List Rows → List ℕ → (places : List ℕ) → Result (Unit {0}) FailedAt → Type 0
+  LoadsUnits y most cols s n rows old new hands bytes places (Ok x) = AllRead y most cols s n rows old new hands bytes × (g.tells → AreUnitsAt y (contents_of g old) cols s n bytes places)
+  LoadsUnits y most cols s n rows old new hands bytes places (Err e) = Stopped y most cols s n rows old new hands bytes e
 
   -- what comes of reading and summing the first n units
   abbrev pub SumsUnits : Shape → ℕ → List ColumnState → (s n : ℕ) → (ℕ → Rows) → (old new : List (Option D)) → List Rows → List ℕ → (sum : List ℕ) → Result (Unit {0}) FailedAt → Type 0

@@ -11,6 +11,7 @@
 //! tells how far the sweep is. [`rebuild_count`] is how many stripes a column has to be rebuilt in.
 #![tactic(auto)]
 
+mod adding;
 mod ahead;
 mod count;
 mod devices;

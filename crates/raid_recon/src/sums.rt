@@ -1,13 +1,16 @@
 //! Reading and summing the units of a stripe, and writing its check unit.
-ghost use Rattle.std.specs.Prelude.{◌≡◌, ◌≢◌, ◌<◌, ◌≤◌, ◌+◌, ◌*◌, ◌↔◌, ℕ, length, slice_index, IfOk, IsTrue, MatchBool};
+ghost use Rattle.std.specs.Prelude.{◌≡◌, ◌≢◌, ◌<◌, ◌≤◌, ◌+◌, ◌*◌, ℕ, length, slice_index, Some, IfOk};
 ghost use Rattle.blk_disk.specs.Devices.{Changes};
 ghost use Rattle.lay_core.specs.Layout.{data_units};
+ghost use Rattle.eng_cols.specs.declared.spot.Spot.{Spot};
 ghost use Rattle.eng_cols.specs.Cols.{IsFor};
-ghost use Rattle.raid_recon.specs.Ahead.{AreHands, HasWindows};
+ghost use Rattle.eng_cols.specs.Seats.{seat};
+ghost use Rattle.raid_recon.specs.Ahead.{AreHands, HasWindows, IsInWindow, IsOutside};
 ghost use Rattle.raid_recon.specs.Array.{AreSeated, IsComplete};
-ghost use Rattle.raid_recon.specs.Units.{IsAhead, LoadsUnit, SumsUnits, TestsUnits, WritesCheck};
+ghost use Rattle.raid_recon.specs.Units.{IsAhead, LoadsUnit, LoadsUnits, SumsUnits, TestsUnits, WritesCheck};
 ghost use Rattle.raid_recon.specs.declared.ahead.Rows.{Rows as HandRows};
 
+use crate::adding::{differ, sum_differs, sum_places};
 use crate::ahead::{Rows, is_at_hand, window_at};
 use crate::devices::{read_into, write_at};
 use crate::kind::FailedAt;
@@ -51,6 +54,11 @@ fn load<L: Layout, D: Disk>(
     ensures long { length ahead.new ≡ length ahead.old }
     ensures inside { IfOk result (λ from.
         from + 512 * (L.shape layout.now).unit_sectors ≤ length ahead.new) }
+    ensures window { (at : Spot) → seat (L.shape layout.now) cols.now.states stripe unit ≡ Some at
+        → IfOk result (λ from. IsInWindow (L.shape layout.now) most at.column from) }
+    ensures outside { (at : Spot) → seat (L.shape layout.now) cols.now.states stripe unit ≡ Some at
+        → (n : ℕ) → IsOutside (L.shape layout.now) most at.column n
+        → slice_index ahead.new n ≡ slice_index ahead.old n }
 {
     let Some(at) = cols.spot(layout, stripe, unit) else {
         unreachable!()
@@ -75,6 +83,48 @@ fn load<L: Layout, D: Disk>(
             Err(FailedAt { column })
         }
     }
+}
+
+// Reads the first units, so many, of a stripe that lacks none, each into the window of its column, and says where
+// in the windows each begins. As the units stand on different columns, no read takes away what was read before.
+fn load_units<L: Layout, D: Disk>(
+    layout: &L,
+    devices: &mut [Option<D>],
+    cols: &Cols,
+    stripe: u32,
+    count: u32,
+    most: u32,
+    hands: &mut [Rows],
+    ahead: &mut [u8],
+    places: &mut [usize],
+) -> Result<(), FailedAt>
+    requires fit { IsFor (L.shape layout.now) cols.now }
+    requires array { AreSeated D.Disk (L.shape layout.now) cols.now.states devices.old }
+    requires stripe { stripe < (L.shape layout.now).stripes }
+    requires count { count ≤ (L.shape layout.now).width }
+    requires complete { IsComplete (L.shape layout.now) cols.now.states stripe }
+    requires apart { most ≢ 1 }
+    requires windows { HasWindows (L.shape layout.now) most (length ahead.old) }
+    requires hands { AreHands most hands.old }
+    requires places { length places.old ≡ 32 }
+    ensures loads { (rows : ℕ → HandRows) → IsAhead D.Disk (L.shape layout.now) most
+        cols.now.states stripe rows devices.old hands.old ahead.old
+        → LoadsUnits D.Disk (L.shape layout.now) most cols.now.states stripe count rows
+        devices.old devices.new hands.new ahead.new places.new result }
+    ensures same { Changes D.Disk (λ _ _. ⊥) devices.old devices.new }
+    ensures hands { AreHands most hands.new }
+    ensures long { length ahead.new ≡ length ahead.old }
+    ensures places { length places.new ≡ 32 }
+    ensures inside { IfOk result (λ _. (i : ℕ) → i < count → slice_index places.new i
+        + 512 * (L.shape layout.now).unit_sectors ≤ length ahead.new) }
+{
+    for i in 0..count {
+        match load(layout, devices, cols, stripe, i, most, hands, ahead) {
+            Ok(from) => places[i as usize] = from,
+            Err(failed) => return Err(failed),
+        }
+    }
+    Ok(())
 }
 
 /// Writes the check unit, which isn't missing.
@@ -104,7 +154,7 @@ pub(crate) fn write_check<L: Layout, D: Disk>(
     }
 }
 
-/// Reads the first unit, and makes `sum` it. Where one row alone is read it needs no window of its own.
+// Where one row alone is read: reads the first unit, and makes `sum` it. It needs no window of its own.
 fn load_first<L: Layout, D: Disk>(
     layout: &L,
     devices: &mut [Option<D>],
@@ -119,6 +169,7 @@ fn load_first<L: Layout, D: Disk>(
     requires array { AreSeated D.Disk (L.shape layout.now) cols.now.states devices.old }
     requires stripe { stripe < (L.shape layout.now).stripes }
     requires complete { IsComplete (L.shape layout.now) cols.now.states stripe }
+    requires one { most ≡ 1 }
     requires windows { HasWindows (L.shape layout.now) most (length ahead.old) }
     requires hands { AreHands most hands.old }
     requires sum { length sum.old ≡ 512 * (L.shape layout.now).unit_sectors }
@@ -131,21 +182,101 @@ fn load_first<L: Layout, D: Disk>(
     ensures long { length ahead.new ≡ length ahead.old }
     ensures whole { length sum.new ≡ length sum.old }
 {
-    if most == 1 {
-        match load(layout, devices, cols, stripe, 0, most, hands, sum) {
-            Ok(_) => Ok(()),
-            Err(failed) => Err(failed),
-        }
-    } else {
-        let bytes = sum.len();
-        match load(layout, devices, cols, stripe, 0, most, hands, ahead) {
-            Ok(from) => {
-                sum.copy_from_slice(&ahead[from..from + bytes]);
-                Ok(())
-            }
-            Err(failed) => Err(failed),
+    match load(layout, devices, cols, stripe, 0, most, hands, sum) {
+        Ok(_) => Ok(()),
+        Err(failed) => Err(failed),
+    }
+}
+
+// Reads the data units, and makes `sum` their sum, where one row alone is read and all have the one window: each is
+// added as it is read.
+fn sum_in_turn<L: Layout, D: Disk>(
+    layout: &L,
+    devices: &mut [Option<D>],
+    cols: &Cols,
+    stripe: u32,
+    most: u32,
+    hands: &mut [Rows],
+    ahead: &mut [u8],
+    sum: &mut [u8],
+) -> Result<(), FailedAt>
+    requires fit { IsFor (L.shape layout.now) cols.now }
+    requires array { AreSeated D.Disk (L.shape layout.now) cols.now.states devices.old }
+    requires stripe { stripe < (L.shape layout.now).stripes }
+    requires complete { IsComplete (L.shape layout.now) cols.now.states stripe }
+    requires one { most ≡ 1 }
+    requires windows { HasWindows (L.shape layout.now) most (length ahead.old) }
+    requires hands { AreHands most hands.old }
+    requires sum { length sum.old ≡ 512 * (L.shape layout.now).unit_sectors }
+    ensures sums { (rows : ℕ → HandRows) → IsAhead D.Disk (L.shape layout.now) most
+        cols.now.states stripe rows devices.old hands.old ahead.old
+        → SumsUnits D.Disk (L.shape layout.now) most cols.now.states
+        stripe (data_units (L.shape layout.now)) rows
+        devices.old devices.new hands.new ahead.new sum.new result }
+    ensures same { Changes D.Disk (λ _ _. ⊥) devices.old devices.new }
+    ensures hands { AreHands most hands.new }
+    ensures long { length ahead.new ≡ length ahead.old }
+{
+    let bytes = sum.len();
+    match load_first(layout, devices, cols, stripe, most, hands, ahead, sum) {
+        Ok(()) => {}
+        Err(failed) => return Err(failed),
+    }
+    for i in 1..layout.width() - layout.checks() {
+        match load(layout, devices, cols, stripe, i, most, hands, ahead) {
+            Ok(from) => xor_into(sum, &ahead[from..from + bytes]),
+            Err(failed) => return Err(failed),
         }
     }
+    Ok(())
+}
+
+// The same where each column has a window of its own: all are read, and then summed at once.
+fn sum_apart<L: Layout, D: Disk>(
+    layout: &L,
+    devices: &mut [Option<D>],
+    cols: &Cols,
+    stripe: u32,
+    most: u32,
+    hands: &mut [Rows],
+    ahead: &mut [u8],
+    sum: &mut [u8],
+) -> Result<(), FailedAt>
+    requires fit { IsFor (L.shape layout.now) cols.now }
+    requires array { AreSeated D.Disk (L.shape layout.now) cols.now.states devices.old }
+    requires stripe { stripe < (L.shape layout.now).stripes }
+    requires complete { IsComplete (L.shape layout.now) cols.now.states stripe }
+    requires apart { most ≢ 1 }
+    requires windows { HasWindows (L.shape layout.now) most (length ahead.old) }
+    requires hands { AreHands most hands.old }
+    requires sum { length sum.old ≡ 512 * (L.shape layout.now).unit_sectors }
+    ensures sums { (rows : ℕ → HandRows) → IsAhead D.Disk (L.shape layout.now) most
+        cols.now.states stripe rows devices.old hands.old ahead.old
+        → SumsUnits D.Disk (L.shape layout.now) most cols.now.states
+        stripe (data_units (L.shape layout.now)) rows
+        devices.old devices.new hands.new ahead.new sum.new result }
+    ensures same { Changes D.Disk (λ _ _. ⊥) devices.old devices.new }
+    ensures hands { AreHands most hands.new }
+    ensures long { length ahead.new ≡ length ahead.old }
+{
+    let count = layout.width() - layout.checks();
+    let mut places = [0; 32];
+    match load_units(
+        layout,
+        devices,
+        cols,
+        stripe,
+        count,
+        most,
+        hands,
+        ahead,
+        &mut places,
+    ) {
+        Ok(()) => {}
+        Err(failed) => return Err(failed),
+    }
+    sum_places(sum, ahead, &places, count as usize);
+    Ok(())
 }
 
 /// Reads the data units, and makes `sum` their sum.
@@ -175,40 +306,107 @@ pub(crate) fn sum_data<L: Layout, D: Disk>(
     ensures hands { AreHands most hands.new }
     ensures long { length ahead.new ≡ length ahead.old }
 {
+    if most == 1 {
+        sum_in_turn(layout, devices, cols, stripe, most, hands, ahead, sum)
+    } else {
+        sum_apart(layout, devices, cols, stripe, most, hands, ahead, sum)
+    }
+}
+
+// Reads all units, makes `sum` the sum of the data units, and answers whether the check unit holds something else,
+// where one row alone is read.
+fn is_unlike_in_turn<L: Layout, D: Disk>(
+    layout: &L,
+    devices: &mut [Option<D>],
+    cols: &Cols,
+    stripe: u32,
+    most: u32,
+    hands: &mut [Rows],
+    ahead: &mut [u8],
+    sum: &mut [u8],
+) -> Result<bool, FailedAt>
+    requires fit { IsFor (L.shape layout.now) cols.now }
+    requires array { AreSeated D.Disk (L.shape layout.now) cols.now.states devices.old }
+    requires stripe { stripe < (L.shape layout.now).stripes }
+    requires checks { (L.shape layout.now).checks ≡ 1 }
+    requires complete { IsComplete (L.shape layout.now) cols.now.states stripe }
+    requires one { most ≡ 1 }
+    requires windows { HasWindows (L.shape layout.now) most (length ahead.old) }
+    requires hands { AreHands most hands.old }
+    requires sum { length sum.old ≡ 512 * (L.shape layout.now).unit_sectors }
+    ensures tests { (rows : ℕ → HandRows) → IsAhead D.Disk (L.shape layout.now) most
+        cols.now.states stripe rows devices.old hands.old ahead.old
+        → TestsUnits D.Disk (L.shape layout.now) most cols.now.states stripe rows
+        devices.old devices.new hands.new ahead.new sum.new result }
+    ensures same { Changes D.Disk (λ _ _. ⊥) devices.old devices.new }
+    ensures hands { AreHands most hands.new }
+    ensures long { length ahead.new ≡ length ahead.old }
+{
     let bytes = sum.len();
-    match load_first(layout, devices, cols, stripe, most, hands, ahead, sum) {
+    match sum_in_turn(layout, devices, cols, stripe, most, hands, ahead, sum) {
         Ok(()) => {}
         Err(failed) => return Err(failed),
     }
-    for i in 1..layout.width() - layout.checks() {
-        match load(layout, devices, cols, stripe, i, most, hands, ahead) {
-            Ok(from) => xor_into(sum, &ahead[from..from + bytes]),
-            Err(failed) => return Err(failed),
-        }
+    match load(
+        layout,
+        devices,
+        cols,
+        stripe,
+        layout.width() - 1,
+        most,
+        hands,
+        ahead,
+    ) {
+        Ok(from) => Ok(differ(sum, &ahead[from..from + bytes])),
+        Err(failed) => Err(failed),
     }
-    Ok(())
 }
 
-// Whether two units are equal. Each pair of bytes is looked at, so that the compiler takes many at once.
-fn are_equal(one: &[u8], other: &[u8]) -> bool
-    requires { length other.now ≡ length one.now }
-    ensures { IsTrue result ↔ (one.now ≡ other.now) }
+// The same where each column has a window of its own.
+fn is_unlike_apart<L: Layout, D: Disk>(
+    layout: &L,
+    devices: &mut [Option<D>],
+    cols: &Cols,
+    stripe: u32,
+    most: u32,
+    hands: &mut [Rows],
+    ahead: &mut [u8],
+    sum: &mut [u8],
+) -> Result<bool, FailedAt>
+    requires fit { IsFor (L.shape layout.now) cols.now }
+    requires array { AreSeated D.Disk (L.shape layout.now) cols.now.states devices.old }
+    requires stripe { stripe < (L.shape layout.now).stripes }
+    requires checks { (L.shape layout.now).checks ≡ 1 }
+    requires complete { IsComplete (L.shape layout.now) cols.now.states stripe }
+    requires apart { most ≢ 1 }
+    requires windows { HasWindows (L.shape layout.now) most (length ahead.old) }
+    requires hands { AreHands most hands.old }
+    requires sum { length sum.old ≡ 512 * (L.shape layout.now).unit_sectors }
+    ensures tests { (rows : ℕ → HandRows) → IsAhead D.Disk (L.shape layout.now) most
+        cols.now.states stripe rows devices.old hands.old ahead.old
+        → TestsUnits D.Disk (L.shape layout.now) most cols.now.states stripe rows
+        devices.old devices.new hands.new ahead.new sum.new result }
+    ensures same { Changes D.Disk (λ _ _. ⊥) devices.old devices.new }
+    ensures hands { AreHands most hands.new }
+    ensures long { length ahead.new ≡ length ahead.old }
 {
-    let mut equal = true;
-    for k in 0..one.len() {
-        equal &= one[k] == other[k];
+    let width = layout.width();
+    let mut places = [0; 32];
+    match load_units(
+        layout,
+        devices,
+        cols,
+        stripe,
+        width,
+        most,
+        hands,
+        ahead,
+        &mut places,
+    ) {
+        Ok(()) => {}
+        Err(failed) => return Err(failed),
     }
-    equal
-}
-
-// Whether two units differ.
-fn differ(one: &[u8], other: &[u8]) -> bool
-    requires { length other.now ≡ length one.now }
-    ensures { MatchBool result
-        ((j : ℕ) × (j < length one.now) × (slice_index one.now j ≢ slice_index other.now j))
-        ((j : ℕ) → slice_index one.now j ≡ slice_index other.now j) }
-{
-    !are_equal(one, other)
+    Ok(sum_differs(sum, ahead, &places, width as usize - 1))
 }
 
 /// Reads all units, makes `sum` the sum of the data units, and answers whether the check unit holds
@@ -239,22 +437,9 @@ pub(crate) fn is_out_of_sync<L: Layout, D: Disk>(
     ensures hands { AreHands most hands.new }
     ensures long { length ahead.new ≡ length ahead.old }
 {
-    let bytes = sum.len();
-    match sum_data(layout, devices, cols, stripe, most, hands, ahead, sum) {
-        Ok(()) => {}
-        Err(failed) => return Err(failed),
-    }
-    match load(
-        layout,
-        devices,
-        cols,
-        stripe,
-        layout.width() - 1,
-        most,
-        hands,
-        ahead,
-    ) {
-        Ok(from) => Ok(differ(sum, &ahead[from..from + bytes])),
-        Err(failed) => Err(failed),
+    if most == 1 {
+        is_unlike_in_turn(layout, devices, cols, stripe, most, hands, ahead, sum)
+    } else {
+        is_unlike_apart(layout, devices, cols, stripe, most, hands, ahead, sum)
     }
 }

@@ -3,10 +3,11 @@ use Rattle.std.proofs.Math.Nat.{mul-le-mul_left, mul-le-mul_right, mul-add, mul-
 use Rattle.std.specs.Prelude.{min}
 use Rattle.eng_cols.specs.Seats.{seat}
 use Rattle.eng_cols.proofs.Spots.{seat-device, seat-within}
-use Rattle.raid_recon.specs.Ahead.{rows_at, is_at_hand, window_at}
+use Rattle.eng_cols.specs.declared.spot.Spot.{Spot}
+use Rattle.raid_recon.specs.Ahead.{IsInWindow, IsOutside, rows_at, is_at_hand, window_at}
 use Rattle.raid_recon.specs.Units.{IsReadInto}
 use Rattle.raid_recon.proofs.AtHand.{at_hand-is, hands-set}
-use Rattle.raid_recon.proofs.Loads.{hit-loads, miss-loads}
+use Rattle.raid_recon.proofs.Loads.{hit-loads, hit-window, miss-loads, miss-window, read-outside}
 use Rattle.raid_recon.proofs.Places.{spot-seat}
 use Rattle.raid_recon.proofs.OneCall.{some_device}
 use Rattle.raid_recon.proofs.sums.load.Goals as goal
@@ -228,3 +229,81 @@ returns-in-Err-clause-hands g c =
     let within = seat-within y cols s i at law c.requires.stripe c.requires.unit stands in
     let below : at.column < 32 = omega (arith, within.0, law.columns_most) in
     hands-set c.args.most c.args.hands.now at.column _ below (omega arith) c.requires.hands
+
+pub returns-then-is_at_hand-clause-window : goal.returns-then-is_at_hand-clause-window
+returns-then-is_at_hand-clause-window g c to is =
+    let y = g.L.Layout.shape c.args.layout.now in
+    let cols = c.args.cols.now.states in
+    let s = c.args.stripe in
+    let i = c.args.unit in
+    let at = c.in-Some.at in
+    let there = c.requires.complete i c.requires.unit in
+    let stands : seat y cols s i ≡ Some at = sym (spot-seat y cols s i there) ∙ (sym c.spot.ensures.spot ∙ c.in-Some.is) in
+    let found : Some at ≡ Some to = sym stands ∙ is in
+    let same : at ≡ to = cc in
+    let far : ℕ = at.row - (rows_at c.args.hands.now at.column).first in
+    let hand = at_hand-is (rows_at c.args.hands.now at.column) at.row (sym c.is_at_hand.ensures ∙ c.if-is_at_hand.true) in
+    let short : far < c.args.most = omega (arith, hand.0, hand.1, c.requires.hands.few at.column) in
+    let place : c.sector_of.result ≡ y.unit_sectors * (window_at c.args.most at.column + far) = c.sector_of.ensures ∙ (ap (λ x. x * (c.window_at-window.result + far)) c.unit_sectors-sectors.ensures ∙ ap (λ x. y.unit_sectors * (x + far)) c.window_at-window.ensures) in
+    subst (λ (q : Spot). IsInWindow y c.args.most q.column (512 * c.sector_of.result)) same (hit-window y c.args.most at.column far _ short (ap (λ n. 512 * n) place))
+
+pub returns-in-Ok-clause-window : goal.returns-in-Ok-clause-window
+returns-in-Ok-clause-window g c to is =
+    let y = g.L.Layout.shape c.args.layout.now in
+    let cols = c.args.cols.now.states in
+    let s = c.args.stripe in
+    let i = c.args.unit in
+    let at = c.in-Some.at in
+    let there = c.requires.complete i c.requires.unit in
+    let stands : seat y cols s i ≡ Some at = sym (spot-seat y cols s i there) ∙ (sym c.spot.ensures.spot ∙ c.in-Some.is) in
+    let found : Some at ≡ Some to = sym stands ∙ is in
+    let same : at ≡ to = cc in
+    let law = g.met.L.Layout.is_layout c.args.layout.now in
+    let within = seat-within y cols s i at law c.requires.stripe c.requires.unit stands in
+    let u = y.unit_sectors in
+    let start : c.sector_of-begin.result ≡ u * window_at c.args.most at.column = c.sector_of-begin.ensures ∙ (ap (λ x. x * c.window_at-window.result) c.unit_sectors-sectors.ensures ∙ ap (λ x. u * x) c.window_at-window.ensures) in
+    subst (λ (q : Spot). IsInWindow y c.args.most q.column (512 * c.sector_of-begin.result)) same (miss-window y c.args.most at.column c.sector_of-begin.result c.requires.windows.some start)
+
+pub returns-in-Ok-clause-outside : goal.returns-in-Ok-clause-outside
+returns-in-Ok-clause-outside g c to is n outside =
+    let y = g.L.Layout.shape c.args.layout.now in
+    let cols = c.args.cols.now.states in
+    let s = c.args.stripe in
+    let i = c.args.unit in
+    let at = c.in-Some.at in
+    let there = c.requires.complete i c.requires.unit in
+    let stands : seat y cols s i ≡ Some at = sym (spot-seat y cols s i there) ∙ (sym c.spot.ensures.spot ∙ c.in-Some.is) in
+    let found : Some at ≡ Some to = sym stands ∙ is in
+    let same : at ≡ to = cc in
+    let law = g.met.L.Layout.is_layout c.args.layout.now in
+    let within = seat-within y cols s i at law c.requires.stripe c.requires.unit stands in
+    let u = y.unit_sectors in
+    let start : c.sector_of-begin.result ≡ u * window_at c.args.most at.column = c.sector_of-begin.ensures ∙ (ap (λ x. x * c.window_at-window.result) c.unit_sectors-sectors.ensures ∙ ap (λ x. u * x) c.window_at-window.ensures) in
+    let few : c.min-rows.result ≤ c.args.most = omega (arith, c.min-rows.ensures) in
+    let less : window_at c.args.most at.column + c.min-rows.result ≤ window_at c.args.most at.column + c.args.most = omega (arith, few) in
+    let most : u * (window_at c.args.most at.column + c.min-rows.result) ≤ u * (window_at c.args.most at.column + c.args.most) = mul-le-mul_left u less in
+    let inside : 512 * c.sector_of-begin.result + 512 * (c.min-rows.result * u) ≤ length c.args.ahead.now = omega (arith, start, most, mul-add u (window_at c.args.most at.column) c.min-rows.result, mul_comm u c.min-rows.result, c.requires.windows.within at.column within.0) in
+    let w = subst (λ x. IsReadInto g.D.Disk at x (c.min-rows.result * x) c.args.devices.now c.read_into.new.devices c.sector_of-begin.result c.args.ahead.now c.read_into.new.bytes (is_ok c.read_into.result)) c.unit_sectors-sectors.ensures c.read_into.ensures.read in
+    read-outside g.D.Disk y c.args.most at c.args.devices.now c.read_into.new.devices c.sector_of-begin.result c.min-rows.result c.args.ahead.now c.read_into.new.bytes (is_ok c.read_into.result) start few inside w n (subst (λ (q : Spot). IsOutside y c.args.most q.column n) (sym same) outside)
+
+pub returns-in-Err-clause-outside : goal.returns-in-Err-clause-outside
+returns-in-Err-clause-outside g c to is n outside =
+    let y = g.L.Layout.shape c.args.layout.now in
+    let cols = c.args.cols.now.states in
+    let s = c.args.stripe in
+    let i = c.args.unit in
+    let at = c.in-Some.at in
+    let there = c.requires.complete i c.requires.unit in
+    let stands : seat y cols s i ≡ Some at = sym (spot-seat y cols s i there) ∙ (sym c.spot.ensures.spot ∙ c.in-Some.is) in
+    let found : Some at ≡ Some to = sym stands ∙ is in
+    let same : at ≡ to = cc in
+    let law = g.met.L.Layout.is_layout c.args.layout.now in
+    let within = seat-within y cols s i at law c.requires.stripe c.requires.unit stands in
+    let u = y.unit_sectors in
+    let start : c.sector_of-begin.result ≡ u * window_at c.args.most at.column = c.sector_of-begin.ensures ∙ (ap (λ x. x * c.window_at-window.result) c.unit_sectors-sectors.ensures ∙ ap (λ x. u * x) c.window_at-window.ensures) in
+    let few : c.min-rows.result ≤ c.args.most = omega (arith, c.min-rows.ensures) in
+    let less : window_at c.args.most at.column + c.min-rows.result ≤ window_at c.args.most at.column + c.args.most = omega (arith, few) in
+    let most : u * (window_at c.args.most at.column + c.min-rows.result) ≤ u * (window_at c.args.most at.column + c.args.most) = mul-le-mul_left u less in
+    let inside : 512 * c.sector_of-begin.result + 512 * (c.min-rows.result * u) ≤ length c.args.ahead.now = omega (arith, start, most, mul-add u (window_at c.args.most at.column) c.min-rows.result, mul_comm u c.min-rows.result, c.requires.windows.within at.column within.0) in
+    let w = subst (λ x. IsReadInto g.D.Disk at x (c.min-rows.result * x) c.args.devices.now c.read_into.new.devices c.sector_of-begin.result c.args.ahead.now c.read_into.new.bytes (is_ok c.read_into.result)) c.unit_sectors-sectors.ensures c.read_into.ensures.read in
+    read-outside g.D.Disk y c.args.most at c.args.devices.now c.read_into.new.devices c.sector_of-begin.result c.min-rows.result c.args.ahead.now c.read_into.new.bytes (is_ok c.read_into.result) start few inside w n (subst (λ (q : Spot). IsOutside y c.args.most q.column n) (sym same) outside)

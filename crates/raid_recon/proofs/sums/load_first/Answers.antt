@@ -3,7 +3,7 @@ use Rattle.std.specs.Prelude.{is_ok, slice_index}
 use Rattle.blk_disk.specs.Devices.{contents_of}
 use Rattle.raid_recon.proofs.AtHand.{ahead-alone}
 use Rattle.raid_recon.proofs.Bytes.{sum-one}
-use Rattle.raid_recon.proofs.UnitReads.{all-none, all-more, all-alone, stopped-at, stopped-alone, unit-at, part-at}
+use Rattle.raid_recon.proofs.UnitReads.{all-none, all-more, all-alone, stopped-at, stopped-alone, unit-at}
 use Rattle.raid_recon.proofs.sums.load_first.Goals as goal
 
 pub returns-in-Ok-clause-sums : goal.returns-in-Ok-clause-sums
@@ -14,7 +14,7 @@ returns-in-Ok-clause-sums g c rows h =
     let s = c.args.stripe in
     let dev = c.args.devices.now in
     let l = c.load in
-    let one : c.args.most ≡ 1 = omega (arith, c.if-most-eq1.true) in
+    let one = c.requires.one in
     let mine = ahead-alone g.D.Disk y m cols s rows dev c.args.hands.now c.args.ahead.now c.args.sum.now one c.requires.hands h in
     let none = all-none g.D.Disk y m cols s rows dev c.args.hands.now c.args.sum.now mine in
     let from : c.in-Ok.field-0 ≡ 0 = omega (arith, c.in-Ok.ensures.inside, c.load.ensures.long, c.requires.sum) in (
@@ -33,35 +33,8 @@ returns-in-Err-clause-sums g c rows h =
     let s = c.args.stripe in
     let dev = c.args.devices.now in
     let l = c.load in
-    let one : c.args.most ≡ 1 = omega (arith, c.if-most-eq1.true) in
+    let one = c.requires.one in
     let mine = ahead-alone g.D.Disk y m cols s rows dev c.args.hands.now c.args.ahead.now c.args.sum.now one c.requires.hands h in
     stopped-alone g.D.Disk y m cols s rows dev l.new.devices 1 l.new.hands l.new.ahead c.args.ahead.now c.in-Err.failed one l.ensures.hands
     (stopped-at g.D.Disk y m cols s rows dev dev l.new.devices 0 c.args.hands.now l.new.hands c.args.sum.now l.new.ahead l.result
     (all-none g.D.Disk y m cols s rows dev c.args.hands.now c.args.sum.now mine) (l.ensures.loads rows mine) 1 c.in-Err.failed (omega arith) c.in-Err.is)
-
-pub returns-in-Ok-load-clause-sums : goal.returns-in-Ok-load-clause-sums
-returns-in-Ok-load-clause-sums g c rows h =
-    let y = g.L.Layout.shape c.args.layout.now in
-    let cols = c.args.cols.now.states in
-    let m = c.args.most in
-    let s = c.args.stripe in
-    let dev = c.args.devices.now in
-    let l = c.load-else-most-eq1 in
-    let none = all-none g.D.Disk y m cols s rows dev c.args.hands.now c.args.ahead.now h in (
-      all-more g.D.Disk y m cols s rows dev dev l.new.devices 0 c.args.hands.now l.new.hands c.args.ahead.now l.new.ahead l.result none (l.ensures.loads rows h) 1 refl (ap is_ok c.in-Ok-load.is),
-      λ told. sum-one y (contents_of g.D.Disk dev) cols s c.copy_from_slice.new.self (λ o k ou ku.
-          ap (λ b. slice_index b (512 * o + k)) c.copy_from_slice.ensures.after
-          ∙ (part-at l.new.ahead c.in-Ok-load.from _ (512 * y.unit_sectors) (512 * o + k) (omega (arith, c.requires.sum)) (omega (arith, ou, ku))
-          ∙ unit-at g.D.Disk y m cols s rows dev dev l.new.devices 0 c.args.hands.now l.new.hands c.args.ahead.now l.new.ahead l.result none (l.ensures.loads rows h) told c.in-Ok-load.from c.in-Ok-load.is o k ou ku)),
-    )
-
-pub returns-in-Err-load-clause-sums : goal.returns-in-Err-load-clause-sums
-returns-in-Err-load-clause-sums g c rows h =
-    let y = g.L.Layout.shape c.args.layout.now in
-    let cols = c.args.cols.now.states in
-    let m = c.args.most in
-    let s = c.args.stripe in
-    let dev = c.args.devices.now in
-    let l = c.load-else-most-eq1 in
-    stopped-at g.D.Disk y m cols s rows dev dev l.new.devices 0 c.args.hands.now l.new.hands c.args.ahead.now l.new.ahead l.result
-    (all-none g.D.Disk y m cols s rows dev c.args.hands.now c.args.ahead.now h) (l.ensures.loads rows h) 1 c.in-Err-load.failed (omega arith) c.in-Err-load.is

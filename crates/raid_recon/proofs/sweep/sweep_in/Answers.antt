@@ -1,4 +1,4 @@
-use Rattle.std.proofs.Common.{◌≡◌, ◌-◌, ◌∙◌, ℕ, length, ap, subst, rules, arith}
+use Rattle.std.proofs.Common.{◌≡◌, ◌∙◌, ℕ, length, ap, subst, rules, arith}
 use Rattle.raid_recon.specs.Ahead.{rows_ahead, rows_in_room}
 use Rattle.raid_recon.specs.Swept.{IsSwept}
 use Rattle.raid_recon.proofs.Windows.{windows-by}

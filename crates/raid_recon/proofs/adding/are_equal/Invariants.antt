@@ -1,5 +1,5 @@
 use Rattle.std.proofs.Common.{◌≡◌, ◌↔◌, ℕ, ◌<◌, get_or, IsTrue}
-use Rattle.raid_recon.proofs.sums.are_equal.Given as goal
+use Rattle.raid_recon.proofs.adding.are_equal.Given as goal
 
 -- it tells of the pairs so far whether they are equal
 abbrev pub invariant-loop-k : goal.invariant-loop-k

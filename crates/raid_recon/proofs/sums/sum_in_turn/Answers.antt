@@ -8,7 +8,7 @@ use Rattle.raid_recon.specs.Units.{AllRead, IsSum}
 use Rattle.raid_recon.proofs.Bytes.{sum-more}
 use Rattle.raid_recon.proofs.Places.{seated-kept}
 use Rattle.raid_recon.proofs.UnitReads.{nothing, all-more, stopped-at, stopped-wider, unit-at, part-at}
-use Rattle.raid_recon.proofs.sums.sum_data.Goals as goal
+use Rattle.raid_recon.proofs.sums.sum_in_turn.Goals as goal
 
 pub returns-in-Err-clause-sums : goal.returns-in-Err-clause-sums
 returns-in-Err-clause-sums g c rows h =

@@ -3,7 +3,7 @@ use Rattle.blk_disk.specs.Devices.{Changes, contents_of}
 use Rattle.raid_recon.specs.declared.ahead.Rows.{Rows}
 use Rattle.raid_recon.specs.Ahead.{AreHands}
 use Rattle.raid_recon.specs.Units.{IsAhead, IsSum, AllRead}
-use Rattle.raid_recon.proofs.sums.sum_data.Given as goal
+use Rattle.raid_recon.proofs.sums.sum_in_turn.Given as goal
 
 -- the units so far were read, and this is their sum
 abbrev pub invariant-loop-i : goal.invariant-loop-i
