@@ -14,7 +14,7 @@ use std::sync::Wait;
 
 // A worker that is the only one, or has had the core to itself for long, does the work of so many events in the turn
 // itself: nobody waits for the core, since while devices are quick the others sleep.
-const ALONE: u32 = 32;
+const ALONE: u32 = 128;
 
 // How much work is to be done in the turn. It is counted as so many turns: those that sleep judge by turns.
 fn within<L: Layout + Drop, D: Disk + Drop>(turn: &Turn<CrewRule<L, D>>, pace: &mut Pace) -> u32 {
