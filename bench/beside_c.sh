@@ -4,6 +4,9 @@
 # plain5.c and checked beside cat, over 320 MiB of components at units of 1, 8, 32 and 128 sectors. First the outputs of
 # both, and what they leave on the components, are compared byte for byte.
 #
+# A round measures all once on each processor; four workers run on all of them. A processor that shares its core with
+# another machine's, or with another of this one's, takes half as long again, for minutes: so no time is told by one alone.
+#
 # Prints milliseconds, the least of the rounds, and ratios. The files are in the system's cache; where TMPDIR is on a disk,
 # the settle of the components waits for it on both sides.
 set -eu
@@ -91,23 +94,28 @@ for unit in $units; do array "$unit." "$unit" $((256 * 2048 / 4 / unit)); done
 
 built=$program
 for round in $(seq "$rounds"); do
-    copies "$round" "$built" ./plain5
-    program=$folder/$(basename "$built").$round plain5=./plain5.$round
-    run none conf --io empty -w 0
-    plain c.none run '' 32 empty
-    for workers in 0 1 4; do run "one$workers" conf --io one -w "$workers"; done
-    plain c.one run '' 32 one
-    for workers in 0 4; do run "eight$workers" conf --io eight -w "$workers"; done
-    run writes wide.conf --io stripes -w 0
-    plain c.writes run wide. 128 stripes
-    run reads wide.conf --io back -w 0
-    plain c.reads run wide. 128 back
-    for unit in $units; do
-        run "init$unit" "$unit.conf" -i
-        plain "c.init$unit" init "$unit." "$unit" empty
-        run "check$unit" "$unit.conf" -p
-        # shellcheck disable=SC2046
-        timed "cat$unit" reading $(components "$unit.")
+    for processor in $processors; do
+        copies "$round.$processor" "$built" ./plain5
+        program=$folder/$(basename "$built").$round.$processor plain5=./plain5.$round.$processor
+        on "$processor"
+        run none conf --io empty -w 0
+        plain c.none run '' 32 empty
+        for workers in 0 1; do run "one$workers" conf --io one -w "$workers"; done
+        plain c.one run '' 32 one
+        run eight0 conf --io eight -w 0
+        run writes wide.conf --io stripes -w 0
+        plain c.writes run wide. 128 stripes
+        run reads wide.conf --io back -w 0
+        plain c.reads run wide. 128 back
+        for unit in $units; do
+            run "init$unit" "$unit.conf" -i
+            plain "c.init$unit" init "$unit." "$unit" empty
+            run "check$unit" "$unit.conf" -p
+            # shellcheck disable=SC2046
+            timed "cat$unit" reading $(components "$unit.")
+        done
+        on "$allowed"
+        for clients in one eight; do run "${clients}4" conf --io "$clients" -w 4; done
     done
 done
 

@@ -24,6 +24,15 @@ copies() {
     for file in "$@"; do cp "$file" "$(basename "$file").$round"; done
 }
 
+# The processors that there are, as a list and one by one. Where taskset isn't there, the system chooses.
+allowed=$(taskset -cp $$ 2> /dev/null | sed 's/.*: //')
+processors=$(tr ',' '\n' <<< "${allowed:-0}" | while IFS=- read -r from to; do seq "$from" "${to:-$from}"; done)
+
+# What runs from here on runs on these processors alone.
+on() {
+    if [ -n "$allowed" ]; then taskset -cp "$1" $$ > /dev/null; fi
+}
+
 declare -A least
 
 # Runs a command, and notes its nanoseconds under a name where they are the least so far.
