@@ -8,7 +8,7 @@ use crate::memory::Memory;
 use crate::node_set::NodeSet;
 use crate::room::{append, refill};
 use blk_plain::limits;
-use graph_mean::Status;
+use graph_mean::{Status, room_for};
 use std::alloc::Global;
 use std::marker::Model;
 
@@ -44,9 +44,9 @@ impl Followers {
         ensures { IfOk result (λ f. IsBare f 0) }
     {
         Ok(Followers {
-            first: Vec::with_capacity(alloc, limits::NODES as usize)?,
-            next: Vec::with_capacity(alloc, limits::EDGES as usize)?,
-            names: Vec::with_capacity(alloc, limits::EDGES as usize)?,
+            first: Vec::with_capacity(alloc, room_for(limits::NODES))?,
+            next: Vec::with_capacity(alloc, room_for(limits::EDGES))?,
+            names: Vec::with_capacity(alloc, room_for(limits::EDGES))?,
         })
     }
 
