@@ -5,6 +5,11 @@ use crate::buffer::Memory;
 use std::alloc::Global;
 use std::marker::Model;
 
+// So many bytes are reserved beyond those that are wanted. Buffers of a multiple of 4 KiB would else begin a few bytes apart
+// but for such multiples; and many processors tell addresses by their last twelve bits at first, so that a load from one
+// buffer waits for a store into another.
+const APART: usize = 1024;
+
 /// Bytes that are all zero at first. Contracts see the list of them.
 ///
 /// Who reserves memory for the most that a run may need often uses little of it. So there is room for
@@ -31,7 +36,7 @@ impl Zeroed {
     pub fn open(alloc: Global, count: usize) -> Result<Zeroed, Memory>
         ensures { IfOk result (λ bytes. bytes ≡ replicate count 0) }
     {
-        let written = Vec::with_capacity(alloc, count)?;
+        let written = Vec::with_capacity(alloc, count.saturating_add(APART))?;
         Ok(Zeroed { written, count })
     }
 
