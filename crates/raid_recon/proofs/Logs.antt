@@ -20,6 +20,7 @@ use Rattle.eng_cols.specs.Stripes.{states_of}
 use Rattle.raid_recon.specs.Array.{IsArray, IsCheckSector, Failed}
 use Rattle.raid_recon.specs.Sums.{sum_of, IsZero, IsNotZero, HoldsSum}
 use Rattle.raid_recon.specs.Turns.{Turn, Left, Unread, Sound, Unsound, Written, Unwritten, TellsMore, does_count, does_write, failed_at, dead_at, columns_after, units_read, Rewrites, IsTurn, IsVisitBy}
+use Rattle.raid_recon.specs.declared.ahead.ColumnWindows.{ColumnWindows}
 use Rattle.raid_recon.specs.declared.ahead.Rows.{Rows}
 use Rattle.raid_recon.specs.Ahead.{ahead_in, is_at_hand, no_rows, rows_at, rows_in, turn_ahead, turn_rows}
 use Rattle.raid_recon.specs.Log.{columns_in, count_in, turn_at, AreTurns, IsRewritten}
@@ -84,12 +85,12 @@ turn-same told kind y a b cols s Unwritten same h = (h.0, rewrites-same kind _ _
 -- ## No turn, and one more
 
 -- So many stripes were swept, and this is at hand behind them.
-pub record IsSweeping {D : Type 0} (g : Ghosts D) (kind : Sweep) (y : Shape) (most stripes : ℕ) (columns after : List Column) (old new : List (Option D)) (counted : ℕ) (hands : List Rows) (bytes : List ℕ) : Type 0 where
-  pub swept : IsSwept g kind y most stripes columns after old new counted
-  pub ahead : IsAhead g y most (states_of y after) stripes (λ d. rows_in kind y most columns swept.turns d) new hands bytes
+pub record IsSweeping {D : Type 0} (g : Ghosts D) (kind : Sweep) (y : Shape) (windows : ColumnWindows) (stripes : ℕ) (columns after : List Column) (old new : List (Option D)) (counted : ℕ) (hands : List Rows) (bytes : List ℕ) : Type 0 where
+  pub swept : IsSwept g kind y windows.most stripes columns after old new counted
+  pub ahead : IsAhead g y windows (states_of y after) stripes (λ d. rows_in kind y windows.most columns swept.turns d) new hands bytes
 
-module _ {D : Type 0} (g : Ghosts D) (kind : Sweep) (y : Shape) (most : ℕ) (columns : List Column) where
-  pub sweeping-none : (old : List (Option D)) (hands : List Rows) (bytes : List ℕ) → ((c : ℕ) → rows_at hands c ≡ no_rows) → IsSweeping g kind y most 0 columns columns old old 0 hands bytes
+module _ {D : Type 0} (g : Ghosts D) (kind : Sweep) (y : Shape) (windows : ColumnWindows) (columns : List Column) where
+  pub sweeping-none : (old : List (Option D)) (hands : List Rows) (bytes : List ℕ) → ((c : ℕ) → rows_at hands c ≡ no_rows) → IsSweeping g kind y windows 0 columns columns old old 0 hands bytes
   sweeping-none old hands bytes none = record {
     swept = record {
       turns = [];
@@ -109,7 +110,7 @@ module _ {D : Type 0} (g : Ghosts D) (kind : Sweep) (y : Shape) (most : ℕ) (co
   }
 
   -- what is still an array
-  pub array-swept : (stripes n : ℕ) (mid : List Column) (old cur : List (Option D)) → IsArray g y columns old → IsSwept g kind y most stripes columns mid old cur n → IsArray g y mid cur
+  pub array-swept : (stripes n : ℕ) (mid : List Column) (old cur : List (Option D)) → IsArray g y columns old → IsSwept g kind y windows.most stripes columns mid old cur n → IsArray g y mid cur
   array-swept stripes n mid old cur array w =
       let back : Back y (states_of y mid) (states_of y columns) = subst (λ cs. Back y (states_of y cs) (states_of y columns)) (sym w.columns_are) (back-in y columns array.order w.turns) in
       record {
@@ -162,7 +163,7 @@ module _ {D : Type 0} (g : Ghosts D) (kind : Sweep) (y : Shape) (most : ℕ) (co
     module _ (are : AreTurns g.tells kind y (contents_of g old) columns ts) (frame : Changes g (IsRewritten y (states_of y columns) ts) old cur)
         (sums : g.tells → (s : ℕ) → turn_at ts s ≡ Some Written → HoldsSum y (contents_of g cur) (states_of y columns) s)
         (dies : Dies (Failed g (states_of y columns) old cur) columns (columns_in y columns ts)) (t : Turn)
-        (v : IsVisitBy g kind y (states_of y (columns_in y columns ts)) (length ts) cur new t (λ d. turn_ahead kind y most (states_of y (columns_in y columns ts)) (length ts) t d (rows_in kind y most columns ts d))) where
+        (v : IsVisitBy g kind y (states_of y (columns_in y columns ts)) (length ts) cur new t (λ d. turn_ahead kind y windows.most (states_of y (columns_in y columns ts)) (length ts) t d (rows_in kind y windows.most columns ts d))) where
       judged : AreTurns g.tells kind y (contents_of g old) columns (t ∷ ts)
       judged = (
         are,
@@ -214,9 +215,9 @@ module _ {D : Type 0} (g : Ghosts D) (kind : Sweep) (y : Shape) (most : ℕ) (co
       died : Dies (Failed g (states_of y columns) old new) columns (columns_in y columns (t ∷ ts))
       died = dies-then _ columns (columns_in y columns ts) _ (dies-more _ _ columns (columns_in y columns ts) wider dies) (dying (failed_at y (states_of y (columns_in y columns ts)) (length ts) t) refl)
 
-      pub sweeping-turn : (counted m : ℕ) (b : Bool) (hands : List Rows) (bytes : List ℕ) → counted ≡ count_in ts → b ≡ does_count t → m ≡ counted + (if b then 1 else 0) → ((d : ℕ) → TellsMore (calls_of g old d) (calls_of g cur d) (ahead_in kind y most columns ts d))
-          → IsAhead g y most (states_of y (columns_after y (columns_in y columns ts) (length ts) t)) (suc (length ts)) (λ d. turn_rows kind y most (states_of y (columns_in y columns ts)) (length ts) t d (rows_in kind y most columns ts d)) new hands bytes
-          → IsSweeping g kind y most (suc (length ts)) columns (columns_after y (columns_in y columns ts) (length ts) t) old new m hands bytes
+      pub sweeping-turn : (counted m : ℕ) (b : Bool) (hands : List Rows) (bytes : List ℕ) → counted ≡ count_in ts → b ≡ does_count t → m ≡ counted + (if b then 1 else 0) → ((d : ℕ) → TellsMore (calls_of g old d) (calls_of g cur d) (ahead_in kind y windows.most columns ts d))
+          → IsAhead g y windows (states_of y (columns_after y (columns_in y columns ts) (length ts) t)) (suc (length ts)) (λ d. turn_rows kind y windows.most (states_of y (columns_in y columns ts)) (length ts) t d (rows_in kind y windows.most columns ts d)) new hands bytes
+          → IsSweeping g kind y windows (suc (length ts)) columns (columns_after y (columns_in y columns ts) (length ts) t) old new m hands bytes
       sweeping-turn counted m b hands bytes was does is told at_hand = record {
         swept = record {
           turns = t ∷ ts;
@@ -234,22 +235,22 @@ module _ {D : Type 0} (g : Ghosts D) (kind : Sweep) (y : Shape) (most : ℕ) (co
 
   -- one more stripe was swept
   module _ (layout : IsLayout y) (one : y.checks ≡ 1) (old cur new : List (Option D)) (mid after : List Column) (s n m next : ℕ) (b : Bool) (before hands : List Rows) (at_first bytes : List ℕ) (array : IsArray g y columns old) (within : s < y.stripes)
-      (w : IsSweeping g kind y most s columns mid old cur n before at_first) where
-    pub sweeping-more : (st : SweepsBy g (λ t d. turn_ahead kind y most (states_of y mid) s t d (rows_in kind y most columns w.swept.turns d)) kind y s mid after cur new b)
-        → IsAhead g y most (states_of y after) (suc s) (λ d. turn_rows kind y most (states_of y mid) s st.turn d (rows_in kind y most columns w.swept.turns d)) new hands bytes
-        → m ≡ n + (if b then 1 else 0) → next ≡ suc s → IsSweeping g kind y most next columns after old new m hands bytes
+      (w : IsSweeping g kind y windows s columns mid old cur n before at_first) where
+    pub sweeping-more : (st : SweepsBy g (λ t d. turn_ahead kind y windows.most (states_of y mid) s t d (rows_in kind y windows.most columns w.swept.turns d)) kind y s mid after cur new b)
+        → IsAhead g y windows (states_of y after) (suc s) (λ d. turn_rows kind y windows.most (states_of y mid) s st.turn d (rows_in kind y windows.most columns w.swept.turns d)) new hands bytes
+        → m ≡ n + (if b then 1 else 0) → next ≡ suc s → IsSweeping g kind y windows next columns after old new m hands bytes
     sweeping-more st at_hand is succ =
         let x = w.swept in
         let ts = x.turns in
-        let v = subst (λ k. IsVisitBy g kind y (states_of y (columns_in y columns ts)) k cur new st.turn (λ d. turn_ahead kind y most (states_of y (columns_in y columns ts)) k st.turn d (rows_in kind y most columns ts d))) (sym x.each)
-        (subst (λ cs. IsVisitBy g kind y (states_of y cs) s cur new st.turn (λ d. turn_ahead kind y most (states_of y cs) s st.turn d (rows_in kind y most columns ts d))) x.columns_are st.visit) in
+        let v = subst (λ k. IsVisitBy g kind y (states_of y (columns_in y columns ts)) k cur new st.turn (λ d. turn_ahead kind y windows.most (states_of y (columns_in y columns ts)) k st.turn d (rows_in kind y windows.most columns ts d))) (sym x.each)
+        (subst (λ cs. IsVisitBy g kind y (states_of y cs) s cur new st.turn (λ d. turn_ahead kind y windows.most (states_of y cs) s st.turn d (rows_in kind y windows.most columns ts d))) x.columns_are st.visit) in
         let after-is : after ≡ columns_after y (columns_in y columns ts) (length ts) st.turn = st.columns_are ∙ (ap (λ cs. columns_after y cs s st.turn) x.columns_are ∙ ap (λ k. columns_after y (columns_in y columns ts) k st.turn) (sym x.each)) in
-        let held = subst (λ k. IsAhead g y most (states_of y (columns_after y (columns_in y columns ts) (length ts) st.turn)) (suc k) (λ d. turn_rows kind y most (states_of y (columns_in y columns ts)) k st.turn d (rows_in kind y most columns ts d)) new hands bytes) (sym x.each)
-        (subst (λ cs. IsAhead g y most (states_of y (columns_after y (columns_in y columns ts) (length ts) st.turn)) (suc s) (λ d. turn_rows kind y most (states_of y cs) s st.turn d (rows_in kind y most columns ts d)) new hands bytes) x.columns_are
-        (subst (λ cs. IsAhead g y most (states_of y cs) (suc s) (λ d. turn_rows kind y most (states_of y mid) s st.turn d (rows_in kind y most columns ts d)) new hands bytes) after-is at_hand)) in
+        let held = subst (λ k. IsAhead g y windows (states_of y (columns_after y (columns_in y columns ts) (length ts) st.turn)) (suc k) (λ d. turn_rows kind y windows.most (states_of y (columns_in y columns ts)) k st.turn d (rows_in kind y windows.most columns ts d)) new hands bytes) (sym x.each)
+        (subst (λ cs. IsAhead g y windows (states_of y (columns_after y (columns_in y columns ts) (length ts) st.turn)) (suc s) (λ d. turn_rows kind y windows.most (states_of y cs) s st.turn d (rows_in kind y windows.most columns ts d)) new hands bytes) x.columns_are
+        (subst (λ cs. IsAhead g y windows (states_of y cs) (suc s) (λ d. turn_rows kind y windows.most (states_of y mid) s st.turn d (rows_in kind y windows.most columns ts d)) new hands bytes) after-is at_hand)) in
         let made = sweeping-turn layout one old cur new array ts (omega (arith, within, x.each)) x.are x.frame x.sums (subst (Dies (Failed g (states_of y columns) old cur) columns) x.columns_are x.dies) st.turn v n m b hands bytes x.count st.count is x.told held in
-        subst (λ k. IsSweeping g kind y most k columns after old new m hands bytes) (let e : suc (length ts) ≡ next = omega (arith, succ, x.each) in e)
-        (subst (λ cs. IsSweeping g kind y most (suc (length ts)) columns cs old new m hands bytes) (sym after-is) made)
+        subst (λ k. IsSweeping g kind y windows k columns after old new m hands bytes) (let e : suc (length ts) ≡ next = omega (arith, succ, x.each) in e)
+        (subst (λ cs. IsSweeping g kind y windows (suc (length ts)) columns cs old new m hands bytes) (sym after-is) made)
 
 -- no more stripes count than have had their turns
 pub count-few : (ts : List Turn) → count_in ts ≤ length ts

@@ -1,9 +1,9 @@
 -- Units of a stripe, each at its place in the window of its column.
-use Rattle.std.proofs.Common.{◌≡◌, ◌≢◌, ◌⊎◌, ℕ, suc, ◌+◌, ◌*◌, ◌/◌, ◌%◌, ◌<◌, ◌≤◌, List, length, Bool, true, false, Option, Some, inl, inr, sym, ap, ◌∙◌, subst, arith}
-use Rattle.std.specs.Prelude.{◌==◌, bit_xor, slice_index, slice_set, MatchBool}
+use Rattle.std.proofs.Common.{◌≡◌, ◌≢◌, ℕ, suc, ◌+◌, ◌*◌, ◌/◌, ◌%◌, ◌<◌, ◌≤◌, List, length, Bool, true, false, Option, Some, inl, inr, sym, ap, ◌∙◌, subst, arith}
+use Rattle.std.specs.Prelude.{bit_xor, slice_index, slice_set, MatchBool}
 use Rattle.std.specs.Int.Bits.{xor_zero_r}
 use Rattle.std.proofs.Math.Nat.{mul-le-mul_left, mul-le-mul_right, suc-mul}
-use Rattle.std.proofs.lemmas.Bool.{cases_eq, cases_lt, cond-false, ne_eqb}
+use Rattle.std.proofs.lemmas.Bool.{cases_eq, cases_lt}
 use Rattle.std.proofs.lemmas.Nat.{xor_comm}
 use Rattle.std.proofs.lemmas.List.{get_or-set_same, get_or-set_other}
 use Rattle.blk_disk.specs.declared.disk.Disk.{Ghosts}
@@ -16,9 +16,10 @@ use Rattle.eng_cols.specs.Contents.{Contents, byte_of}
 use Rattle.lay_core.specs.Sums.{xor_below}
 use Rattle.eng_cols.proofs.Spots.{Stands, own, spared, seat-stands}
 use Rattle.eng_cols.proofs.Sums.{below_more, below_same}
-use Rattle.raid_recon.specs.Ahead.{IsInWindow, IsOutside, window_at}
+use Rattle.raid_recon.specs.Ahead.{IsInWindow, IsOutside}
 use Rattle.raid_recon.specs.Sums.{places_sum}
 use Rattle.raid_recon.specs.Units.{AllRead, AreUnitsAt, IsSum, IsUnitAt, Tested}
+use Rattle.raid_recon.specs.declared.ahead.ColumnWindows.{ColumnWindows}
 use Rattle.raid_recon.specs.declared.ahead.Rows.{Rows}
 use Rattle.raid_recon.proofs.Bytes.{zero-from, not-zero}
 
@@ -34,58 +35,54 @@ units-apart y cols layout order s i j at to sw iw jw is js same = go (seat-stand
     go (spared p done e spread a) (own b) = absurd (layout.spare_column s j p sw jw e (sym b.column ∙ sym same ∙ a.column))
     go (spared p done e spread a) (spared q other f spread' b) = layout.columns_apart s i j sw iw jw (order.one_spread (y.place s i).column (y.place s j).column done other spread spread')
 
--- a unit's bytes lie outside the windows of other columns, where each column has a window of its own
-pub unit-outside : (y : Shape) (most c d from n : ℕ) → most ≢ 1 → c ≢ d → IsInWindow y most c from → n < 512 * y.unit_sectors → IsOutside y most d (from + n)
-unit-outside y most c d from n many apart here short =
-    let of : (e : ℕ) → window_at most e ≡ e * most = λ e. cond-false (most == 1) 0 (e * most) (ne_eqb most 1 many) in
-    let least : 512 * (y.unit_sectors * (c * most)) ≤ from = subst (λ w. 512 * (y.unit_sectors * w) ≤ from) (of c) here.0 in
-    let end : from + 512 * y.unit_sectors ≤ 512 * (y.unit_sectors * (c * most + most)) = subst (λ w. from + 512 * y.unit_sectors ≤ 512 * (y.unit_sectors * (w + most))) (of c) here.1 in
-    subst (λ w. (from + n < 512 * (y.unit_sectors * w)) ⊎ (512 * (y.unit_sectors * (w + most)) ≤ from + n)) (sym (of d)) (elim (cases_lt c d) [
-      | inl lt ↦
-          let rows : suc c * most ≤ d * most = mul-le-mul_right most lt in
-          let last : c * most + most ≤ d * most = omega (arith, rows, suc-mul c most) in
-          let sectors : y.unit_sectors * (c * most + most) ≤ y.unit_sectors * (d * most) = mul-le-mul_left y.unit_sectors last in
-          inl (omega (arith, sectors, end, short))
-      | inr le ↦
-          let lt : suc d ≤ c = omega (arith, le, apart) in
-          let rows : suc d * most ≤ c * most = mul-le-mul_right most lt in
-          let last : d * most + most ≤ c * most = omega (arith, rows, suc-mul d most) in
-          let sectors : y.unit_sectors * (d * most + most) ≤ y.unit_sectors * (c * most) = mul-le-mul_left y.unit_sectors last in
-          inr (omega (arith, sectors, least))
-    ])
+-- a unit's bytes lie outside the windows of other columns, where these lie apart
+pub unit-outside : (y : Shape) (windows : ColumnWindows) (c d from n : ℕ) → windows.most ≤ windows.apart → c ≢ d → IsInWindow y windows c from → n < 512 * y.unit_sectors → IsOutside y windows d (from + n)
+unit-outside y windows c d from n side apart here short = elim (cases_lt c d) [
+  | inl lt ↦
+      let rows : suc c * windows.apart ≤ d * windows.apart = mul-le-mul_right windows.apart lt in
+      let last : c * windows.apart + windows.most ≤ d * windows.apart = omega (arith, rows, suc-mul c windows.apart, side) in
+      let sectors : y.unit_sectors * (c * windows.apart + windows.most) ≤ y.unit_sectors * (d * windows.apart) = mul-le-mul_left y.unit_sectors last in
+      inl (omega (arith, sectors, here.1, short))
+  | inr le ↦
+      let lt : suc d ≤ c = omega (arith, le, apart) in
+      let rows : suc d * windows.apart ≤ c * windows.apart = mul-le-mul_right windows.apart lt in
+      let last : d * windows.apart + windows.most ≤ c * windows.apart = omega (arith, rows, suc-mul d windows.apart, side) in
+      let sectors : y.unit_sectors * (d * windows.apart + windows.most) ≤ y.unit_sectors * (c * windows.apart) = mul-le-mul_left y.unit_sectors last in
+      inr (omega (arith, sectors, here.0))
+]
 
 -- the first n units stand in the windows of their columns
-abbrev pub AreInWindows : Shape → ℕ → List ColumnState → (s n : ℕ) → List ℕ → Type 0
-AreInWindows y most cols s n places = (i : ℕ) (at : Spot) → i < n → seat y cols s i ≡ Some at → IsInWindow y most at.column (slice_index places i)
+abbrev pub AreInWindows : Shape → ColumnWindows → List ColumnState → (s n : ℕ) → List ℕ → Type 0
+AreInWindows y windows cols s n places = (i : ℕ) (at : Spot) → i < n → seat y cols s i ≡ Some at → IsInWindow y windows at.column (slice_index places i)
 
 -- ## One unit more
 
-module _ (y : Shape) (most : ℕ) (cols : List ColumnState) (s n : ℕ) (places : List ℕ) (from : ℕ) where
+module _ (y : Shape) (windows : ColumnWindows) (cols : List ColumnState) (s n : ℕ) (places : List ℕ) (from : ℕ) where
   entry : (m i : ℕ) (P : ℕ → Type 0) → n < length places → m ≡ suc n → i < m → (i < n → P (slice_index places i)) → (i ≡ n → P from) → P (slice_index (slice_set places n from) i)
   entry m i P room next lt before here = elim (cases_eq i n) [
     | inl e ↦ subst P (sym (ap (slice_index (slice_set places n from)) e ∙ get_or-set_same places n from 0 room)) (here e)
     | inr ne ↦ subst P (sym (get_or-set_other places n i from 0 ne)) (before (omega (arith, ne, lt, next)))
   ]
 
-  pub windows-more : (m : ℕ) → n < length places → m ≡ suc n → AreInWindows y most cols s n places → ((at : Spot) → seat y cols s n ≡ Some at → IsInWindow y most at.column from) → AreInWindows y most cols s m (slice_set places n from)
+  pub windows-more : (m : ℕ) → n < length places → m ≡ suc n → AreInWindows y windows cols s n places → ((at : Spot) → seat y cols s n ≡ Some at → IsInWindow y windows at.column from) → AreInWindows y windows cols s m (slice_set places n from)
   windows-more m room next were one i at lt is =
-      entry m i (λ p. IsInWindow y most at.column p) room next lt (λ less. were i at less is) (λ e. one at (subst (λ k. seat y cols s k ≡ Some at) e is))
+      entry m i (λ p. IsInWindow y windows at.column p) room next lt (λ less. were i at less is) (λ e. one at (subst (λ k. seat y cols s k ≡ Some at) e is))
 
   pub inside-more : (m long : ℕ) → n < length places → m ≡ suc n → ((i : ℕ) → i < n → slice_index places i + 512 * y.unit_sectors ≤ long) → from + 512 * y.unit_sectors ≤ long
       → (i : ℕ) → i < m → slice_index (slice_set places n from) i + 512 * y.unit_sectors ≤ long
   inside-more m long room next were one i lt = entry m i (λ p. p + 512 * y.unit_sectors ≤ long) room next lt (λ less. were i less) (λ e. one)
 
-  pub units-more : (m : ℕ) (C : Contents) (before after : List ℕ) (at : Spot) → most ≢ 1 → IsLayout y → InOrder cols → s < y.stripes → n < y.width → n < length places → m ≡ suc n → seat y cols s n ≡ Some at → ((i : ℕ) → i < n → (to : Spot) × (seat y cols s i ≡ Some to))
-      → AreInWindows y most cols s n places → ((k : ℕ) → IsOutside y most at.column k → slice_index after k ≡ slice_index before k)
+  pub units-more : (m : ℕ) (C : Contents) (before after : List ℕ) (at : Spot) → windows.most ≤ windows.apart → IsLayout y → InOrder cols → s < y.stripes → n < y.width → n < length places → m ≡ suc n → seat y cols s n ≡ Some at → ((i : ℕ) → i < n → (to : Spot) × (seat y cols s i ≡ Some to))
+      → AreInWindows y windows cols s n places → ((k : ℕ) → IsOutside y windows at.column k → slice_index after k ≡ slice_index before k)
       → AreUnitsAt y C cols s n before places → IsUnitAt y C cols s n after from → AreUnitsAt y C cols s m after (slice_set places n from)
-  units-more m C before after at many layout order sw nw room next stands seats were outside units one i lt =
+  units-more m C before after at side layout order sw nw room next stands seats were outside units one i lt =
       entry m i (λ p. IsUnitAt y C cols s i after p) room next lt kept (λ e. subst (λ k. IsUnitAt y C cols s k after from) (sym e) one)
     where
       kept : i < n → IsUnitAt y C cols s i after (slice_index places i)
       kept less o k ou ku =
           let to = seats i less in
           let apart : to.0.column ≢ at.column = λ e. omega (arith, less, units-apart y cols layout order s i n to.0 at sw (omega (arith, less, nw)) nw to.1 stands e) in
-          outside (slice_index places i + (512 * o + k)) (unit-outside y most to.0.column at.column (slice_index places i) (512 * o + k) many apart (were i to.0 less to.1) (omega (arith, ou, ku)))
+          outside (slice_index places i + (512 * o + k)) (unit-outside y windows to.0.column at.column (slice_index places i) (512 * o + k) side apart (were i to.0 less to.1) (omega (arith, ou, ku)))
           ∙ units i less o k ou ku
 
 -- ## Their sum
@@ -123,11 +120,11 @@ module _ (bytes places : List ℕ) (j : ℕ) where
 -- ## The test
 
 -- all units were read, and the last was compared with the sum of the others
-pub placed-tested : {D : Type 0} (g : Ghosts D) (y : Shape) (most : ℕ) (cols : List ColumnState) (s : ℕ) (rows : ℕ → Rows) (old new : List (Option D)) (hands : List Rows) (bytes places sum : List ℕ) (n : ℕ) → y.width ≡ suc n → n ≡ data_units y → length sum ≡ 512 * y.unit_sectors
-    → ((j : ℕ) → j < length sum → slice_index sum j ≡ places_sum bytes places n j) → AllRead g y most cols s y.width rows old new hands bytes → (g.tells → AreUnitsAt y (contents_of g old) cols s y.width bytes places)
+pub placed-tested : {D : Type 0} (g : Ghosts D) (y : Shape) (windows : ColumnWindows) (cols : List ColumnState) (s : ℕ) (rows : ℕ → Rows) (old new : List (Option D)) (hands : List Rows) (bytes places sum : List ℕ) (n : ℕ) → y.width ≡ suc n → n ≡ data_units y → length sum ≡ 512 * y.unit_sectors
+    → ((j : ℕ) → j < length sum → slice_index sum j ≡ places_sum bytes places n j) → AllRead g y windows cols s y.width rows old new hands bytes → (g.tells → AreUnitsAt y (contents_of g old) cols s y.width bytes places)
     → (b : Bool) → MatchBool b ((j : ℕ) × (j < length sum) × (slice_index sum j ≢ slice_index bytes (slice_index places n + j))) ((j : ℕ) → j < length sum → slice_index sum j ≡ slice_index bytes (slice_index places n + j))
-    → Tested g y most cols s rows old new hands bytes sum b
-placed-tested g y most cols s rows old new hands bytes places sum n last all long sums read units = go
+    → Tested g y windows cols s rows old new hands bytes sum b
+placed-tested g y windows cols s rows old new hands bytes places sum n last all long sums read units = go
   where
     is-sum : g.tells → IsSum y (contents_of g old) cols s n sum
     is-sum told = placed-sum y (contents_of g old) cols s n bytes places sum long sums (λ i lt. units told i (omega (arith, lt, last)))
@@ -136,7 +133,7 @@ placed-tested g y most cols s rows old new hands bytes places sum n last all lon
     check told = units told n (omega (arith, last))
 
     go : (b : Bool) → MatchBool b ((j : ℕ) × (j < length sum) × (slice_index sum j ≢ slice_index bytes (slice_index places n + j))) ((j : ℕ) → j < length sum → slice_index sum j ≡ slice_index bytes (slice_index places n + j))
-        → Tested g y most cols s rows old new hands bytes sum b
+        → Tested g y windows cols s rows old new hands bytes sum b
     go true h = record {
       read = read;
       sums = λ told. subst (λ m. IsSum y (contents_of g old) cols s m sum) all (is-sum told);

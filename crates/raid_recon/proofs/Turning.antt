@@ -15,6 +15,7 @@ use Rattle.raid_recon.specs.declared.kind.Sweep.TheVariants.{Check, Sync, Init}
 use Rattle.raid_recon.specs.declared.kind.FailedAt.{FailedAt}
 use Rattle.raid_recon.specs.Array.{IsJudge, Lacks}
 use Rattle.raid_recon.specs.Turns.{Turn, Left, Unread, Sound, Unsound, Written, Unwritten, failed_at, dead_at, does_count, units_read, IsTurn, IsVisitBy}
+use Rattle.raid_recon.specs.declared.ahead.ColumnWindows.{ColumnWindows}
 use Rattle.raid_recon.specs.declared.ahead.Rows.{Rows}
 use Rattle.raid_recon.specs.Ahead.{turn_ahead, turn_rows}
 use Rattle.raid_recon.specs.Units.{AnswersTurn, IsAhead, Visits, SweepsBy}
@@ -37,20 +38,20 @@ failed-uncounted y cols s Written at is = no-some is
 failed-uncounted y cols s Unwritten at is = refl
 
 -- A stripe had its turn, by the columns as they are set, and this is at hand behind it.
-pub record Steps {D : Type 0} (g : Ghosts D) (kind : Sweep) (y : Shape) (most s : ℕ) (rows : ℕ → Rows) (columns after : List Column) (old new : List (Option D)) (hands : List Rows) (bytes : List ℕ) (counted : Bool) : Type 0 where
-  pub by : SweepsBy g (λ t d. turn_ahead kind y most (states_of y columns) s t d (rows d)) kind y s columns after old new counted
-  pub ahead : IsAhead g y most (states_of y after) (suc s) (λ d. turn_rows kind y most (states_of y columns) s by.turn d (rows d)) new hands bytes
+pub record Steps {D : Type 0} (g : Ghosts D) (kind : Sweep) (y : Shape) (windows : ColumnWindows) (s : ℕ) (rows : ℕ → Rows) (columns after : List Column) (old new : List (Option D)) (hands : List Rows) (bytes : List ℕ) (counted : Bool) : Type 0 where
+  pub by : SweepsBy g (λ t d. turn_ahead kind y windows.most (states_of y columns) s t d (rows d)) kind y s columns after old new counted
+  pub ahead : IsAhead g y windows (states_of y after) (suc s) (λ d. turn_rows kind y windows.most (states_of y columns) s by.turn d (rows d)) new hands bytes
 
-module _ {D : Type 0} (g : Ghosts D) (kind : Sweep) (y : Shape) (most : ℕ) (cols : List ColumnState) (s : ℕ) (rows : ℕ → Rows) (old new : List (Option D)) (hands : List Rows) (bytes : List ℕ) where
-  pub visits-left : Lacks y cols s → IsAhead g y most cols s rows old hands bytes → Visits g kind y most cols s rows old old hands bytes (Ok false)
+module _ {D : Type 0} (g : Ghosts D) (kind : Sweep) (y : Shape) (windows : ColumnWindows) (cols : List ColumnState) (s : ℕ) (rows : ℕ → Rows) (old new : List (Option D)) (hands : List Rows) (bytes : List ℕ) where
+  pub visits-left : Lacks y cols s → IsAhead g y windows cols s rows old hands bytes → Visits g kind y windows cols s rows old old hands bytes (Ok false)
   visits-left lacks h = record {
     turn = Left;
-    visit = visit-left g kind y most cols s rows old lacks;
+    visit = visit-left g kind y windows cols s rows old lacks;
     answer = (refl, refl);
-    ahead = ahead-later g y most cols cols s (suc s) rows old old hands bytes (back-refl y cols) (omega arith) (λ told t i o k at le tw iw is ou ku. refl) h;
+    ahead = ahead-later g y windows cols cols s (suc s) rows old old hands bytes (back-refl y cols) (omega arith) (λ told t i o k at le tw iw is ou ku. refl) h;
   }
 
-  module _ (r : Result Bool FailedAt) (v : Visits g kind y most cols s rows old new hands bytes r) where
+  module _ (r : Result Bool FailedAt) (v : Visits g kind y windows cols s rows old new hands bytes r) where
     -- the column of a device that failed is there
     pub failed-within : (e : FailedAt) → r ≡ Err e → IsLayout y → y.checks ≡ 1 → s < y.stripes → e.column < y.columns
     failed-within e is layout one sw =
@@ -73,13 +74,13 @@ module _ {D : Type 0} (g : Ghosts D) (kind : Sweep) (y : Shape) (most : ℕ) (co
         of Unwritten at t is = (data_units y, omega (arith, last-unit y layout one), is)
 
     module _ (columns : List Column) (same : cols ≡ states_of y columns) where
-      visit : IsVisitBy g kind y (states_of y columns) s old new v.turn (λ d. turn_ahead kind y most (states_of y columns) s v.turn d (rows d))
-      visit = subst (λ c. IsVisitBy g kind y c s old new v.turn (λ d. turn_ahead kind y most c s v.turn d (rows d))) same v.visit
+      visit : IsVisitBy g kind y (states_of y columns) s old new v.turn (λ d. turn_ahead kind y windows.most (states_of y columns) s v.turn d (rows d))
+      visit = subst (λ c. IsVisitBy g kind y c s old new v.turn (λ d. turn_ahead kind y windows.most c s v.turn d (rows d))) same v.visit
 
-      at_hand : IsAhead g y most (states_of y columns) (suc s) (λ d. turn_rows kind y most (states_of y columns) s v.turn d (rows d)) new hands bytes
-      at_hand = subst (λ c. IsAhead g y most c (suc s) (λ d. turn_rows kind y most c s v.turn d (rows d)) new hands bytes) same v.ahead
+      at_hand : IsAhead g y windows (states_of y columns) (suc s) (λ d. turn_rows kind y windows.most (states_of y columns) s v.turn d (rows d)) new hands bytes
+      at_hand = subst (λ c. IsAhead g y windows c (suc s) (λ d. turn_rows kind y windows.most c s v.turn d (rows d)) new hands bytes) same v.ahead
 
-      pub steps-good : (b : Bool) → r ≡ Ok b → Steps g kind y most s rows columns columns old new hands bytes b
+      pub steps-good : (b : Bool) → r ≡ Ok b → Steps g kind y windows s rows columns columns old new hands bytes b
       steps-good b is =
           let a = subst (AnswersTurn g y cols s v.turn) is v.answer in
           record {
@@ -92,7 +93,7 @@ module _ {D : Type 0} (g : Ghosts D) (kind : Sweep) (y : Shape) (most : ℕ) (co
             ahead = at_hand;
           }
 
-      pub steps-bad : (e : FailedAt) → r ≡ Err e → InOrder (states_of y columns) → Steps g kind y most s rows columns (slice_set columns e.column column.Dead) old new hands bytes false
+      pub steps-bad : (e : FailedAt) → r ≡ Err e → InOrder (states_of y columns) → Steps g kind y windows s rows columns (slice_set columns e.column column.Dead) old new hands bytes false
       steps-bad e is order =
           let a = subst (AnswersTurn g y cols s v.turn) is v.answer in
           let at : failed_at y (states_of y columns) s v.turn ≡ Some a.0 = ap (λ c. failed_at y c s v.turn) (sym same) ∙ a.1 in
@@ -105,7 +106,7 @@ module _ {D : Type 0} (g : Ghosts D) (kind : Sweep) (y : Shape) (most : ℕ) (co
               columns_are = ap (λ k. slice_set columns k column.Dead) a.2 ∙ sym (ap (dead_at columns) at);
               count = failed-uncounted y cols s v.turn a.0 a.1;
             };
-            ahead = ahead-later g y most (states_of y columns) (states_of y (slice_set columns e.column column.Dead)) (suc s) (suc s) _ new new hands bytes fewer (omega arith) (λ told t i o k to le tw iw h ou ku. refl) at_hand;
+            ahead = ahead-later g y windows (states_of y columns) (states_of y (slice_set columns e.column column.Dead)) (suc s) (suc s) _ new new hands bytes fewer (omega arith) (λ told t i o k to le tw iw h ou ku. refl) at_hand;
           }
 
       -- the judge's columns are those behind the turn

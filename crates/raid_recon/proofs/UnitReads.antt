@@ -9,6 +9,7 @@ use Rattle.lay_core.specs.Layout.{Shape, data_units}
 use Rattle.eng_cols.specs.Cols.{ColumnState}
 use Rattle.eng_cols.specs.Seats.{seat}
 use Rattle.eng_cols.specs.Contents.{byte_of}
+use Rattle.raid_recon.specs.declared.ahead.ColumnWindows.{ColumnWindows}
 use Rattle.raid_recon.specs.declared.ahead.Rows.{Rows}
 use Rattle.raid_recon.specs.declared.kind.FailedAt.{FailedAt}
 use Rattle.raid_recon.specs.Turns.{TellsMore}
@@ -22,20 +23,20 @@ use Rattle.raid_recon.proofs.Frames.{byte-same}
 abbrev pub nothing : ℕ → ℕ → Type 0
 nothing d n = ⊥
 
-module _ {D : Type 0} (g : Ghosts D) (y : Shape) (most : ℕ) (cols : List ColumnState) (s : ℕ) (rows : ℕ → Rows) where
-  pub all-none : (old : List (Option D)) (hands : List Rows) (bytes : List ℕ) → IsAhead g y most cols s rows old hands bytes → AllRead g y most cols s 0 rows old old hands bytes
+module _ {D : Type 0} (g : Ghosts D) (y : Shape) (windows : ColumnWindows) (cols : List ColumnState) (s : ℕ) (rows : ℕ → Rows) where
+  pub all-none : (old : List (Option D)) (hands : List Rows) (bytes : List ℕ) → IsAhead g y windows cols s rows old hands bytes → AllRead g y windows cols s 0 rows old old hands bytes
   all-none old hands bytes h = record { same = changes-refl g nothing old; told = λ d. tells_more-nil (calls_of g old d); ahead = h }
 
   -- where one row alone is read what was read is told alike of any bytes
   module _ (old new : List (Option D)) (n : ℕ) (hands : List Rows) (bytes others : List ℕ) where
-    pub all-alone : most ≡ 1 → AreHands most hands → AllRead g y most cols s n rows old new hands bytes → AllRead g y most cols s n rows old new hands others
+    pub all-alone : windows.most ≡ 1 → AreHands windows.most hands → AllRead g y windows cols s n rows old new hands bytes → AllRead g y windows cols s n rows old new hands others
     all-alone single are h = record {
       same = h.same;
       told = h.told;
-      ahead = ahead-alone g y most cols s (λ d. read_rows y most cols s n d (rows d)) new hands bytes others single are h.ahead;
+      ahead = ahead-alone g y windows cols s (λ d. read_rows y windows.most cols s n d (rows d)) new hands bytes others single are h.ahead;
     }
 
-    pub stopped-alone : (e : FailedAt) → most ≡ 1 → AreHands most hands → Stopped g y most cols s n rows old new hands bytes e → Stopped g y most cols s n rows old new hands others e
+    pub stopped-alone : (e : FailedAt) → windows.most ≡ 1 → AreHands windows.most hands → Stopped g y windows cols s n rows old new hands bytes e → Stopped g y windows cols s n rows old new hands others e
     stopped-alone e single are st = record {
       unit = st.unit;
       within = st.within;
@@ -45,29 +46,29 @@ module _ {D : Type 0} (g : Ghosts D) (y : Shape) (most : ℕ) (cols : List Colum
       rose = st.rose;
       same = st.same;
       told = st.told;
-      ahead = ahead-alone g y most cols s (λ d. seat_rows y most (seat y cols s st.unit) false d (read_rows y most cols s st.unit d (rows d))) new hands bytes others single are st.ahead;
+      ahead = ahead-alone g y windows cols s (λ d. seat_rows y windows.most (seat y cols s st.unit) false d (read_rows y windows.most cols s st.unit d (rows d))) new hands bytes others single are st.ahead;
     }
 
-  module _ (old mid new : List (Option D)) (n : ℕ) (before hands : List Rows) (at_first bytes : List ℕ) (r : Result ℕ FailedAt) (read : AllRead g y most cols s n rows old mid before at_first)
-      (one : LoadsUnit g y most cols s n (λ d. read_rows y most cols s n d (rows d)) mid new hands bytes r) where
+  module _ (old mid new : List (Option D)) (n : ℕ) (before hands : List Rows) (at_first bytes : List ℕ) (r : Result ℕ FailedAt) (read : AllRead g y windows cols s n rows old mid before at_first)
+      (one : LoadsUnit g y windows cols s n (λ d. read_rows y windows.most cols s n d (rows d)) mid new hands bytes r) where
     same : Changes g nothing old new
     same = changes-then g nothing old mid new read.same one.same
 
-    calls : (good : Bool) → is_ok r ≡ good → (d : ℕ) → TellsMore (calls_of g old d) (calls_of g new d) (reads_ahead y most cols s n d (rows d) ++ seat_reads y most (seat y cols s n) good d (read_rows y most cols s n d (rows d)))
+    calls : (good : Bool) → is_ok r ≡ good → (d : ℕ) → TellsMore (calls_of g old d) (calls_of g new d) (reads_ahead y windows.most cols s n d (rows d) ++ seat_reads y windows.most (seat y cols s n) good d (read_rows y windows.most cols s n d (rows d)))
     calls good is d =
-        subst (λ b. TellsMore (calls_of g old d) (calls_of g new d) (reads_ahead y most cols s n d (rows d) ++ seat_reads y most (seat y cols s n) b d (read_rows y most cols s n d (rows d)))) is
-        (subst (λ q. TellsMore (calls_of g old d) (calls_of g new d) (reads_ahead y most cols s n d (rows d) ++ seat_reads y most q (is_ok r) d (read_rows y most cols s n d (rows d)))) (sym one.stands)
+        subst (λ b. TellsMore (calls_of g old d) (calls_of g new d) (reads_ahead y windows.most cols s n d (rows d) ++ seat_reads y windows.most (seat y cols s n) b d (read_rows y windows.most cols s n d (rows d)))) is
+        (subst (λ q. TellsMore (calls_of g old d) (calls_of g new d) (reads_ahead y windows.most cols s n d (rows d) ++ seat_reads y windows.most q (is_ok r) d (read_rows y windows.most cols s n d (rows d)))) (sym one.stands)
         (tells_more-then (calls_of g old d) (calls_of g mid d) (calls_of g new d) _ _ (read.told d) (one.told d)))
 
-    at_hand : (good : Bool) → is_ok r ≡ good → IsAhead g y most cols s (λ d. seat_rows y most (seat y cols s n) good d (read_rows y most cols s n d (rows d))) new hands bytes
+    at_hand : (good : Bool) → is_ok r ≡ good → IsAhead g y windows cols s (λ d. seat_rows y windows.most (seat y cols s n) good d (read_rows y windows.most cols s n d (rows d))) new hands bytes
     at_hand good is =
-        subst (λ b. IsAhead g y most cols s (λ d. seat_rows y most (seat y cols s n) b d (read_rows y most cols s n d (rows d))) new hands bytes) is
-        (subst (λ q. IsAhead g y most cols s (λ d. seat_rows y most q (is_ok r) d (read_rows y most cols s n d (rows d))) new hands bytes) (sym one.stands) one.ahead)
+        subst (λ b. IsAhead g y windows cols s (λ d. seat_rows y windows.most (seat y cols s n) b d (read_rows y windows.most cols s n d (rows d))) new hands bytes) is
+        (subst (λ q. IsAhead g y windows cols s (λ d. seat_rows y windows.most q (is_ok r) d (read_rows y windows.most cols s n d (rows d))) new hands bytes) (sym one.stands) one.ahead)
 
-    pub all-more : (m : ℕ) → m ≡ suc n → is_ok r ≡ true → AllRead g y most cols s m rows old new hands bytes
-    all-more m next is = subst (λ k. AllRead g y most cols s k rows old new hands bytes) (sym next) (record { same = same; told = calls true is; ahead = at_hand true is })
+    pub all-more : (m : ℕ) → m ≡ suc n → is_ok r ≡ true → AllRead g y windows cols s m rows old new hands bytes
+    all-more m next is = subst (λ k. AllRead g y windows cols s k rows old new hands bytes) (sym next) (record { same = same; told = calls true is; ahead = at_hand true is })
 
-    pub stopped-at : (m : ℕ) (e : FailedAt) → n < m → r ≡ Err e → Stopped g y most cols s m rows old new hands bytes e
+    pub stopped-at : (m : ℕ) (e : FailedAt) → n < m → r ≡ Err e → Stopped g y windows cols s m rows old new hands bytes e
     stopped-at m e lt is = record {
       unit = n;
       within = lt;
@@ -89,7 +90,7 @@ module _ {D : Type 0} (g : Ghosts D) (y : Shape) (most : ℕ) (cols : List Colum
       unit-is : g.tells → (o k : ℕ) → o < y.unit_sectors → k < 512 → slice_index unit (512 * o + k) ≡ byte_of y (contents_of g old) cols s n o k
       unit-is told o k ou ku = part (512 * o + k) (omega (arith, ou, ku)) ∙ unit-at told from is o k ou ku
 
-      pub tested-by : (b : Bool) → MatchBool b ((j : ℕ) × (j < length sum) × (slice_index sum j ≢ slice_index unit j)) ((j : ℕ) → slice_index sum j ≡ slice_index unit j) → Tested g y most cols s rows old new hands bytes sum b
+      pub tested-by : (b : Bool) → MatchBool b ((j : ℕ) × (j < length sum) × (slice_index sum j ≢ slice_index unit j)) ((j : ℕ) → slice_index sum j ≡ slice_index unit j) → Tested g y windows cols s rows old new hands bytes sum b
       tested-by true h = record {
         read = all-more y.width last (ap is_ok is);
         sums = λ told. subst (λ m. IsSum y (contents_of g old) cols s m sum) all (sums told);
@@ -111,8 +112,8 @@ module _ {D : Type 0} (g : Ghosts D) (y : Shape) (most : ℕ) (cols : List Colum
       }
 
 -- one that couldn't be read of fewer units is one of more
-pub stopped-wider : {D : Type 0} (g : Ghosts D) (y : Shape) (most : ℕ) (cols : List ColumnState) (s n m : ℕ) (rows : ℕ → Rows) (old new : List (Option D)) (hands : List Rows) (bytes : List ℕ) (e : FailedAt) → n ≤ m → Stopped g y most cols s n rows old new hands bytes e → Stopped g y most cols s m rows old new hands bytes e
-stopped-wider g y most cols s n m rows old new hands bytes e le st = record {
+pub stopped-wider : {D : Type 0} (g : Ghosts D) (y : Shape) (windows : ColumnWindows) (cols : List ColumnState) (s n m : ℕ) (rows : ℕ → Rows) (old new : List (Option D)) (hands : List Rows) (bytes : List ℕ) (e : FailedAt) → n ≤ m → Stopped g y windows cols s n rows old new hands bytes e → Stopped g y windows cols s m rows old new hands bytes e
+stopped-wider g y windows cols s n m rows old new hands bytes e le st = record {
   unit = st.unit;
   within = omega (arith, st.within, le);
   at = st.at;

@@ -1,5 +1,5 @@
 -- Rows that are read ahead, and which calls read the units of a sweep then.
-use Rattle.std.specs.Prelude.{◌≡◌, ◌⊎◌, ℕ, zero, suc, ◌+◌, ◌*◌, ◌-◌, ◌<◌, ◌≤◌, List, [], ◌∷◌, ◌++◌, length, Bool, true, false, Option, Some, None, ◌==◌, ◌&&◌, not, min, max, ◌/◌, nat_lt, if◌then◌else◌, slice_index, slice_index_or}
+use Rattle.std.specs.Prelude.{◌≡◌, ◌≢◌, ◌⊎◌, ℕ, zero, suc, ◌+◌, ◌*◌, ◌-◌, ◌<◌, ◌≤◌, List, [], ◌∷◌, ◌++◌, length, Bool, true, false, Option, Some, None, ◌==◌, ◌&&◌, not, min, max, ◌/◌, nat_lt, if◌then◌else◌, slice_index, slice_index_or}
 use Rattle.blk_disk.specs.declared.disk.Call.{Call}
 use Rattle.lay_core.specs.Layout.{Shape, data_units}
 use Rattle.eng_cols.specs.declared.column.Column.{Column}
@@ -8,6 +8,7 @@ use Rattle.eng_cols.specs.Cols.{ColumnState, HasDevice}
 use Rattle.eng_cols.specs.Seats.{seat}
 use Rattle.eng_cols.specs.Contents.{Contents, byte_at}
 use Rattle.eng_cols.specs.Stripes.{states_of}
+use Rattle.raid_recon.specs.declared.ahead.ColumnWindows.{ColumnWindows}
 use Rattle.raid_recon.specs.declared.ahead.Rows.{Rows}
 use Rattle.raid_recon.specs.declared.kind.Sweep.{Sweep}
 use Rattle.raid_recon.specs.Turns.{Turn, Left, Unread, Sound, Unsound, Written, Unwritten, call_if, units_read, seat_calls}
@@ -22,23 +23,31 @@ rows_in_room unit columns bytes = max (min ((bytes - 512 * unit) / (512 * unit *
 abbrev pub rows_ahead : Shape → (bytes : ℕ) → ℕ
 rows_ahead y bytes = rows_in_room y.unit_sectors y.columns bytes
 
--- where the rows of a column begin, counted in rows: each column has a window of its own, but where one row alone is read
-abbrev pub window_at : ℕ → ℕ → ℕ
-window_at most c = if most == 1 then 0 else c * most
+-- ## Where they are read into
 
--- So many rows can be read by a call, and the bytes have room for the window of each column.
-pub record HasWindows (y : Shape) (most bytes : ℕ) : Type 0 where
-  pub some : 1 ≤ most
-  pub few : most * y.unit_sectors ≤ 128
-  pub within : (c : ℕ) → c < y.columns → 512 * (y.unit_sectors * (window_at most c + most)) ≤ bytes
+-- how many rows the windows of two neighbouring columns lie apart in that room: as many as a call reads; none, where there isn't room for a row of each column
+abbrev pub rows_apart : (unit columns bytes : ℕ) → ℕ
+rows_apart unit columns bytes = min ((bytes - 512 * unit) / (512 * unit * columns)) (128 / unit)
+
+-- where the rows of a column begin, counted in rows
+abbrev pub window_at : ColumnWindows → ℕ → ℕ
+window_at windows c = c * windows.apart
+
+-- So many rows can be read by a call; all columns have one window, of one row, or theirs lie side by side; and the bytes have room for each.
+pub record HasWindows (y : Shape) (windows : ColumnWindows) (bytes : ℕ) : Type 0 where
+  pub some : 1 ≤ windows.most
+  pub few : windows.most * y.unit_sectors ≤ 128
+  pub shared : windows.apart ≡ 0 → windows.most ≡ 1
+  pub beside : windows.apart ≢ 0 → windows.apart ≡ windows.most
+  pub within : (c : ℕ) → c < y.columns → 512 * (y.unit_sectors * (window_at windows c + windows.most)) ≤ bytes
 
 -- a unit stands in the window of column c, from this byte on
-abbrev pub IsInWindow : Shape → (most c from : ℕ) → Type 0
-IsInWindow y most c from = (512 * (y.unit_sectors * window_at most c) ≤ from) × (from + 512 * y.unit_sectors ≤ 512 * (y.unit_sectors * (window_at most c + most)))
+abbrev pub IsInWindow : Shape → ColumnWindows → (c from : ℕ) → Type 0
+IsInWindow y windows c from = (512 * (y.unit_sectors * window_at windows c) ≤ from) × (from + 512 * y.unit_sectors ≤ 512 * (y.unit_sectors * (window_at windows c + windows.most)))
 
 -- a byte is none of that window
-abbrev pub IsOutside : Shape → (most c n : ℕ) → Type 0
-IsOutside y most c n = (n < 512 * (y.unit_sectors * window_at most c)) ⊎ (512 * (y.unit_sectors * (window_at most c + most)) ≤ n)
+abbrev pub IsOutside : Shape → ColumnWindows → (c n : ℕ) → Type 0
+IsOutside y windows c n = (n < 512 * (y.unit_sectors * window_at windows c)) ⊎ (512 * (y.unit_sectors * (window_at windows c + windows.most)) ≤ n)
 
 -- ## Which rows are at hand
 
@@ -64,13 +73,13 @@ abbrev pub Agrees : List ColumnState → (ℕ → Rows) → List Rows → Type 0
 Agrees cols rows hands = (c d : ℕ) → HasDevice cols c d → rows_at hands c ≡ rows d
 
 -- the byte of the room where byte k at offset o stands of a row at hand
-abbrev pub byte_in : Shape → ℕ → Spot → ℕ → ℕ → ℕ → ℕ
-byte_in y most at first o k = 512 * (y.unit_sectors * (window_at most at.column + (at.row - first)) + o) + k
+abbrev pub byte_in : Shape → ColumnWindows → Spot → ℕ → ℕ → ℕ → ℕ
+byte_in y windows at first o k = 512 * (y.unit_sectors * (window_at windows at.column + (at.row - first)) + o) + k
 
 -- what is at hand of the stripes from this one on is what the devices hold there
-abbrev pub Holds : Shape → ℕ → Contents → List ColumnState → ℕ → (ℕ → Rows) → List ℕ → Type 0
-Holds y most contents cols s rows bytes = (t i : ℕ) (at : Spot) → s ≤ t → t < y.stripes → i < y.width → seat y cols t i ≡ Some at → is_at_hand (rows at.device) at.row ≡ true
-    → (o k : ℕ) → o < y.unit_sectors → k < 512 → slice_index bytes (byte_in y most at (rows at.device).first o k) ≡ byte_at y contents at o k
+abbrev pub Holds : Shape → ColumnWindows → Contents → List ColumnState → ℕ → (ℕ → Rows) → List ℕ → Type 0
+Holds y windows contents cols s rows bytes = (t i : ℕ) (at : Spot) → s ≤ t → t < y.stripes → i < y.width → seat y cols t i ≡ Some at → is_at_hand (rows at.device) at.row ≡ true
+    → (o k : ℕ) → o < y.unit_sectors → k < 512 → slice_index bytes (byte_in y windows at (rows at.device).first o k) ≡ byte_at y contents at o k
 
 -- ## The calls
 

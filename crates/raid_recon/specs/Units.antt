@@ -10,6 +10,7 @@ use Rattle.eng_cols.specs.declared.spot.Spot.{Spot}
 use Rattle.eng_cols.specs.Cols.{ColumnState}
 use Rattle.eng_cols.specs.Seats.{seat}
 use Rattle.eng_cols.specs.Contents.{Contents, byte_of}
+use Rattle.raid_recon.specs.declared.ahead.ColumnWindows.{ColumnWindows}
 use Rattle.raid_recon.specs.declared.ahead.Rows.{Rows}
 use Rattle.raid_recon.specs.declared.kind.FailedAt.{FailedAt}
 use Rattle.raid_recon.specs.declared.kind.Sweep.{Sweep}
@@ -64,17 +65,17 @@ module _ {D : Type 0} (g : Ghosts D) where
     pub told : (d : ℕ) → TellsMore (calls_of g old d) (calls_of g new d) (call_if (d == at.device) (call_at u at 1 good))
 
   -- These rows are at hand: each device's are its column's, and of the stripes from this one on they are what the devices hold.
-  pub record IsAhead (y : Shape) (most : ℕ) (cols : List ColumnState) (s : ℕ) (rows : ℕ → Rows) (devices : List (Option D)) (hands : List Rows) (bytes : List ℕ) : Type 0 where
+  pub record IsAhead (y : Shape) (windows : ColumnWindows) (cols : List ColumnState) (s : ℕ) (rows : ℕ → Rows) (devices : List (Option D)) (hands : List Rows) (bytes : List ℕ) : Type 0 where
     pub agrees : Agrees cols rows hands
-    pub holds : g.tells → Holds y most (contents_of g devices) cols s rows bytes
+    pub holds : g.tells → Holds y windows (contents_of g devices) cols s rows bytes
 
   -- Unit i of the stripe was at hand, or was read with the rows behind it, or that device failed.
-  pub record LoadsUnit (y : Shape) (most : ℕ) (cols : List ColumnState) (s i : ℕ) (rows : ℕ → Rows) (old new : List (Option D)) (hands : List Rows) (bytes : List ℕ) (result : Result ℕ FailedAt) : Type 0 where
+  pub record LoadsUnit (y : Shape) (windows : ColumnWindows) (cols : List ColumnState) (s i : ℕ) (rows : ℕ → Rows) (old new : List (Option D)) (hands : List Rows) (bytes : List ℕ) (result : Result ℕ FailedAt) : Type 0 where
     pub at : Spot
     pub stands : seat y cols s i ≡ Some at
     pub same : Changes g (λ d n. ⊥) old new
-    pub told : (d : ℕ) → TellsMore (calls_of g old d) (calls_of g new d) (seat_reads y most (Some at) (is_ok result) d (rows d))
-    pub ahead : IsAhead y most cols s (λ d. seat_rows y most (Some at) (is_ok result) d (rows d)) new hands bytes
+    pub told : (d : ℕ) → TellsMore (calls_of g old d) (calls_of g new d) (seat_reads y windows.most (Some at) (is_ok result) d (rows d))
+    pub ahead : IsAhead y windows cols s (λ d. seat_rows y windows.most (Some at) (is_ok result) d (rows d)) new hands bytes
     pub unit : (from : ℕ) → result ≡ Ok from → g.tells → IsUnitAt y (contents_of g old) cols s i bytes from
     pub column : IfErr result (λ e. e.column ≡ at.column)
     pub cause : is_ok result ≡ false → RisesOn g old new at.device
@@ -87,13 +88,13 @@ module _ {D : Type 0} (g : Ghosts D) where
     pub column : IfErr result (λ e. e.column ≡ at.column)
 
   -- the stripe's first n units were read
-  pub record AllRead (y : Shape) (most : ℕ) (cols : List ColumnState) (s n : ℕ) (rows : ℕ → Rows) (old new : List (Option D)) (hands : List Rows) (bytes : List ℕ) : Type 0 where
+  pub record AllRead (y : Shape) (windows : ColumnWindows) (cols : List ColumnState) (s n : ℕ) (rows : ℕ → Rows) (old new : List (Option D)) (hands : List Rows) (bytes : List ℕ) : Type 0 where
     pub same : Changes g (λ d n. ⊥) old new
-    pub told : (d : ℕ) → TellsMore (calls_of g old d) (calls_of g new d) (reads_ahead y most cols s n d (rows d))
-    pub ahead : IsAhead y most cols s (λ d. read_rows y most cols s n d (rows d)) new hands bytes
+    pub told : (d : ℕ) → TellsMore (calls_of g old d) (calls_of g new d) (reads_ahead y windows.most cols s n d (rows d))
+    pub ahead : IsAhead y windows cols s (λ d. read_rows y windows.most cols s n d (rows d)) new hands bytes
 
   -- one of them couldn't be read
-  pub record Stopped (y : Shape) (most : ℕ) (cols : List ColumnState) (s n : ℕ) (rows : ℕ → Rows) (old new : List (Option D)) (hands : List Rows) (bytes : List ℕ) (e : FailedAt) : Type 0 where
+  pub record Stopped (y : Shape) (windows : ColumnWindows) (cols : List ColumnState) (s n : ℕ) (rows : ℕ → Rows) (old new : List (Option D)) (hands : List Rows) (bytes : List ℕ) (e : FailedAt) : Type 0 where
     pub unit : ℕ
     pub within : unit < n
     pub at : Spot
@@ -101,30 +102,30 @@ module _ {D : Type 0} (g : Ghosts D) where
     pub column : e.column ≡ at.column
     pub rose : RisesOn g old new at.device
     pub same : Changes g (λ d n. ⊥) old new
-    pub told : (d : ℕ) → TellsMore (calls_of g old d) (calls_of g new d) (reads_ahead y most cols s unit d (rows d) ++ seat_reads y most (seat y cols s unit) false d (read_rows y most cols s unit d (rows d)))
-    pub ahead : IsAhead y most cols s (λ d. seat_rows y most (seat y cols s unit) false d (read_rows y most cols s unit d (rows d))) new hands bytes
+    pub told : (d : ℕ) → TellsMore (calls_of g old d) (calls_of g new d) (reads_ahead y windows.most cols s unit d (rows d) ++ seat_reads y windows.most (seat y cols s unit) false d (read_rows y windows.most cols s unit d (rows d)))
+    pub ahead : IsAhead y windows cols s (λ d. seat_rows y windows.most (seat y cols s unit) false d (read_rows y windows.most cols s unit d (rows d))) new hands bytes
 
   -- what comes of reading the first n units, each in the window of its column
-  abbrev pub LoadsUnits : Shape → ℕ → List ColumnState → (s n : ℕ) → (ℕ → Rows) → (old new : List (Option D)) → List Rows → List ℕ → (places : List ℕ) → Result (Unit {0}) FailedAt → Type 0
-  LoadsUnits y most cols s n rows old new hands bytes places (Ok x) = AllRead y most cols s n rows old new hands bytes × (g.tells → AreUnitsAt y (contents_of g old) cols s n bytes places)
-  LoadsUnits y most cols s n rows old new hands bytes places (Err e) = Stopped y most cols s n rows old new hands bytes e
+  abbrev pub LoadsUnits : Shape → ColumnWindows → List ColumnState → (s n : ℕ) → (ℕ → Rows) → (old new : List (Option D)) → List Rows → List ℕ → (places : List ℕ) → Result (Unit {0}) FailedAt → Type 0
+  LoadsUnits y windows cols s n rows old new hands bytes places (Ok x) = AllRead y windows cols s n rows old new hands bytes × (g.tells → AreUnitsAt y (contents_of g old) cols s n bytes places)
+  LoadsUnits y windows cols s n rows old new hands bytes places (Err e) = Stopped y windows cols s n rows old new hands bytes e
 
   -- what comes of reading and summing the first n units
-  abbrev pub SumsUnits : Shape → ℕ → List ColumnState → (s n : ℕ) → (ℕ → Rows) → (old new : List (Option D)) → List Rows → List ℕ → (sum : List ℕ) → Result (Unit {0}) FailedAt → Type 0
-  SumsUnits y most cols s n rows old new hands bytes sum (Ok x) = AllRead y most cols s n rows old new hands bytes × (g.tells → IsSum y (contents_of g old) cols s n sum)
-  SumsUnits y most cols s n rows old new hands bytes sum (Err e) = Stopped y most cols s n rows old new hands bytes e
+  abbrev pub SumsUnits : Shape → ColumnWindows → List ColumnState → (s n : ℕ) → (ℕ → Rows) → (old new : List (Option D)) → List Rows → List ℕ → (sum : List ℕ) → Result (Unit {0}) FailedAt → Type 0
+  SumsUnits y windows cols s n rows old new hands bytes sum (Ok x) = AllRead y windows cols s n rows old new hands bytes × (g.tells → IsSum y (contents_of g old) cols s n sum)
+  SumsUnits y windows cols s n rows old new hands bytes sum (Err e) = Stopped y windows cols s n rows old new hands bytes e
 
   -- all were read, and it is said whether their sum isn't zero
-  pub record Tested (y : Shape) (most : ℕ) (cols : List ColumnState) (s : ℕ) (rows : ℕ → Rows) (old new : List (Option D)) (hands : List Rows) (bytes sum : List ℕ) (differs : Bool) : Type 0 where
-    pub read : AllRead y most cols s y.width rows old new hands bytes
+  pub record Tested (y : Shape) (windows : ColumnWindows) (cols : List ColumnState) (s : ℕ) (rows : ℕ → Rows) (old new : List (Option D)) (hands : List Rows) (bytes sum : List ℕ) (differs : Bool) : Type 0 where
+    pub read : AllRead y windows cols s y.width rows old new hands bytes
     pub sums : g.tells → IsSum y (contents_of g old) cols s (data_units y) sum
     pub zero : differs ≡ false → g.tells → IsZero y (contents_of g old) cols s
     pub not_zero : differs ≡ true → g.tells → IsNotZero y (contents_of g old) cols s
 
   -- what comes of testing a stripe
-  abbrev pub TestsUnits : Shape → ℕ → List ColumnState → ℕ → (ℕ → Rows) → (old new : List (Option D)) → List Rows → List ℕ → (sum : List ℕ) → Result Bool FailedAt → Type 0
-  TestsUnits y most cols s rows old new hands bytes sum (Ok differs) = Tested y most cols s rows old new hands bytes sum differs
-  TestsUnits y most cols s rows old new hands bytes sum (Err e) = Stopped y most cols s y.width rows old new hands bytes e
+  abbrev pub TestsUnits : Shape → ColumnWindows → List ColumnState → ℕ → (ℕ → Rows) → (old new : List (Option D)) → List Rows → List ℕ → (sum : List ℕ) → Result Bool FailedAt → Type 0
+  TestsUnits y windows cols s rows old new hands bytes sum (Ok differs) = Tested y windows cols s rows old new hands bytes sum differs
+  TestsUnits y windows cols s rows old new hands bytes sum (Err e) = Stopped y windows cols s y.width rows old new hands bytes e
 
   -- what is answered of a turn: whether it counts, or whose device failed
   abbrev pub AnswersTurn : Shape → List ColumnState → ℕ → Turn → Result Bool FailedAt → Type 0
@@ -132,11 +133,11 @@ module _ {D : Type 0} (g : Ghosts D) where
   AnswersTurn y cols s turn (Err e) = (at : Spot) × (failed_at y cols s turn ≡ Some at) × (e.column ≡ at.column)
 
   -- The stripe had its turn, and what is at hand behind it is so of the stripes to come.
-  pub record Visits (kind : Sweep) (y : Shape) (most : ℕ) (cols : List ColumnState) (s : ℕ) (rows : ℕ → Rows) (old new : List (Option D)) (hands : List Rows) (bytes : List ℕ) (result : Result Bool FailedAt) : Type 0 where
+  pub record Visits (kind : Sweep) (y : Shape) (windows : ColumnWindows) (cols : List ColumnState) (s : ℕ) (rows : ℕ → Rows) (old new : List (Option D)) (hands : List Rows) (bytes : List ℕ) (result : Result Bool FailedAt) : Type 0 where
     pub turn : Turn
-    pub visit : IsVisitBy g kind y cols s old new turn (λ d. turn_ahead kind y most cols s turn d (rows d))
+    pub visit : IsVisitBy g kind y cols s old new turn (λ d. turn_ahead kind y windows.most cols s turn d (rows d))
     pub answer : AnswersTurn y cols s turn result
-    pub ahead : IsAhead y most cols (suc s) (λ d. turn_rows kind y most cols s turn d (rows d)) new hands bytes
+    pub ahead : IsAhead y windows cols (suc s) (λ d. turn_rows kind y windows.most cols s turn d (rows d)) new hands bytes
 
   -- Its column died where a device failed; and these calls were made.
   pub record SweepsBy (calls : Turn → ℕ → List Call) (kind : Sweep) (y : Shape) (s : ℕ) (columns after : List Column) (old new : List (Option D)) (counted : Bool) : Type 0 where

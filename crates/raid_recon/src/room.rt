@@ -7,8 +7,9 @@ use std::alloc::Global;
 use std::marker::Model;
 
 /// Room for a stripe's sum, and for rows that are read ahead. Contracts see how many bytes it has. A sweep
-/// needs 1,024 for each sector of a unit; it reads several rows by one call where there are 512 for each
-/// sector of a unit, and as many for each sector of two units of each column.
+/// needs 1,024 for each sector of a unit. It reads all units of a stripe before it sums them where there are 512
+/// for each sector of a unit, and as many for each sector of one unit of each column; it reads several rows by
+/// one call where there are as many for each of two.
 #[derive(Drop)]
 pub struct Room {
     pub(crate) bytes: Vec<u8>,

@@ -7,7 +7,7 @@ ghost use Rattle.raid_recon.specs.Units.{IsAhead, Visits};
 ghost use Rattle.raid_recon.specs.declared.ahead.Rows.{Rows as HandRows};
 ghost use Rattle.raid_recon.specs.declared.kind.Sweep.TheVariants as sweep;
 
-use crate::ahead::Rows;
+use crate::ahead::{ColumnWindows, Rows};
 use crate::kind::{FailedAt, Sweep};
 use crate::place::is_complete;
 use crate::sums::{is_out_of_sync, sum_data, write_check};
@@ -20,7 +20,7 @@ fn check_stripe<L: Layout, D: Disk>(
     devices: &mut [Option<D>],
     cols: &Cols,
     stripe: u32,
-    most: u32,
+    windows: ColumnWindows,
     hands: &mut [Rows],
     ahead: &mut [u8],
     sum: &mut [u8],
@@ -32,16 +32,16 @@ fn check_stripe<L: Layout, D: Disk>(
     requires complete { IsComplete (L.shape layout.now)
         cols.now.states stripe }
     requires sum { length sum.old ≡ 512 * (L.shape layout.now).unit_sectors }
-    requires windows { HasWindows (L.shape layout.now) most (length ahead.old) }
-    requires hands { AreHands most hands.old }
-    ensures visits { (rows : ℕ → HandRows) → IsAhead D.Disk (L.shape layout.now) most
+    requires windows { HasWindows (L.shape layout.now) windows (length ahead.old) }
+    requires hands { AreHands windows.most hands.old }
+    ensures visits { (rows : ℕ → HandRows) → IsAhead D.Disk (L.shape layout.now) windows
         cols.now.states stripe rows devices.old hands.old ahead.old
-        → Visits D.Disk sweep.Check (L.shape layout.now) most cols.now.states stripe rows
+        → Visits D.Disk sweep.Check (L.shape layout.now) windows cols.now.states stripe rows
         devices.old devices.new hands.new ahead.new result }
-    ensures hands { AreHands most hands.new }
+    ensures hands { AreHands windows.most hands.new }
     ensures long { length ahead.new ≡ length ahead.old }
 {
-    is_out_of_sync(layout, devices, cols, stripe, most, hands, ahead, sum)
+    is_out_of_sync(layout, devices, cols, stripe, windows, hands, ahead, sum)
 }
 
 // Makes the stripe's check unit the sum of its data units, if it isn't.
@@ -50,7 +50,7 @@ fn sync_stripe<L: Layout, D: Disk>(
     devices: &mut [Option<D>],
     cols: &Cols,
     stripe: u32,
-    most: u32,
+    windows: ColumnWindows,
     hands: &mut [Rows],
     ahead: &mut [u8],
     sum: &mut [u8],
@@ -62,16 +62,16 @@ fn sync_stripe<L: Layout, D: Disk>(
     requires complete { IsComplete (L.shape layout.now)
         cols.now.states stripe }
     requires sum { length sum.old ≡ 512 * (L.shape layout.now).unit_sectors }
-    requires windows { HasWindows (L.shape layout.now) most (length ahead.old) }
-    requires hands { AreHands most hands.old }
-    ensures visits { (rows : ℕ → HandRows) → IsAhead D.Disk (L.shape layout.now) most
+    requires windows { HasWindows (L.shape layout.now) windows (length ahead.old) }
+    requires hands { AreHands windows.most hands.old }
+    ensures visits { (rows : ℕ → HandRows) → IsAhead D.Disk (L.shape layout.now) windows
         cols.now.states stripe rows devices.old hands.old ahead.old
-        → Visits D.Disk sweep.Sync (L.shape layout.now) most cols.now.states stripe rows
+        → Visits D.Disk sweep.Sync (L.shape layout.now) windows cols.now.states stripe rows
         devices.old devices.new hands.new ahead.new result }
-    ensures hands { AreHands most hands.new }
+    ensures hands { AreHands windows.most hands.new }
     ensures long { length ahead.new ≡ length ahead.old }
 {
-    match is_out_of_sync(layout, devices, cols, stripe, most, hands, ahead, sum) {
+    match is_out_of_sync(layout, devices, cols, stripe, windows, hands, ahead, sum) {
         Ok(true) => {}
         Ok(false) => return Ok(false),
         Err(failed) => return Err(failed),
@@ -88,7 +88,7 @@ fn init_stripe<L: Layout, D: Disk>(
     devices: &mut [Option<D>],
     cols: &Cols,
     stripe: u32,
-    most: u32,
+    windows: ColumnWindows,
     hands: &mut [Rows],
     ahead: &mut [u8],
     sum: &mut [u8],
@@ -100,16 +100,16 @@ fn init_stripe<L: Layout, D: Disk>(
     requires complete { IsComplete (L.shape layout.now)
         cols.now.states stripe }
     requires sum { length sum.old ≡ 512 * (L.shape layout.now).unit_sectors }
-    requires windows { HasWindows (L.shape layout.now) most (length ahead.old) }
-    requires hands { AreHands most hands.old }
-    ensures visits { (rows : ℕ → HandRows) → IsAhead D.Disk (L.shape layout.now) most
+    requires windows { HasWindows (L.shape layout.now) windows (length ahead.old) }
+    requires hands { AreHands windows.most hands.old }
+    ensures visits { (rows : ℕ → HandRows) → IsAhead D.Disk (L.shape layout.now) windows
         cols.now.states stripe rows devices.old hands.old ahead.old
-        → Visits D.Disk sweep.Init (L.shape layout.now) most cols.now.states stripe rows
+        → Visits D.Disk sweep.Init (L.shape layout.now) windows cols.now.states stripe rows
         devices.old devices.new hands.new ahead.new result }
-    ensures hands { AreHands most hands.new }
+    ensures hands { AreHands windows.most hands.new }
     ensures long { length ahead.new ≡ length ahead.old }
 {
-    match sum_data(layout, devices, cols, stripe, most, hands, ahead, sum) {
+    match sum_data(layout, devices, cols, stripe, windows, hands, ahead, sum) {
         Ok(()) => {}
         Err(failed) => return Err(failed),
     }
@@ -126,7 +126,7 @@ fn visit<L: Layout, D: Disk>(
     devices: &mut [Option<D>],
     cols: &Cols,
     stripe: u32,
-    most: u32,
+    windows: ColumnWindows,
     hands: &mut [Rows],
     ahead: &mut [u8],
     sum: &mut [u8],
@@ -138,19 +138,19 @@ fn visit<L: Layout, D: Disk>(
     requires complete { IsComplete (L.shape layout.now)
         cols.now.states stripe }
     requires sum { length sum.old ≡ 512 * (L.shape layout.now).unit_sectors }
-    requires windows { HasWindows (L.shape layout.now) most (length ahead.old) }
-    requires hands { AreHands most hands.old }
-    ensures visits { (rows : ℕ → HandRows) → IsAhead D.Disk (L.shape layout.now) most
+    requires windows { HasWindows (L.shape layout.now) windows (length ahead.old) }
+    requires hands { AreHands windows.most hands.old }
+    ensures visits { (rows : ℕ → HandRows) → IsAhead D.Disk (L.shape layout.now) windows
         cols.now.states stripe rows devices.old hands.old ahead.old
-        → Visits D.Disk kind (L.shape layout.now) most cols.now.states stripe rows
+        → Visits D.Disk kind (L.shape layout.now) windows cols.now.states stripe rows
         devices.old devices.new hands.new ahead.new result }
-    ensures hands { AreHands most hands.new }
+    ensures hands { AreHands windows.most hands.new }
     ensures long { length ahead.new ≡ length ahead.old }
 {
     match kind {
-        Sweep::Check => check_stripe(layout, devices, cols, stripe, most, hands, ahead, sum),
-        Sweep::Sync => sync_stripe(layout, devices, cols, stripe, most, hands, ahead, sum),
-        Sweep::Init => init_stripe(layout, devices, cols, stripe, most, hands, ahead, sum),
+        Sweep::Check => check_stripe(layout, devices, cols, stripe, windows, hands, ahead, sum),
+        Sweep::Sync => sync_stripe(layout, devices, cols, stripe, windows, hands, ahead, sum),
+        Sweep::Init => init_stripe(layout, devices, cols, stripe, windows, hands, ahead, sum),
     }
 }
 
@@ -161,7 +161,7 @@ pub(crate) fn sweep_stripe<L: Layout, D: Disk>(
     devices: &mut [Option<D>],
     cols: &Cols,
     stripe: u32,
-    most: u32,
+    windows: ColumnWindows,
     hands: &mut [Rows],
     ahead: &mut [u8],
     sum: &mut [u8],
@@ -171,17 +171,19 @@ pub(crate) fn sweep_stripe<L: Layout, D: Disk>(
     requires stripe { stripe < (L.shape layout.now).stripes }
     requires checks { (L.shape layout.now).checks ≡ 1 }
     requires sum { length sum.old ≡ 512 * (L.shape layout.now).unit_sectors }
-    requires windows { HasWindows (L.shape layout.now) most (length ahead.old) }
-    requires hands { AreHands most hands.old }
-    ensures visits { (rows : ℕ → HandRows) → IsAhead D.Disk (L.shape layout.now) most
+    requires windows { HasWindows (L.shape layout.now) windows (length ahead.old) }
+    requires hands { AreHands windows.most hands.old }
+    ensures visits { (rows : ℕ → HandRows) → IsAhead D.Disk (L.shape layout.now) windows
         cols.now.states stripe rows devices.old hands.old ahead.old
-        → Visits D.Disk kind (L.shape layout.now) most cols.now.states stripe rows
+        → Visits D.Disk kind (L.shape layout.now) windows cols.now.states stripe rows
         devices.old devices.new hands.new ahead.new result }
-    ensures hands { AreHands most hands.new }
+    ensures hands { AreHands windows.most hands.new }
     ensures long { length ahead.new ≡ length ahead.old }
 {
     if !is_complete(layout, cols, stripe) {
         return Ok(false);
     }
-    visit(kind, layout, devices, cols, stripe, most, hands, ahead, sum)
+    visit(
+        kind, layout, devices, cols, stripe, windows, hands, ahead, sum,
+    )
 }

@@ -11,7 +11,7 @@ ghost use Rattle.raid_recon.specs.Units.{IsAhead, LoadsUnit, LoadsUnits, SumsUni
 ghost use Rattle.raid_recon.specs.declared.ahead.Rows.{Rows as HandRows};
 
 use crate::adding::{differ, sum_differs, sum_places};
-use crate::ahead::{Rows, is_at_hand, window_at};
+use crate::ahead::{ColumnWindows, Rows, is_at_hand, window_at};
 use crate::devices::{read_into, write_at};
 use crate::kind::FailedAt;
 use blk_disk::{Disk, Failed, SECTOR};
@@ -34,7 +34,7 @@ fn load<L: Layout, D: Disk>(
     cols: &Cols,
     stripe: u32,
     unit: u32,
-    most: u32,
+    windows: ColumnWindows,
     hands: &mut [Rows],
     ahead: &mut [u8],
 ) -> Result<usize, FailedAt>
@@ -43,21 +43,21 @@ fn load<L: Layout, D: Disk>(
     requires stripe { stripe < (L.shape layout.now).stripes }
     requires unit { unit < (L.shape layout.now).width }
     requires complete { IsComplete (L.shape layout.now) cols.now.states stripe }
-    requires windows { HasWindows (L.shape layout.now) most (length ahead.old) }
-    requires hands { AreHands most hands.old }
-    ensures loads { (rows : ℕ → HandRows) → IsAhead D.Disk (L.shape layout.now) most
+    requires windows { HasWindows (L.shape layout.now) windows (length ahead.old) }
+    requires hands { AreHands windows.most hands.old }
+    ensures loads { (rows : ℕ → HandRows) → IsAhead D.Disk (L.shape layout.now) windows
         cols.now.states stripe rows devices.old hands.old ahead.old
-        → LoadsUnit D.Disk (L.shape layout.now) most cols.now.states stripe unit rows
+        → LoadsUnit D.Disk (L.shape layout.now) windows cols.now.states stripe unit rows
         devices.old devices.new hands.new ahead.new result }
     ensures same { Changes D.Disk (λ _ _. ⊥) devices.old devices.new }
-    ensures hands { AreHands most hands.new }
+    ensures hands { AreHands windows.most hands.new }
     ensures long { length ahead.new ≡ length ahead.old }
     ensures inside { IfOk result (λ from.
         from + 512 * (L.shape layout.now).unit_sectors ≤ length ahead.new) }
     ensures window { (at : Spot) → seat (L.shape layout.now) cols.now.states stripe unit ≡ Some at
-        → IfOk result (λ from. IsInWindow (L.shape layout.now) most at.column from) }
+        → IfOk result (λ from. IsInWindow (L.shape layout.now) windows at.column from) }
     ensures outside { (at : Spot) → seat (L.shape layout.now) cols.now.states stripe unit ≡ Some at
-        → (n : ℕ) → IsOutside (L.shape layout.now) most at.column n
+        → (n : ℕ) → IsOutside (L.shape layout.now) windows at.column n
         → slice_index ahead.new n ≡ slice_index ahead.old n }
 {
     let Some(at) = cols.spot(layout, stripe, unit) else {
@@ -65,12 +65,12 @@ fn load<L: Layout, D: Disk>(
     };
     let sectors = layout.unit_sectors();
     let (column, first) = (at.column, at.row);
-    let window = window_at(most, column);
+    let window = window_at(windows, column);
     let hand = hands[column as usize];
     if is_at_hand(hand, first) {
         return Ok(SECTOR * sector_of(sectors, window + (first - hand.first)));
     }
-    let rows = most.min(layout.rows() - first);
+    let rows = windows.most.min(layout.rows() - first);
     let begin = sector_of(sectors, window);
     match read_into(devices, at, sectors, rows, ahead, begin) {
         Ok(()) => {
@@ -93,7 +93,7 @@ fn load_units<L: Layout, D: Disk>(
     cols: &Cols,
     stripe: u32,
     count: u32,
-    most: u32,
+    windows: ColumnWindows,
     hands: &mut [Rows],
     ahead: &mut [u8],
     places: &mut [usize],
@@ -103,23 +103,23 @@ fn load_units<L: Layout, D: Disk>(
     requires stripe { stripe < (L.shape layout.now).stripes }
     requires count { count ≤ (L.shape layout.now).width }
     requires complete { IsComplete (L.shape layout.now) cols.now.states stripe }
-    requires apart { most ≢ 1 }
-    requires windows { HasWindows (L.shape layout.now) most (length ahead.old) }
-    requires hands { AreHands most hands.old }
+    requires apart { windows.apart ≢ 0 }
+    requires windows { HasWindows (L.shape layout.now) windows (length ahead.old) }
+    requires hands { AreHands windows.most hands.old }
     requires places { length places.old ≡ 32 }
-    ensures loads { (rows : ℕ → HandRows) → IsAhead D.Disk (L.shape layout.now) most
+    ensures loads { (rows : ℕ → HandRows) → IsAhead D.Disk (L.shape layout.now) windows
         cols.now.states stripe rows devices.old hands.old ahead.old
-        → LoadsUnits D.Disk (L.shape layout.now) most cols.now.states stripe count rows
+        → LoadsUnits D.Disk (L.shape layout.now) windows cols.now.states stripe count rows
         devices.old devices.new hands.new ahead.new places.new result }
     ensures same { Changes D.Disk (λ _ _. ⊥) devices.old devices.new }
-    ensures hands { AreHands most hands.new }
+    ensures hands { AreHands windows.most hands.new }
     ensures long { length ahead.new ≡ length ahead.old }
     ensures places { length places.new ≡ 32 }
     ensures inside { IfOk result (λ _. (i : ℕ) → i < count → slice_index places.new i
         + 512 * (L.shape layout.now).unit_sectors ≤ length ahead.new) }
 {
     for i in 0..count {
-        match load(layout, devices, cols, stripe, i, most, hands, ahead) {
+        match load(layout, devices, cols, stripe, i, windows, hands, ahead) {
             Ok(from) => places[i as usize] = from,
             Err(failed) => return Err(failed),
         }
@@ -154,13 +154,13 @@ pub(crate) fn write_check<L: Layout, D: Disk>(
     }
 }
 
-// Where one row alone is read: reads the first unit, and makes `sum` it. It needs no window of its own.
+// Where all columns have one window, of one row: reads the first unit, and makes `sum` it. It needs no window.
 fn load_first<L: Layout, D: Disk>(
     layout: &L,
     devices: &mut [Option<D>],
     cols: &Cols,
     stripe: u32,
-    most: u32,
+    windows: ColumnWindows,
     hands: &mut [Rows],
     ahead: &mut [u8],
     sum: &mut [u8],
@@ -169,33 +169,32 @@ fn load_first<L: Layout, D: Disk>(
     requires array { AreSeated D.Disk (L.shape layout.now) cols.now.states devices.old }
     requires stripe { stripe < (L.shape layout.now).stripes }
     requires complete { IsComplete (L.shape layout.now) cols.now.states stripe }
-    requires one { most ≡ 1 }
-    requires windows { HasWindows (L.shape layout.now) most (length ahead.old) }
-    requires hands { AreHands most hands.old }
+    requires one { windows.apart ≡ 0 }
+    requires windows { HasWindows (L.shape layout.now) windows (length ahead.old) }
+    requires hands { AreHands windows.most hands.old }
     requires sum { length sum.old ≡ 512 * (L.shape layout.now).unit_sectors }
-    ensures sums { (rows : ℕ → HandRows) → IsAhead D.Disk (L.shape layout.now) most
+    ensures sums { (rows : ℕ → HandRows) → IsAhead D.Disk (L.shape layout.now) windows
         cols.now.states stripe rows devices.old hands.old ahead.old
-        → SumsUnits D.Disk (L.shape layout.now) most cols.now.states
+        → SumsUnits D.Disk (L.shape layout.now) windows cols.now.states
         stripe 1 rows devices.old devices.new hands.new ahead.new sum.new result }
     ensures same { Changes D.Disk (λ _ _. ⊥) devices.old devices.new }
-    ensures hands { AreHands most hands.new }
+    ensures hands { AreHands windows.most hands.new }
     ensures long { length ahead.new ≡ length ahead.old }
     ensures whole { length sum.new ≡ length sum.old }
 {
-    match load(layout, devices, cols, stripe, 0, most, hands, sum) {
+    match load(layout, devices, cols, stripe, 0, windows, hands, sum) {
         Ok(_) => Ok(()),
         Err(failed) => Err(failed),
     }
 }
 
-// Reads the data units, and makes `sum` their sum, where one row alone is read and all have the one window: each is
-// added as it is read.
+// Reads the data units, and makes `sum` their sum, where all columns have one window: each is added as it is read.
 fn sum_in_turn<L: Layout, D: Disk>(
     layout: &L,
     devices: &mut [Option<D>],
     cols: &Cols,
     stripe: u32,
-    most: u32,
+    windows: ColumnWindows,
     hands: &mut [Rows],
     ahead: &mut [u8],
     sum: &mut [u8],
@@ -204,26 +203,26 @@ fn sum_in_turn<L: Layout, D: Disk>(
     requires array { AreSeated D.Disk (L.shape layout.now) cols.now.states devices.old }
     requires stripe { stripe < (L.shape layout.now).stripes }
     requires complete { IsComplete (L.shape layout.now) cols.now.states stripe }
-    requires one { most ≡ 1 }
-    requires windows { HasWindows (L.shape layout.now) most (length ahead.old) }
-    requires hands { AreHands most hands.old }
+    requires one { windows.apart ≡ 0 }
+    requires windows { HasWindows (L.shape layout.now) windows (length ahead.old) }
+    requires hands { AreHands windows.most hands.old }
     requires sum { length sum.old ≡ 512 * (L.shape layout.now).unit_sectors }
-    ensures sums { (rows : ℕ → HandRows) → IsAhead D.Disk (L.shape layout.now) most
+    ensures sums { (rows : ℕ → HandRows) → IsAhead D.Disk (L.shape layout.now) windows
         cols.now.states stripe rows devices.old hands.old ahead.old
-        → SumsUnits D.Disk (L.shape layout.now) most cols.now.states
+        → SumsUnits D.Disk (L.shape layout.now) windows cols.now.states
         stripe (data_units (L.shape layout.now)) rows
         devices.old devices.new hands.new ahead.new sum.new result }
     ensures same { Changes D.Disk (λ _ _. ⊥) devices.old devices.new }
-    ensures hands { AreHands most hands.new }
+    ensures hands { AreHands windows.most hands.new }
     ensures long { length ahead.new ≡ length ahead.old }
 {
     let bytes = sum.len();
-    match load_first(layout, devices, cols, stripe, most, hands, ahead, sum) {
+    match load_first(layout, devices, cols, stripe, windows, hands, ahead, sum) {
         Ok(()) => {}
         Err(failed) => return Err(failed),
     }
     for i in 1..layout.width() - layout.checks() {
-        match load(layout, devices, cols, stripe, i, most, hands, ahead) {
+        match load(layout, devices, cols, stripe, i, windows, hands, ahead) {
             Ok(from) => xor_into(sum, &ahead[from..from + bytes]),
             Err(failed) => return Err(failed),
         }
@@ -237,7 +236,7 @@ fn sum_apart<L: Layout, D: Disk>(
     devices: &mut [Option<D>],
     cols: &Cols,
     stripe: u32,
-    most: u32,
+    windows: ColumnWindows,
     hands: &mut [Rows],
     ahead: &mut [u8],
     sum: &mut [u8],
@@ -246,17 +245,17 @@ fn sum_apart<L: Layout, D: Disk>(
     requires array { AreSeated D.Disk (L.shape layout.now) cols.now.states devices.old }
     requires stripe { stripe < (L.shape layout.now).stripes }
     requires complete { IsComplete (L.shape layout.now) cols.now.states stripe }
-    requires apart { most ≢ 1 }
-    requires windows { HasWindows (L.shape layout.now) most (length ahead.old) }
-    requires hands { AreHands most hands.old }
+    requires apart { windows.apart ≢ 0 }
+    requires windows { HasWindows (L.shape layout.now) windows (length ahead.old) }
+    requires hands { AreHands windows.most hands.old }
     requires sum { length sum.old ≡ 512 * (L.shape layout.now).unit_sectors }
-    ensures sums { (rows : ℕ → HandRows) → IsAhead D.Disk (L.shape layout.now) most
+    ensures sums { (rows : ℕ → HandRows) → IsAhead D.Disk (L.shape layout.now) windows
         cols.now.states stripe rows devices.old hands.old ahead.old
-        → SumsUnits D.Disk (L.shape layout.now) most cols.now.states
+        → SumsUnits D.Disk (L.shape layout.now) windows cols.now.states
         stripe (data_units (L.shape layout.now)) rows
         devices.old devices.new hands.new ahead.new sum.new result }
     ensures same { Changes D.Disk (λ _ _. ⊥) devices.old devices.new }
-    ensures hands { AreHands most hands.new }
+    ensures hands { AreHands windows.most hands.new }
     ensures long { length ahead.new ≡ length ahead.old }
 {
     let count = layout.width() - layout.checks();
@@ -267,7 +266,7 @@ fn sum_apart<L: Layout, D: Disk>(
         cols,
         stripe,
         count,
-        most,
+        windows,
         hands,
         ahead,
         &mut places,
@@ -285,7 +284,7 @@ pub(crate) fn sum_data<L: Layout, D: Disk>(
     devices: &mut [Option<D>],
     cols: &Cols,
     stripe: u32,
-    most: u32,
+    windows: ColumnWindows,
     hands: &mut [Rows],
     ahead: &mut [u8],
     sum: &mut [u8],
@@ -294,33 +293,33 @@ pub(crate) fn sum_data<L: Layout, D: Disk>(
     requires array { AreSeated D.Disk (L.shape layout.now) cols.now.states devices.old }
     requires stripe { stripe < (L.shape layout.now).stripes }
     requires complete { IsComplete (L.shape layout.now) cols.now.states stripe }
-    requires windows { HasWindows (L.shape layout.now) most (length ahead.old) }
-    requires hands { AreHands most hands.old }
+    requires windows { HasWindows (L.shape layout.now) windows (length ahead.old) }
+    requires hands { AreHands windows.most hands.old }
     requires sum { length sum.old ≡ 512 * (L.shape layout.now).unit_sectors }
-    ensures sums { (rows : ℕ → HandRows) → IsAhead D.Disk (L.shape layout.now) most
+    ensures sums { (rows : ℕ → HandRows) → IsAhead D.Disk (L.shape layout.now) windows
         cols.now.states stripe rows devices.old hands.old ahead.old
-        → SumsUnits D.Disk (L.shape layout.now) most cols.now.states
+        → SumsUnits D.Disk (L.shape layout.now) windows cols.now.states
         stripe (data_units (L.shape layout.now)) rows
         devices.old devices.new hands.new ahead.new sum.new result }
     ensures same { Changes D.Disk (λ _ _. ⊥) devices.old devices.new }
-    ensures hands { AreHands most hands.new }
+    ensures hands { AreHands windows.most hands.new }
     ensures long { length ahead.new ≡ length ahead.old }
 {
-    if most == 1 {
-        sum_in_turn(layout, devices, cols, stripe, most, hands, ahead, sum)
+    if windows.apart == 0 {
+        sum_in_turn(layout, devices, cols, stripe, windows, hands, ahead, sum)
     } else {
-        sum_apart(layout, devices, cols, stripe, most, hands, ahead, sum)
+        sum_apart(layout, devices, cols, stripe, windows, hands, ahead, sum)
     }
 }
 
 // Reads all units, makes `sum` the sum of the data units, and answers whether the check unit holds something else,
-// where one row alone is read.
+// where all columns have one window.
 fn is_unlike_in_turn<L: Layout, D: Disk>(
     layout: &L,
     devices: &mut [Option<D>],
     cols: &Cols,
     stripe: u32,
-    most: u32,
+    windows: ColumnWindows,
     hands: &mut [Rows],
     ahead: &mut [u8],
     sum: &mut [u8],
@@ -330,20 +329,20 @@ fn is_unlike_in_turn<L: Layout, D: Disk>(
     requires stripe { stripe < (L.shape layout.now).stripes }
     requires checks { (L.shape layout.now).checks ≡ 1 }
     requires complete { IsComplete (L.shape layout.now) cols.now.states stripe }
-    requires one { most ≡ 1 }
-    requires windows { HasWindows (L.shape layout.now) most (length ahead.old) }
-    requires hands { AreHands most hands.old }
+    requires one { windows.apart ≡ 0 }
+    requires windows { HasWindows (L.shape layout.now) windows (length ahead.old) }
+    requires hands { AreHands windows.most hands.old }
     requires sum { length sum.old ≡ 512 * (L.shape layout.now).unit_sectors }
-    ensures tests { (rows : ℕ → HandRows) → IsAhead D.Disk (L.shape layout.now) most
+    ensures tests { (rows : ℕ → HandRows) → IsAhead D.Disk (L.shape layout.now) windows
         cols.now.states stripe rows devices.old hands.old ahead.old
-        → TestsUnits D.Disk (L.shape layout.now) most cols.now.states stripe rows
+        → TestsUnits D.Disk (L.shape layout.now) windows cols.now.states stripe rows
         devices.old devices.new hands.new ahead.new sum.new result }
     ensures same { Changes D.Disk (λ _ _. ⊥) devices.old devices.new }
-    ensures hands { AreHands most hands.new }
+    ensures hands { AreHands windows.most hands.new }
     ensures long { length ahead.new ≡ length ahead.old }
 {
     let bytes = sum.len();
-    match sum_in_turn(layout, devices, cols, stripe, most, hands, ahead, sum) {
+    match sum_in_turn(layout, devices, cols, stripe, windows, hands, ahead, sum) {
         Ok(()) => {}
         Err(failed) => return Err(failed),
     }
@@ -353,7 +352,7 @@ fn is_unlike_in_turn<L: Layout, D: Disk>(
         cols,
         stripe,
         layout.width() - 1,
-        most,
+        windows,
         hands,
         ahead,
     ) {
@@ -368,7 +367,7 @@ fn is_unlike_apart<L: Layout, D: Disk>(
     devices: &mut [Option<D>],
     cols: &Cols,
     stripe: u32,
-    most: u32,
+    windows: ColumnWindows,
     hands: &mut [Rows],
     ahead: &mut [u8],
     sum: &mut [u8],
@@ -378,16 +377,16 @@ fn is_unlike_apart<L: Layout, D: Disk>(
     requires stripe { stripe < (L.shape layout.now).stripes }
     requires checks { (L.shape layout.now).checks ≡ 1 }
     requires complete { IsComplete (L.shape layout.now) cols.now.states stripe }
-    requires apart { most ≢ 1 }
-    requires windows { HasWindows (L.shape layout.now) most (length ahead.old) }
-    requires hands { AreHands most hands.old }
+    requires apart { windows.apart ≢ 0 }
+    requires windows { HasWindows (L.shape layout.now) windows (length ahead.old) }
+    requires hands { AreHands windows.most hands.old }
     requires sum { length sum.old ≡ 512 * (L.shape layout.now).unit_sectors }
-    ensures tests { (rows : ℕ → HandRows) → IsAhead D.Disk (L.shape layout.now) most
+    ensures tests { (rows : ℕ → HandRows) → IsAhead D.Disk (L.shape layout.now) windows
         cols.now.states stripe rows devices.old hands.old ahead.old
-        → TestsUnits D.Disk (L.shape layout.now) most cols.now.states stripe rows
+        → TestsUnits D.Disk (L.shape layout.now) windows cols.now.states stripe rows
         devices.old devices.new hands.new ahead.new sum.new result }
     ensures same { Changes D.Disk (λ _ _. ⊥) devices.old devices.new }
-    ensures hands { AreHands most hands.new }
+    ensures hands { AreHands windows.most hands.new }
     ensures long { length ahead.new ≡ length ahead.old }
 {
     let width = layout.width();
@@ -398,7 +397,7 @@ fn is_unlike_apart<L: Layout, D: Disk>(
         cols,
         stripe,
         width,
-        most,
+        windows,
         hands,
         ahead,
         &mut places,
@@ -416,7 +415,7 @@ pub(crate) fn is_out_of_sync<L: Layout, D: Disk>(
     devices: &mut [Option<D>],
     cols: &Cols,
     stripe: u32,
-    most: u32,
+    windows: ColumnWindows,
     hands: &mut [Rows],
     ahead: &mut [u8],
     sum: &mut [u8],
@@ -426,20 +425,20 @@ pub(crate) fn is_out_of_sync<L: Layout, D: Disk>(
     requires stripe { stripe < (L.shape layout.now).stripes }
     requires checks { (L.shape layout.now).checks ≡ 1 }
     requires complete { IsComplete (L.shape layout.now) cols.now.states stripe }
-    requires windows { HasWindows (L.shape layout.now) most (length ahead.old) }
-    requires hands { AreHands most hands.old }
+    requires windows { HasWindows (L.shape layout.now) windows (length ahead.old) }
+    requires hands { AreHands windows.most hands.old }
     requires sum { length sum.old ≡ 512 * (L.shape layout.now).unit_sectors }
-    ensures tests { (rows : ℕ → HandRows) → IsAhead D.Disk (L.shape layout.now) most
+    ensures tests { (rows : ℕ → HandRows) → IsAhead D.Disk (L.shape layout.now) windows
         cols.now.states stripe rows devices.old hands.old ahead.old
-        → TestsUnits D.Disk (L.shape layout.now) most cols.now.states stripe rows
+        → TestsUnits D.Disk (L.shape layout.now) windows cols.now.states stripe rows
         devices.old devices.new hands.new ahead.new sum.new result }
     ensures same { Changes D.Disk (λ _ _. ⊥) devices.old devices.new }
-    ensures hands { AreHands most hands.new }
+    ensures hands { AreHands windows.most hands.new }
     ensures long { length ahead.new ≡ length ahead.old }
 {
-    if most == 1 {
-        is_unlike_in_turn(layout, devices, cols, stripe, most, hands, ahead, sum)
+    if windows.apart == 0 {
+        is_unlike_in_turn(layout, devices, cols, stripe, windows, hands, ahead, sum)
     } else {
-        is_unlike_apart(layout, devices, cols, stripe, most, hands, ahead, sum)
+        is_unlike_apart(layout, devices, cols, stripe, windows, hands, ahead, sum)
     }
 }

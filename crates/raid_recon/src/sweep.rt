@@ -16,7 +16,7 @@ ghost use Rattle.raid_recon.specs.Turns.{is_check};
 ghost use Rattle.raid_recon.specs.Units.{SweepsStripe};
 ghost use Rattle.raid_recon.specs.declared.kind.Sweep.TheVariants as sweep;
 
-use crate::ahead::{Rows, most_rows};
+use crate::ahead::{ColumnWindows, Rows, windows_in};
 use crate::kind::Sweep;
 use crate::room::{Room, SweepRoom};
 use crate::stripe::sweep_stripe;
@@ -44,7 +44,7 @@ fn sweep_stripes<L: Layout, D: Disk, P: Progress>(
     devices: &mut [Option<D>],
     columns: &mut [Column],
     judge: &mut Cols,
-    most: u32,
+    windows: ColumnWindows,
     hands: &mut [Rows],
     ahead: &mut [u8],
     sum: &mut [u8],
@@ -53,10 +53,11 @@ fn sweep_stripes<L: Layout, D: Disk, P: Progress>(
     requires array { IsArray D.Disk (L.shape layout.now) columns.old devices.old }
     requires checks { (L.shape layout.now).checks ≡ 1 }
     requires judge { IsJudge (L.shape layout.now) columns.old judge.old }
-    requires windows { HasWindows (L.shape layout.now) most (length ahead.old) }
+    requires windows { HasWindows (L.shape layout.now) windows (length ahead.old) }
     requires hands { hands.old ≡ replicate 32 no_rows }
     requires sum { length sum.old ≡ 512 * (L.shape layout.now).unit_sectors }
-    ensures swept { IsSwept D.Disk kind (L.shape layout.now) most (L.shape layout.now).stripes
+    ensures swept { IsSwept D.Disk kind (L.shape layout.now) windows.most
+        (L.shape layout.now).stripes
         columns.old columns.new devices.old devices.new result }
     ensures judge { IsJudge (L.shape layout.now) columns.new judge.new }
 {
@@ -64,7 +65,7 @@ fn sweep_stripes<L: Layout, D: Disk, P: Progress>(
     let all = layout.stripes();
     for stripe in 0..all {
         match sweep_stripe(
-            kind, layout, devices, judge, stripe, most, hands, ahead, sum,
+            kind, layout, devices, judge, stripe, windows, hands, ahead, sum,
         ) {
             Ok(counts) => {
                 if counts {
@@ -99,11 +100,11 @@ fn sweep_in<L: Layout, D: Disk, P: Progress>(
     ensures room { length room.new ≡ length room.old }
 {
     let unit = layout.unit_sectors();
-    let most = most_rows(room.len(), unit, layout.columns());
+    let windows = windows_in(room.len(), unit, layout.columns());
     let mut hands = [Rows::NONE; 32];
     let (sum, ahead) = room.split_at_mut(SECTOR * unit as usize);
     sweep_stripes(
-        kind, layout, devices, columns, judge, most, &mut hands, ahead, sum, progress,
+        kind, layout, devices, columns, judge, windows, &mut hands, ahead, sum, progress,
     )
 }
 
@@ -181,7 +182,7 @@ fn sync_in<L: Layout, D: Disk>(
         devices,
         judge,
         stripe,
-        1,
+        ColumnWindows::SHARED,
         &mut hands,
         ahead,
         sum,

@@ -47,8 +47,12 @@ struct Parts {
     room: Room,
 }
 
-// How many bytes of room a sweep is given: what it needs at least; and, where units are so small that 64 KiB
-// have several, 64 KiB of rows for each column beside a unit.
+// As many columns may have a window each where a call reads one row: the windows of more don't stay in a processor's cache
+// until they are summed, and one that all have does.
+const FEW: u32 = 5;
+
+// How many bytes of room a sweep is given: what it needs at least; and, where 64 KiB have several rows or the columns are
+// few, 64 KiB of rows for each column beside a unit, so that all units of a stripe are read before they are summed.
 fn room_bytes(unit: u32, columns: u32) -> u32
     requires some { 1 ≤ unit }
     requires unit { unit ≤ 128 }
@@ -56,7 +60,7 @@ fn room_bytes(unit: u32, columns: u32) -> u32
     ensures { 1024 * unit ≤ result }
 {
     let rows = 128 / unit;
-    if rows < 2 {
+    if rows < 2 && columns > FEW {
         1024 * unit
     } else {
         (1024 * unit).max(512 * unit * (1 + columns * rows))

@@ -10,6 +10,7 @@ use Rattle.raid_recon.proofs.AtHand.{at_hand-is, hands-set}
 use Rattle.raid_recon.proofs.Loads.{hit-loads, hit-window, miss-loads, miss-window, read-outside}
 use Rattle.raid_recon.proofs.Places.{spot-seat}
 use Rattle.raid_recon.proofs.OneCall.{some_device}
+use Rattle.raid_recon.proofs.Windows.{apart-few, many-beside, row-few}
 use Rattle.raid_recon.proofs.sums.load.Goals as goal
 use Rattle.raid_recon.proofs.Words.{rows_from}
 
@@ -24,9 +25,9 @@ returns-then-is_at_hand-clause-loads g c rows h =
     let stands : seat y cols s i ≡ Some at = sym (spot-seat y cols s i there) ∙ (sym c.spot.ensures.spot ∙ c.in-Some.is) in
     let same = h.agrees at.column at.device (seat-device y cols s i at stands) in
     let hand : is_at_hand (rows at.device) at.row ≡ true = ap (λ r. is_at_hand r at.row) (sym same) ∙ (sym c.is_at_hand.ensures ∙ c.if-is_at_hand.true) in
-    hit-loads g.D.Disk y c.args.most cols s i at c.requires.stripe c.requires.unit stands there rows c.args.devices.now c.args.hands.now c.args.ahead.now h (512 * c.sector_of.result) hand
+    hit-loads g.D.Disk y c.args.windows cols s i at c.requires.stripe c.requires.unit stands there rows c.args.devices.now c.args.hands.now c.args.ahead.now h (512 * c.sector_of.result) hand
     (ap (λ n. 512 * n) (c.sector_of.ensures ∙ (ap (λ u. u * (c.window_at-window.result + (at.row - (rows_at c.args.hands.now at.column).first))) c.unit_sectors-sectors.ensures
-    ∙ (ap (λ w. y.unit_sectors * (w + (at.row - (rows_at c.args.hands.now at.column).first))) c.window_at-window.ensures ∙ ap (λ r. y.unit_sectors * (window_at c.args.most at.column + (at.row - r.first))) same))))
+    ∙ (ap (λ w. y.unit_sectors * (w + (at.row - (rows_at c.args.hands.now at.column).first))) c.window_at-window.ensures ∙ ap (λ r. y.unit_sectors * (window_at c.args.windows at.column + (at.row - r.first))) same))))
 
 pub returns-then-is_at_hand-clause-inside : goal.returns-then-is_at_hand-clause-inside
 returns-then-is_at_hand-clause-inside g c =
@@ -34,13 +35,13 @@ returns-then-is_at_hand-clause-inside g c =
     let cols = c.args.cols.now.states in
     let at = c.in-Some.at in
     let u = y.unit_sectors in
-    let w = window_at c.args.most at.column in
+    let w = window_at c.args.windows at.column in
     let stands : seat y cols c.args.stripe c.args.unit ≡ Some at = sym (spot-seat y cols c.args.stripe c.args.unit (c.requires.complete c.args.unit c.requires.unit)) ∙ (sym c.spot.ensures.spot ∙ c.in-Some.is) in
     let column = (seat-within y cols c.args.stripe c.args.unit at (g.met.L.Layout.is_layout c.args.layout.now) c.requires.stripe c.requires.unit stands).0 in
     let hand = at_hand-is (rows_at c.args.hands.now at.column) at.row (sym c.is_at_hand.ensures ∙ c.if-is_at_hand.true) in
     let far : ℕ = at.row - (rows_at c.args.hands.now at.column).first in
-    let less : suc (w + far) ≤ w + c.args.most = omega (arith, hand.0, hand.1, c.requires.hands.few at.column) in
-    let most : u * suc (w + far) ≤ u * (w + c.args.most) = mul-le-mul_left u less in
+    let less : suc (w + far) ≤ w + c.args.windows.most = omega (arith, hand.0, hand.1, c.requires.hands.few at.column) in
+    let most : u * suc (w + far) ≤ u * (w + c.args.windows.most) = mul-le-mul_left u less in
     let place : c.sector_of.result ≡ u * (w + far) = c.sector_of.ensures ∙ (ap (λ x. x * (c.window_at-window.result + far)) c.unit_sectors-sectors.ensures ∙ ap (λ x. u * (x + far)) c.window_at-window.ensures) in
     omega (arith, place, most, mul-suc u (w + far), c.requires.windows.within at.column column)
 
@@ -88,12 +89,12 @@ inside g c =
     let cols = c.args.cols.now.states in
     let at = c.in-Some.at in
     let u = y.unit_sectors in
-    let w = window_at c.args.most at.column in
+    let w = window_at c.args.windows at.column in
     let n = c.min-rows.result in
     let stands : seat y cols c.args.stripe c.args.unit ≡ Some at = sym (spot-seat y cols c.args.stripe c.args.unit (c.requires.complete c.args.unit c.requires.unit)) ∙ (sym c.spot.ensures.spot ∙ c.in-Some.is) in
     let column = (seat-within y cols c.args.stripe c.args.unit at (g.met.L.Layout.is_layout c.args.layout.now) c.requires.stripe c.requires.unit stands).0 in
-    let less : w + n ≤ w + c.args.most = omega (arith, c.min-rows.ensures) in
-    let most : u * (w + n) ≤ u * (w + c.args.most) = mul-le-mul_left u less in
+    let less : w + n ≤ w + c.args.windows.most = omega (arith, c.min-rows.ensures) in
+    let most : u * (w + n) ≤ u * (w + c.args.windows.most) = mul-le-mul_left u less in
     let place : c.sector_of-begin.result ≡ u * w = c.sector_of-begin.ensures ∙ (ap (λ x. x * c.window_at-window.result) c.unit_sectors-sectors.ensures ∙ ap (λ x. u * x) c.window_at-window.ensures) in
     omega (arith, place, most, mul-add u w n, mul_comm u n, ap (λ x. n * x) c.unit_sectors-sectors.ensures, c.requires.windows.within at.column column)
 
@@ -150,13 +151,13 @@ returns-in-Ok-clause-loads g c rows h =
     let u = y.unit_sectors in
     let same = h.agrees at.column at.device (seat-device y cols s i at stands) in
     let miss : is_at_hand (rows at.device) at.row ≡ false = ap (λ r. is_at_hand r at.row) (sym same) ∙ (sym c.is_at_hand.ensures ∙ c.if-is_at_hand.false) in
-    let count : c.min-rows.result ≡ rows_from y c.args.most at.row = c.min-rows.ensures ∙ ap (λ r. min c.args.most (r - at.row)) c.rows.ensures in
-    let start : c.sector_of-begin.result ≡ u * window_at c.args.most at.column = c.sector_of-begin.ensures ∙ (ap (λ x. x * c.window_at-window.result) c.unit_sectors-sectors.ensures ∙ ap (λ x. u * x) c.window_at-window.ensures) in
-    let less : window_at c.args.most at.column + c.min-rows.result ≤ window_at c.args.most at.column + c.args.most = omega (arith, c.min-rows.ensures) in
-    let most : u * (window_at c.args.most at.column + c.min-rows.result) ≤ u * (window_at c.args.most at.column + c.args.most) = mul-le-mul_left u less in
-    let inside : 512 * c.sector_of-begin.result + 512 * (c.min-rows.result * u) ≤ length c.args.ahead.now = omega (arith, start, most, mul-add u (window_at c.args.most at.column) c.min-rows.result, mul_comm u c.min-rows.result, c.requires.windows.within at.column within.0) in
+    let count : c.min-rows.result ≡ rows_from y c.args.windows.most at.row = c.min-rows.ensures ∙ ap (λ r. min c.args.windows.most (r - at.row)) c.rows.ensures in
+    let start : c.sector_of-begin.result ≡ u * window_at c.args.windows at.column = c.sector_of-begin.ensures ∙ (ap (λ x. x * c.window_at-window.result) c.unit_sectors-sectors.ensures ∙ ap (λ x. u * x) c.window_at-window.ensures) in
+    let less : window_at c.args.windows at.column + c.min-rows.result ≤ window_at c.args.windows at.column + c.args.windows.most = omega (arith, c.min-rows.ensures) in
+    let most : u * (window_at c.args.windows at.column + c.min-rows.result) ≤ u * (window_at c.args.windows at.column + c.args.windows.most) = mul-le-mul_left u less in
+    let inside : 512 * c.sector_of-begin.result + 512 * (c.min-rows.result * u) ≤ length c.args.ahead.now = omega (arith, start, most, mul-add u (window_at c.args.windows at.column) c.min-rows.result, mul_comm u c.min-rows.result, c.requires.windows.within at.column within.0) in
     let w = subst (λ x. IsReadInto g.D.Disk at x (c.min-rows.result * x) c.args.devices.now c.read_into.new.devices c.sector_of-begin.result c.args.ahead.now c.read_into.new.bytes (is_ok c.read_into.result)) c.unit_sectors-sectors.ensures c.read_into.ensures.read in
-    miss-loads g.D.Disk y c.args.most cols s i at c.requires.stripe c.requires.unit stands there rows c.args.devices.now c.args.hands.now c.args.ahead.now h c.requires.windows.some c.requires.array.order c.requires.hands below within.1 miss c.read_into.new.devices c.sector_of-begin.result c.min-rows.result c.read_into.new.bytes true count start
+    miss-loads g.D.Disk y c.args.windows cols s i at c.requires.stripe c.requires.unit stands there rows c.args.devices.now c.args.hands.now c.args.ahead.now h c.requires.windows.some (many-beside y c.args.windows _ c.requires.windows) c.requires.array.order c.requires.hands below within.1 miss c.read_into.new.devices c.sector_of-begin.result c.min-rows.result c.read_into.new.bytes true count start
     inside (subst (IsReadInto g.D.Disk at u (c.min-rows.result * u) c.args.devices.now c.read_into.new.devices c.sector_of-begin.result c.args.ahead.now c.read_into.new.bytes) (ap is_ok c.in-Ok.is) w) (at.row + c.min-rows.result) (ap (λ n. at.row + n) count) _ refl (λ from e. sym (let same : 512 * c.sector_of-begin.result ≡ from = cc in same)) tt
 
 pub returns-in-Ok-clause-hands : goal.returns-in-Ok-clause-hands
@@ -171,7 +172,7 @@ returns-in-Ok-clause-hands g c =
     let stands : seat y cols s i ≡ Some at = sym (spot-seat y cols s i there) ∙ (sym c.spot.ensures.spot ∙ c.in-Some.is) in
     let within = seat-within y cols s i at law c.requires.stripe c.requires.unit stands in
     let below : at.column < 32 = omega (arith, within.0, law.columns_most) in
-    hands-set c.args.most c.args.hands.now at.column _ below (omega (arith, c.min-rows.ensures)) c.requires.hands
+    hands-set c.args.windows.most c.args.hands.now at.column _ below (omega (arith, c.min-rows.ensures)) c.requires.hands
 
 pub returns-in-Ok-clause-inside : goal.returns-in-Ok-clause-inside
 returns-in-Ok-clause-inside g c =
@@ -186,11 +187,11 @@ returns-in-Ok-clause-inside g c =
     let within = seat-within y cols s i at law c.requires.stripe c.requires.unit stands in
     let below : at.column < 32 = omega (arith, within.0, law.columns_most) in
     let u = y.unit_sectors in
-    let start : c.sector_of-begin.result ≡ u * window_at c.args.most at.column = c.sector_of-begin.ensures ∙ (ap (λ x. x * c.window_at-window.result) c.unit_sectors-sectors.ensures ∙ ap (λ x. u * x) c.window_at-window.ensures) in
-    let less : window_at c.args.most at.column + 1 ≤ window_at c.args.most at.column + c.args.most = omega (arith, c.requires.windows.some) in
-    let most : u * (window_at c.args.most at.column + 1) ≤ u * (window_at c.args.most at.column + c.args.most) = mul-le-mul_left u less in
+    let start : c.sector_of-begin.result ≡ u * window_at c.args.windows at.column = c.sector_of-begin.ensures ∙ (ap (λ x. x * c.window_at-window.result) c.unit_sectors-sectors.ensures ∙ ap (λ x. u * x) c.window_at-window.ensures) in
+    let less : window_at c.args.windows at.column + 1 ≤ window_at c.args.windows at.column + c.args.windows.most = omega (arith, c.requires.windows.some) in
+    let most : u * (window_at c.args.windows at.column + 1) ≤ u * (window_at c.args.windows at.column + c.args.windows.most) = mul-le-mul_left u less in
     let long = c.read_into.ensures.long in
-    omega (arith, start, most, mul-add u (window_at c.args.most at.column) 1, long, c.requires.windows.within at.column within.0)
+    omega (arith, start, most, mul-add u (window_at c.args.windows at.column) 1, long, c.requires.windows.within at.column within.0)
 
 pub returns-in-Err-clause-loads : goal.returns-in-Err-clause-loads
 returns-in-Err-clause-loads g c rows h =
@@ -207,13 +208,13 @@ returns-in-Err-clause-loads g c rows h =
     let u = y.unit_sectors in
     let same = h.agrees at.column at.device (seat-device y cols s i at stands) in
     let miss : is_at_hand (rows at.device) at.row ≡ false = ap (λ r. is_at_hand r at.row) (sym same) ∙ (sym c.is_at_hand.ensures ∙ c.if-is_at_hand.false) in
-    let count : c.min-rows.result ≡ rows_from y c.args.most at.row = c.min-rows.ensures ∙ ap (λ r. min c.args.most (r - at.row)) c.rows.ensures in
-    let start : c.sector_of-begin.result ≡ u * window_at c.args.most at.column = c.sector_of-begin.ensures ∙ (ap (λ x. x * c.window_at-window.result) c.unit_sectors-sectors.ensures ∙ ap (λ x. u * x) c.window_at-window.ensures) in
-    let less : window_at c.args.most at.column + c.min-rows.result ≤ window_at c.args.most at.column + c.args.most = omega (arith, c.min-rows.ensures) in
-    let most : u * (window_at c.args.most at.column + c.min-rows.result) ≤ u * (window_at c.args.most at.column + c.args.most) = mul-le-mul_left u less in
-    let inside : 512 * c.sector_of-begin.result + 512 * (c.min-rows.result * u) ≤ length c.args.ahead.now = omega (arith, start, most, mul-add u (window_at c.args.most at.column) c.min-rows.result, mul_comm u c.min-rows.result, c.requires.windows.within at.column within.0) in
+    let count : c.min-rows.result ≡ rows_from y c.args.windows.most at.row = c.min-rows.ensures ∙ ap (λ r. min c.args.windows.most (r - at.row)) c.rows.ensures in
+    let start : c.sector_of-begin.result ≡ u * window_at c.args.windows at.column = c.sector_of-begin.ensures ∙ (ap (λ x. x * c.window_at-window.result) c.unit_sectors-sectors.ensures ∙ ap (λ x. u * x) c.window_at-window.ensures) in
+    let less : window_at c.args.windows at.column + c.min-rows.result ≤ window_at c.args.windows at.column + c.args.windows.most = omega (arith, c.min-rows.ensures) in
+    let most : u * (window_at c.args.windows at.column + c.min-rows.result) ≤ u * (window_at c.args.windows at.column + c.args.windows.most) = mul-le-mul_left u less in
+    let inside : 512 * c.sector_of-begin.result + 512 * (c.min-rows.result * u) ≤ length c.args.ahead.now = omega (arith, start, most, mul-add u (window_at c.args.windows at.column) c.min-rows.result, mul_comm u c.min-rows.result, c.requires.windows.within at.column within.0) in
     let w = subst (λ x. IsReadInto g.D.Disk at x (c.min-rows.result * x) c.args.devices.now c.read_into.new.devices c.sector_of-begin.result c.args.ahead.now c.read_into.new.bytes (is_ok c.read_into.result)) c.unit_sectors-sectors.ensures c.read_into.ensures.read in
-    miss-loads g.D.Disk y c.args.most cols s i at c.requires.stripe c.requires.unit stands there rows c.args.devices.now c.args.hands.now c.args.ahead.now h c.requires.windows.some c.requires.array.order c.requires.hands below within.1 miss c.read_into.new.devices c.sector_of-begin.result c.min-rows.result c.read_into.new.bytes false count start
+    miss-loads g.D.Disk y c.args.windows cols s i at c.requires.stripe c.requires.unit stands there rows c.args.devices.now c.args.hands.now c.args.ahead.now h c.requires.windows.some (many-beside y c.args.windows _ c.requires.windows) c.requires.array.order c.requires.hands below within.1 miss c.read_into.new.devices c.sector_of-begin.result c.min-rows.result c.read_into.new.bytes false count start
     inside (subst (IsReadInto g.D.Disk at u (c.min-rows.result * u) c.args.devices.now c.read_into.new.devices c.sector_of-begin.result c.args.ahead.now c.read_into.new.bytes) (ap is_ok c.in-Err.is) w) at.row (omega arith) _ refl (λ from e. let u : ⊥ = cc in absurd u) refl
 
 pub returns-in-Err-clause-hands : goal.returns-in-Err-clause-hands
@@ -228,7 +229,7 @@ returns-in-Err-clause-hands g c =
     let stands : seat y cols s i ≡ Some at = sym (spot-seat y cols s i there) ∙ (sym c.spot.ensures.spot ∙ c.in-Some.is) in
     let within = seat-within y cols s i at law c.requires.stripe c.requires.unit stands in
     let below : at.column < 32 = omega (arith, within.0, law.columns_most) in
-    hands-set c.args.most c.args.hands.now at.column _ below (omega arith) c.requires.hands
+    hands-set c.args.windows.most c.args.hands.now at.column _ below (omega arith) c.requires.hands
 
 pub returns-then-is_at_hand-clause-window : goal.returns-then-is_at_hand-clause-window
 returns-then-is_at_hand-clause-window g c to is =
@@ -243,9 +244,9 @@ returns-then-is_at_hand-clause-window g c to is =
     let same : at ≡ to = cc in
     let far : ℕ = at.row - (rows_at c.args.hands.now at.column).first in
     let hand = at_hand-is (rows_at c.args.hands.now at.column) at.row (sym c.is_at_hand.ensures ∙ c.if-is_at_hand.true) in
-    let short : far < c.args.most = omega (arith, hand.0, hand.1, c.requires.hands.few at.column) in
-    let place : c.sector_of.result ≡ y.unit_sectors * (window_at c.args.most at.column + far) = c.sector_of.ensures ∙ (ap (λ x. x * (c.window_at-window.result + far)) c.unit_sectors-sectors.ensures ∙ ap (λ x. y.unit_sectors * (x + far)) c.window_at-window.ensures) in
-    subst (λ (q : Spot). IsInWindow y c.args.most q.column (512 * c.sector_of.result)) same (hit-window y c.args.most at.column far _ short (ap (λ n. 512 * n) place))
+    let short : far < c.args.windows.most = omega (arith, hand.0, hand.1, c.requires.hands.few at.column) in
+    let place : c.sector_of.result ≡ y.unit_sectors * (window_at c.args.windows at.column + far) = c.sector_of.ensures ∙ (ap (λ x. x * (c.window_at-window.result + far)) c.unit_sectors-sectors.ensures ∙ ap (λ x. y.unit_sectors * (x + far)) c.window_at-window.ensures) in
+    subst (λ (q : Spot). IsInWindow y c.args.windows q.column (512 * c.sector_of.result)) same (hit-window y c.args.windows at.column far _ short (ap (λ n. 512 * n) place))
 
 pub returns-in-Ok-clause-window : goal.returns-in-Ok-clause-window
 returns-in-Ok-clause-window g c to is =
@@ -261,8 +262,8 @@ returns-in-Ok-clause-window g c to is =
     let law = g.met.L.Layout.is_layout c.args.layout.now in
     let within = seat-within y cols s i at law c.requires.stripe c.requires.unit stands in
     let u = y.unit_sectors in
-    let start : c.sector_of-begin.result ≡ u * window_at c.args.most at.column = c.sector_of-begin.ensures ∙ (ap (λ x. x * c.window_at-window.result) c.unit_sectors-sectors.ensures ∙ ap (λ x. u * x) c.window_at-window.ensures) in
-    subst (λ (q : Spot). IsInWindow y c.args.most q.column (512 * c.sector_of-begin.result)) same (miss-window y c.args.most at.column c.sector_of-begin.result c.requires.windows.some start)
+    let start : c.sector_of-begin.result ≡ u * window_at c.args.windows at.column = c.sector_of-begin.ensures ∙ (ap (λ x. x * c.window_at-window.result) c.unit_sectors-sectors.ensures ∙ ap (λ x. u * x) c.window_at-window.ensures) in
+    subst (λ (q : Spot). IsInWindow y c.args.windows q.column (512 * c.sector_of-begin.result)) same (miss-window y c.args.windows at.column c.sector_of-begin.result c.requires.windows.some start)
 
 pub returns-in-Ok-clause-outside : goal.returns-in-Ok-clause-outside
 returns-in-Ok-clause-outside g c to is n outside =
@@ -278,13 +279,13 @@ returns-in-Ok-clause-outside g c to is n outside =
     let law = g.met.L.Layout.is_layout c.args.layout.now in
     let within = seat-within y cols s i at law c.requires.stripe c.requires.unit stands in
     let u = y.unit_sectors in
-    let start : c.sector_of-begin.result ≡ u * window_at c.args.most at.column = c.sector_of-begin.ensures ∙ (ap (λ x. x * c.window_at-window.result) c.unit_sectors-sectors.ensures ∙ ap (λ x. u * x) c.window_at-window.ensures) in
-    let few : c.min-rows.result ≤ c.args.most = omega (arith, c.min-rows.ensures) in
-    let less : window_at c.args.most at.column + c.min-rows.result ≤ window_at c.args.most at.column + c.args.most = omega (arith, few) in
-    let most : u * (window_at c.args.most at.column + c.min-rows.result) ≤ u * (window_at c.args.most at.column + c.args.most) = mul-le-mul_left u less in
-    let inside : 512 * c.sector_of-begin.result + 512 * (c.min-rows.result * u) ≤ length c.args.ahead.now = omega (arith, start, most, mul-add u (window_at c.args.most at.column) c.min-rows.result, mul_comm u c.min-rows.result, c.requires.windows.within at.column within.0) in
+    let start : c.sector_of-begin.result ≡ u * window_at c.args.windows at.column = c.sector_of-begin.ensures ∙ (ap (λ x. x * c.window_at-window.result) c.unit_sectors-sectors.ensures ∙ ap (λ x. u * x) c.window_at-window.ensures) in
+    let few : c.min-rows.result ≤ c.args.windows.most = omega (arith, c.min-rows.ensures) in
+    let less : window_at c.args.windows at.column + c.min-rows.result ≤ window_at c.args.windows at.column + c.args.windows.most = omega (arith, few) in
+    let most : u * (window_at c.args.windows at.column + c.min-rows.result) ≤ u * (window_at c.args.windows at.column + c.args.windows.most) = mul-le-mul_left u less in
+    let inside : 512 * c.sector_of-begin.result + 512 * (c.min-rows.result * u) ≤ length c.args.ahead.now = omega (arith, start, most, mul-add u (window_at c.args.windows at.column) c.min-rows.result, mul_comm u c.min-rows.result, c.requires.windows.within at.column within.0) in
     let w = subst (λ x. IsReadInto g.D.Disk at x (c.min-rows.result * x) c.args.devices.now c.read_into.new.devices c.sector_of-begin.result c.args.ahead.now c.read_into.new.bytes (is_ok c.read_into.result)) c.unit_sectors-sectors.ensures c.read_into.ensures.read in
-    read-outside g.D.Disk y c.args.most at c.args.devices.now c.read_into.new.devices c.sector_of-begin.result c.min-rows.result c.args.ahead.now c.read_into.new.bytes (is_ok c.read_into.result) start few inside w n (subst (λ (q : Spot). IsOutside y c.args.most q.column n) (sym same) outside)
+    read-outside g.D.Disk y c.args.windows at c.args.devices.now c.read_into.new.devices c.sector_of-begin.result c.min-rows.result c.args.ahead.now c.read_into.new.bytes (is_ok c.read_into.result) start few inside w n (subst (λ (q : Spot). IsOutside y c.args.windows q.column n) (sym same) outside)
 
 pub returns-in-Err-clause-outside : goal.returns-in-Err-clause-outside
 returns-in-Err-clause-outside g c to is n outside =
@@ -300,10 +301,41 @@ returns-in-Err-clause-outside g c to is n outside =
     let law = g.met.L.Layout.is_layout c.args.layout.now in
     let within = seat-within y cols s i at law c.requires.stripe c.requires.unit stands in
     let u = y.unit_sectors in
-    let start : c.sector_of-begin.result ≡ u * window_at c.args.most at.column = c.sector_of-begin.ensures ∙ (ap (λ x. x * c.window_at-window.result) c.unit_sectors-sectors.ensures ∙ ap (λ x. u * x) c.window_at-window.ensures) in
-    let few : c.min-rows.result ≤ c.args.most = omega (arith, c.min-rows.ensures) in
-    let less : window_at c.args.most at.column + c.min-rows.result ≤ window_at c.args.most at.column + c.args.most = omega (arith, few) in
-    let most : u * (window_at c.args.most at.column + c.min-rows.result) ≤ u * (window_at c.args.most at.column + c.args.most) = mul-le-mul_left u less in
-    let inside : 512 * c.sector_of-begin.result + 512 * (c.min-rows.result * u) ≤ length c.args.ahead.now = omega (arith, start, most, mul-add u (window_at c.args.most at.column) c.min-rows.result, mul_comm u c.min-rows.result, c.requires.windows.within at.column within.0) in
+    let start : c.sector_of-begin.result ≡ u * window_at c.args.windows at.column = c.sector_of-begin.ensures ∙ (ap (λ x. x * c.window_at-window.result) c.unit_sectors-sectors.ensures ∙ ap (λ x. u * x) c.window_at-window.ensures) in
+    let few : c.min-rows.result ≤ c.args.windows.most = omega (arith, c.min-rows.ensures) in
+    let less : window_at c.args.windows at.column + c.min-rows.result ≤ window_at c.args.windows at.column + c.args.windows.most = omega (arith, few) in
+    let most : u * (window_at c.args.windows at.column + c.min-rows.result) ≤ u * (window_at c.args.windows at.column + c.args.windows.most) = mul-le-mul_left u less in
+    let inside : 512 * c.sector_of-begin.result + 512 * (c.min-rows.result * u) ≤ length c.args.ahead.now = omega (arith, start, most, mul-add u (window_at c.args.windows at.column) c.min-rows.result, mul_comm u c.min-rows.result, c.requires.windows.within at.column within.0) in
     let w = subst (λ x. IsReadInto g.D.Disk at x (c.min-rows.result * x) c.args.devices.now c.read_into.new.devices c.sector_of-begin.result c.args.ahead.now c.read_into.new.bytes (is_ok c.read_into.result)) c.unit_sectors-sectors.ensures c.read_into.ensures.read in
-    read-outside g.D.Disk y c.args.most at c.args.devices.now c.read_into.new.devices c.sector_of-begin.result c.min-rows.result c.args.ahead.now c.read_into.new.bytes (is_ok c.read_into.result) start few inside w n (subst (λ (q : Spot). IsOutside y c.args.most q.column n) (sym same) outside)
+    read-outside g.D.Disk y c.args.windows at c.args.devices.now c.read_into.new.devices c.sector_of-begin.result c.min-rows.result c.args.ahead.now c.read_into.new.bytes (is_ok c.read_into.result) start few inside w n (subst (λ (q : Spot). IsOutside y c.args.windows q.column n) (sym same) outside)
+
+pub window_at-window-requires-clause-apart : goal.window_at-window-requires-clause-apart
+window_at-window-requires-clause-apart g c = apart-few (g.L.Layout.shape c.args.layout.now) c.args.windows _ (g.met.L.Layout.is_layout c.args.layout.now) c.requires.windows
+
+pub overflow_add-window : goal.overflow_add-window
+overflow_add-window g c =
+    let y = g.L.Layout.shape c.args.layout.now in
+    let cols = c.args.cols.now.states in
+    let at = c.in-Some.at in
+    let law = g.met.L.Layout.is_layout c.args.layout.now in
+    let stands : seat y cols c.args.stripe c.args.unit ≡ Some at = sym (spot-seat y cols c.args.stripe c.args.unit (c.requires.complete c.args.unit c.requires.unit)) ∙ (sym c.spot.ensures.spot ∙ c.in-Some.is) in
+    let within = seat-within y cols c.args.stripe c.args.unit at law c.requires.stripe c.requires.unit stands in
+    let hand = at_hand-is (rows_at c.args.hands.now at.column) at.row (sym c.is_at_hand.ensures ∙ c.if-is_at_hand.true) in
+    let far : ℕ = at.row - (rows_at c.args.hands.now at.column).first in
+    let few = row-few y c.args.windows _ at.column far law c.requires.windows within.0 (omega (arith, hand.0, hand.1, c.requires.hands.few at.column)) in
+    omega (arith, few, c.window_at-window.ensures)
+
+pub overflow_mul-result : goal.overflow_mul-result
+overflow_mul-result g c =
+    let y = g.L.Layout.shape c.args.layout.now in
+    let cols = c.args.cols.now.states in
+    let at = c.in-Some.at in
+    let law = g.met.L.Layout.is_layout c.args.layout.now in
+    let stands : seat y cols c.args.stripe c.args.unit ≡ Some at = sym (spot-seat y cols c.args.stripe c.args.unit (c.requires.complete c.args.unit c.requires.unit)) ∙ (sym c.spot.ensures.spot ∙ c.in-Some.is) in
+    let within = seat-within y cols c.args.stripe c.args.unit at law c.requires.stripe c.requires.unit stands in
+    let hand = at_hand-is (rows_at c.args.hands.now at.column) at.row (sym c.is_at_hand.ensures ∙ c.if-is_at_hand.true) in
+    let far : ℕ = at.row - (rows_at c.args.hands.now at.column).first in
+    let few = row-few y c.args.windows _ at.column far law c.requires.windows within.0 (omega (arith, hand.0, hand.1, c.requires.hands.few at.column)) in
+    let row : ℕ = c.window_at-window.result + far in
+    let sectors : c.unit_sectors-sectors.result * row ≤ 128 * row = mul-le-mul_right row (let a : c.unit_sectors-sectors.result ≤ 128 = omega (arith, law.unit_most, c.unit_sectors-sectors.ensures) in a) in
+    omega (arith, sectors, c.sector_of.ensures, few, c.window_at-window.ensures)

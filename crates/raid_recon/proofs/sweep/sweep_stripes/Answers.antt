@@ -13,9 +13,9 @@ use Rattle.raid_recon.proofs.sweep.sweep_stripes.Goals as goal
 
 pub loop-stripe-init : goal.loop-stripe-init
 loop-stripe-init g c = record {
-  sweeping = sweeping-none g.D.Disk c.args.kind (g.L.Layout.shape c.args.layout.now) c.args.most c.args.columns.now c.args.devices.now c.args.hands.now c.args.ahead.now (no-hands c.args.hands.now c.requires.hands);
+  sweeping = sweeping-none g.D.Disk c.args.kind (g.L.Layout.shape c.args.layout.now) c.args.windows c.args.columns.now c.args.devices.now c.args.hands.now c.args.ahead.now (no-hands c.args.hands.now c.requires.hands);
   judge = c.requires.judge;
-  hands = are-hands c.args.most c.args.hands.now c.requires.hands;
+  hands = are-hands c.args.windows.most c.args.hands.now c.requires.hands;
   long = refl;
   sum = c.requires.sum;
 }
@@ -24,7 +24,7 @@ pub sweep_stripe-requires-clause-array : goal.sweep_stripe-requires-clause-array
 sweep_stripe-requires-clause-array g c =
     let y = g.L.Layout.shape c.args.layout.now in
     array-seated g.D.Disk y c.loop-stripe.columns c.loop-stripe.judge.states c.loop-stripe.devices c.loop-stripe.invariant.judge.states
-    (array-swept g.D.Disk c.args.kind y c.args.most c.args.columns.now c.loop-stripe.stripe c.loop-stripe.counted c.loop-stripe.columns c.args.devices.now c.loop-stripe.devices c.requires.array c.loop-stripe.invariant.sweeping.swept)
+    (array-swept g.D.Disk c.args.kind y c.args.windows c.args.columns.now c.loop-stripe.stripe c.loop-stripe.counted c.loop-stripe.columns c.args.devices.now c.loop-stripe.devices c.requires.array c.loop-stripe.invariant.sweeping.swept)
 
 pub overflow_add-counted : goal.overflow_add-counted
 overflow_add-counted g c =
@@ -36,9 +36,9 @@ pub lose-requires-clause-there : goal.lose-requires-clause-there
 lose-requires-clause-there g c =
     let y = g.L.Layout.shape c.args.layout.now in
     let was = c.loop-stripe.invariant in
-    let rows : ℕ → Rows = λ d. rows_in c.args.kind y c.args.most c.args.columns.now was.sweeping.swept.turns d in
-    let v = c.sweep_stripe.ensures.visits rows (subst (λ cs. IsAhead g.D.Disk y c.args.most cs c.loop-stripe.stripe rows c.loop-stripe.devices c.loop-stripe.hands c.loop-stripe.ahead) (sym was.judge.states) was.sweeping.ahead) in
-    let within = failed-within g.D.Disk c.args.kind y c.args.most c.loop-stripe.judge.states c.loop-stripe.stripe rows c.loop-stripe.devices c.sweep_stripe.new.devices c.sweep_stripe.new.hands c.sweep_stripe.new.ahead c.sweep_stripe.result v c.in-Err.failed c.in-Err.is
+    let rows : ℕ → Rows = λ d. rows_in c.args.kind y c.args.windows.most c.args.columns.now was.sweeping.swept.turns d in
+    let v = c.sweep_stripe.ensures.visits rows (subst (λ cs. IsAhead g.D.Disk y c.args.windows cs c.loop-stripe.stripe rows c.loop-stripe.devices c.loop-stripe.hands c.loop-stripe.ahead) (sym was.judge.states) was.sweeping.ahead) in
+    let within = failed-within g.D.Disk c.args.kind y c.args.windows c.loop-stripe.judge.states c.loop-stripe.stripe rows c.loop-stripe.devices c.sweep_stripe.new.devices c.sweep_stripe.new.hands c.sweep_stripe.new.ahead c.sweep_stripe.result v c.in-Err.failed c.in-Err.is
     (g.met.L.Layout.is_layout c.args.layout.now) c.requires.checks (omega (arith, c.loop-stripe-test.true, c.stripes-all.ensures)) in
     omega (arith, within, c.loop-stripe.invariant.sweeping.swept.dies.count, c.requires.array.entries)
 
@@ -46,9 +46,9 @@ pub lose-requires-clause-within : goal.lose-requires-clause-within
 lose-requires-clause-within g c =
     let y = g.L.Layout.shape c.args.layout.now in
     let was = c.loop-stripe.invariant in
-    let rows : ℕ → Rows = λ d. rows_in c.args.kind y c.args.most c.args.columns.now was.sweeping.swept.turns d in
-    let v = c.sweep_stripe.ensures.visits rows (subst (λ cs. IsAhead g.D.Disk y c.args.most cs c.loop-stripe.stripe rows c.loop-stripe.devices c.loop-stripe.hands c.loop-stripe.ahead) (sym was.judge.states) was.sweeping.ahead) in
-    let within = failed-within g.D.Disk c.args.kind y c.args.most c.loop-stripe.judge.states c.loop-stripe.stripe rows c.loop-stripe.devices c.sweep_stripe.new.devices c.sweep_stripe.new.hands c.sweep_stripe.new.ahead c.sweep_stripe.result v c.in-Err.failed c.in-Err.is
+    let rows : ℕ → Rows = λ d. rows_in c.args.kind y c.args.windows.most c.args.columns.now was.sweeping.swept.turns d in
+    let v = c.sweep_stripe.ensures.visits rows (subst (λ cs. IsAhead g.D.Disk y c.args.windows cs c.loop-stripe.stripe rows c.loop-stripe.devices c.loop-stripe.hands c.loop-stripe.ahead) (sym was.judge.states) was.sweeping.ahead) in
+    let within = failed-within g.D.Disk c.args.kind y c.args.windows c.loop-stripe.judge.states c.loop-stripe.stripe rows c.loop-stripe.devices c.sweep_stripe.new.devices c.sweep_stripe.new.hands c.sweep_stripe.new.ahead c.sweep_stripe.result v c.in-Err.failed c.in-Err.is
     (g.met.L.Layout.is_layout c.args.layout.now) c.requires.checks (omega (arith, c.loop-stripe-test.true, c.stripes-all.ensures)) in
     omega (arith, within, c.loop-stripe.invariant.judge.fit.columns)
 
@@ -57,7 +57,7 @@ loop-stripe-preserved g c =
     let y = g.L.Layout.shape c.args.layout.now in
     let law = g.met.L.Layout.is_layout c.args.layout.now in
     let k = c.args.kind in
-    let m = c.args.most in
+    let m = c.args.windows in
     let s = c.loop-stripe.stripe in
     let n = c.loop-stripe.counted in
     let mid = c.loop-stripe.columns in
@@ -69,7 +69,7 @@ loop-stripe-preserved g c =
     let new = c.sweep_stripe.new.devices in
     let hands = c.sweep_stripe.new.hands in
     let bytes = c.sweep_stripe.new.ahead in
-    let rows : ℕ → Rows = λ d. rows_in k y m c.args.columns.now w.swept.turns d in
+    let rows : ℕ → Rows = λ d. rows_in k y m.most c.args.columns.now w.swept.turns d in
     let v = c.sweep_stripe.ensures.visits rows (subst (λ cs. IsAhead g.D.Disk y m cs s rows dev c.loop-stripe.hands c.loop-stripe.ahead) (sym was.judge.states) w.ahead) in
     let within : s < y.stripes = omega (arith, c.loop-stripe-test.true, c.stripes-all.ensures) in
     let order = (array-swept g.D.Disk k y m c.args.columns.now s n mid c.args.devices.now dev c.requires.array w.swept).order in
