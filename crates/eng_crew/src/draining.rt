@@ -8,10 +8,10 @@ ghost use Rattle.eng_array.specs.Tickets.{After};
 ghost use Rattle.eng_crew.specs.Drained.{Drained};
 ghost use Rattle.eng_crew.specs.Idle.{IsIdle};
 
-use crate::making::make;
+use crate::making::make_next;
 use crate::turns::LOOK;
 use blk_disk::Disk;
-use eng_array::{Chosen, Core};
+use eng_array::Core;
 use lay_core::Layout;
 use raid_progress::Progress;
 
@@ -50,9 +50,5 @@ fn drain_one<L: Layout, D: Disk>(core: &mut Core<L, D>) -> bool
     ensures idle { result ≡ false → IsIdle L.Layout core.new.array }
 {
     let next = core.next();
-    let Some(Chosen { event, at }) = core.choose_from(next) else {
-        return false
-    };
-    make(core, event, at);
-    true
+    make_next(core, next)
 }

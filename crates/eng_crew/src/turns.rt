@@ -5,7 +5,7 @@ ghost use Rattle.eng_array.specs.Steady.{IsSteady};
 ghost use Rattle.eng_crew.specs.Idle.{IsIdle};
 ghost use Rattle.eng_crew.specs.Laws.{TurnsTo};
 
-use crate::making::{make, send};
+use crate::making::{make_next, send};
 use blk_disk::Disk;
 use eng_array::{Chosen, Core, Job};
 use lay_core::Layout;
@@ -35,21 +35,6 @@ fn without_event<L: Layout, D: Disk>(core: &Core<L, D>) -> Found
     }
 }
 
-// One event, if there is one but the end of a job, and the end of the node that it fired; and whether there was one. The
-// clients are tried from one on.
-fn make_one<L: Layout, D: Disk>(core: &mut Core<L, D>, from: u32) -> bool
-    requires { IsSteady L.Layout D.Disk core.old.array }
-    ensures turned { TurnsTo L.Layout D.Disk core.old None core.new None }
-    ensures steady { IsSteady L.Layout D.Disk core.new.array }
-    ensures idle { (result ≡ true) ⊎ IsIdle L.Layout core.new.array }
-{
-    let Some(Chosen { event, at }) = core.choose_from(from) else {
-        return false
-    };
-    make(core, event, at);
-    true
-}
-
 // So many events with the ends of their nodes, as long as there are any; and whether there were.
 fn make_some<L: Layout, D: Disk>(core: &mut Core<L, D>, from: u32, count: u32) -> bool
     requires { IsSteady L.Layout D.Disk core.old.array }
@@ -59,7 +44,7 @@ fn make_some<L: Layout, D: Disk>(core: &mut Core<L, D>, from: u32, count: u32) -
 {
     let mut left = count;
     while left != 0 {
-        if !make_one(core, from) {
+        if !make_next(core, from) {
             return false;
         }
         left -= 1;

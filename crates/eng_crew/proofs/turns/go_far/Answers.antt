@@ -1,4 +1,4 @@
-use Rattle.std.proofs.Common.{Option, None, refl, subst}
+use Rattle.std.proofs.Common.{Option, None, subst}
 use Rattle.eng_job.specs.declared.job.Job.{Job}
 use Rattle.eng_crew.specs.Laws.{TurnsTo}
 use Rattle.eng_crew.proofs.Keeps.{turns-on}

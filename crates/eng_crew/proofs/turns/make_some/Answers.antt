@@ -7,7 +7,7 @@ pub loop-left-init : goal.loop-left-init
 loop-left-init g c = record { turned = turns-once g.L.Layout g.D.Disk c.args.core.now c.args.core.now None None (nothing refl refl); steady = c.requires }
 
 pub loop-left-preserved : goal.loop-left-preserved
-loop-left-preserved g c = record { turned = turns-on g.L.Layout g.D.Disk c.args.core.now c.loop-left.core c.make_one.new.core None None None c.loop-left.invariant.turned c.make_one.ensures.turned; steady = c.make_one.ensures.steady }
+loop-left-preserved g c = record { turned = turns-on g.L.Layout g.D.Disk c.args.core.now c.loop-left.core c.make_next.new.core None None None c.loop-left.invariant.turned c.make_next.ensures.turned; steady = c.make_next.ensures.steady }
 
-pub returns-then-not-make_one-clause-turned : goal.returns-then-not-make_one-clause-turned
-returns-then-not-make_one-clause-turned g c = turns-on g.L.Layout g.D.Disk c.args.core.now c.loop-left.core c.make_one.new.core None None None c.loop-left.invariant.turned c.make_one.ensures.turned
+pub returns-then-not-make_next-clause-turned : goal.returns-then-not-make_next-clause-turned
+returns-then-not-make_next-clause-turned g c = turns-on g.L.Layout g.D.Disk c.args.core.now c.loop-left.core c.make_next.new.core None None None c.loop-left.invariant.turned c.make_next.ensures.turned
