@@ -98,6 +98,9 @@ for round in $(seq "$rounds"); do
         copies "$round.$processor" "$built" ./plain5
         program=$folder/$(basename "$built").$round.$processor plain5=./plain5.$round.$processor
         on "$processor"
+        # Each copy runs once unmeasured: a first run that syncs its components waits for what was written just before, too.
+        run first conf --io empty -w 0
+        plain c.first run '' 32 empty
         run none conf --io empty -w 0
         plain c.none run '' 32 empty
         for workers in 0 1; do run "one$workers" conf --io one -w "$workers"; done
