@@ -117,6 +117,7 @@ module _ {L D : Type 0} (lay : LayoutGhosts L) (disk : DiskGhosts D) (setup : Se
     columns = s.opens.columns;
     items = λ c. ap (map seen) (s.opens.items c) ∙ asked-at setup.clients.items c;
     failed = s.opens.failed;
+    free = s.opens.free;
     contents = s.opens.contents;
     calls = s.opens.calls;
   }

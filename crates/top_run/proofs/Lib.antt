@@ -21,3 +21,4 @@ mod InTurnSummary
 pub mod InTurnSame
 pub mod InTurnHeld
 pub mod InTurn
+pub mod Effect

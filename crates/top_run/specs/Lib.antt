@@ -7,3 +7,4 @@ pub mod InTurn
 pub mod Outliving
 pub mod Ends
 pub mod Told
+pub mod Effect

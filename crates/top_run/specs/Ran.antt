@@ -67,12 +67,13 @@ module _ {D : Type 0} (g : Ghosts D) (a : Work) (taken : List (Option D)) where
 
   -- ## The run
 
-  -- An opening of what is asked: its columns and items; no device has failed; devices hold and tell what they did as they were taken, and the blocks are what they decode to. What a device holds is said where devices of this type tell it, and its calls where it tells them.
+  -- An opening of what is asked: its columns and items; no device has failed, and all buffers of the pool are free; devices hold and tell what they did as they were taken, and the blocks are what they decode to. What a device holds is said where devices of this type tell it, and its calls where it tells them.
   pub record Opens (w : World) : Type 0 where
     pub opening : IsOpening a.layout w
     pub columns : w.columns ≡ states_of a.layout a.columns
     pub items : (c : ℕ) → map seen (w.clients c).items ≡ slice_index_or a.clients c []
     pub failed : (d : ℕ) → w.failed d ≡ false
+    pub free : w.free ≡ 2048
     pub contents : g.tells → (d n k : ℕ) → k < 512 → w.contents d n k ≡ contents_of g taken d n k
     pub calls : (d : ℕ) → AreTold g (calls_of g taken d) (w.calls d)
 

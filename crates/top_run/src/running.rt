@@ -6,6 +6,8 @@ ghost use Rattle.eng_array.specs.Fitting.{FitsTrace};
 ghost use Rattle.raid_script.specs.Replies.{StandFor};
 ghost use Rattle.top_serve.specs.Setups.{IsFew, IsNotLost, IsServeRefusal};
 ghost use Rattle.top_run.specs.Works.{work_of, service_seen};
+ghost use Rattle.run_effect.specs.Effect.{TakesEffect};
+ghost use Rattle.top_run.specs.Effect.{answer_of, request_of};
 ghost use Rattle.top_run.specs.Ran.{RanPlain};
 
 use crate::ending::ended;
@@ -50,6 +52,8 @@ pub fn run_clients<
     ensures kept { IfOk result (λ r. IsNotLost L.Layout setup) }
     ensures ran { IfOk result (λ r. RanPlain D.Disk (work_of L.Layout setup None)
         setup.devices.items (service_seen r.0) r.1.items) }
+    ensures effect { IfOk result (λ r. TakesEffect D.Disk (request_of (work_of L.Layout setup None))
+        setup.devices.items r.1.items (answer_of (service_seen r.0))) }
     ensures stands { IfOk result
         (λ r. StandFor r.0.clients.items r.0.replies.items r.0.sectors) }
     ensures many { IfOk result (λ r. length r.1.items ≡ length setup.devices.items) }
