@@ -28,6 +28,7 @@ const NEEDS: Needs = Needs {
     excused: None,
     own: false,
     writes: true,
+    adopts: false,
 };
 
 fn labelled(serial: u32, counter: u32, column: u32) -> Front {
@@ -102,6 +103,47 @@ fn an_array_without_labels(rt: HostRuntime) -> Result<(), Fail> {
             column: 1,
             has: 64,
             needs: 65,
+        }),
+    );
+    Ok(())
+}
+
+// A round was stopped behind its first label: by the counters two columns are dead, and none where the devices are adopted
+// that the newest label names.
+#[test]
+fn an_array_that_is_adopted(rt: HostRuntime) -> Result<(), Fail> {
+    let fronts = [labelled(7, 5, 0), labelled(7, 4, 1), labelled(7, 2, 2)];
+    let Ok(array) = opened(&rt, &NEEDS, [128; 3], fronts) else {
+        return Err("refused".into())
+    };
+    same(
+        &rt,
+        array.columns.as_slice(),
+        [Column::Live { device: 0 }, Column::Dead, Column::Dead].as_slice(),
+    );
+    let needs = Needs {
+        adopts: true,
+        ..NEEDS
+    };
+    let fronts = [labelled(7, 5, 0), labelled(7, 4, 1), labelled(7, 2, 2)];
+    let Ok(array) = opened(&rt, &needs, [128; 3], fronts) else {
+        return Err("refused".into())
+    };
+    same(&rt, array.columns.as_slice(), LIVE.as_slice());
+    let foreign = opened(
+        &rt,
+        &needs,
+        [128; 3],
+        [labelled(7, 5, 0), labelled(8, 4, 1), labelled(7, 4, 2)],
+    );
+    same(
+        &rt,
+        foreign.err(),
+        Some(OpenFault::Label {
+            column: 1,
+            code: 2,
+            found: 8,
+            wanted: 7,
         }),
     );
     Ok(())

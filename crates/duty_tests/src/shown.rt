@@ -269,6 +269,7 @@ fn opened(alloc: Global, fronts: &[Front]) -> Result<Opened, Fail>
         excused: None,
         own: false,
         writes: false,
+        adopts: false,
     };
     let plan = Plan {
         unit: 1,

@@ -15,7 +15,7 @@ use Rattle.top_open.specs.Plan.{is_present, sectors_for}
 use Rattle.top_open.specs.Labels.{label_at, shape_refusal}
 use Rattle.top_open.specs.Seats.{columns_below, is_same, is_sound, judged_at, seat_of, sized_device, small_at}
 use Rattle.top_open.specs.Steps.{is_spread_below, kept_if_sound, seat_at, small_refusal}
-use Rattle.top_open.specs.Opening.{Opened, columns_in, counter_refusal, labelled_in, seats_in, small_in}
+use Rattle.top_open.specs.Opening.{Opened, columns_in, counter_refusal, floored, labelled_in, seats_in, small_in}
 use Rattle.top_open.proofs.Below.{length-columns_below}
 use Rattle.top_open.proofs.LargeEnough.{columns_of, get_there, large, no_refusal, none_below, rows_of}
 use Rattle.top_open.proofs.OwnDevices.{columns_below-get, not_refused}
@@ -60,7 +60,7 @@ module _ (q : Needs) (p : Plan) (present : List Bool) (sizes : List ℕ) (fronts
   n = length present
 
   -- what it is made of
-  made : ◌≡◌ {A = Result Opened OpenFault} (Ok (record { rows = l.rows; seats = seats; columns = columns_in l fronts seats; newest = Some l })) (Ok o)
+  made : ◌≡◌ {A = Result Opened OpenFault} (Ok (record { rows = l.rows; seats = seats; columns = columns_in (floored q.adopts l) fronts seats; newest = Some l })) (Ok o)
   unfolding labelled_in
   made = not_refused (counter_refusal q l) _ o (not_refused (first_below (judged_at q.excused l fronts seats) n) _ o (not_refused (small_in q.excused q.own sizes (sectors_for p l.rows) seats n) _ o (not_refused (shape_refusal p n l) _ o h)))
 
@@ -85,11 +85,11 @@ module _ (q : Needs) (p : Plan) (present : List Bool) (sizes : List ℕ) (fronts
   pub live_seat : (c d : ℕ) → slice_get o.columns c ≡ Some (column.Live d) → slice_get o.seats c ≡ Some (column.Live d)
   unfolding columns_in columns_of
   live_seat c d here =
-      let f : ℕ → Column = λ i. kept_if_sound l fronts i (slice_index_or seats i column.Dead) in
+      let f : ℕ → Column = λ i. kept_if_sound (floored q.adopts l) fronts i (slice_index_or seats i column.Dead) in
       let cols : columns_below f (length seats) ≡ o.columns = ap columns_of made in
       let there : slice_get (columns_below f (length seats)) c ≡ Some (column.Live d) = ap (λ (s : List Column). slice_get s c) cols ∙ here in
       let inside : c < length seats = omega (arith, slice_get_within (columns_below f (length seats)) c (column.Live d) there, length-columns_below f (length seats)) in
-      let seat : slice_get seats c ≡ Some (column.Live d) = get_there seats c (column.Live d) inside (kept_live l fronts c d _ (columns_below-get f (length seats) c (column.Live d) there)) in
+      let seat : slice_get seats c ≡ Some (column.Live d) = get_there seats c (column.Live d) inside (kept_live (floored q.adopts l) fronts c d _ (columns_below-get f (length seats) c (column.Live d) there)) in
       sym (ap (λ (s : List Column). slice_get s c) seats_are) ∙ seat
 
   -- which is its own disk, or a spare behind the columns

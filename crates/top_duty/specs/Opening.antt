@@ -59,6 +59,7 @@ needs_for action comp = record {
   excused = excused_by (profile_of action).component comp;
   own = own_by (profile_of action).rebuild;
   writes = (profile_of action).writes;
+  adopts = false;
 }
 
 abbrev pub needs_of : Asked → Needs
@@ -68,6 +69,7 @@ needs_of k = record {
   excused = excused_by (profile_of k.command.action).component k.comp;
   own = own_by (profile_of k.command.action).rebuild;
   writes = (profile_of k.command.action).writes;
+  adopts = k.command.adopt;
 }
 
 -- ## What it takes of the configuration

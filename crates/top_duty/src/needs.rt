@@ -40,11 +40,15 @@ fn needs_for(action: Action<'_>, comp: Option<u32>) -> Needs
         excused: excused_by(profile.component, comp),
         own: own_by(profile.rebuild),
         writes: profile.writes,
+        adopts: false,
     }
 }
 
 pub(crate) fn needs_of(asked: &Asked<'_>) -> Needs
     ensures { result ≡ needs_of (asked_seen asked.now) }
 {
-    needs_for(asked.command.action, asked.comp)
+    Needs {
+        adopts: asked.command.adopt,
+        ..needs_for(asked.command.action, asked.comp)
+    }
 }

@@ -16,7 +16,7 @@ use Rattle.top_open.specs.First.{first_below}
 use Rattle.top_open.specs.Plan.{is_present, sectors_for}
 use Rattle.top_open.specs.Labels.{label_at, newest_below, shape_refusal, label_of}
 use Rattle.top_open.specs.Seats.{columns_below, own_disk, is_unread, is_sound, judged_at, seat_of}
-use Rattle.top_open.specs.Opening.{Opened, judged_in, unlabelled_in, labelled_in, unlabelled_refusal, counter_refusal, small_in, seats_in, columns_in}
+use Rattle.top_open.specs.Opening.{Opened, judged_in, unlabelled_in, labelled_in, unlabelled_refusal, counter_refusal, small_in, seats_in, columns_in, floored}
 use Rattle.top_open.specs.Steps.{labelled_if, is_unlabelled, read_disk, kept_if_sound, seat_at, is_spread_below}
 use Rattle.top_open.proofs.Below.{length-columns_below}
 use Rattle.top_open.proofs.Counting.{count_none, count_one}
@@ -139,13 +139,13 @@ module _ (q : Needs) (p : Plan) (present : List Bool) (sizes : List ℕ) (fronts
       let seats = columns_below (seat_at p present n l) n in
       let made = not_refused (counter_refusal q l) _ o (not_refused (first_below (judged_at q.excused l fronts seats) n) _ o (not_refused (small_in q.excused q.own sizes (sectors_for p l.rows) seats n) _ o (not_refused (shape_refusal p n l) _ o h))) in
       let some : Some l ≡ o.newest = ap newest_of made in
-      let f : ℕ → Column = λ i. kept_if_sound l fronts i (slice_index_or seats i column.Dead) in
+      let f : ℕ → Column = λ i. kept_if_sound (floored q.adopts l) fronts i (slice_index_or seats i column.Dead) in
       let many : length seats ≡ n = length-columns_below (seat_at p present n l) n in
       record {
         make = f;
         are = ap (columns_below f) (sym many) ∙ ap columns_of made;
         each = λ c lt. subst (λ (k : Option Label). IsColumn (n + p.spares) fronts (is_labelled k) (f c)) some
-            (kept_is l fronts c (n + p.spares) (slice_index_or seats c column.Dead)
+            (kept_is (floored q.adopts l) fronts c (n + p.spares) (slice_index_or seats c column.Dead)
             (λ d e. seat_is p present n c (is_spread_below l c) (slice_index l.seats c) lt d (sym (seat_there (seat_at p present n l) n c lt) ∙ e)));
       }
 

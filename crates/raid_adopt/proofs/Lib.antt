@@ -1,0 +1,10 @@
+pub mod Newest
+pub mod Placed
+pub mod Reopening
+pub mod Stopped
+pub mod Opening
+pub mod Following
+pub mod Beginning
+pub mod Columns
+pub mod Adopted
+pub mod Rows
