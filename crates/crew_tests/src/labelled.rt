@@ -134,18 +134,19 @@ fn a_dirty_array_is_swept(rt: HostRuntime) -> Result<(), Fail> {
     Ok(())
 }
 
-// The second device fails the read of its map, which is its first call, its label, or its first write;
-// or, without clients, as it is settled before the closing round, or behind it.
+// The second device fails the read of its map, which is its first call, its label, the settle behind that, or its first
+// write; or, without clients, as it is settled before the closing round, in that round, or behind it.
 #[test]
 fn a_device_that_fails_is_out_of_the_labels(rt: HostRuntime) -> Result<(), Fail> {
     let alloc = rt.alloc();
     const CALLS: &[(u32, u8, bool)] = &[
         (0, 7, true),
         (1, 8, true),
-        (2, 7, true),
-        (2, 7, false),
-        (3, 8, false),
+        (2, 8, true),
+        (3, 7, true),
+        (3, 7, false),
         (4, 8, false),
+        (5, 8, false),
     ];
     for row in CALLS {
         let (call, counter, busy) = *row;
@@ -162,20 +163,21 @@ fn a_device_that_fails_is_out_of_the_labels(rt: HostRuntime) -> Result<(), Fail>
     Ok(())
 }
 
-// Both devices fail as their maps are read, or by their first label; or both fail their first write.
+// Both devices fail as their maps are read, by their first label, or as they are settled behind it; or both fail their
+// first write.
 #[test]
 fn a_lost_array_is_served_no_more(rt: HostRuntime) -> Result<(), Fail> {
     let alloc = rt.alloc();
-    for call in [0, 1, 2] {
+    for call in [0, 1, 2, 3] {
         let labelled = array_of(alloc, (9, &[call]), (9, &[call]), true, 1)?;
         match run_labelled(&rt, alloc, labelled, 0, &Silent) {
             Ok((outcome, _devices)) => match outcome {
                 Outcome::Lost(ending) => {
-                    holds(&rt, call < 2);
+                    holds(&rt, call < 3);
                     holds(&rt, ending.lost.is_some());
                 }
                 Outcome::Ran(service) => {
-                    same(&rt, call, 2);
+                    same(&rt, call, 3);
                     holds(&rt, service.lost.is_some());
                 }
             },

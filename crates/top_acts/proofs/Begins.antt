@@ -1,6 +1,7 @@
 -- What announces that sectors of the rows are going to be written, and a sweep behind it.
-use Rattle.std.proofs.Common.{◌≡◌, ◌⊎◌, ◌∙◌, ℕ, ◌+◌, ◌<◌, ◌≤◌, List, [], ◌++◌, true, false, length, Option, Some, None, refl, sym, ap, subst, inl, inr, append-nil, arith}
-use Rattle.std.specs.Prelude.{All, count_by, is_some}
+use Rattle.std.proofs.Common.{◌≡◌, ◌⊎◌, ◌∙◌, ℕ, ◌+◌, ◌<◌, ◌≤◌, List, [], ◌++◌, true, length, Option, Some, None, refl, sym, ap, subst, inl, inr, append-nil, arith}
+use Rattle.std.specs.Prelude.{All, Bool, count_by, is_some}
+use Rattle.std.proofs.lemmas.Bool.{cases_lt}
 use Rattle.blk_disk.specs.declared.disk.Call.{Call}
 use Rattle.blk_disk.specs.declared.disk.Disk.{Ghosts}
 use Rattle.blk_disk.specs.Devices.{Changes}
@@ -23,13 +24,14 @@ use Rattle.top_rounds.specs.Rounds.{CountsRounds, HaveRounds, clean_in_end}
 use Rattle.top_close.proofs.StageLaws.{live_before, stage-then, stage_as, told-others}
 use Rattle.top_rounds.proofs.RoundLaws.{counts-none, counts-then, counts_few, round_again, stage_of_rounds}
 use Rattle.top_acts.specs.Stages.{AreStaged}
-use Rattle.top_acts.specs.Begun.{HasBegun, HasSeats, MayBegin, MaySweep, SweepHas}
+use Rattle.top_acts.specs.Begun.{HasBegun, MayBegin, MaySweep, SweepHas}
+use Rattle.top_acts.specs.Seats.{HasSeats, names}
 use Rattle.top_acts.specs.Marking.{AreNotice}
 use Rattle.top_acts.specs.Behind.{SweepsLabelled, AreLast}
 use Rattle.top_acts.specs.Failed.{EndsFailed}
 use Rattle.top_acts.specs.Sweeping.{DoesSweeps, SweepsBehind}
-use Rattle.top_acts.specs.Sweeps.{Sweeps, Nothing, Over, Marked, Notice, Round, Marks, wrote_round}
-use Rattle.top_acts.proofs.Announced.{AreAnnounced, IsAnnounced, MayAnnounce, no_bool}
+use Rattle.top_acts.specs.Sweeps.{Sweeps, Nothing, Over, Marked, Notice, Round, Marks, clean_in, rounds_for}
+use Rattle.top_acts.proofs.Announced.{AreAnnounced, IsAnnounced, MayAnnounce, not_greater}
 use Rattle.top_acts.proofs.Backs.{died}
 use Rattle.top_acts.proofs.Counted.{counted_rounds}
 use Rattle.top_acts.proofs.Ended.{clean_none, no_loss}
@@ -45,20 +47,31 @@ no_none h = absurd (let u : ⊥ = cc in u)
 
 -- ## Labels
 
--- where a round was written in both, or in the second alone, the label in the end isn't clean
-label_again : (notice : Notice) (lost : Option Loss) (label first next : Label) → (wrote_round notice None ≡ true → first ≡ with_round label first.counter 0 (seating_in first)) → (wrote_round notice None ≡ false → first ≡ label)
-    → next ≡ with_round first next.counter (clean_in_end lost first.clean) (seating_in next) → wrote_round notice lost ≡ true → next ≡ with_round label next.counter 0 (seating_in next)
-label_again Round lost label first next was same is wrote =
-    round_again label first next 0 next.counter 0 (seating_in next) (was refl)
-    (is ∙ ap (λ k. with_round first next.counter k (seating_in next)) (ap (clean_in_end lost) (ap (λ (l : Label). l.clean) (was refl)) ∙ clean_none lost))
-label_again (Marks map) None label first next was same is wrote = no_bool (sym wrote)
-label_again (Marks map) (Some loss) label first next was same is wrote = subst (λ (l : Label). next ≡ with_round l next.counter 0 (seating_in next)) (same refl) is
+-- of numbers none of which is less than the one before, the last is as the first where all are
+between : (l f n : ℕ) → l ≤ f → f ≤ n → n ≡ l → (f ≡ l) × (n ≡ f)
+between l f n one two same = (omega (arith, one, two, same), omega (arith, one, two, same))
 
--- where none was written
-kept_again : (notice : Notice) (lost : Option Loss) (label first next : Label) → (wrote_round notice None ≡ false → first ≡ label) → (lost ≡ None → next ≡ first) → wrote_round notice lost ≡ false → next ≡ label
-kept_again Round lost label first next was is wrote = no_bool wrote
-kept_again (Marks map) None label first next was is wrote = is refl ∙ was refl
-kept_again (Marks map) (Some loss) label first next was is wrote = no_bool wrote
+clean_again : (notice : Notice) (lost : Option Loss) (clean : ℕ) → clean_in_end lost (clean_in notice None clean) ≡ clean_in notice lost clean
+clean_again Round lost clean = clean_none lost
+clean_again (Marks map) lost clean = refl
+
+clean_kept : (notice : Notice) (named : Bool) (lost : Option Loss) (clean : ℕ) → rounds_for notice named ≡ 0 → clean_in_end lost clean ≡ clean_in notice lost clean
+clean_kept Round named lost clean none = absurd (let z : 1 ≡ 0 = none in omega (arith, z))
+clean_kept (Marks map) named lost clean none = refl
+
+-- the label in the end, behind a round or none
+label_again : (notice : Notice) (named : Bool) (lost : Option Loss) (label first next : Label) → label.counter ≤ first.counter → (first.counter ≡ label.counter → rounds_for notice named ≡ 0)
+    → (label.counter < first.counter → first ≡ with_round label first.counter (clean_in notice None label.clean) (seating_in first)) → (first.counter ≡ label.counter → first ≡ label)
+    → next ≡ with_round first next.counter (clean_in_end lost first.clean) (seating_in next) → next ≡ with_round label next.counter (clean_in notice lost label.clean) (seating_in next)
+label_again notice named lost label first next least none was same is = elim (cases_lt label.counter first.counter) [
+  | inl less ↦
+      round_again label first next (clean_in notice None label.clean) next.counter (clean_in notice lost label.clean) (seating_in next) (was less)
+      (is ∙ ap (λ k. with_round first next.counter k (seating_in next)) (ap (clean_in_end lost) (ap (λ (l : Label). l.clean) (was less)) ∙ clean_again notice lost label.clean))
+  | inr not ↦
+      let equal : first.counter ≡ label.counter = omega (arith, least, not) in
+      subst (λ (l : Label). next ≡ with_round l next.counter (clean_in notice lost label.clean) (seating_in next)) (same equal)
+      (is ∙ ap (λ k. with_round first next.counter k (seating_in next)) (ap (clean_in_end lost) (ap (λ (l : Label). l.clean) (same equal)) ∙ clean_kept notice named lost label.clean (none equal)))
+]
 
 module _ {D : Type 0} (g : Ghosts D) (y : Shape) where
   -- ## The sweep
@@ -149,7 +162,7 @@ module _ {D : Type 0} (g : Ghosts D) (y : Shape) where
 
   -- and nothing behind it
   pub begun_only : (notice : Notice) (sweep : Sweeps) (label next : Label) (columns after : List Column) (old new : List (Option D)) (lost : Option Loss) → length columns ≤ 32 → count_by is_set_filling columns ≤ 1 → (lost ≡ None → sweep ≡ Nothing) → IsLossBy y None (states_of y after) lost
-      → IsAnnounced g notice label next columns after old new lost → HasBegun g notice sweep y label next columns after old new lost 0
+      → IsAnnounced g y notice label next columns after old new lost → HasBegun g notice sweep y label next columns after old new lost 0
   begun_only notice sweep label next columns after old new lost many few none is a =
       let stage = stage_as g (MayAnnounce notice columns) (MayBegin g notice sweep y columns old) (λ d. AreAnnounced notice lost) (λ d. AreStaged (AreNotice notice) (AreLast lost) sweep y (states_of y columns) d) lost columns after old new
       (announced_may notice sweep columns old)
@@ -161,6 +174,7 @@ module _ {D : Type 0} (g : Ghosts D) (y : Shape) where
         one = a.one;
         stage = stage;
         counter = a.counter;
+        wrote = a.wrote;
         bounded = omega (arith, a.few, counts_few g (MayAnnounce notice columns) (λ d. AreAnnounced notice lost) lost a.rounds label next columns after old new a.stage a.counter many);
         label_is = a.label_is;
         seated = a.seated;
@@ -176,6 +190,7 @@ module _ {D : Type 0} (g : Ghosts D) (y : Shape) where
         first = next;
         opened = lost;
         opens = a.opens;
+        named = a.named;
         opened_is = is;
         stays = λ some. refl;
         unswept = λ some. (refl, record { label_is = refl; columns_are = refl; devices_are = refl });
@@ -187,7 +202,7 @@ module _ {D : Type 0} (g : Ghosts D) (y : Shape) where
 
   -- and a sweep behind it
   module _ (layout : IsLayout y) (notice : Notice) (sweep : Sweeps) (some : sweep ≡ Nothing → ⊥) (label first next : Label) (columns mid after : List Column) (old dev new : List (Option D)) (lost : Option Loss) (n : ℕ) (order : InOrder (states_of y columns)) (many : length columns ≤ 32) (few : count_by is_set_filling columns ≤ 1) (fewer : count_by is_set_filling mid ≤ 1)
-      (is : NotLost y (states_of y mid)) (a : IsAnnounced g notice label first columns mid old dev None) (s : SweepsLabelled g sweep y first next mid after dev new lost n) where
+      (is : NotLost y (states_of y mid)) (a : IsAnnounced g y notice label first columns mid old dev None) (s : SweepsLabelled g sweep y first next mid after dev new lost n) where
     back : Back y (states_of y mid) (states_of y columns)
     back = died (DiesIn g None columns old dev) y columns mid a.stage.dies (apart_in g None columns mid old dev a.stage.dies) few
 
@@ -245,10 +260,33 @@ module _ {D : Type 0} (g : Ghosts D) (y : Shape) where
     counter_both : CountsRounds (a.rounds + s.rounds) label next (length (a.stage.rises ++ s.stage.rises))
     counter_both = counts-then a.rounds s.rounds label first next a.stage.rises s.stage.rises a.counter s.counter
 
-    written : wrote_round notice lost ≡ true → lost ≡ None → wrote_round notice None ≡ true
-    written wrote none = subst (λ o. wrote_round notice o ≡ true) none wrote
+    -- a sweep by which the array is lost has a round behind it
+    lost_wrote : (o : Option Loss) → lost ≡ o → is_some o ≡ true → first.counter < next.counter
+    lost_wrote None e some = no_loss some
+    lost_wrote (Some loss) e some =
+        let left = subst (λ o. EndsFailed g None o first next s.behind.mid after s.behind.dev new) e s.behind.ends in
+        omega (arith, left.rounds.1.least)
 
-    seats : wrote_round notice lost ≡ true → HasSeats g lost next columns after old new
+    begun_more : label.counter ≤ first.counter
+    begun_more = omega (arith, a.counter.least)
+
+    swept_more : first.counter ≤ next.counter
+    swept_more = omega (arith, s.counter.least)
+
+    -- no round is named where none was written
+    unnamed : first.counter ≡ label.counter → rounds_for notice (names label columns) ≡ 0
+    unnamed same = omega (arith, same, a.some, a.counter.least)
+
+    written : label.counter < next.counter → lost ≡ None → label.counter < first.counter
+    written wrote none = let e : next.counter ≡ first.counter = ap (λ (l : Label). l.counter) (s.same none) in omega (arith, wrote, e)
+
+    same_both : (o : Option Loss) → lost ≡ o → next.counter ≡ label.counter → next ≡ label
+    same_both None e same = let both = between label.counter first.counter next.counter begun_more swept_more same in s.same e ∙ a.same both.0
+    same_both (Some loss) e same =
+        let both = between label.counter first.counter next.counter begun_more swept_more same in
+        not_greater first.counter next.counter (lost_wrote (Some loss) e refl) both.1
+
+    seats : label.counter < next.counter → HasSeats g lost next columns after old new
     seats wrote = elim s.seated [
       | inl same ↦
           let h = a.seated (written wrote same.0) in
@@ -271,11 +309,12 @@ module _ {D : Type 0} (g : Ghosts D) (y : Shape) where
       stage = stage_both;
       counter = counter_both;
       bounded = omega (arith, a.few, s.few, counts_few g (MayBegin g notice sweep y columns old) (λ d. AreStaged (AreNotice notice) (AreLast lost) sweep y (states_of y columns) d) lost (a.rounds + s.rounds) label next columns after old new stage_both counter_both many);
-      label_is = label_again notice lost label first next a.label_is a.same s.label_is;
+      wrote = λ some. let more : first.counter < next.counter = lost_wrote lost refl some in omega (arith, begun_more, more);
+      label_is = λ less. label_again notice (names label columns) lost label first next begun_more unnamed a.label_is a.same s.label_is;
       seated = seats;
       given_up = s.given_up;
       held = λ wrote c d h. s.held c d h (λ none. a.held (written wrote none) c d (before_it c d h));
-      same = kept_again notice lost label first next a.same s.same;
+      same = same_both lost refl;
       mapped = λ map e c d h told. subst (IsBytesOf map) (sym (changes_sector g (MayBegin g Round sweep y mid dev) dev new d 1 s.stage.frame told (no_second d))) (a.mapped map e c d (before_it c d h) told);
       others = λ e. absurd (some e);
       swept = λ e. has;
@@ -285,6 +324,7 @@ module _ {D : Type 0} (g : Ghosts D) (y : Shape) where
       first = first;
       opened = None;
       opens = a.opens;
+      named = a.named;
       opened_is = is;
       stays = λ some. no_loss some;
       unswept = λ some. no_loss some;

@@ -30,7 +30,7 @@ use Rattle.top_rounds.specs.Passes.{HoldsLabel, IsKeptInUse}
 use Rattle.top_rounds.specs.Rounds.{CountsRounds, HoldsTried, clean_in_end}
 use Rattle.top_rounds.proofs.CallLaws.{some-before, some-behind, within-then}
 use Rattle.top_rounds.proofs.RoundLaws.{any_death, counts-none, counts-then, counts_few, given_kept, round_again, tried-then}
-use Rattle.top_acts.specs.Begun.{HasSeats}
+use Rattle.top_acts.specs.Seats.{HasSeats}
 use Rattle.top_acts.specs.Cleared.{ClearsIn, EndsInSteps, EndsMapped, EndsMappedSettled, IsEndingCall, TriesToClear}
 use Rattle.top_acts.specs.Closed.{ClosesLabelled, ClosesSettled, settled_in_end}
 use Rattle.top_acts.specs.Failed.{IsLeftLost}

@@ -1,6 +1,6 @@
 -- Devices in use that are marked, as a stage.
 use Rattle.std.proofs.Common.{◌≡◌, ◌∙◌, ℕ, zero, suc, ◌<◌, true, false, List, [], ◌∷◌, Bool, Option, Some, None, length, refl, sym, ap, subst, inl, inr, arith}
-use Rattle.std.specs.Prelude.{◌⊎◌, All, IsSome, slice_get}
+use Rattle.std.specs.Prelude.{◌⊎◌, All, IsSome, is_some, slice_get}
 use Rattle.std.specs.Option.{option_map_or}
 use Rattle.std.proofs.lemmas.Bool.{cases_eq}
 use Rattle.std.proofs.lemmas.List.Elements.{All-cons, All-nil}
@@ -16,12 +16,15 @@ use Rattle.eng_cols.specs.Deaths.{Dies, LosesDevice}
 use Rattle.raid_map.specs.Marking.{AreMarked, IsMapSector, MarkCalls}
 use Rattle.raid_map.specs.Regions.{Marks as Map, IsBytesOf}
 use Rattle.top_close.specs.Calls.{IsSettle, MoreOn}
-use Rattle.top_close.specs.Stage.{IsStage}
+use Rattle.top_close.specs.Stage.{IsInUse, IsStage}
 use Rattle.top_close.proofs.SettledLaws.{device_within}
 use Rattle.top_close.proofs.StageLaws.{dies_lost, live_before, stage-plain, told-others}
 use Rattle.top_rounds.specs.Calls.{WritesWithin}
 use Rattle.top_rounds.specs.Passes.{CanBeLabelled, IsKeptInUse}
 use Rattle.top_rounds.proofs.CallLaws.{within-other}
+use Rattle.top_rounds.proofs.RoundLaws.{any_death}
+use Rattle.top_acts.proofs.Settled.{Death}
+use Rattle.top_acts.proofs.Tried.{strict}
 use Rattle.top_acts.specs.Marking.{MarksAll}
 use Rattle.top_acts.proofs.Words.{IsMapWrite}
 use Rattle.top_rounds.proofs.Words.{is_label_write}
@@ -118,6 +121,31 @@ module _ {D : Type 0} (g : Ghosts D) where
     -- no label was written
     pub marks_times : (n : ℕ) (d : ℕ) → WritesWithin n n (calls_of g old d) (calls_of g new d)
     marks_times n d = within-other IsMarkCall mark-other n (calls_of g old d) (calls_of g new d) (marks_more (calls_of g old d) (calls_of g new d) (m.marked.told d))
+
+  -- a device failed as it was marked, and is listed
+  module _ (map : Map) (columns after : List Column) (old new : List (Option D)) (m : MarksAll g map columns after old new) (apart : (c k d : ℕ) → HasDeviceOn columns c d → HasDeviceOn columns k d → c ≡ k) (death : Death (LosesDevice g columns old new) after) where
+    abbrev dead : ℕ
+    dead = death.why.device
+
+    pub gone : (c : ℕ) → HasDeviceOn after c dead → ⊥
+    gone c live =
+        let same : c ≡ death.col = apart c death.col dead (live_before (LosesDevice g columns old new) columns after c dead (marks_dies map columns after old new m) live) death.why.had in
+        let z : Some dead ≡ None = sym live ∙ ap device_set (ap (slice_get after) same ∙ death.dead) in absurd (let u : ⊥ = cc in u)
+
+    abbrev pub broken_marks : IsStage g (IsKeptInUse true columns) (λ d. All IsMarkCall) None columns after old new
+    broken_marks =
+        let quiet = marks_stage map columns after old new m None in
+        record {
+          frame = quiet.frame;
+          told = quiet.told;
+          uncalled = quiet.uncalled;
+          dies = quiet.dies;
+          rises = dead ∷ [];
+          failed = record { apart = λ i j z before within. absurd (omega (arith, before, within)); rose = All-cons (RisesOn g old new) dead [] death.why.rose (All-nil (RisesOn g old new)) };
+          had = All-cons (IsInUse columns) dead [] (record { col = death.col; live = death.why.had }) (All-nil (IsInUse columns));
+          gone = All-cons (λ (k : ℕ). (c : ℕ) → HasDeviceOn after c k → ⊥) dead [] gone (All-nil (λ (k : ℕ). (c : ℕ) → HasDeviceOn after c k → ⊥));
+          fewer = omega (arith, strict columns after (any_death (LosesDevice g columns old new) columns after (marks_dies map columns after old new m)) death.col (ap is_some death.why.had) death.dead);
+        }
 
   there_still : (may : ℕ → Type 0) (x z : Option D) → StaysIf g may x z → IsSome x → IsSome z
   there_still may None z h some = let u : false ≡ true = some in absurd (let v : ⊥ = cc in v)

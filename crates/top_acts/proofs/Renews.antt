@@ -21,7 +21,6 @@ use Rattle.top_close.specs.Calls.{EndsSettled, IsSettle, MoreOn}
 use Rattle.top_close.specs.Ended.{IsLossBy}
 use Rattle.top_close.specs.Settled.{AreSettled}
 use Rattle.top_close.proofs.SettledLaws.{device_within}
-use Rattle.top_rounds.specs.Calls.{IsLabelWrite}
 use Rattle.top_rounds.specs.Labels.{seating_in, with_round}
 use Rattle.top_close.specs.Stage.{DiesIn, IsGivenUpIn, IsStage}
 use Rattle.top_rounds.specs.Rounds.{clean_in_end}
@@ -40,7 +39,7 @@ use Rattle.top_acts.specs.Mapped.{LooksAtMaps, ReadsMap, is_any_marked}
 use Rattle.top_acts.specs.Marking.{AreNotice}
 use Rattle.top_acts.specs.Renewed.{IsRenewed, IsRenewedPlain, SettlesFirstOf, renewed}
 use Rattle.top_acts.specs.Sweeps.{Over, Round, sweep_of}
-use Rattle.top_acts.specs.Stages.{AreStaged}
+use Rattle.top_acts.specs.Stages.{AreStaged, IsClosing}
 use Rattle.top_acts.specs.Sweeping.{DoesSweep}
 use Rattle.top_acts.proofs.Backs.{died}
 use Rattle.top_acts.proofs.Begins.{no_none}
@@ -99,7 +98,7 @@ clear_if b blank union x f same now = subst (λ k. option_map f (then_some b x) 
 
 module _ {D : Type 0} (g : Ghosts D) (kind : Renewal) (y : Shape) (blank union : Map) (columns read : List Column) (old looked : List (Option D)) where
   abbrev Calls : (ℕ → List Call → Type 0)
-  Calls d = AreStaged (ReadsMap (All IsLabelWrite)) (All (IsEndingCall (is_any_marked union))) (Over (sweep_of kind)) y (states_of y columns) d
+  Calls d = AreStaged (ReadsMap (All IsClosing)) (All (IsEndingCall (is_any_marked union))) (Over (sweep_of kind)) y (states_of y columns) d
 
   abbrev May : ℕ → ℕ → Type 0
   May d n = IsKeptInUse (is_any_marked union) columns d n ⊎ MaySweep g (Over (sweep_of kind)) y columns old d n
@@ -120,7 +119,7 @@ module _ {D : Type 0} (g : Ghosts D) (kind : Renewal) (y : Shape) (blank union :
     few = omega arith;
     two = λ e. no_none e;
     stage = stage_as g (λ _ _. ⊥) May (λ d. All IsMapRead) Calls (Some loss) columns after old looked (λ d n f. absurd f)
-        (λ d calls reads. staged-read (All IsLabelWrite) (All (IsEndingCall (is_any_marked union))) (Over (sweep_of kind)) y (states_of y columns) d calls (All-nil IsLabelWrite) (All-nil (IsEndingCall (is_any_marked union))) reads)
+        (λ d calls reads. staged-read (All IsClosing) (All (IsEndingCall (is_any_marked union))) (Over (sweep_of kind)) y (states_of y columns) d calls (All-nil IsClosing) (All-nil (IsEndingCall (is_any_marked union))) reads)
         (looks_stage g y (Some loss) blank union columns after old looked l);
     counter = counts-none label label refl;
     label_is = λ e. no_none e;
@@ -162,10 +161,14 @@ module _ {D : Type 0} (g : Ghosts D) (kind : Renewal) (y : Shape) (blank union :
 
     -- what was begun, behind the reads
     abbrev begun : (label first : Label) (mid : List Column) (dev : List (Option D)) (lost : Option Loss) (n : ℕ) → HasBegun g Round (Over (sweep_of kind)) y label first read mid looked dev lost n
-        → IsStage g May (λ d. AreStaged (ReadsMap (All IsLabelWrite)) (AreLast lost) (Over (sweep_of kind)) y (states_of y columns) d) lost columns mid old dev
+        → IsStage g May (λ d. AreStaged (ReadsMap (All IsClosing)) (AreLast lost) (Over (sweep_of kind)) y (states_of y columns) d) lost columns mid old dev
     begun label first mid dev lost n b = stage-then g (λ _ _. ⊥) (MayBegin g Round (Over (sweep_of kind)) y read looked) May (λ d. All IsMapRead) (λ d. AreStaged (AreNotice Round) (AreLast lost) (Over (sweep_of kind)) y (states_of y read) d)
-        (λ d. AreStaged (ReadsMap (All IsLabelWrite)) (AreLast lost) (Over (sweep_of kind)) y (states_of y columns) d) lost columns read mid old looked dev reads b.stage
-        (λ d n f. absurd f) begin_may (λ d xs ys. staged-reads (All IsLabelWrite) (AreLast lost) (Over (sweep_of kind)) y (states_of y read) (states_of y columns) d xs ys back_read)
+        (λ d. AreStaged (ReadsMap (All IsClosing)) (AreLast lost) (Over (sweep_of kind)) y (states_of y columns) d) lost columns read mid old looked dev reads b.stage
+        (λ d n f. absurd f) begin_may (λ d xs ys. staged-reads (All IsClosing) (AreLast lost) (Over (sweep_of kind)) y (states_of y read) (states_of y columns) d xs ys back_read)
+
+    -- the opening round was written
+    wrote_first : (label first : Label) (mid : List Column) (dev : List (Option D)) (lost : Option Loss) (n : ℕ) → HasBegun g Round (Over (sweep_of kind)) y label first read mid looked dev lost n → label.counter < first.counter
+    wrote_first label first mid dev lost n b = omega (arith, b.some, b.counter.least)
 
     -- it was lost before the closing round
     pub renewed_lost : (label next : Label) (after : List Column) (new : List (Option D)) (lost : Option Loss) (n : ℕ) → is_some lost ≡ true → IsLossBy y None (states_of y after) lost → HasBegun g Round (Over (sweep_of kind)) y label next read after looked new lost n
@@ -185,13 +188,13 @@ module _ {D : Type 0} (g : Ghosts D) (kind : Renewal) (y : Shape) (blank union :
           some = λ e. b.some;
           few = omega (arith, b.few);
           two = λ e. no_none e;
-          stage = stage_as g May May (λ d. AreStaged (ReadsMap (All IsLabelWrite)) (AreLast (Some loss)) (Over (sweep_of kind)) y (states_of y columns) d) Calls (Some loss) columns after old new (λ d m f. f)
-              (λ d calls. staged-as (ReadsMap (All IsLabelWrite)) (AreLast (Some loss)) (All (IsEndingCall (is_any_marked union))) (Over (sweep_of kind)) y (states_of y columns) d calls (last_ends (is_any_marked union) (Some loss))) was;
+          stage = stage_as g May May (λ d. AreStaged (ReadsMap (All IsClosing)) (AreLast (Some loss)) (Over (sweep_of kind)) y (states_of y columns) d) Calls (Some loss) columns after old new (λ d m f. f)
+              (λ d calls. staged-as (ReadsMap (All IsClosing)) (AreLast (Some loss)) (All (IsEndingCall (is_any_marked union))) (Over (sweep_of kind)) y (states_of y columns) d calls (last_ends (is_any_marked union) (Some loss))) was;
           counter = b.counter;
-          label_is = λ e. b.label_is refl;
+          label_is = λ e. b.label_is (wrote_first label next after new (Some loss) n b);
           seating = λ e. no_none e;
           given_up = b.given_up;
-          held = λ e. b.held refl;
+          held = λ e. b.held (wrote_first label next after new (Some loss) n b);
           settled = λ e. no_none e;
           ordered = λ e. no_none e;
           lost_is = is;
@@ -202,7 +205,7 @@ module _ {D : Type 0} (g : Ghosts D) (kind : Renewal) (y : Shape) (blank union :
     -- it was closed
     module _ (label first before next : Label) (mid after : List Column) (dev new : List (Option D)) (ended : Option Loss) (n : ℕ) (result : Done) (fewer : count_by is_set_filling mid ≤ 1) (clean : before ≡ with_round first first.counter 1 (seating_in first)) (clean_is : before ≡ record first { clean = 1 }) (told : result ≡ unless_lost ended (renewed kind n))
         (is : IsLossBy y None (states_of y after) ended) (b : HasBegun g Round (Over (sweep_of kind)) y label first read mid looked dev None n) (k : EndsMapped g (clear_of blank union) false before next mid after dev new ended) (settles : EndsMappedSettled g (clear_of blank union) before next mid after dev new ended) (steps : EndsInSteps g (clear_of blank union) y None before next mid after dev new ended) where
-      abbrev was : IsStage g May (λ d. AreStaged (ReadsMap (All IsLabelWrite)) AreNone (Over (sweep_of kind)) y (states_of y columns) d) None columns mid old dev
+      abbrev was : IsStage g May (λ d. AreStaged (ReadsMap (All IsClosing)) AreNone (Over (sweep_of kind)) y (states_of y columns) d) None columns mid old dev
       was = begun label first mid dev None n b
 
       live : (c d : ℕ) → HasDeviceOn mid c d → HasDeviceOn columns c d
@@ -216,10 +219,10 @@ module _ {D : Type 0} (g : Ghosts D) (kind : Renewal) (y : Shape) (blank union :
           (λ d m f. subst (λ x. MayEnd x mid d m) clears f) (λ d calls all. subst (λ x. All (IsEndingCall x) calls) clears all) k.stage
 
       abbrev all_stages : IsStage g May Calls ended columns after old new
-      all_stages = stage-then g May (MayEnd (is_any_marked union) mid) May (λ d. AreStaged (ReadsMap (All IsLabelWrite)) AreNone (Over (sweep_of kind)) y (states_of y columns) d) (λ d. All (IsEndingCall (is_any_marked union))) Calls
+      all_stages = stage-then g May (MayEnd (is_any_marked union) mid) May (λ d. AreStaged (ReadsMap (All IsClosing)) AreNone (Over (sweep_of kind)) y (states_of y columns) d) (λ d. All (IsEndingCall (is_any_marked union))) Calls
           ended columns mid after old dev new was end
           (λ d m h. h) (λ d m f. inl (end_may (is_any_marked union) columns mid d m (λ c h. live c d h) f))
-          (λ d xs ys. staged-more (ReadsMap (All IsLabelWrite)) (All (IsEndingCall (is_any_marked union))) (Over (sweep_of kind)) y (states_of y columns) d xs ys)
+          (λ d xs ys. staged-more (ReadsMap (All IsClosing)) (All (IsEndingCall (is_any_marked union))) (Over (sweep_of kind)) y (states_of y columns) d xs ys)
 
       back_mid : Back y (states_of y mid) (states_of y read)
       back_mid = died (DiesIn g None read looked dev) y read mid b.stage.dies (apart_in g None read mid looked dev b.stage.dies) (few_read few)
@@ -258,14 +261,14 @@ module _ {D : Type 0} (g : Ghosts D) (kind : Renewal) (y : Shape) (blank union :
         two = λ e. omega (arith, b.one refl);
         stage = all_stages;
         counter = counts-then b.rounds 1 label first next ([] ++ b.stage.rises) k.stage.rises b.counter (counts_as 1 (length k.stage.rises) first before next (ap (λ (l : Label). l.counter) clean) k.counter);
-        label_is = λ e. round_again label before next 1 next.counter (clean_in_end ended 1) (seating_in next) (round_again label first before 0 first.counter 1 (seating_in first) (b.label_is refl) clean)
+        label_is = λ e. round_again label before next 1 next.counter (clean_in_end ended 1) (seating_in next) (round_again label first before 0 first.counter 1 (seating_in first) (b.label_is (wrote_first label first mid dev None n b)) clean)
             (k.label_is ∙ ap (λ c. with_round before next.counter (clean_in_end ended c) (seating_in next)) (ap (λ (l : Label). l.clean) clean));
         seating = k.seating;
         given_up = k.given_up;
         held = λ e. k.held;
         settled = k.settled;
-        ordered = λ e c d h. more-then (AreStaged (ReadsMap (All IsLabelWrite)) AreNone (Over (sweep_of kind)) y (states_of y columns) d) (SettlesFirstOf (is_any_marked union)) (AreStaged (ReadsMap (All IsLabelWrite)) (SettlesFirstOf (is_any_marked union)) (Over (sweep_of kind)) y (states_of y columns) d)
-            (calls_of g old d) (calls_of g dev d) (calls_of g new d) (λ xs ys. staged-more (ReadsMap (All IsLabelWrite)) (SettlesFirstOf (is_any_marked union)) (Over (sweep_of kind)) y (states_of y columns) d xs ys) (was.told d)
+        ordered = λ e c d h. more-then (AreStaged (ReadsMap (All IsClosing)) AreNone (Over (sweep_of kind)) y (states_of y columns) d) (SettlesFirstOf (is_any_marked union)) (AreStaged (ReadsMap (All IsClosing)) (SettlesFirstOf (is_any_marked union)) (Over (sweep_of kind)) y (states_of y columns) d)
+            (calls_of g old d) (calls_of g dev d) (calls_of g new d) (λ xs ys. staged-more (ReadsMap (All IsClosing)) (SettlesFirstOf (is_any_marked union)) (Over (sweep_of kind)) y (states_of y columns) d xs ys) (was.told d)
             (subst (λ x. MoreOn (SettlesFirstOf x) (calls_of g dev d) (calls_of g new d)) clears (first_settled g (clear_of blank union) before next mid after dev new ended settles c d (live_before (DiesIn g ended mid dev new) mid after c d k.stage.dies h)));
         lost_is = is;
         map = second;

@@ -11,7 +11,7 @@ use Rattle.raid_label.specs.declared.label.Label.{Label}
 use Rattle.top_close.specs.Stage.{DiesIn}
 use Rattle.top_rounds.specs.Rounds.{AreRounds}
 use Rattle.top_close.proofs.StageLaws.{live_before, dies_over}
-use Rattle.top_acts.specs.Begun.{HasSeats}
+use Rattle.top_acts.specs.Seats.{HasSeats}
 use Rattle.top_acts.proofs.Named.{only_lose}
 
 module _ {D : Type 0} (g : Ghosts D) where

@@ -26,7 +26,7 @@ use Rattle.top_rounds.specs.Rounds.{AreRounds, HoldsTried, clean_in_end}
 use Rattle.top_close.proofs.StageLaws.{live_before, live_less}
 use Rattle.top_rounds.proofs.CallLaws.{some-before}
 use Rattle.top_rounds.proofs.RoundLaws.{any_death, counts-none, counts-then, rounds-some}
-use Rattle.top_acts.specs.Begun.{HasSeats}
+use Rattle.top_acts.specs.Seats.{HasSeats}
 use Rattle.top_acts.specs.Closed.{CallInTurn, IsBroken, ClosesLabelled, TriesToClose, settled_in_end}
 use Rattle.top_acts.proofs.Counted.{counted-then, counted_rounds}
 use Rattle.top_acts.proofs.InTurn.{AreApart, in_turn-settles, in_turn-then, in_turn-writes}

@@ -13,7 +13,8 @@ use Rattle.top_rounds.specs.Passes.{HoldsLabel}
 use Rattle.top_rounds.specs.Calls.{IsLabelWrite}
 use Rattle.top_close.specs.Stage.{IsGivenUpIn, IsStage}
 use Rattle.top_rounds.specs.Rounds.{CountsRounds, clean_in_end}
-use Rattle.top_acts.specs.Begun.{HasSeats, MayBegin, MaySweep, SweepHas}
+use Rattle.top_acts.specs.Begun.{MayBegin, MaySweep, SweepHas}
+use Rattle.top_acts.specs.Seats.{HasSeats}
 use Rattle.top_acts.specs.Sweeping.{SweepsBehind}
 use Rattle.top_acts.specs.Sweeps.{Sweeps, Round}
 use Rattle.top_acts.specs.Stages.{AreStaged}

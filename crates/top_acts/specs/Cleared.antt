@@ -18,7 +18,7 @@ use Rattle.top_rounds.specs.Calls.{IsLabelWrite, label_writes}
 use Rattle.top_rounds.specs.Labels.{seating_in, seating_of, with_round}
 use Rattle.top_rounds.specs.Passes.{HoldsLabel, IsKeptInUse}
 use Rattle.top_rounds.specs.Rounds.{CountsRounds, HoldsTried, clean_in_end}
-use Rattle.top_acts.specs.Begun.{HasSeats}
+use Rattle.top_acts.specs.Seats.{HasSeats}
 use Rattle.top_acts.specs.Marking.{MarksAll}
 use Rattle.eng_cols.specs.Cols.{HasDeviceOn, has_device}
 

@@ -12,7 +12,7 @@ use Rattle.top_rounds.specs.Labels.{seating_in, seating_of, with_round}
 use Rattle.top_rounds.specs.Passes.{HoldsLabel, IsKeptInUse}
 use Rattle.top_close.specs.Stage.{IsGivenUp, IsGivenUpIn, device_count, IsStage}
 use Rattle.top_rounds.specs.Rounds.{HoldsTried, clean_in_end, CountsRounds}
-use Rattle.top_acts.specs.Begun.{HasSeats}
+use Rattle.top_acts.specs.Seats.{HasSeats}
 use Rattle.top_acts.specs.Stages.{InTurnOn, IsClosing}
 use Rattle.eng_cols.specs.Cols.{HasDeviceOn, has_device}
 

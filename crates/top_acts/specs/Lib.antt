@@ -13,6 +13,7 @@ pub mod Counting
 pub mod Mapped
 pub mod Marking
 pub mod Renewed
+pub mod Seats
 pub mod Stages
 pub mod Sweeps
 pub mod Sweeping

@@ -7,15 +7,14 @@ use Rattle.blk_disk.specs.Devices.{sector_of}
 use Rattle.eng_cols.specs.declared.column.Column.{Column}
 use Rattle.raid_map.specs.Marking.{AreMarked}
 use Rattle.raid_map.specs.Regions.{Marks as Map, IsBytesOf}
-use Rattle.top_close.specs.Calls.{IsSettle}
-use Rattle.top_rounds.specs.Calls.{IsLabelWrite}
+use Rattle.top_acts.specs.Stages.{IsClosing}
 use Rattle.top_acts.specs.Sweeps.{Notice, Round, Marks}
 use Rattle.eng_cols.specs.Cols.{HasDeviceOn}
 
--- the calls by which it is announced: label writes; or writes of sector 1 alone, whether they went well or not, and settles
+-- the calls by which it is announced: label writes and settles; and writes of sector 1 alone, whether they went well or not, where maps are written
 abbrev pub AreNotice : Notice → List Call → Type 0
-AreNotice Round calls = All IsLabelWrite calls
-AreNotice (Marks map) calls = All (λ call. ((good : Bool) × (call ≡ call_of 1 1 512 good)) ⊎ IsSettle call) calls
+AreNotice Round calls = All IsClosing calls
+AreNotice (Marks map) calls = All (λ call. ((good : Bool) × (call ≡ call_of 1 1 512 good)) ⊎ IsClosing call) calls
 
 module _ {D : Type 0} (g : Ghosts D) where
   -- The map was written on each device in use, which was then settled; a column has died where its device failed one of the two, and no other died. Whatever a stop leaves of a device that is in use still, its sector 1 is the map.

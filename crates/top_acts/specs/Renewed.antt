@@ -13,7 +13,6 @@ use Rattle.eng_cols.specs.Stripes.{states_of}
 use Rattle.top_close.specs.Calls.{EndsSettled, IsSettle, MoreOn}
 use Rattle.top_close.specs.Ended.{IsLossBy}
 use Rattle.top_close.specs.Settled.{AreSettled}
-use Rattle.top_rounds.specs.Calls.{IsLabelWrite}
 use Rattle.top_rounds.specs.Labels.{seating_in, seating_of, with_round}
 use Rattle.top_rounds.specs.Passes.{HoldsLabel, IsKeptInUse}
 use Rattle.top_close.specs.Stage.{IsGivenUpIn, ToldNothing, IsStage}
@@ -28,7 +27,7 @@ use Rattle.raid_map.specs.Regions.{Marks as Map, IsBytesOf}
 use Rattle.top_acts.specs.Failed.{StaysBegun}
 use Rattle.top_acts.specs.Cleared.{EndsInSteps, EndsMapped, IsEndingCall}
 use Rattle.top_acts.specs.Mapped.{LooksAtMaps, ReadsMap, is_any_marked}
-use Rattle.top_acts.specs.Stages.{AreStaged}
+use Rattle.top_acts.specs.Stages.{AreStaged, IsClosing}
 use Rattle.top_acts.specs.Sweeping.{DoesSweep}
 use Rattle.top_acts.specs.Sweeps.{Over, Round, sweep_of}
 use Rattle.eng_cols.specs.Cols.{HasDeviceOn}
@@ -43,7 +42,7 @@ abbrev pub SettlesFirstOf : (clears : Bool) → List Call → Type 0
 SettlesFirstOf clears calls = (good : Bool) × (more : List Call) × (calls ≡ call_of 2 0 0 good ∷ more) × All (IsEndingCall clears) more
 
 module _ {D : Type 0} (g : Ghosts D) where
-  -- Of a labelled array: its maps are read, then the opening round, the sweep, then each device in use settled, the closing round, and each settled again; and the maps are cleared, where the union of those that were read has a mark. Where the array is lost on the way, what is left of this isn't done, but for the one round of a lost array, and nothing is told; one that is lost as its maps are read, or as it was begun, is left as it is then. `read`, `looked` and `unread` are the columns, the devices and the loss with which it was begun; all else is said by the columns and devices as they were before. `blank` is the map into which the maps were read, and `union` what it is then.
+  -- Of a labelled array: its maps are read, then the opening round, each device in use settled, the sweep, each settled again, the closing round, and each settled once more; and the maps are cleared, where the union of those that were read has a mark. Where the array is lost on the way, what is left of this isn't done, but for the one round of a lost array, and nothing is told; one that is lost as its maps are read, or as it was begun, is left as it is then. `read`, `looked` and `unread` are the columns, the devices and the loss with which it was begun; all else is said by the columns and devices as they were before. `blank` is the map into which the maps were read, and `union` what it is then.
   pub record IsRenewed (kind : Renewal) (y : Shape) (label next : Label) (columns after : List Column) (old new : List (Option D)) (lost : Option Loss) (result : Done) (blank union : Map) : Type 0 where
     pub read : List Column
     pub looked : List (Option D)
@@ -57,7 +56,7 @@ module _ {D : Type 0} (g : Ghosts D) where
     pub few : rounds ≤ 2
     pub two : lost ≡ None → rounds ≡ 2
     pub stage : IsStage g (λ d n. IsKeptInUse (is_any_marked union) columns d n ⊎ MaySweep g (Over (sweep_of kind)) y columns old d n)
-        (λ d. AreStaged (ReadsMap (All IsLabelWrite)) (All (IsEndingCall (is_any_marked union))) (Over (sweep_of kind)) y (states_of y columns) d) lost columns after old new
+        (λ d. AreStaged (ReadsMap (All IsClosing)) (All (IsEndingCall (is_any_marked union))) (Over (sweep_of kind)) y (states_of y columns) d) lost columns after old new
     pub counter : CountsRounds rounds label next (length stage.rises)
     pub label_is : unread ≡ None → next ≡ with_round label next.counter (clean_in_end lost 1) (seating_in next)
     pub seating : lost ≡ None → seating_in next ≡ seating_of after
@@ -65,7 +64,7 @@ module _ {D : Type 0} (g : Ghosts D) where
     pub held : unread ≡ None → (c d : ℕ) → HasDeviceOn after c d → HoldsLabel g new next c d
     pub settled : lost ≡ None → (c d : ℕ) → HasDeviceOn after c d → EndsSettled (calls_of g new d)
     pub ordered : lost ≡ None → (c d : ℕ) → HasDeviceOn after c d
-        → MoreOn (AreStaged (ReadsMap (All IsLabelWrite))
+        → MoreOn (AreStaged (ReadsMap (All IsClosing))
         (λ calls. (good : Bool) × (more : List Call) × (calls ≡ call_of 2 0 0 good ∷ more) × All (IsEndingCall (is_any_marked union)) more)
         (Over (sweep_of kind)) y (states_of y columns) d)
         (calls_of g old d) (calls_of g new d)

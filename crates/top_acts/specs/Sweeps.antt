@@ -1,9 +1,10 @@
 -- How an array is begun with: by what it is announced that sectors of its rows are going to be written, and which check units are rewritten before that.
-use Rattle.std.specs.Prelude.{ℕ, Bool, true, false, Option, is_some}
+use Rattle.std.specs.Prelude.{ℕ, Bool, true, false, Option, if◌then◌else◌}
 use Rattle.eng_cols.specs.declared.spot.Loss.{Loss}
 use Rattle.raid_map.specs.Regions.{Marks as Map}
 use Rattle.raid_map.specs.Sweeping.{marks_stripe}
 use Rattle.raid_recon.specs.declared.kind.Sweep.{Sweep}
+use Rattle.top_rounds.specs.Rounds.{clean_in_end}
 use Rattle.raid_recon.specs.declared.kind.Sweep.TheVariants as sweep
 use Rattle.top_acts.specs.declared.sweeping.Renewal.{Renewal}
 use Rattle.top_acts.specs.declared.sweeping.Renewal.TheVariants as renewal
@@ -41,17 +42,17 @@ abbrev pub notice_seen : declared_notice.Notice → Notice
 notice_seen notice.Round = Round
 notice_seen (notice.Marks map) = Marks map.now
 
--- how many rounds are named for it
-abbrev pub rounds_for : Notice → ℕ
-rounds_for Round = 1
-rounds_for (Marks map) = 0
+-- how many rounds are named for it, of an array whose newest label names its columns or doesn't
+abbrev pub rounds_for : Notice → (named : Bool) → ℕ
+rounds_for Round named = 1
+rounds_for (Marks map) named = if named then 0 else 1
 
 -- maps are written
 abbrev pub marks_maps : Notice → Bool
 marks_maps Round = false
 marks_maps (Marks map) = true
 
--- a round was written: the opening one, or else that of an array that is lost
-abbrev pub wrote_round : Notice → Option Loss → Bool
-wrote_round Round lost = true
-wrote_round (Marks map) lost = is_some lost
+-- the clean field of the labels that are written for it, where that was so before: not clean where they announce it alone, or the array is lost
+abbrev pub clean_in : Notice → Option Loss → ℕ → ℕ
+clean_in Round lost clean = 0
+clean_in (Marks map) lost clean = clean_in_end lost clean

@@ -1,26 +1,29 @@
 //! A labelled array is begun with: its opening round, or marks in its place, and the sweep behind that.
-ghost use Rattle.std.specs.Prelude.{◌≡◌, ◌≤◌, ◌<◌, ◌+◌, ◌*◌, ◌^◌, None, true, is_some};
+ghost use Rattle.std.specs.Prelude.{◌≡◌, ◌≤◌, ◌<◌, ◌+◌, ◌*◌, ◌^◌, ◌&&◌, All, None, length};
 ghost use Rattle.eng_cols.specs.Cols.{IsFor};
 ghost use Rattle.raid_map.specs.Sweeping.{marks_stripe};
 ghost use Rattle.top_acts.specs.Begun.{CanAct, HasBegun, Opens};
 ghost use Rattle.top_acts.specs.Behind.{SweepsLabelled};
 ghost use Rattle.top_acts.specs.Mapped.{FitsLayout, IsOpeningFor};
-ghost use Rattle.top_acts.specs.Sweeps.{Marked, Marks, Over, notice_seen, sweep_of, sweeps_seen, wrote_round};
+ghost use Rattle.top_acts.specs.Seats.{names};
+ghost use Rattle.top_acts.specs.Sweeps.{Marked, Marks, Over, notice_seen, sweep_of, sweeps_seen};
 ghost use Rattle.eng_cols.specs.Stripes.{states_of};
 ghost use Rattle.top_close.specs.Ended.{IsLossBy};
-ghost use Rattle.top_rounds.specs.Labels.{IsLabelFor, seating_in, with_round};
+ghost use Rattle.top_rounds.specs.Labels.{IsLabelFor, IsNumbered};
 
+use crate::closing::close;
 use crate::ending::write_lost;
 use crate::opening::{Notice, Opening, Sweeps};
 use crate::sweeping::{Renewal, mark_and_judge, sweep_and_judge, sweep_marks_and_judge};
 use blk_disk::StopDisk;
+use eng_cols::Column;
 use lay_core::Layout;
 use raid_label::Label;
 use raid_map::{Map, MapRoom};
 use raid_progress::Progress;
 use raid_recon::SweepRoom;
 use top_close::{Hand, deaths_bring_no_unit_back};
-use top_rounds::round;
+use top_rounds::seats;
 
 // The sweep over all stripes, and the one round of an array that is lost by it.
 fn sweep_labelled<L: Layout, D: StopDisk, P: Progress>(
@@ -87,7 +90,27 @@ fn sweep_marks<L: Layout, D: StopDisk>(
     count
 }
 
-// The map on each device in use, and the one round of an array that is lost by that.
+// Whether the label has the seats of these columns.
+fn names(label: &Label, columns: &[Column]) -> bool
+    requires columns { length columns.now ≤ 32 }
+    requires numbered { All (IsNumbered (length columns.now)) columns.now }
+    ensures { result ≡ names label.now columns.now }
+{
+    label.seats == seats(columns)
+}
+
+// Whether it does so still.
+fn names_still(named: bool, label: &Label, columns: &[Column]) -> bool
+    requires columns { length columns.now ≤ 32 }
+    requires numbered { All (IsNumbered (length columns.now)) columns.now }
+    ensures { result ≡ (named && names label.now columns.now) }
+{
+    named && names(label, columns)
+}
+
+// The map on each device in use. Where the array is lost by that, its one round is written. Else, where
+// the label doesn't name the columns as they are opened, or as this leaves them, labels are written that
+// do, so that no device that is left out comes back as if it had what is going to be written.
 fn mark<L: Layout, D: StopDisk>(
     map: &Map,
     layout: &L,
@@ -98,27 +121,29 @@ fn mark<L: Layout, D: StopDisk>(
     requires can { CanAct D.Disk (L.shape layout.now) hand.old.ending.columns.items devices.old }
     requires map { map.now.stripes ≡ (L.shape layout.now).stripes }
     requires held { IsLabelFor hand.old.ending.columns.items label.old }
-    requires counter { label.old.counter + 33 < 2 ^ 32 }
+    requires counter { label.old.counter + 65 < 2 ^ 32 }
     requires judge { IsFor (L.shape layout.now) hand.old.judge }
-    ensures opens { Opens D.Disk (Marks map.now) hand.new.ending.lost
+    ensures opens { Opens D.Disk (Marks map.now) (L.shape layout.now) hand.new.ending.lost
         label.old label.new hand.old.ending.columns.items hand.new.ending.columns.items
         devices.old devices.new }
-    ensures label { is_some hand.new.ending.lost ≡ true
-        → label.new ≡ with_round label.old label.new.counter 0 (seating_in label.new) }
-    ensures few { label.new.counter ≤ label.old.counter + 33 }
     ensures held { IsLabelFor hand.new.ending.columns.items label.new }
     ensures lost { IsLossBy (L.shape layout.now) None
         (states_of (L.shape layout.now) hand.new.ending.columns.items) hand.new.ending.lost }
     ensures judge { IsFor (L.shape layout.now) hand.new.judge }
 {
     deaths_bring_no_unit_back();
+    let named = names(label, &hand.ending.columns);
     mark_and_judge(map, layout, devices, hand);
+    let still = names_still(named, label, &hand.ending.columns);
     if hand.ending.lost.is_some() {
         write_lost(layout, devices, hand, label);
+    } else if !still {
+        close(layout, devices, hand, label);
     }
 }
 
-// It is announced that sectors of the rows are going to be written.
+// It is announced that sectors of the rows are going to be written, so that no stop leaves one of
+// those writes without what announces it.
 fn announce<L: Layout, D: StopDisk>(
     notice: Notice<'_>,
     layout: &L,
@@ -129,13 +154,11 @@ fn announce<L: Layout, D: StopDisk>(
     requires can { CanAct D.Disk (L.shape layout.now) hand.old.ending.columns.items devices.old }
     requires notice { IsOpeningFor (L.shape layout.now) (notice_seen notice) }
     requires held { IsLabelFor hand.old.ending.columns.items label.old }
-    requires counter { label.old.counter + 33 < 2 ^ 32 }
+    requires counter { label.old.counter + 65 < 2 ^ 32 }
     requires judge { IsFor (L.shape layout.now) hand.old.judge }
-    ensures opens { Opens D.Disk (notice_seen notice.entry) hand.new.ending.lost
-        label.old label.new hand.old.ending.columns.items hand.new.ending.columns.items
-        devices.old devices.new }
-    ensures label { wrote_round (notice_seen notice.entry) hand.new.ending.lost ≡ true
-        → label.new ≡ with_round label.old label.new.counter 0 (seating_in label.new) }
+    ensures opens { Opens D.Disk (notice_seen notice.entry) (L.shape layout.now)
+        hand.new.ending.lost label.old label.new hand.old.ending.columns.items
+        hand.new.ending.columns.items devices.old devices.new }
     ensures few { label.new.counter ≤ label.old.counter + 33 }
     ensures held { IsLabelFor hand.new.ending.columns.items label.new }
     ensures lost { IsLossBy (L.shape layout.now) None
@@ -143,11 +166,10 @@ fn announce<L: Layout, D: StopDisk>(
     ensures judge { IsFor (L.shape layout.now) hand.new.judge }
 {
     deaths_bring_no_unit_back();
-    hand.ending.lost = None;
     match notice {
         Notice::Round => {
             label.clean = 0;
-            round(layout, devices, hand, label);
+            close(layout, devices, hand, label);
         }
         Notice::Marks(map) => mark(map, layout, devices, hand, label),
     }
@@ -155,7 +177,9 @@ fn announce<L: Layout, D: StopDisk>(
 
 /// Begins what is done to a labelled array. It is announced that sectors of its rows are going to be
 /// written: by the opening round, whose labels aren't clean, or, in the place of that, by a map on each
-/// device in use. Then check units are rewritten, if any are to be. A column is dead whose device fails.
+/// device in use, and behind it a round that is as clean as before where the label doesn't name the
+/// columns. Each device in use is settled behind that, before any sector of the rows is written. Then
+/// check units are rewritten, if any are to be. A column is dead whose device fails.
 /// Where the array is lost by the opening round, that ends with the one round of a lost array; where it
 /// is lost by the map or by the sweep, that one round is written behind it; and nothing is swept behind
 /// a loss. Says how many check units were rewritten.

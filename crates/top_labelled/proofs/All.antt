@@ -1,5 +1,5 @@
 -- All that is said of a run over an array with labels.
-use Rattle.std.proofs.Common.{◌≡◌, ◌⊎◌, inl, inr, ℕ, ◌+◌, ◌<◌, ◌≤◌, List, ◌++◌, Bool, true, length, Option, Some, None, refl, sym, ◌∙◌, ap, subst, arith}
+use Rattle.std.proofs.Common.{◌≡◌, ◌⊎◌, inl, inr, ℕ, ◌+◌, ◌<◌, ◌≤◌, List, ◌++◌, Bool, true, false, length, Option, Some, None, refl, sym, ◌∙◌, ap, subst, arith}
 use Rattle.std.specs.Prelude.{Vec, ◌&&◌, ◌||◌, count_by, is_some, not}
 use Rattle.std.specs.declared.alloc.Global.{Global}
 use Rattle.blk_disk.specs.declared.disk.Call.{Call}
@@ -29,8 +29,9 @@ use Rattle.raid_map.specs.Asking.{file_of}
 use Rattle.raid_map.specs.Regions.{Marks as Map}
 use Rattle.raid_recon.specs.Array.{IsArray}
 use Rattle.top_acts.specs.Begun.{HasBegun}
-use Rattle.top_acts.specs.Cleared.{EndsInSteps}
+use Rattle.top_acts.specs.Cleared.{EndsInSteps, EndsMappedSettled}
 use Rattle.top_acts.specs.Mapped.{LooksAtMaps, is_any_marked, unmarked}
+use Rattle.top_acts.specs.Seats.{names}
 use Rattle.top_acts.proofs.Having.{has_live}
 use Rattle.top_acts.proofs.Named.{live_of}
 use Rattle.top_close.specs.Calls.{MoreOn}
@@ -227,6 +228,20 @@ module _ {L D : Type 0} (lay : LayoutGhosts L) (disk : DiskGhosts D) (old : Setu
       (subst (λ (m : Option Map). EndsInSteps disk m y closed.lost (closing_label first) e.last closed.columns.items v.ending.columns back-from back v.ending.lost) clear_is
       (subst (λ l. EndsInSteps disk clear (lay.shape l) closed.lost (closing_label first) e.last closed.columns.items v.ending.columns back-from back v.ending.lost) s.tells.layout e.steps))
 
+  -- an array that wasn't lost in the run clears its maps where some were written
+  clear-unlost : closed.lost ≡ None → clear ≡ clear_if (writes_maps (is_kept map newest) begins.union) (unmarked y.stripes newest.serial)
+  clear-unlost none = clear_is ∙ ap (λ (b : Bool). clear_if b (unmarked y.stripes newest.serial)) (ap (λ (o : Option Loss). writes_maps (is_kept map newest) begins.union && not (is_some o)) none ∙ and-true (writes_maps (is_kept map newest) begins.union))
+    where
+      and-true : (b : Bool) → (b && true) ≡ b
+      and-true true = refl
+      and-true false = refl
+
+  -- all devices were settled before any of them got a label
+  before-now : s.now.lost ≡ None → EndsMappedSettled disk (clear_if (writes_maps (is_kept map newest) begins.union) (unmarked a.layout.stripes newest.serial)) (closing_label first) e.last closed.columns.items v.ending.columns back-from back v.ending.lost
+  before-now none =
+      let was : closed.lost ≡ None = s.tells.lost ∙ none in
+      subst (λ (m : Option Map). EndsMappedSettled disk m (closing_label first) e.last closed.columns.items v.ending.columns back-from back v.ending.lost) (clear-unlost was) (e.first was)
+
   -- no more labels are written behind the run than the counter rises by
   times-now : (d : ℕ) (told : List Call) → calls_of disk back d ≡ Some told → (closing : List Call) × (told ≡ s.now.calls d ++ closing) × (first.counter + label_writes closing ≤ e.last.counter)
   times-now d told is = turn-behind disk (λ more. first.counter + label_writes more ≤ e.last.counter) (calls_of disk back-from d) (s.now.calls d) told (s.leaves.calls d)
@@ -242,6 +257,7 @@ module _ {L D : Type 0} (lay : LayoutGhosts L) (disk : DiskGhosts D) (old : Setu
     holds = λ tells d n k within. sym (s.leaves.contents tells d n k within);
     calls = λ d told is. none-behind disk (calls_of disk back-from d) (s.now.calls d) told (s.leaves.calls d) is;
     steps = steps-now;
+    before = before-now;
     labelled = labelled-now;
     times = times-now;
   }
@@ -275,7 +291,7 @@ module _ {L D : Type 0} (lay : LayoutGhosts L) (disk : DiskGhosts D) (old : Setu
         (subst (λ (gs : Graphs). MapsEnd disk a newest taken v back map begins.read begins.union begins.marks gs s.now) (sym run-over.3) maps-now);
     order = order;
     labels =
-        subst (λ (cs : List Column). IsRelabelled disk a newest old.devices.items v back (notice_in (is_kept map newest) begins.marks) begun cs first e.last) (sym run-over.2)
+        subst (λ (cs : List Column). IsRelabelled disk a newest old.devices.items v back (notice_in (is_kept map newest) begins.marks) (names newest begins.read) begun cs first e.last) (sym run-over.2)
         (relabelled disk a newest old.devices.items devices.items closed.devices.items back begun closed.columns.items keeps first e.last v (served.CoreMayChange lay disk setup began closed) clear
         begins.looked begins.read begins.union begins.marks begins.found filling looks-none has s.leaves.frame (λ d size. away 0 d (omega arith) (omega (arith, size))) staying e.closes);
     count = count disk a newest old.devices.items devices.items back begun began v device lost-since before behind within asked-so run line-is;

@@ -217,3 +217,32 @@ module _ {D : Type 0} (g : Ghosts D) (y : Shape) (layout : IsLayout y) (columns 
         ]
       ]
     ]
+
+    -- ### Where all was in sync
+
+    module _ (sync : InSync y held cols) where
+      abbrev blocks : Blocks
+      blocks = decode y held cols
+
+      -- what the columns that are left mean by the contents of before
+      still-means : (k : ℕ) → k < 512 → decode y held late b k ≡ blocks b k
+      still-means k kl = sym (agrees-only y held late layout kept blocks
+          (still_agrees y cols late die held blocks AnyStripe (agrees-decode y held cols layout (lost_no_less y cols late die kept) sync)) b k below kl)
+
+      held-late : (j k : ℕ) → is_available y late s j ≡ true → byte_of y held late s j o k ≡ was k j
+      held-late j k h =
+          let back = unit_back y cols late die s j h in
+          ap (λ p. byte_if y held p o k) (spot-seat y late s j h ∙ (back.1 ∙ sym (spot-seat y cols s j back.0)))
+
+      sums-fit : is_available y late s i ≡ false → (k : ℕ) → k < 512 → sums_of_others y held cols b k ≡ blocks b k
+      sums-fit gone k kl =
+          sym (others_same (λ j. byte_of y held late s j o k) (was k) i y.width (λ j jw ne. held-late j k (others gone j jw ne)))
+          ∙ (sym (cond-false (is_available y late s i) (byte_of y held late s i o k) (xor_others (λ j. byte_of y held late s j o k) i y.width) gone)
+          ∙ still-means k kl)
+
+      -- the block is what it was
+      pub swept-same : (k : ℕ) → k < 512 → decode y holds late b k ≡ decode y held cols b k
+      swept-same k kl = elim swept-block [
+        | inl same ↦ same k kl
+        | inr made ↦ made.2 k kl ∙ sums-fit made.1 k kl
+      ]

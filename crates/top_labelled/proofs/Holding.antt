@@ -50,7 +50,7 @@ use Rattle.top_run.specs.Steps.{states_in}
 use Rattle.top_run.proofs.InTurnSame.{decode-same}
 use Rattle.top_labelled.specs.Begun.{HoldsBlocks, IsAlone, IsAnew, IsColumnWithin, WasSound, opened_as, sweeps_in, without}
 use Rattle.top_labelled.specs.Words.{notice_in, IsBlockOf}
-use Rattle.top_labelled.proofs.Blocks.{MayCheck, may-check, may-low, same-blocks, swept-block}
+use Rattle.top_labelled.proofs.Blocks.{MayCheck, may-check, may-low, same-blocks, swept-block, swept-same}
 use Rattle.top_labelled.proofs.Looking.{back-read, begun-stage, quiet-read}
 use Rattle.top_labelled.proofs.Unmade.{unmade}
 use Rattle.top_labelled.proofs.Without.{alone-later, without-apart, without-dies}
@@ -313,8 +313,28 @@ module _ {D : Type 0} (g : Ghosts D) (a : Work) (layout : IsLayout a.layout) (ne
       (changes-more g (MayBegin g notice Nothing y a.columns taken) (λ d n. n < 64) taken opened (may-low g y a.columns taken notice) frame)
       (all-sound tells a.columns is any sound (λ sync. sync)) b k bl kl)
 
+  -- ## Where all was in sync
+
+  swept-fit : (sweep : Sweeps) (some : sweep ≡ Nothing → ⊥) → HasBegun g notice sweep y newest first read begun looked opened None found → Changes g (MayBegin g notice sweep y a.columns taken) taken opened → InSync y (contents_of g taken) (states_in a) → InSync y holds mid → g.tells → (b k : ℕ) → b < blocks_in y → k < 512
+      → start.blocks b k ≡ decode y (contents_of g taken) (states_in a) b k
+  swept-fit sweep some h frame sync now tells b k bl kl =
+      start-is tells now b k bl kl
+      ∙ swept-same g y layout a.columns begun taken opened array die alive tells
+      (changes-more g (MayBegin g notice sweep y a.columns taken) (MayCheck g y layout a.columns begun taken opened array die alive tells) taken opened (may-check g y a.columns taken notice sweep) frame)
+      (checks-first sweep some h tells) b bl sync k kl
+
+  fit-of : (dirty some : Bool) → (newest.clean == 0) ≡ dirty → is_any_marked union ≡ some → HasBegunBy dirty some → Changes g (MayBy dirty some) taken opened → g.tells → InSync y (contents_of g taken) (states_in a) → (b k : ℕ) → b < blocks_in y → k < 512
+      → start.blocks b k ≡ decode y (contents_of g taken) (states_in a) b k
+  fit-of true some is any h frame tells sync b k bl kl = swept-fit (Over Sync) (λ e. let u : ⊥ = cc in u) h frame sync (in-sync true some is any h tells (inl sync)) tells b k bl kl
+  fit-of false true is any h frame tells sync b k bl kl = swept-fit (Marked (marks_stripe union)) (λ e. let u : ⊥ = cc in u) h frame sync (in-sync false true is any h tells (inl sync)) tells b k bl kl
+  fit-of false false is any h frame tells sync b k bl kl =
+      start-is tells (in-sync false false is any h tells (inl sync)) b k bl kl
+      ∙ same-blocks g y layout a.columns begun taken opened array die alive tells
+      (changes-more g (MayBegin g notice Nothing y a.columns taken) (λ d n. n < 64) taken opened (may-low g y a.columns taken notice) frame) sync b k bl kl
+
   pub holding : HoldsBlocks g a newest taken opened begun read union start.blocks
   holding = record {
     in_sync = λ tells sound. sync-behind (in-sync (newest.clean == 0) (is_any_marked union) refl refl has tells sound);
     blocks = block-of (newest.clean == 0) (is_any_marked union) refl refl has stage.frame;
+    same = fit-of (newest.clean == 0) (is_any_marked union) refl refl has stage.frame;
   }

@@ -1,6 +1,7 @@
 -- The labels of an array that was begun, served and closed.
 use Rattle.std.proofs.Common.{◌≡◌, ◌≢◌, ◌⊎◌, inl, inr, ℕ, ◌<◌, ◌≤◌, ◌+◌, Bool, true, false, List, [], ◌++◌, length, get_or, Option, Some, None, refl, sym, ◌∙◌, ap, subst, arith}
-use Rattle.std.specs.Prelude.{count_by, is_some, slice_get}
+use Rattle.std.specs.Prelude.{◌&&◌, count_by, is_some, slice_get}
+use Rattle.std.proofs.lemmas.Bool.{cases_lt}
 use Rattle.std.specs.Option.{option_map_or}
 use Rattle.std.proofs.lemmas.List.{length-append}
 use Rattle.std.proofs.lemmas.List.Elements.{All-append, All-get_or, All-weaker}
@@ -16,13 +17,14 @@ use Rattle.eng_cols.specs.Cols.{device_set, is_set_filling, HasDeviceOn}
 use Rattle.eng_cols.specs.Stripes.{states_of}
 use Rattle.raid_map.specs.Marking.{IsMapSector}
 use Rattle.raid_map.specs.Regions.{Marks as Map}
-use Rattle.top_acts.specs.Begun.{HasBegun, MayBegin, MaySweep, Opens}
+use Rattle.top_acts.specs.Begun.{HasBegun, MayBegin, MaySweep, Names, Opens}
 use Rattle.top_acts.specs.Behind.{AreLast}
 use Rattle.top_acts.specs.Cleared.{EndsMapped}
 use Rattle.top_acts.specs.Mapped.{LooksAtMaps, ReadsMap, unmarked}
 use Rattle.top_acts.specs.Marking.{AreNotice}
+use Rattle.top_acts.specs.Seats.{names}
 use Rattle.top_acts.specs.Stages.{AreStaged}
-use Rattle.top_acts.specs.Sweeps.{Notice, Round, Marks, Sweeps, rounds_for, wrote_round}
+use Rattle.top_acts.specs.Sweeps.{Notice, Round, Marks, Sweeps, clean_in, rounds_for}
 use Rattle.top_acts.proofs.Later.{sweep_high}
 use Rattle.top_rounds.specs.Labels.{Seating, for_column, seating_in, with_round}
 use Rattle.top_close.specs.Stage.{DiesIn, HaveFailed, IsGivenUp, IsInUse, IsStage}
@@ -99,22 +101,31 @@ module _ {D : Type 0} (g : Ghosts D) (a : Work) (newest : Label) (taken opened s
 
   -- ## The last label
 
-  -- the label of the opening round, or the newest where maps announced it
-  first-is : (n : Notice) → (wrote_round n None ≡ true → first ≡ with_round newest first.counter 0 (seating_in first)) → (wrote_round n None ≡ false → first ≡ newest) → (counter clean : ℕ) (seating : Seating) → with_round (closing_label first) counter clean seating ≡ with_round newest counter clean seating
-  first-is Round was same counter clean seating = ap (λ (l : Label). with_round (closing_label l) counter clean seating) (was refl)
-  first-is (Marks map) was same counter clean seating = ap (λ (l : Label). with_round (closing_label l) counter clean seating) (same refl)
+  abbrev named : Bool
+  named = names newest read
+
+  no-less : newest.counter ≤ first.counter
+  no-less = omega (arith, has.counter.least)
+
+  -- the label of the opening round, or the newest where none was written
+  first-is : (n : Notice) → (newest.counter < first.counter → first ≡ with_round newest first.counter (clean_in n None newest.clean) (seating_in first)) → (first.counter ≡ newest.counter → first ≡ newest)
+      → (counter clean : ℕ) (seating : Seating) → with_round (closing_label first) counter clean seating ≡ with_round newest counter clean seating
+  first-is n was same counter clean seating = elim (cases_lt newest.counter first.counter) [
+    | inl less ↦ ap (λ (l : Label). with_round (closing_label l) counter clean seating) (was less)
+    | inr not ↦ ap (λ (l : Label). with_round (closing_label l) counter clean seating) (same (omega (arith, not, no-less)))
+  ]
 
   label-is : last ≡ with_round newest last.counter (clean_in_end s.ending.lost 1) (seating_in last)
   label-is = closes.label_is ∙ first-is notice has.label_is has.same last.counter (clean_in_end s.ending.lost 1) (seating_in last)
 
-  two-rounds : newest.counter + (rounds_for notice + 1) ≤ last.counter
+  two-rounds : newest.counter + (rounds_for notice named + 1) ≤ last.counter
   two-rounds =
       let one = has.counter.least in
       let some = has.some in
       let two : first.counter + 1 ≤ last.counter = closes.counter.least in
       omega (arith, one, some, two)
 
-  at-most : last.counter ≤ newest.counter + (rounds_for notice + 1) + length (early ++ late)
+  at-most : last.counter ≤ newest.counter + (rounds_for notice named + 1) + length (early ++ late)
   at-most =
       let one : first.counter ≤ newest.counter + has.rounds + length early = has.counter.most in
       let rounds = has.one refl in
@@ -157,31 +168,47 @@ module _ {D : Type 0} (g : Ghosts D) (a : Work) (newest : Label) (taken opened s
       ap (λ (x : Option D). option_map_or (λ (z : D). g.sector z 0) x []) (closes.others d none) ∙ as-served tells d sized
 
   abbrev Wrote : ℕ → Type 0
-  Wrote d = (c : ℕ) × (wrote_round notice None ≡ true) × HasDeviceOn columns c d × (sector_of g back d 0 ≡ bytes_of (for_column first c))
+  Wrote d = (c : ℕ) × (newest.counter < first.counter) × HasDeviceOn columns c d × (sector_of g back d 0 ≡ bytes_of (for_column first c))
 
   abbrev Holds : ℕ → Type 0
   Holds d = (sector_of g back d 0 ≡ sector_of g taken d 0)
       ⊎ (Wrote d ⊎ ((c : ℕ) × IsGivenUp s.ending.lost kept c × HasDeviceOn kept c d × IsTriedOn g (record first { clean = 1 }) last.counter back c d))
 
-  -- where maps announced it, and that didn't lose the array, no label was written
-  marked-first : (map : Map) (b : HasBegun g (Marks map) sweep a.layout newest first read columns looked opened None found) → g.tells → (d : ℕ) → sector_of g opened d 0 ≡ sector_of g looked d 0
-  marked-first map b tells d = by b.opened refl
+  -- behind maps that didn't lose the array no device was called where the counter is what it was
+  none-behind : (marked : Option Loss) (same : Bool) (after : Label) (mid left : List Column) (dev new : List (Option D)) → Names g marked same newest after mid left dev new None → after.counter ≡ newest.counter → new ≡ dev
+  none-behind (Some by) same after mid left dev new n equal = let z : None ≡ Some n.0 = n.1 in absurd (let u : ⊥ = cc in u)
+  none-behind None true after mid left dev new n equal = n.0.devices_are
+  none-behind None false after mid left dev new n equal = absurd (omega (arith, equal, n.counted.counter.least))
+
+  -- where maps announced it, and no round was written, no label was
+  marked-first : (map : Map) (b : HasBegun g (Marks map) sweep a.layout newest first read columns looked opened None found) → first.counter ≡ newest.counter → g.tells → (d : ℕ) → sector_of g opened d 0 ≡ sector_of g looked d 0
+  marked-first map b equal tells d = by b.opened refl
     where
       by : (o : Option Loss) → b.opened ≡ o → sector_of g opened d 0 ≡ sector_of g looked d 0
       by (Some loss) is = let z : None ≡ Some loss = b.stays (ap is_some is) ∙ is in absurd (let u : ⊥ = cc in u)
       by None is =
-          let marks = (subst (λ o. Opens g (Marks map) o newest b.first read b.left looked b.dev) is b.opens).1 in
+          let behind = subst (λ o. Opens g (Marks map) a.layout o newest b.first read b.left looked b.dev) is b.opens in
+          let kept : first ≡ b.first = (b.sweeps is).ends.label_is in
+          let stays : b.dev ≡ behind.1 = none-behind behind.2 (names newest read && names newest behind.0) b.first behind.0 b.left behind.1 b.dev behind.5 (ap (λ (l : Label). l.counter) (sym kept) ∙ equal) in
           changes_sector g (λ d n. ((false ≡ true) × (n ≡ 0)) ⊎ MaySweep g sweep a.layout read looked d n) b.dev opened d 0 b.since tells (λ h. elim h [
             | inl never ↦ let z = never.0 in let u : ⊥ = cc in u
             | inr swept ↦ omega (arith, sweep_high g a.layout sweep read looked d 0 swept)
           ])
-          ∙ changes_sector g (IsMapSector read) looked b.dev d 0 marks.marked.frame tells (λ h. let e = h.1 in omega (arith, e))
+          ∙ (ap (λ (ds : List (Option D)). sector_of g ds d 0) stays
+          ∙ changes_sector g (IsMapSector read) looked behind.1 d 0 behind.3.marked.frame tells (λ h. let e = h.1 in omega (arith, e)))
+
+  -- where none was written, nothing was
+  quiet-first : (n : Notice) → HasBegun g n sweep a.layout newest first read columns looked opened None found → first.counter ≡ newest.counter → g.tells → (d : ℕ) → sector_of g opened d 0 ≡ sector_of g taken d 0
+  quiet-first Round b equal tells d = absurd (omega (arith, equal, b.some, b.counter.least))
+  quiet-first (Marks map) b equal tells d = marked-first map b equal tells d ∙ changes_sector g (λ _ _. ⊥) taken looked d 0 looks.reads.frame tells (λ f. f)
 
   -- sector 0 of a device that is in use as it was begun
   opened-first : (n : Notice) → HasBegun g n sweep a.layout newest first read columns looked opened None found → g.tells → (c d : ℕ) → HasDeviceOn columns c d
-      → (sector_of g opened d 0 ≡ sector_of g taken d 0) ⊎ ((wrote_round n None ≡ true) × (sector_of g opened d 0 ≡ bytes_of (for_column first c)))
-  opened-first Round b tells c d live = inr (refl, b.held refl c d live tells)
-  opened-first (Marks map) b tells c d live = inl (marked-first map b tells d ∙ changes_sector g (λ _ _. ⊥) taken looked d 0 looks.reads.frame tells (λ f. f))
+      → (sector_of g opened d 0 ≡ sector_of g taken d 0) ⊎ ((newest.counter < first.counter) × (sector_of g opened d 0 ≡ bytes_of (for_column first c)))
+  opened-first n b tells c d live = elim (cases_lt newest.counter first.counter) [
+    | inl less ↦ inr (less, b.held less c d live tells)
+    | inr not ↦ inl (quiet-first n b (omega (arith, not, no-less)) tells d)
+  ]
 
   -- and that is what it had before, or the label of the opening round
   as-opened : g.tells → (d : ℕ) → (RisesOn g taken back d → ⊥) → sector_of g back d 0 ≡ sector_of g opened d 0 → Holds d
@@ -220,7 +247,7 @@ module _ {D : Type 0} (g : Ghosts D) (a : Work) (newest : Label) (taken opened s
   later-dies c (inl loses) = inl (later-loses c loses)
   later-dies c (inr given) = inr given
 
-  pub relabelled : IsRelabelled g a newest taken s back notice columns kept first last
+  pub relabelled : IsRelabelled g a newest taken s back notice (names newest read) columns kept first last
   relabelled = record {
     rises = early ++ late;
     failed = failed;

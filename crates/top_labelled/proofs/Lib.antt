@@ -24,3 +24,4 @@ pub mod Ending
 pub mod All
 pub mod Steps
 pub mod Outlived
+pub mod Effect

@@ -18,7 +18,7 @@ use Rattle.raid_recon.proofs.Backs.{Back}
 use Rattle.top_close.specs.Calls.{IsSettle}
 use Rattle.top_close.specs.Stage.{DiesIn, IsGivenUpIn, IsStage}
 use Rattle.top_close.proofs.StageLaws.{dies_over, live_before, stage-then, stage_as}
-use Rattle.top_rounds.specs.Calls.{IsLabelWrite}
+use Rattle.top_acts.specs.Stages.{IsClosing}
 use Rattle.top_rounds.proofs.RoundLaws.{none_given_in}
 use Rattle.top_acts.specs.Begun.{HasBegun, MayBegin}
 use Rattle.top_acts.specs.Behind.{AreLast}
@@ -35,8 +35,8 @@ use Rattle.top_labelled.specs.Words.{BeginsUnless}
 use Rattle.top_acts.proofs.Words.{IsMapRead, IsMapWrite}
 
 none-announced : (notice : Notice) → AreNotice notice []
-none-announced Round = All-nil IsLabelWrite
-none-announced (Marks map) = All-nil (λ (call : Call). IsMapWrite call ⊎ IsSettle call)
+none-announced Round = All-nil IsClosing
+none-announced (Marks map) = All-nil (λ (call : Call). IsMapWrite call ⊎ IsClosing call)
 
 -- ## It wasn't lost by the maps
 

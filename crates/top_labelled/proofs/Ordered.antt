@@ -10,6 +10,7 @@ use Rattle.blk_disk.specs.Devices.{calls_of, device_at, Changes, StaysIf}
 use Rattle.raid_map.specs.Marking.{MarkCalls, MarksOn}
 use Rattle.top_close.specs.Calls.{IsSettle, MoreOn}
 use Rattle.top_close.proofs.CallLaws.{more-then}
+use Rattle.top_acts.specs.Stages.{IsClosing}
 use Rattle.top_rounds.specs.Calls.{IsLabelWrite}
 use Rattle.top_acts.specs.Cleared.{IsEndingCall}
 use Rattle.top_labelled.specs.Maps.{WritesMap, WritesRows}
@@ -82,14 +83,15 @@ ending-quiet call (inl (inl label)) rows = label-quiet call label rows
 ending-quiet call (inl (inr settle)) rows = settle-quiet call settle rows
 ending-quiet call (inr write) rows = write-quiet call write rows
 
--- a call that marks, and isn't one to the rows
+-- a call by which marks are read or written, or labels written behind them, which isn't one to the rows
 abbrev pub IsMarkOrRead : Call → Type 0
-IsMarkOrRead call = IsMapRead call ⊎ (IsMapWrite call ⊎ IsSettle call)
+IsMarkOrRead call = IsMapRead call ⊎ (IsMapWrite call ⊎ IsClosing call)
 
 mark-quiet : (call : Call) → IsMarkOrRead call → WritesRows call → ⊥
 mark-quiet call (inl read) rows = read-quiet call read rows
 mark-quiet call (inr (inl write)) rows = write-quiet call write rows
-mark-quiet call (inr (inr settle)) rows = settle-quiet call settle rows
+mark-quiet call (inr (inr (inl label))) rows = label-quiet call label rows
+mark-quiet call (inr (inr (inr settle))) rows = settle-quiet call settle rows
 
 -- ## Marks first
 

@@ -1,12 +1,12 @@
 -- The calls of the devices of an array of which a map is kept, from its opening to its close.
 use Rattle.std.proofs.Common.{◌≡◌, ◌⊎◌, inl, inr, ℕ, List, [], ◌++◌, Bool, true, false, Option, Some, None, refl, sym, ◌∙◌, ap, subst, append-nil}
-use Rattle.std.specs.Prelude.{All, is_some, option_and_then}
-use Rattle.std.proofs.lemmas.List.Elements.{All-append, All-weaker}
+use Rattle.std.specs.Prelude.{◌&&◌, All, is_some, option_and_then}
+use Rattle.std.proofs.lemmas.List.Elements.{All-append, All-nil, All-weaker}
 use Rattle.blk_disk.specs.declared.disk.Call.{Call}
 use Rattle.blk_disk.specs.declared.disk.Disk.{Ghosts}
 use Rattle.blk_disk.specs.Disk.{Tells, call_of}
 use Rattle.blk_disk.specs.Devices.{Changes, calls_of, device_at}
-use Rattle.blk_disk.proofs.DeviceLaws.{changes-more, changes-then}
+use Rattle.blk_disk.proofs.DeviceLaws.{changes-more, changes-refl, changes-then}
 use Rattle.lay_core.specs.Layout.{Shape}
 use Rattle.eng_cols.specs.declared.column.Column.{Column}
 use Rattle.eng_cols.specs.declared.spot.Loss.{Loss}
@@ -14,10 +14,12 @@ use Rattle.eng_state.specs.Shows.{AreTold}
 use Rattle.raid_label.specs.declared.label.Label.{Label}
 use Rattle.raid_map.specs.Marking.{MarksOn}
 use Rattle.raid_map.specs.Regions.{Marks as Map}
-use Rattle.top_acts.specs.Begun.{HasBegun, MayBegin, MaySweep, Opens}
+use Rattle.top_acts.specs.Begun.{HasBegun, MayBegin, MaySweep, Names, Opens}
 use Rattle.top_acts.specs.Cleared.{EndsMapped, EndsMappedSettled, IsEndingCall}
 use Rattle.top_acts.specs.Mapped.{unmarked}
 use Rattle.top_acts.specs.Marking.{MarksAll}
+use Rattle.top_acts.specs.Seats.{names}
+use Rattle.top_acts.specs.Stages.{IsClosing}
 use Rattle.top_acts.specs.Sweeps.{Notice, Round, Marks, Sweeps}
 use Rattle.top_acts.proofs.Looked.{looks_stage}
 use Rattle.top_acts.proofs.Marked.{IsMarkCall, marks_dies, marks_stage}
@@ -26,6 +28,7 @@ use Rattle.top_close.specs.Stage.{DiesIn}
 use Rattle.top_close.proofs.CallLaws.{more-none, more-then}
 use Rattle.top_close.proofs.SettledLaws.{device_within}
 use Rattle.top_close.proofs.StageLaws.{live_before}
+use Rattle.top_rounds.specs.Passes.{IsKeptInUse}
 use Rattle.top_run.specs.Work.{Service, Work}
 use Rattle.top_labelled.specs.Begun.{BeginsLabelled, sweeps_in}
 use Rattle.top_labelled.specs.Words.{BeginsUnless, notice_in, closing_label, ClearsLast, MarksFirst}
@@ -58,10 +61,41 @@ same-devices g old new d same = subst (λ o. MoreOn (λ more. more ≡ []) (call
 
 -- ## The mark
 
-marks-of : {D : Type 0} (g : Ghosts D) (notice : Notice) (opened : Option Loss) (map : Map) (label next : Label) (columns after : List Column) (old new : List (Option D)) → notice ≡ Marks map → opened ≡ None → Opens g notice opened label next columns after old new → MarksAll g map columns after old new
-marks-of g Round opened map label next columns after old new is none o = absurd (let z : Round ≡ Marks map = is in let u : ⊥ = cc in u)
-marks-of g (Marks m) (Some loss) map label next columns after old new is none o = absurd (let z : Some loss ≡ None = none in let u : ⊥ = cc in u)
-marks-of g (Marks m) None map label next columns after old new is none o = subst (λ (k : Map). MarksAll g k columns after old new) (let z : Marks m ≡ Marks map = is in let e : m ≡ map = cc in e) o.1
+-- each device in use was marked, and then labels may have been written behind that
+record Marked {D : Type 0} (g : Ghosts D) (map : Map) (columns left : List Column) (old dev : List (Option D)) : Type 0 where
+  mid : List Column
+  between : List (Option D)
+  marks : MarksAll g map columns mid old between
+  frame : Changes g (IsKeptInUse false mid) between dev
+  told : (d : ℕ) → MoreOn (All IsClosing) (calls_of g between d) (calls_of g dev d)
+  had : (c d : ℕ) → HasDeviceOn left c d → HasDeviceOn mid c d
+
+module _ {D : Type 0} (g : Ghosts D) (map : Map) (label next : Label) (columns left : List Column) (old dev : List (Option D)) where
+  named-so : (mid : List Column) (between : List (Option D)) (marked : Option Loss) (named : Bool) → MarksAll g map columns mid old between → Names g marked named label next mid left between dev None → Marked g map columns left old dev
+  named-so mid between (Some by) named m n = absurd (let z : None ≡ Some n.0 = n.1 in let u : ⊥ = cc in u)
+  named-so mid between None true m n = record {
+    mid = mid;
+    between = between;
+    marks = m;
+    frame = subst (λ (ds : List (Option D)). Changes g (IsKeptInUse false mid) between ds) (sym n.0.devices_are) (changes-refl g (IsKeptInUse false mid) between);
+    told = λ d. subst (λ (ds : List (Option D)). MoreOn (All IsClosing) (calls_of g between d) (calls_of g ds d)) (sym n.0.devices_are) (more-none (All IsClosing) (calls_of g between d) (All-nil IsClosing));
+    had = λ c d live. subst (λ (cs : List Column). HasDeviceOn cs c d) n.0.columns_are live;
+  }
+  named-so mid between None false m closes = record {
+    mid = mid;
+    between = between;
+    marks = m;
+    frame = closes.counted.stage.frame;
+    told = closes.counted.stage.told;
+    had = λ c d live. live_before (DiesIn g None mid between dev) mid left c d closes.counted.stage.dies live;
+  }
+
+marks-of : {D : Type 0} (g : Ghosts D) (notice : Notice) (y : Shape) (opened : Option Loss) (map : Map) (label next : Label) (columns left : List Column) (old dev : List (Option D)) → notice ≡ Marks map → opened ≡ None → Opens g notice y opened label next columns left old dev → Marked g map columns left old dev
+marks-of g Round y opened map label next columns left old dev is none o = absurd (let z : Round ≡ Marks map = is in let u : ⊥ = cc in u)
+marks-of g (Marks m) y (Some loss) map label next columns left old dev is none o = absurd (let z : Some loss ≡ None = none in let u : ⊥ = cc in u)
+marks-of {D = D} g (Marks m) y None map label next columns left old dev is none o =
+    subst (λ (k : Map). Marked g k columns left old dev) (let z : Marks m ≡ Marks map = is in let e : m ≡ map = cc in e)
+    (named-so g m label next columns left old dev o.0 o.1 o.2 (names label columns && names label o.0) o.3 o.5)
 
 -- an array that isn't lost wasn't so by what announced it
 not-opened : (opened : Option Loss) → (is_some opened ≡ true → None ≡ opened) → opened ≡ None
@@ -102,28 +136,30 @@ module _ {D : Type 0} (g : Ghosts D) (a : Work) (newest first last : Label) (tak
   reads : (d : ℕ) → MoreOn (All IsMapRead) (calls_of g taken d) (calls_of g begins.looked d)
   reads d = (looks_stage g y begins.unread blank begins.union a.columns begins.read taken begins.looked begins.looks).told d
 
-  marks : MarksAll g begins.marks begins.read has.left begins.looked has.dev
-  marks = marks-of g notice has.opened begins.marks newest has.first begins.read has.left begins.looked has.dev (notice-is keeps begins.marks kept) (not-opened has.opened has.stays) has.opens
+  m : Marked g begins.marks begins.read has.left begins.looked has.dev
+  m = marks-of g notice y has.opened begins.marks newest has.first begins.read has.left begins.looked has.dev (notice-is keeps begins.marks kept) (not-opened has.opened has.stays) has.opens
 
   abbrev unlost : Option Loss
   unlost = None
 
   -- whatever came behind the marks
-  since : Changes g Anywhere has.dev back
+  since : Changes g Anywhere m.between back
   since =
-      changes-then g Anywhere has.dev opened back (changes-more g (λ d n. ((is_some unlost ≡ true) × (n ≡ 0)) ⊎ MaySweep g sweep y begins.read begins.looked d n) Anywhere has.dev opened (λ d n h. tt) has.since)
+      changes-then g Anywhere m.between has.dev back (changes-more g (IsKeptInUse false m.mid) Anywhere m.between has.dev (λ d n h. tt) m.frame)
+      (changes-then g Anywhere has.dev opened back (changes-more g (λ d n. ((is_some unlost ≡ true) × (n ≡ 0)) ⊎ MaySweep g sweep y begins.read begins.looked d n) Anywhere has.dev opened (λ d n h. tt) has.since)
       (changes-then g Anywhere opened served back (changes-more g may Anywhere opened served (λ d n h. tt) run)
-      (changes-more g (MayEnd (is_some clear) closed) Anywhere served back (λ d n h. tt) closes.stage.frame))
+      (changes-more g (MayEnd (is_some clear) closed) Anywhere served back (λ d n h. tt) closes.stage.frame)))
 
   -- ## Marks first
 
   -- a device that was marked
   was-marked : (c d : ℕ) → HasDeviceOn has.left c d → MoreOn MarksFirst (calls_of g taken d) (calls_of g back d)
   was-marked c d live =
-      let on = live_before (LosesDevice g begins.read begins.looked has.dev) begins.read has.left c d (marks_dies g begins.marks begins.read has.left begins.looked has.dev marks) live in
-      told-marked (calls_of g taken d) (calls_of g begins.looked d) (calls_of g has.dev d) (calls_of g back d) (reads d)
-      (subst (MarksOn (calls_of g begins.looked d) (calls_of g has.dev d)) (ap (λ (o : Option ℕ). is_some o) live) (marks.marked.once c d (device_within begins.read c d on) on))
-      (still-tells g Anywhere has.dev back d since)
+      let here = m.had c d live in
+      let on = live_before (LosesDevice g begins.read begins.looked m.between) begins.read m.mid c d (marks_dies g begins.marks begins.read m.mid begins.looked m.between m.marks) here in
+      told-marked (calls_of g taken d) (calls_of g begins.looked d) (calls_of g m.between d) (calls_of g back d) (reads d)
+      (subst (MarksOn (calls_of g begins.looked d) (calls_of g m.between d)) (ap (λ (o : Option ℕ). is_some o) here) (m.marks.marked.once c d (device_within begins.read c d on) on))
+      (still-tells g Anywhere m.between back d since)
 
   -- one that wasn't, or failed as it was
   unmarked-quiet : (c d : ℕ) → HasDeviceOn a.columns c d → ((k : ℕ) → HasDeviceOn has.left k d → ⊥) → MoreOn MarksFirst (calls_of g taken d) (calls_of g back d)
@@ -134,9 +170,12 @@ module _ {D : Type 0} (g : Ghosts D) (a : Work) (newest first last : Label) (tak
       (no-more IsMarkOrRead (calls_of g taken d) (calls_of g served d) (calls_of g back d)
       (no-more IsMarkOrRead (calls_of g taken d) (calls_of g opened d) (calls_of g served d)
       (no-more IsMarkOrRead (calls_of g taken d) (calls_of g has.dev d) (calls_of g opened d)
-      (more-then (All IsMapRead) (All IsMarkCall) (All IsMarkOrRead) (calls_of g taken d) (calls_of g begins.looked d) (calls_of g has.dev d)
-      (λ xs ys one two. All-append IsMarkOrRead xs ys (All-weaker IsMapRead IsMarkOrRead (λ c h. inl h) xs one) (All-weaker IsMarkCall IsMarkOrRead (λ c h. inr h) ys two))
-      (reads d) ((marks_stage g begins.marks begins.read has.left begins.looked has.dev marks None).told d))
+      (more-then (All IsMarkOrRead) (All IsClosing) (All IsMarkOrRead) (calls_of g taken d) (calls_of g m.between d) (calls_of g has.dev d)
+      (λ xs ys one two. All-append IsMarkOrRead xs ys one (All-weaker IsClosing IsMarkOrRead (λ c h. inr (inr h)) ys two))
+      (more-then (All IsMapRead) (All IsMarkCall) (All IsMarkOrRead) (calls_of g taken d) (calls_of g begins.looked d) (calls_of g m.between d)
+      (λ xs ys one two. All-append IsMarkOrRead xs ys (All-weaker IsMapRead IsMarkOrRead (λ c h. inl h) xs one) (All-weaker IsMarkCall IsMarkOrRead (λ c h. elim h [ inl write ↦ inr (inl write) | inr settle ↦ inr (inr (inr settle)) ]) ys two))
+      (reads d) ((marks_stage g begins.marks begins.read m.mid begins.looked m.between m.marks None).told d))
+      (m.told d))
       (has.behind d none)) (idle d gone c was)) (same-devices g served back d (closes.others d away)))
 
   -- ## Cleared last

@@ -14,11 +14,12 @@ use Rattle.eng_cols.specs.Deaths.{Dies}
 use Rattle.eng_cols.specs.Stripes.{states_of}
 use Rattle.raid_label.specs.declared.label.Label.{Label}
 use Rattle.raid_map.specs.Regions.{IsBytesOf, IsMapOf, Marks as Map, is_marked, regions_in}
-use Rattle.top_acts.specs.Begun.{HasBegun, MayBegin, MaySweep, Opens}
+use Rattle.top_acts.specs.Begun.{HasBegun, MayBegin, MaySweep, Names, Opens}
 use Rattle.top_acts.specs.Mapped.{LooksAtMaps, unmarked}
+use Rattle.top_acts.specs.Seats.{names}
 use Rattle.top_acts.specs.Sweeps.{Notice, Round, Marks, Sweeps}
 use Rattle.top_acts.proofs.Later.{sweep_high}
-use Rattle.top_acts.proofs.Marked.{marks_second, marks_stage}
+use Rattle.top_acts.proofs.Marked.{marks_second}
 use Rattle.top_close.specs.Ended.{IsLossBy}
 use Rattle.top_close.specs.Stage.{DiesIn}
 use Rattle.top_run.specs.Work.{Work}
@@ -48,15 +49,19 @@ module _ {D : Type 0} (g : Ghosts D) (y : Shape) (sweep : Sweeps) (newest first 
       no-second d (inl f) = let e = f.kept in omega (arith, e)
       no-second d (inr m) = omega (arith, sweep_high g y sweep columns old d 1 m)
 
-  -- what the maps left, and a round behind them where the array was lost
-  announced-second : (map : Map) (opened : Option Loss) (label next : Label) (mid : List Column) (dev : List (Option D)) → Opens g (Marks map) opened label next columns mid old dev → g.tells → (d : ℕ) → (RisesOn g old dev d → ⊥)
+  -- what comes behind the maps writes no sector but that of the label
+  named-first : (marked lost : Option Loss) (named : Bool) (label next : Label) (cs left : List Column) (between dev : List (Option D)) → Names g marked named label next cs left between dev lost → Changes g (IsFirstInUse cs) between dev
+  named-first (Some by) lost named label next cs left between dev n = n.2.rounds.1.frame
+  named-first None lost true label next cs left between dev n = subst (λ (ds : List (Option D)). Changes g (IsFirstInUse cs) between ds) (sym n.0.devices_are) (changes-refl g (IsFirstInUse cs) between)
+  named-first None lost false label next cs left between dev n = n.counted.stage.frame
+
+  -- what the maps left, and labels behind them
+  announced-second : (map : Map) (opened : Option Loss) (label next : Label) (mid : List Column) (dev : List (Option D)) → Opens g (Marks map) y opened label next columns mid old dev → g.tells → (d : ℕ) → (RisesOn g old dev d → ⊥)
       → (sector_of g dev d 1 ≡ sector_of g old d 1) ⊎ IsBytesOf map (sector_of g dev d 1)
-  announced-second map None label next mid dev o tells d quiet = marks_second g map columns mid old dev o.1 tells d quiet
-  announced-second map (Some loss) label next mid dev o tells d quiet =
-      let far = o.3.rounds.1.frame in
+  announced-second map opened label next mid dev o tells d quiet =
+      let far = named-first o.2 opened (names label columns && names label o.0) label next o.0 mid o.1 dev o.5 in
       let same : sector_of g dev d 1 ≡ sector_of g o.1 d 1 = changes_sector g (IsFirstInUse o.0) o.1 dev d 1 far tells (λ f. let e = f.kept in omega (arith, e)) in
-      let was = (marks_stage g map columns o.0 old o.1 o.2 None).frame in
-      elim (marks_second g map columns o.0 old o.1 o.2 tells d (λ h. quiet (rises-wider g (λ _ _. ⊥) (IsFirstInUse o.0) old old o.1 dev d (changes-refl g (λ _ _. ⊥) old) h far))) [
+      elim (marks_second g map columns o.0 old o.1 o.3 tells d (λ h. quiet (rises-wider g (λ _ _. ⊥) (IsFirstInUse o.0) old old o.1 dev d (changes-refl g (λ _ _. ⊥) old) h far))) [
         | inl kept ↦ inl (same ∙ kept)
         | inr bytes ↦ inr (subst (IsBytesOf map) (sym same) bytes)
       ]

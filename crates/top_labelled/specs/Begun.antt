@@ -120,10 +120,11 @@ module _ {D : Type 0} (g : Ghosts D) (a : Work) (newest : Label) (taken : List (
       pub dead : slice_get begun col ≡ Some column.Dead
       pub loses : LosesDevice g a.columns taken opened col
 
-    -- Where it was sound by the columns that were left as maps were read, the array is in sync as the core is opened, once the column is dead that is to be rebuilt; and where it was so by all columns, its blocks are what the devices held as they were taken; or, where the labels said that the array was in use, or the union of its maps had marks, and the block's unit was made missing, the sum of the others of its stripe as they were held then.
+    -- Where it was sound by the columns that were left as maps were read, the array is in sync as the core is opened, once the column is dead that is to be rebuilt; and where it was so by all columns, its blocks are what the devices held as they were taken; or, where the labels said that the array was in use, or the union of its maps had marks, and the block's unit was made missing, the sum of the others of its stripe as they were held then. Where the check units fitted the data then, they are what the devices held.
     pub record HoldsBlocks (read : List Column) (union : Map) (start : Blocks) : Type 0 where
       pub in_sync : g.tells → WasSound read read → InSync a.layout (contents_of g opened) (states_of a.layout (without a.start begun))
       pub blocks : g.tells → WasSound a.columns read → (b : ℕ) → b < blocks_in a.layout
           → ((k : ℕ) → k < 512 → start b k ≡ decode a.layout (contents_of g taken) (states_of a.layout a.columns) b k)
           ⊎ (((newest.clean ≡ 0) ⊎ (is_any_marked union ≡ true)) × IsUnmade b × ((k : ℕ) → k < 512 → start b k
           ≡ xor_others (λ j. byte_of a.layout (contents_of g taken) (states_of a.layout a.columns) (stripe_of a.layout b) j (b % a.layout.unit_sectors) k) (unit_of a.layout b) a.layout.width))
+      pub same : g.tells → WasInSync g a taken → (b k : ℕ) → b < blocks_in a.layout → k < 512 → start b k ≡ decode a.layout (contents_of g taken) (states_of a.layout a.columns) b k

@@ -5,3 +5,4 @@ pub mod Ran
 pub mod Words
 pub mod Given
 pub mod Between
+pub mod Effect

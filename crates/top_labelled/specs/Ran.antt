@@ -19,11 +19,12 @@ use Rattle.eng_cols.specs.Stripes.{states_of, is_stripe_of}
 use Rattle.eng_world.specs.World.{World}
 use Rattle.raid_label.specs.declared.label.Label.{Label}
 use Rattle.raid_label.specs.Bytes.{bytes_of}
-use Rattle.top_acts.specs.Begun.{HasSeats, MayBegin}
+use Rattle.top_acts.specs.Begun.{MayBegin}
+use Rattle.top_acts.specs.Seats.{HasSeats, names}
 use Rattle.top_acts.specs.Failed.{EndsFailed}
-use Rattle.top_acts.specs.Cleared.{AreEndingInTurn, EndsInSteps, EndsInTurn}
+use Rattle.top_acts.specs.Cleared.{AreEndingInTurn, EndsInSteps, EndsInTurn, EndsMappedSettled}
 use Rattle.top_acts.specs.Mapped.{is_any_marked, unmarked}
-use Rattle.top_acts.specs.Sweeps.{Notice, Round, Marks, rounds_for, wrote_round}
+use Rattle.top_acts.specs.Sweeps.{Notice, Round, Marks, rounds_for}
 use Rattle.top_close.specs.Calls.{EndsSettled}
 use Rattle.top_rounds.specs.Calls.{IsLabelWrite, label_writes}
 use Rattle.top_close.specs.Reserved.{IsReserved}
@@ -82,21 +83,22 @@ module _ {D : Type 0} (g : Ghosts D) (a : Work) (newest : Label) (taken : List (
       pub settled : s.ending.lost ≡ None → (c d : ℕ) → HasDevice (states_of a.layout s.ending.columns) c d → EndsSettled (calls_of g back d)
       pub frame : Changes g (MayChangeLabelled mapped began) taken back
 
-    -- The devices as the core was closed tell the run's calls, and hold what it left. From there the array was closed, step by step: labels, and behind them maps that are cleared, where maps were written in the call and the array wasn't lost in the run; none is where its closing lost it, and each of those in use is cleared once, but that a device that fails as it is cleared begins labels and clears anew. Behind the run a device was written at most one label a round, as many as the counter is greater by, and one at least where it is in use in the end.
+    -- The devices as the core was closed tell the run's calls, and hold what it left. From there the array was closed, step by step: labels, and behind them maps that are cleared, where maps were written in the call and the array wasn't lost in the run; none is where its closing lost it, and each of those in use is cleared once, but that a device that fails as it is cleared begins labels and clears anew. Where it wasn't lost in the run, each device in use was settled, once, before any of them got a label. Behind the run a device was written at most one label a round, as many as the counter is greater by, and one at least where it is in use in the end.
     pub record ClosesInSteps (mapped : Bool) (kept : List Column) (first last : Label) (now : World) : Type 0 where
       pub served : List (Option D)
       pub holds : g.tells → (d n k : ℕ) → k < 512 → contents_of g served d n k ≡ now.contents d n k
       pub calls : (d : ℕ) (told : List Call) → calls_of g served d ≡ Some told → told ≡ now.calls d
       pub steps : EndsInSteps g (if mapped && not (is_some now.lost) then Some (unmarked a.layout.stripes newest.serial) else None) a.layout now.lost (record first { clean = 1 }) last kept s.ending.columns served back s.ending.lost
+      pub before : now.lost ≡ None → EndsMappedSettled g (if mapped then Some (unmarked a.layout.stripes newest.serial) else None) (record first { clean = 1 }) last kept s.ending.columns served back s.ending.lost
       pub labelled : (c d : ℕ) (told : List Call) → HasDeviceOn s.ending.columns c d → calls_of g back d ≡ Some told → (closing : List Call) × (told ≡ now.calls d ++ closing) × (1 ≤ label_writes closing)
       pub times : (d : ℕ) (told : List Call) → calls_of g back d ≡ Some told → (closing : List Call) × (told ≡ now.calls d ++ closing) × (first.counter + label_writes closing ≤ last.counter)
 
-    -- Two rounds are named, or where a map takes the place of the first one: the label of the last has a counter that is greater by that, and by at most one more for each device whose count of faults rose. It is clean unless the array is lost. It says what the columns of its round were, which are those in the end unless the array is lost; of a lost one no column is filling any more. Each device in use in the end has it. Another device whose count of faults didn't rise has what it had, or, of its own column, the label of the opening round, which is older; that of a column that was filling as the core was closed, on a lost array, may have the label of a round between the two, which was tried at the close before the array was lost, and so says clean.
-    pub record IsRelabelled (notice : Notice) (begun kept : List Column) (first last : Label) : Type 0 where
+    -- Two rounds are named, or one where a map takes the place of the first, and the newest label names the columns that were left as its maps were read: the label of the last has a counter that is greater by that, and by at most one more for each device whose count of faults rose. It is clean unless the array is lost. It says what the columns of its round were, which are those in the end unless the array is lost; of a lost one no column is filling any more. Each device in use in the end has it. Another device whose count of faults didn't rise has what it had, or, of its own column, the label of the opening round, which is older; that of a column that was filling as the core was closed, on a lost array, may have the label of a round between the two, which was tried at the close before the array was lost, and so says clean.
+    pub record IsRelabelled (notice : Notice) (named : Bool) (begun kept : List Column) (first last : Label) : Type 0 where
       pub rises : List ℕ
       pub failed : HaveFailed g taken back rises
-      pub least : newest.counter + (rounds_for notice + 1) ≤ last.counter
-      pub most : last.counter ≤ newest.counter + (rounds_for notice + 1) + length rises
+      pub least : newest.counter + (rounds_for notice named + 1) ≤ last.counter
+      pub most : last.counter ≤ newest.counter + (rounds_for notice named + 1) + length rises
       pub later : first.counter + 1 ≤ last.counter
       pub label_is : last ≡ with_round newest last.counter (clean_in_end s.ending.lost 1) (seating_in last)
       pub seating : s.ending.lost ≡ None → seating_in last ≡ seating_of s.ending.columns
@@ -105,7 +107,7 @@ module _ {D : Type 0} (g : Ghosts D) (a : Work) (newest : Label) (taken : List (
       pub held : (c d : ℕ) → HasDeviceOn s.ending.columns c d → HoldsLabel g back last c d
       pub rest : g.tells → (d : ℕ) → 1 ≤ size_of g taken d → ((c : ℕ) → HasDeviceOn s.ending.columns c d → ⊥) → (RisesOn g taken back d → ⊥)
           → (sector_of g back d 0 ≡ sector_of g taken d 0)
-          ⊎ (((c : ℕ) × (wrote_round notice None ≡ true) × HasDeviceOn begun c d × (sector_of g back d 0 ≡ bytes_of (record first { column = c }))) ⊎ ((c : ℕ) × IsGivenUp s.ending.lost kept c × HasDeviceOn kept c d × IsTriedOn g (record first { clean = 1 }) last.counter back c d))
+          ⊎ (((c : ℕ) × (newest.counter < first.counter) × HasDeviceOn begun c d × (sector_of g back d 0 ≡ bytes_of (record first { column = c }))) ⊎ ((c : ℕ) × IsGivenUp s.ending.lost kept c × HasDeviceOn kept c d × IsTriedOn g (record first { clean = 1 }) last.counter back c d))
 
     -- The array was begun, and the column was made dead that is to be rebuilt anew; it isn't lost. Its rebuild began, unless the device onto which it goes had failed, be it before, where that is `faulty`, or since it was the column's own, as the array was begun. A run of what is asked, over the devices and columns as they were then, tells this and leaves the columns so; then the array was closed. No more has changed since the core was opened. In all a column is kept as what it was, or as its rebuild began, or has died since an item was replied ok by which it failed, its device's count of faults rose, it was to be rebuilt anew and that was stopped, or it was filling as the array was opened and that is lost.
     pub record RanLabelled (faulty map : Bool) : Type 0 where
@@ -131,7 +133,7 @@ module _ {D : Type 0} (g : Ghosts D) (a : Work) (newest : Label) (taken : List (
       pub closes : ClosesInSteps (is_kept map newest || is_any_marked begins.union) run.ends.kept first last run.now
       pub maps : MapsEnd g a newest taken s back map begins.read begins.union begins.marks run.graphs run.now
       pub order : is_kept map newest ≡ true → MapsInOrder g a taken s back
-      pub labels : IsRelabelled (if is_kept map newest then Marks begins.marks else Round) begun run.ends.kept first last
+      pub labels : IsRelabelled (if is_kept map newest then Marks begins.marks else Round) (names newest begins.read) begun run.ends.kept first last
       pub count : length s.ending.columns ≡ length a.columns
       pub ends : (c : ℕ) → IsKeptAs (slice_get (with_start a.start a.columns) c) (slice_get s.ending.columns c) ⊎ ((slice_get s.ending.columns c ≡ Some column.Dead) × (WasFailed run.now c ⊎ (RisesAt g a taken s back c ⊎ ((IsAnew a.start c × ((line : Line) × (s.line ≡ Some line) × (line.column ≡ c) × (line.told ≡ told.Stopped))) ⊎ IsGivenUp s.ending.lost a.columns c))))
 

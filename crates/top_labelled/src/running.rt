@@ -1,6 +1,7 @@
 //! What is asked is served over an array with labels.
 ghost use Rattle.std.specs.Prelude.{◌≡◌, ◌≤◌, ◌&&◌, not, is_some, IfOk, IfErr, length};
 ghost use Rattle.top_run.specs.Works.{service_seen};
+ghost use Rattle.top_labelled.specs.Effect.{TookEffect};
 ghost use Rattle.top_labelled.specs.Between.{CanServe, HasServed, IsLeftBy};
 ghost use Rattle.top_labelled.specs.Given.{CameTo, CanRunLabelled, OutcomeCanBePrinted};
 
@@ -48,6 +49,7 @@ pub fn run_labelled<
     requires workers { workers ≤ 16 }
     requires can { CanRunLabelled L.Layout D.Disk labelled }
     ensures came { IfOk result (λ r. CameTo L.Layout D.Disk labelled r.0 r.1.items) }
+    ensures effect { IfOk result (λ r. TookEffect L.Layout D.Disk labelled r.0 r.1.items) }
     ensures stands { IfOk result (λ r. OutcomeCanBePrinted r.0) }
     ensures many { IfOk result (λ r. length r.1.items ≡ length labelled.setup.devices.items) }
     ensures back { IfErr result (λ r. r ≡ labelled) }

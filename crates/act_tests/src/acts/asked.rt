@@ -52,6 +52,8 @@ pub(crate) enum Act {
     Begin(bool),
     /// So many stripes are swept, the first ones; and so many are marked.
     Map(u32, u32),
+    /// The component of this column is absent, and a map without marks is kept.
+    Absent(u32),
     Close,
     End(Option<Loss>),
     Renew(Renewal),
@@ -138,6 +140,14 @@ pub(crate) fn acted(
     acted_on(alloc, &Raid5::new(3, 1, 3)?, act, devices, newest)
 }
 
+// The column of this number, as the array is opened.
+fn column_in(act: Act, device: u32) -> Column {
+    match act {
+        Act::Absent(column) if column == device => Column::Dead,
+        _ => Column::Live { device },
+    }
+}
+
 /// The same of another layout.
 pub(crate) fn acted_on<L: Layout>(
     alloc: Global,
@@ -148,7 +158,7 @@ pub(crate) fn acted_on<L: Layout>(
 ) -> Result<(Done, Ending), Fail> {
     let mut columns = Vec::new(alloc);
     for device in 0..3 {
-        columns.push(Column::Live { device })?;
+        columns.push(column_in(act, device))?;
     }
     if !can_act(layout, &columns, devices) || columns.len() != 3 {
         return Err("no array".into());
@@ -201,6 +211,23 @@ pub(crate) fn acted_on<L: Layout>(
             let opening = Opening {
                 notice: Notice::Marks(&maps.marks),
                 sweeps: Sweeps::Marked(&maps.union),
+            };
+            let rewritten = begin_labelled(
+                opening,
+                layout,
+                devices,
+                &mut hand,
+                newest,
+                &mut room,
+                &mut maps.room,
+            );
+            Done::Rewrite(rewritten)
+        }
+        Act::Absent(_) => {
+            let mut maps = Maps::open(alloc, layout, LAST.serial)?;
+            let opening = Opening {
+                notice: Notice::Marks(&maps.marks),
+                sweeps: Sweeps::Nothing,
             };
             let rewritten = begin_labelled(
                 opening,

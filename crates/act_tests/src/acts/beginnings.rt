@@ -7,17 +7,19 @@ use top_acts::Done;
 
 const NONE: u32 = 99;
 
-// The opening round alone, or the sweep of a dirty array behind it; device 1 fails at each call.
+// The opening round and the settles behind it, or the sweep of a dirty array behind those; device 1 fails at
+// each call.
 #[test]
 fn a_dirty_array_is_swept(rt: HostRuntime) -> Result<(), Fail> {
     const ROWS: &[(bool, u32, u64, u8, [&[u8]; 3])] = &[
-        (false, NONE, 0, 8, [b"L", b"L", b"L"]),
-        (false, 0, 0, 9, [b"LL", b"l", b"L"]),
-        (true, 0, 0, 9, [b"LL", b"l", b"L"]),
-        (true, 1, 0, 8, [b"LR", b"Lr", b"L"]),
-        (true, 3, 1, 8, [b"LRR", b"LRRw", b"LRWR"]),
-        (true, 4, 2, 8, [b"LRR", b"LRRWr", b"LRWR"]),
-        (true, NONE, 3, 8, [b"LRRRW", b"LRRWR", b"LRWRR"]),
+        (false, NONE, 0, 8, [b"LS", b"LS", b"LS"]),
+        (false, 0, 0, 9, [b"LLS", b"l", b"LS"]),
+        (false, 1, 0, 9, [b"LSLS", b"Ls", b"LSLS"]),
+        (true, 0, 0, 9, [b"LLS", b"l", b"LS"]),
+        (true, 2, 0, 8, [b"LSR", b"LSr", b"LS"]),
+        (true, 4, 1, 8, [b"LSRR", b"LSRRw", b"LSRWR"]),
+        (true, 5, 2, 8, [b"LSRR", b"LSRRWr", b"LSRWR"]),
+        (true, NONE, 3, 8, [b"LSRRRW", b"LSRRWR", b"LSRWRR"]),
     ];
     for row in ROWS {
         let (dirty, call, count, counter, calls) = *row;
@@ -29,22 +31,22 @@ fn a_dirty_array_is_swept(rt: HostRuntime) -> Result<(), Fail> {
         same(&rt, (label.counter, label.clean), (u32::from(counter), 0));
         same(&rt, dead(&ending), [false, call < NONE, false]);
         have_calls(&rt, &disks, calls);
-        let seat = if call == 0 { 255 } else { 0 };
+        let seat = if call < 2 { 255 } else { 0 };
         same(&rt, label_on(&disks[2]), Some([counter, 2, 0, 0, seat, 0]));
     }
     Ok(())
 }
 
 // In the place of the opening round a map is written and settled; then the stripes are swept that
-// another map marks. Device 1 fails at each of the two calls.
+// another map marks. Device 1 fails at each of the two calls; then labels say so behind the map.
 #[test]
 fn marked_stripes_are_swept_behind_a_map(rt: HostRuntime) -> Result<(), Fail> {
     const ROWS: &[(u32, u32, u32, u64, u8, [&[u8]; 3])] = &[
         (1, 2, NONE, 1, 3, [b"PSR", b"PSR", b"PSRW"]),
         (3, 3, NONE, 3, 7, [b"PSRRRW", b"PSRRWR", b"PSRWRR"]),
         (0, 3, NONE, 0, 7, [b"PS", b"PS", b"PS"]),
-        (3, 1, 0, 0, 1, [b"PS", b"p", b"PS"]),
-        (3, 0, 1, 0, 0, [b"PS", b"Ps", b"PS"]),
+        (3, 1, 0, 0, 1, [b"PSLS", b"p", b"PSLS"]),
+        (3, 0, 1, 0, 0, [b"PSLS", b"Ps", b"PSLS"]),
     ];
     for row in ROWS {
         let (swept, marked, call, count, marks, calls) = *row;
@@ -54,13 +56,32 @@ fn marked_stripes_are_swept_behind_a_map(rt: HostRuntime) -> Result<(), Fail> {
         let (done, ending) = acted(rt.alloc(), act, &mut disks, &mut label)?;
         same(&rt, done, Done::Rewrite(count));
         same(&rt, ending.lost, None);
-        holds(&rt, label.counter == LAST.counter && label.clean == 1);
-        same(&rt, dead(&ending), [false, call < NONE, false]);
+        let named = call == NONE;
+        let counter = if named { 7 } else { 8 };
+        same(&rt, (label.counter, label.clean), (u32::from(counter), 1));
+        same(&rt, dead(&ending), [false, !named, false]);
         have_calls(&rt, &disks, calls);
         same(&rt, marks_on(&disks[0]), Some(marks));
         same(&rt, marks_on(&disks[2]), Some(marks));
-        same(&rt, label_on(&disks[0]), None);
+        let on_first = (!named).then_some([counter, 0, 1, 0, 255, 0]);
+        same(&rt, label_on(&disks[0]), on_first);
     }
+    Ok(())
+}
+
+// The newest label names a component that is absent: behind the map labels are written that don't, as clean as
+// it, and settled.
+#[test]
+fn an_absent_component_is_named_no_more(rt: HostRuntime) -> Result<(), Fail> {
+    let mut disks = devices(rt.alloc(), [NONE, NONE, NONE])?;
+    let mut label = LAST;
+    let (done, ending) = acted(rt.alloc(), Act::Absent(1), &mut disks, &mut label)?;
+    same(&rt, done, Done::Rewrite(0));
+    same(&rt, ending.lost, None);
+    same(&rt, (label.counter, label.clean), (8, 1));
+    have_calls(&rt, &disks, [b"PSLS", b"", b"PSLS"]);
+    same(&rt, label_on(&disks[0]), Some([8, 0, 1, 0, 255, 0]));
+    same(&rt, label_on(&disks[2]), Some([8, 2, 1, 0, 255, 0]));
     Ok(())
 }
 

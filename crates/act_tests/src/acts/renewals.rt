@@ -9,21 +9,22 @@ use top_acts::{Done, Renewal};
 const NONE: u32 = 99;
 
 // Device 1 fails at each of its calls in turn: the read of its map, a label of the opening round, the
-// reads and the write of the sweep, the settle before the closing round, its label there, and the last
+// settle behind that, the reads and the write of the sweep, the settle before the closing round, its label there, and the last
 // settle.
 #[test]
 fn a_device_fails_at_each_call(rt: HostRuntime) -> Result<(), Fail> {
     const ROWS: &[(u32, u64, u8, [&[u8]; 3])] = &[
-        (0, 0, 9, [b"MLSLS", b"m", b"MLSLS"]),
-        (1, 0, 10, [b"MLLSLS", b"Ml", b"MLSLS"]),
-        (2, 0, 9, [b"MLRSLS", b"MLr", b"MLSLS"]),
-        (3, 1, 9, [b"MLRRSLS", b"MLRr", b"MLRWRSLS"]),
-        (4, 1, 9, [b"MLRRSLS", b"MLRRw", b"MLRWRSLS"]),
-        (5, 2, 9, [b"MLRRSLS", b"MLRRWr", b"MLRWRSLS"]),
-        (6, 3, 9, [b"MLRRRWSLS", b"MLRRWRs", b"MLRWRRSLS"]),
-        (7, 3, 10, [b"MLRRRWSLLS", b"MLRRWRSl", b"MLRWRRSLS"]),
-        (8, 3, 10, [b"MLRRRWSLSLS", b"MLRRWRSLs", b"MLRWRRSLSLS"]),
-        (9, 3, 9, [b"MLRRRWSLS", b"MLRRWRSLS", b"MLRWRRSLS"]),
+        (0, 0, 9, [b"MLSSLS", b"m", b"MLSSLS"]),
+        (1, 0, 10, [b"MLLSSLS", b"Ml", b"MLSSLS"]),
+        (2, 0, 10, [b"MLSLSSLS", b"MLs", b"MLSLSSLS"]),
+        (3, 0, 9, [b"MLSRSLS", b"MLSr", b"MLSSLS"]),
+        (4, 1, 9, [b"MLSRRSLS", b"MLSRr", b"MLSRWRSLS"]),
+        (5, 1, 9, [b"MLSRRSLS", b"MLSRRw", b"MLSRWRSLS"]),
+        (6, 2, 9, [b"MLSRRSLS", b"MLSRRWr", b"MLSRWRSLS"]),
+        (7, 3, 9, [b"MLSRRRWSLS", b"MLSRRWRs", b"MLSRWRRSLS"]),
+        (8, 3, 10, [b"MLSRRRWSLLS", b"MLSRRWRSl", b"MLSRWRRSLS"]),
+        (9, 3, 10, [b"MLSRRRWSLSLS", b"MLSRRWRSLs", b"MLSRWRRSLSLS"]),
+        (10, 3, 9, [b"MLSRRRWSLS", b"MLSRRWRSLS", b"MLSRWRRSLS"]),
     ];
     for row in ROWS {
         let (call, count, counter, calls) = *row;
@@ -34,25 +35,27 @@ fn a_device_fails_at_each_call(rt: HostRuntime) -> Result<(), Fail> {
         same_at(&rt, call, done, Done::Rewrite(count));
         same_at(&rt, call, ending.lost, None);
         same_at(&rt, call, label.counter, u32::from(counter));
-        same_at(&rt, call, dead(&ending), [false, call < 9, false]);
+        same_at(&rt, call, dead(&ending), [false, call < 10, false]);
         have_calls(&rt, &disks, calls);
-        let seat = if call < 9 { 255 } else { 0 };
+        let seat = if call < 10 { 255 } else { 0 };
         same(&rt, label_on(&disks[0]), Some([counter, 0, 1, 0, seat, 0]));
         same(&rt, label_on(&disks[2]), Some([counter, 2, 1, 0, seat, 0]));
     }
     Ok(())
 }
 
-// Two devices fail: in the opening round, at a read and the settle behind it, in the closing round,
+// Two devices fail: in the opening round, as they are settled behind it, at a read and the settle behind it, in the
+// closing round,
 // and at the last settle. What is left of the array gets one label that isn't clean, and isn't
 // settled behind that.
 #[test]
 fn a_lost_array_gets_one_round_more(rt: HostRuntime) -> Result<(), Fail> {
     const ROWS: &[([u32; 3], u8, [&[u8]; 3])] = &[
         ([1, 1, NONE], 10, [b"Ml", b"Ml", b"ML"]),
-        ([2, 2, NONE], 9, [b"MLr", b"MLs", b"MLSL"]),
-        ([1, 3, NONE], 11, [b"Ml", b"MLSl", b"MLSL"]),
-        ([1, 4, NONE], 11, [b"Ml", b"MLSLs", b"MLSLSL"]),
+        ([2, 2, NONE], 9, [b"MLs", b"MLs", b"MLSL"]),
+        ([3, 3, NONE], 9, [b"MLSr", b"MLSs", b"MLSSL"]),
+        ([1, 4, NONE], 11, [b"Ml", b"MLSSl", b"MLSSL"]),
+        ([1, 5, NONE], 11, [b"Ml", b"MLSSLs", b"MLSSLSL"]),
     ];
     for row in ROWS {
         let (fails, counter, calls) = *row;
@@ -94,12 +97,17 @@ fn what_is_lost_by_its_maps_gets_no_label(rt: HostRuntime) -> Result<(), Fail> {
 #[test]
 fn a_sweep_may_lose_the_array(rt: HostRuntime) -> Result<(), Fail> {
     const ROWS: &[(Act, u32, Done, [&[u8]; 3])] = &[
-        (Act::Begin(true), 1, Done::Rewrite(0), [b"Lr", b"Lr", b"LL"]),
+        (
+            Act::Begin(true),
+            2,
+            Done::Rewrite(0),
+            [b"LSr", b"LSr", b"LSL"],
+        ),
         (
             Act::Renew(Renewal::Rewrite),
-            2,
+            3,
             Done::Nothing,
-            [b"MLr", b"MLr", b"MLL"],
+            [b"MLSr", b"MLSr", b"MLSL"],
         ),
     ];
     for row in ROWS {
@@ -129,7 +137,7 @@ fn each_check_unit_is_initialised(rt: HostRuntime) -> Result<(), Fail> {
     let (done, ending) = acted(rt.alloc(), act, &mut disks, &mut label)?;
     same(&rt, done, Done::Init(3));
     same(&rt, ending.lost, None);
-    have_calls(&rt, &disks, [b"MLRRWSLS", b"MLRWRSLS", b"MLWRRSLS"]);
+    have_calls(&rt, &disks, [b"MLSRRWSLS", b"MLSRWRSLS", b"MLSWRRSLS"]);
     same(&rt, rows_on(&disks[0]), Some([1, 1, 0]));
     same(&rt, rows_on(&disks[1]), Some([0, 1, 0]));
     same(&rt, rows_on(&disks[2]), Some([1, 0, 0]));

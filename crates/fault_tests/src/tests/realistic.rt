@@ -13,8 +13,9 @@ pub(super) const WORDS: &str = "r5 --io s1 -w 0";
 
 pub(super) const NAMES: &[&str] = &["d0", "d1", "d2", "d3", "d4", "s0"];
 
-// The first sector and the map of column 3 are read, its label written; then the write of its sectors 64 to 95 fails.
-pub(super) const FAULT: Fault = (3, 3);
+// The first sector and the map of column 3 are read, its label written, and it is settled; then the write of its sectors 64 to 95
+// fails.
+pub(super) const FAULT: Fault = (3, 4);
 
 // The configuration and the script.
 pub(super) fn texts_of(alloc: Global) -> Result<Vec<(Name, Vec<u8>)>, Fail> {

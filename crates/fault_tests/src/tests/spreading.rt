@@ -61,9 +61,9 @@ const BESIDE: &[Beside] = &[
     },
 ];
 
-// The calls of a column: its first sector and its map are read, its label written; in each of seven tables a unit is read and a spare
-// place written; it is settled, its label written, and it is settled again.
-const CALLS: u32 = 20;
+// The calls of a column: its first sector and its map are read, its label written, and it is settled; in each of seven tables a unit is
+// read and a spare place written; it is settled, its label written, and it is settled again.
+const CALLS: u32 = 21;
 
 // The configuration, and a script.
 fn texts_of(alloc: Global, script: &str) -> Result<Vec<(Name, Vec<u8>)>, Fail> {
@@ -90,10 +90,10 @@ fn filled<R: Abort + Threads + Wait + Sync>(rt: &R, alloc: Global) -> Result<Hel
 // without it as the run is closed.
 fn lost_stripe(beside: Beside, call: u32) -> u64 {
     let shared = u64::from(beside.shared);
-    if call < 3 || call >= 17 {
+    if call < 4 || call >= 18 {
         return shared;
     }
-    let rebuilt = call - 3;
+    let rebuilt = call - 4;
     let tables = if beside.shared < beside.spared {
         (rebuilt + 1) / 2
     } else {
@@ -110,7 +110,7 @@ fn loss(alloc: Global, beside: Beside, call: u32) -> Result<String, Fail> {
         (4, beside.column)
     };
     let stripe = lost_stripe(beside, call);
-    let line = if call < 3 {
+    let line = if call < 4 {
         ""
     } else {
         "reconstruct column 4 spread stopped\n"
@@ -167,7 +167,7 @@ fn fails<R: Abort + Threads + Wait + Sync>(
     call: u32,
 ) -> Result<(), Fail> {
     let at = (beside.column, call);
-    if call >= 17 {
+    if call >= 18 {
         let dead = format!(in alloc; "dead {}\n", beside.column)?;
         return is_done(rt, alloc, held, at, &dead);
     }
@@ -176,7 +176,7 @@ fn fails<R: Abort + Threads + Wait + Sync>(
     prints(rt, alloc, &mut bay, at, REBUILD, (8, all.as_bytes()))
 }
 
-// Of column 4 the first sector and the map are read, and its label written before it is dead; of each other column all calls are made.
+// Of column 4 the first sector and the map are read, its label is written, and it is settled, before it is dead; of each other column all calls are made.
 // As one of these fails before the rebuild is done, column 4 and the other are dead, and the array is lost.
 #[test]
 fn a_device_fails_as_a_column_is_spread(rt: HostRuntime) -> Result<(), Fail> {
@@ -184,9 +184,9 @@ fn a_device_fails_as_a_column_is_spread(rt: HostRuntime) -> Result<(), Fail> {
     let held = filled(&rt, alloc)?;
     let mut bay = bay_of(alloc, texts_of(alloc, "")?, &held, None)?;
     let done = format!(in alloc; "{DONE}status ok\n")?;
-    prints(&rt, alloc, &mut bay, (4, 3), REBUILD, (0, done.as_bytes()))?;
-    same_at(&rt, 4, calls(&bay, &held, 4)?, 3);
-    for call in 0..3 {
+    prints(&rt, alloc, &mut bay, (4, 4), REBUILD, (0, done.as_bytes()))?;
+    same_at(&rt, 4, calls(&bay, &held, 4)?, 4);
+    for call in 0..4 {
         is_done(&rt, alloc, &held, (4, call), "")?;
     }
     for beside in BESIDE {

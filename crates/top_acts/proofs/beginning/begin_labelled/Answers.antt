@@ -26,7 +26,7 @@ returns-then-is_some-clause-begun g c =
     let old = c.args.devices.now in
     let dev = a.new.devices in
     let lost = a.new.hand.ending.lost in
-    let told = announced g.D.Disk notice lost label a.new.label columns mid old dev a.ensures.label a.ensures.opens in
+    let told = announced g.D.Disk y notice lost label a.new.label columns mid old dev c.requires.can.labels.have.apart a.ensures.opens in
     begun_only g.D.Disk y notice (sweeps_seen c.args.opening.sweeps) label a.new.label columns mid old dev lost c.requires.can.labels.columns_most c.requires.can.settable.filling
     (λ e. no_loss (ap is_some (sym e) ∙ (sym c.is_some.ensures ∙ c.if-is_some.true))) a.ensures.lost told
 
@@ -41,7 +41,7 @@ returns-then-is_some-clause-can g c =
     let old = c.args.devices.now in
     let dev = a.new.devices in
     let lost = a.new.hand.ending.lost in
-    let told = announced g.D.Disk notice lost label a.new.label columns mid old dev a.ensures.label a.ensures.opens in
+    let told = announced g.D.Disk y notice lost label a.new.label columns mid old dev c.requires.can.labels.have.apart a.ensures.opens in
     let dies = any_death (DiesIn g.D.Disk lost columns old dev) columns mid told.stage.dies in
     acts_after g.D.Disk y (DiesIn g.D.Disk lost columns old dev) (MayAnnounce notice columns) columns mid old dev told.stage.dies (apart_in g.D.Disk lost columns mid old dev told.stage.dies) told.stage.frame
     (c.deaths_bring_no_unit_back.ensures.filling columns mid dies) (c.deaths_bring_no_unit_back.ensures.spread columns mid dies) c.requires.can
@@ -57,7 +57,7 @@ returns-in-Nothing-clause-begun g c =
     let old = c.args.devices.now in
     let dev = a.new.devices in
     let lost = a.new.hand.ending.lost in
-    let told = announced g.D.Disk notice lost label a.new.label columns mid old dev a.ensures.label a.ensures.opens in
+    let told = announced g.D.Disk y notice lost label a.new.label columns mid old dev c.requires.can.labels.have.apart a.ensures.opens in
     begun_only g.D.Disk y notice (sweeps_seen c.args.opening.sweeps) label a.new.label columns mid old dev lost c.requires.can.labels.columns_most c.requires.can.settable.filling
     (λ e. ap sweeps_seen c.in-Nothing.is) a.ensures.lost told
 
@@ -72,7 +72,7 @@ returns-in-Nothing-clause-can g c =
     let old = c.args.devices.now in
     let dev = a.new.devices in
     let lost = a.new.hand.ending.lost in
-    let told = announced g.D.Disk notice lost label a.new.label columns mid old dev a.ensures.label a.ensures.opens in
+    let told = announced g.D.Disk y notice lost label a.new.label columns mid old dev c.requires.can.labels.have.apart a.ensures.opens in
     let dies = any_death (DiesIn g.D.Disk lost columns old dev) columns mid told.stage.dies in
     acts_after g.D.Disk y (DiesIn g.D.Disk lost columns old dev) (MayAnnounce notice columns) columns mid old dev told.stage.dies (apart_in g.D.Disk lost columns mid old dev told.stage.dies) told.stage.frame
     (c.deaths_bring_no_unit_back.ensures.filling columns mid dies) (c.deaths_bring_no_unit_back.ensures.spread columns mid dies) c.requires.can
@@ -88,7 +88,7 @@ sweep_labelled-requires-clause-can g c =
     let old = c.args.devices.now in
     let dev = a.new.devices in
     let lost = a.new.hand.ending.lost in
-    let told = announced g.D.Disk notice lost label a.new.label columns mid old dev a.ensures.label a.ensures.opens in
+    let told = announced g.D.Disk y notice lost label a.new.label columns mid old dev c.requires.can.labels.have.apart a.ensures.opens in
     let dies = any_death (DiesIn g.D.Disk lost columns old dev) columns mid told.stage.dies in
     acts_after g.D.Disk y (DiesIn g.D.Disk lost columns old dev) (MayAnnounce notice columns) columns mid old dev told.stage.dies (apart_in g.D.Disk lost columns mid old dev told.stage.dies) told.stage.frame
     (c.deaths_bring_no_unit_back.ensures.filling columns mid dies) (c.deaths_bring_no_unit_back.ensures.spread columns mid dies) c.requires.can
@@ -104,9 +104,9 @@ returns-in-Over-clause-begun g c =
     let old = c.args.devices.now in
     let dev = a.new.devices in
     let lost = a.new.hand.ending.lost in
-    let told = announced g.D.Disk notice lost label a.new.label columns mid old dev a.ensures.label a.ensures.opens in
+    let told = announced g.D.Disk y notice lost label a.new.label columns mid old dev c.requires.can.labels.have.apart a.ensures.opens in
     let none : lost ≡ None = none_of lost (sym c.is_some.ensures ∙ c.if-is_some.false) in
-    let kept = subst (λ o. IsAnnounced g.D.Disk notice label a.new.label columns mid old dev o) none told in
+    let kept = subst (λ o. IsAnnounced g.D.Disk y notice label a.new.label columns mid old dev o) none told in
     let fewer = c.deaths_bring_no_unit_back.ensures.filling columns mid (any_death (DiesIn g.D.Disk lost columns old dev) columns mid told.stage.dies) in
     let s = c.sweep_labelled in
     let begun = begun_swept g.D.Disk y (g.met.L.Layout.is_layout c.args.layout.now) notice (Over (sweep_of c.in-Over.kind)) (λ e. absurd (let u : ⊥ = cc in u)) label a.new.label s.new.label columns mid s.new.hand.ending.columns.items old dev s.new.devices s.new.hand.ending.lost s.result
@@ -138,7 +138,7 @@ sweep_marks-requires-clause-can g c =
     let old = c.args.devices.now in
     let dev = a.new.devices in
     let lost = a.new.hand.ending.lost in
-    let told = announced g.D.Disk notice lost label a.new.label columns mid old dev a.ensures.label a.ensures.opens in
+    let told = announced g.D.Disk y notice lost label a.new.label columns mid old dev c.requires.can.labels.have.apart a.ensures.opens in
     let dies = any_death (DiesIn g.D.Disk lost columns old dev) columns mid told.stage.dies in
     acts_after g.D.Disk y (DiesIn g.D.Disk lost columns old dev) (MayAnnounce notice columns) columns mid old dev told.stage.dies (apart_in g.D.Disk lost columns mid old dev told.stage.dies) told.stage.frame
     (c.deaths_bring_no_unit_back.ensures.filling columns mid dies) (c.deaths_bring_no_unit_back.ensures.spread columns mid dies) c.requires.can
@@ -154,9 +154,9 @@ returns-in-Marked-clause-begun g c =
     let old = c.args.devices.now in
     let dev = a.new.devices in
     let lost = a.new.hand.ending.lost in
-    let told = announced g.D.Disk notice lost label a.new.label columns mid old dev a.ensures.label a.ensures.opens in
+    let told = announced g.D.Disk y notice lost label a.new.label columns mid old dev c.requires.can.labels.have.apart a.ensures.opens in
     let none : lost ≡ None = none_of lost (sym c.is_some.ensures ∙ c.if-is_some.false) in
-    let kept = subst (λ o. IsAnnounced g.D.Disk notice label a.new.label columns mid old dev o) none told in
+    let kept = subst (λ o. IsAnnounced g.D.Disk y notice label a.new.label columns mid old dev o) none told in
     let fewer = c.deaths_bring_no_unit_back.ensures.filling columns mid (any_death (DiesIn g.D.Disk lost columns old dev) columns mid told.stage.dies) in
     let s = c.sweep_marks in
     let begun = begun_swept g.D.Disk y (g.met.L.Layout.is_layout c.args.layout.now) notice (Marked (marks_stripe c.in-Marked.map.now)) (λ e. absurd (let u : ⊥ = cc in u)) label a.new.label s.new.label columns mid s.new.hand.ending.columns.items old dev s.new.devices s.new.hand.ending.lost s.result
