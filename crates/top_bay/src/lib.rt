@@ -14,3 +14,4 @@ mod opening;
 
 pub use asked::{Asked, Taken, ask};
 pub use devices::put_all;
+pub use opening::open_conf;

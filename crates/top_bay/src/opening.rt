@@ -17,8 +17,9 @@ use std::alloc::Global;
 use top_fetch::open_text;
 use top_status::Status;
 
+/// The configuration of a name, or why there is none.
 #[tactic(auto, unfolding(crate::specs::Asked::conf_in))]
-pub(crate) fn open_conf<B: Bay>(alloc: Global, name: &str, bay: &mut B) -> Result<Conf, Status>
+pub fn open_conf<B: Bay>(alloc: Global, name: &str, bay: &mut B) -> Result<Conf, Status>
     ensures answer { B.tells
         → AnswersAs (λ conf. conf) result (conf_in (B.text_of bay.old) name.now) }
     ensures conf { IfOk result IsConf }

@@ -1,0 +1,2 @@
+pub mod LinesFrom
+pub mod Counting

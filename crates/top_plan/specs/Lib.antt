@@ -1,0 +1,3 @@
+pub mod Sketched
+pub mod Counts
+pub mod Texts
