@@ -5,7 +5,7 @@ use std::alloc::Global;
 use std::process::Abort;
 use std::test::Fail;
 use top_help::HELP;
-use top_hints::{Trouble, hint, warning};
+use top_hints::{Trouble, doubt, hint, warning};
 use top_status::Status;
 
 fn names(alloc: Global, words: &[&str]) -> Result<Vec<Name>, Fail> {
@@ -52,7 +52,7 @@ fn each_refused_word_is_named(rt: HostRuntime) -> Result<(), Fail> {
         (
             &["CONF"],
             1,
-            "raidctl: no action: one of --io, --sweep, --resume, --scan, --sim and the letters is wanted; see raidctl --help\n",
+            "raidctl: no action: one of --io, --sweep, --resume, --scan, --sim, --layout and the letters is wanted; see raidctl --help\n",
         ),
         (
             &["CONF", "-s", "-p"],
@@ -109,6 +109,26 @@ fn each_refused_word_is_named(rt: HostRuntime) -> Result<(), Fail> {
             3,
             "raidctl: --sim lifo: the queue is fifo, sstf or scan\n",
         ),
+        (
+            &["CONF", "-i", "--adopt"],
+            2,
+            "raidctl: --adopt needs -s, -p, -P, -f, -F or -R\n",
+        ),
+        (
+            &["CONF", "-s", "--rows", "4"],
+            2,
+            "raidctl: --rows needs --layout\n",
+        ),
+        (
+            &["CONF", "--layout", "--rows", "0"],
+            3,
+            "raidctl: --rows 0: not a number from 1 to 1048576\n",
+        ),
+        (
+            &["CONF", "--layout", "--rows", "5"],
+            3,
+            "raidctl: --rows 5: the layout can't have so many rows: whole tables are wanted, of at most 1048576 stripes\n",
+        ),
     ];
     let alloc = rt.alloc();
     let formless = unformed(alloc)?;
@@ -146,6 +166,8 @@ const FORMLESS: &[&[&str]] = &[
     &["-s", "-i", "-p", "-P", "-G", "-f", "d0", "-g", "d1"],
     &["-I", "7", "-F", "d2", "-R", "d3"],
     &["--scan", "--sim", "fifo"],
+    &["-s", "--adopt"],
+    &["--layout", "--rows", "3"],
     &["--resume", "--limit", "3"],
     &["-m", "--io", "S", "--map"],
     &["CONF", "--", "-S"],
@@ -210,10 +232,10 @@ fn lost(second: u32) -> Status {
 fn each_state_of_an_array_has_a_sentence(rt: HostRuntime) -> Result<(), Fail> {
     let alloc = rt.alloc();
     let two =
-        "raidctl: the array is lost: stripe 9 lacks the units of columns 1 and 2; see docs/ADMIN.md, 'A lost array'\n";
+        "raidctl: the array is lost: stripe 9 lacks the units of columns 1 and 2; if a call was stopped as it wrote labels, begin with raidctl CONF -s --adopt; see docs/ADMIN.md, 'A lost array'\n";
     told(&rt, alloc, lost(2), two)?;
     let one =
-        "raidctl: the array is lost: stripe 9 lacks the unit of column 1; see docs/ADMIN.md, 'A lost array'\n";
+        "raidctl: the array is lost: stripe 9 lacks the unit of column 1; if a call was stopped as it wrote labels, begin with raidctl CONF -s --adopt; see docs/ADMIN.md, 'A lost array'\n";
     told(&rt, alloc, lost(1), one)?;
     let small = Status::Small {
         column: 1,
@@ -254,7 +276,7 @@ const LABELS: &[(u32, u8, u32, u32, &str)] = &[
         1,
         0,
         0,
-        "raidctl: column 3 has no label: -I SERIAL writes the first ones of an array, -R COMP that of a new disk\n",
+        "raidctl: column 3 has no label: -I SERIAL writes the first ones of an array, -R COMP that of a new disk; where a rebuild was stopped as it wrote labels, -f COMP --adopt goes on without it\n",
     ),
     (
         3,
@@ -350,7 +372,7 @@ fn a_component_that_an_array_cant_lose_is_told_apart(rt: HostRuntime) -> Result<
         rt.alloc(),
         &["CONF", "-f", "d2"],
         &lost,
-        "raidctl: the array is lost, or would be without the component: stripe 0 lacks the units of columns 1 and 2; see docs/ADMIN.md, 'A lost array'\n",
+        "raidctl: the array is lost, or would be without the component: stripe 0 lacks the units of columns 1 and 2; if a call was stopped as it wrote labels, begin with raidctl CONF -s --adopt; see docs/ADMIN.md, 'A lost array'\n",
     )
 }
 
@@ -371,6 +393,7 @@ fn lists_and_requests_stand_in_the_place_of_a_configuration(rt: HostRuntime) -> 
         "raidctl: L, line 4: a name that stands already, is longer than 255 bytes, or is absent as a spare\n";
     names_the_text(&rt, alloc, &["L", "--scan"], said)?;
     names_the_text(&rt, alloc, &["L", "--sim", "scan"], said)?;
+    names_the_text(&rt, alloc, &["L", "--layout"], said)?;
     names_the_text(&rt, alloc, &["L", "-s"], said)
 }
 
@@ -385,5 +408,49 @@ fn a_component_that_failed_is_named(rt: HostRuntime) -> Result<(), Fail> {
     )?;
     let wanted = "raidctl: warning: d1 failed in this call: Input/output error (os error 5)\n";
     same_at(&rt, "d1", text.as_slice(), wanted.as_bytes());
+    Ok(())
+}
+
+// A call that adopts, and one that goes by no label, aren't told to.
+#[test]
+fn who_adopts_is_not_told_to(rt: HostRuntime) -> Result<(), Fail> {
+    const CALLS: &[&[&str]] = &[
+        &["CONF", "-P", "--adopt"],
+        &["CONF", "-p", "--adopt"],
+        &["CONF", "-I", "7"],
+    ];
+    let sentence =
+        "raidctl: the array is lost: stripe 9 lacks the unit of column 1; see docs/ADMIN.md, 'A lost array'\n";
+    for words in CALLS {
+        says(&rt, rt.alloc(), *words, &lost(1), sentence)?;
+    }
+    Ok(())
+}
+
+const DOUBT: &str =
+    "raidctl: warning: the array wasn't closed in order, and lacks a column: in stripes that were being written, what is read in the place of its units may be wrong, also of blocks that nobody wrote; see docs/ADMIN.md, 'A lost array'\n";
+
+const ADOPTABLE: &str =
+    "raidctl: warning: the array wasn't closed in order, and lacks a column: in stripes that were being written, what is read in the place of its units may be wrong, also of blocks that nobody wrote; if a call was stopped as it wrote labels, begin with raidctl CONF -s --adopt; see docs/ADMIN.md, 'A lost array'\n";
+
+// The words of a call, whether the newest label names a device for the column, and what is told. A call that writes labels
+// has written them by then, and left that device out.
+const DOUBTS: &[(&[&str], bool, &str)] = &[
+    (&["CONF", "-s"], true, ADOPTABLE),
+    (&["CONF", "-p"], true, ADOPTABLE),
+    (&["CONF", "-s"], false, DOUBT),
+    (&["CONF", "-s", "--adopt"], true, DOUBT),
+    (&["CONF", "--io", "S"], true, DOUBT),
+    (&["CONF", "-P"], true, DOUBT),
+    (&["CONF", "-P", "--adopt"], false, DOUBT),
+];
+
+#[test]
+fn an_array_in_doubt_is_warned_of(rt: HostRuntime) -> Result<(), Fail> {
+    let alloc = rt.alloc();
+    for (words, named, sentence) in DOUBTS {
+        let text = doubt(alloc, &names(alloc, *words)?, *named)?;
+        same_at(&rt, *words, text.as_slice(), sentence.as_bytes());
+    }
     Ok(())
 }

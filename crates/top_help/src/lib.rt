@@ -27,6 +27,10 @@ Labels and status:
   -G              prints the configuration in its canonical form
   --scan          prints which arrays the components of a list make up
 
+Layouts, for which no component is opened:
+  --layout        prints where each unit of each stripe stands, what columns
+                  have of them, and what rebuilds and writes cost
+
 Components:
   -f COMP         fails a component
   -F COMP         fails a component, and rebuilds its column onto a spare or
@@ -53,15 +57,20 @@ Options:
                   with --io, --sweep, -F, -R and --resume
   --map           keeps a parity map: after a stop only the regions are swept
                   that were written; with --io, --sweep, -F, -R and --resume
+  --adopt         takes in components with older labels that the newest names,
+                  behind a call that was killed as it wrote them;
+                  with -s, -p, -P, -f, -F and -R
   --limit M       rebuilds at most M stripes, and onto a device alone;
                   with -F, -R and --resume
+  --rows R        tells the layout over R rows, with --layout
   --clients C     draws C clients, 1 to 16, with --sweep
   --ops N         draws N operations for each client, 0 to 2048, with --sweep
   -h, --help      prints this text
   -V, --version   prints which program this is
 
 COMP is the name of one of the configuration's disks, and for -g also that of a
-spare. SERIAL and SEED are 0 to 4294967295, M is 1 to 4294967295.
+spare. SERIAL and SEED are 0 to 4294967295, M is 1 to 4294967295. R is 1 to
+1048576, and what the layout can have.
 
 Examples:
   raidctl conf --io script --graphs graphs -w 2
@@ -74,7 +83,7 @@ why it didn't; the exit number is 0 or that of the status.
 ";
 
 /// The program's version, and the kit with whose prover it was proved.
-pub const VERSION: &str = "raidctl 0.1 (Nirkwafo), proved with rattle-kit-13f\n";
+pub const VERSION: &str = "raidctl 0.1 (Nirkwafo), proved with rattle-kit-13b\n";
 
 /// The text of a topic.
 #[tactic(auto, unfolding(crate::specs::Topics::topic_text))]

@@ -1,9 +1,10 @@
 -- Which sentence stands on standard error for which status.
-use Rattle.std.specs.Prelude.{ℕ, List, [], ◌∷◌, Option, Some, None, codes, decimal, if◌then◌else◌, nat_eq}
+use Rattle.std.specs.Prelude.{ℕ, Bool, List, [], ◌∷◌, Option, Some, None, codes, decimal, if◌then◌else◌, nat_eq}
 use Rattle.raid_text.specs.Text.{Text}
 use Rattle.top_status.specs.declared.status.Status.{Status}
 use Rattle.top_status.specs.declared.status.Status.TheVariants as status
 use Rattle.top_words.specs.Misuse.{Misuse, Component, misuse_of}
+use Rattle.top_hints.specs.Advice.{Advice, command_of, doubt_advice, lost_advice}
 use Rattle.top_hints.specs.Line.{shown, hint_line}
 use Rattle.top_hints.specs.Tables.{conf_words, script_words, graph_words}
 use Rattle.top_hints.specs.Words.{texts_of, usage_hint}
@@ -55,17 +56,17 @@ is_lost (Some (Component option word among)) = codes "the array is lost, or woul
 is_lost misuse = codes "the array is lost: stripe "
 
 -- a stripe that lacks a unit, where there is no check unit
-unfoldable pub unit_hint : Option Misuse → (column stripe : ℕ) → List ℕ
-unit_hint misuse column stripe = hint_line (is_lost misuse ∷ decimal stripe ∷ codes " lacks the unit of column " ∷ decimal column ∷ codes "; see docs/ADMIN.md, 'A lost array'" ∷ [])
+unfoldable pub unit_hint : Option Misuse → Advice → (column stripe : ℕ) → List ℕ
+unit_hint misuse advice column stripe = hint_line (is_lost misuse ∷ decimal stripe ∷ codes " lacks the unit of column " ∷ decimal column ∷ advice.before ∷ shown advice.conf ∷ advice.behind ∷ codes "; see docs/ADMIN.md, 'A lost array'" ∷ [])
 
 -- a stripe that lacks two
-unfoldable pub units_hint : Option Misuse → (first second stripe : ℕ) → List ℕ
-units_hint misuse first second stripe = hint_line (is_lost misuse ∷ decimal stripe ∷ codes " lacks the units of columns " ∷ decimal first ∷ codes " and " ∷ decimal second ∷ codes "; see docs/ADMIN.md, 'A lost array'" ∷ [])
+unfoldable pub units_hint : Option Misuse → Advice → (first second stripe : ℕ) → List ℕ
+units_hint misuse advice first second stripe = hint_line (is_lost misuse ∷ decimal stripe ∷ codes " lacks the units of columns " ∷ decimal first ∷ codes " and " ∷ decimal second ∷ advice.before ∷ shown advice.conf ∷ advice.behind ∷ codes "; see docs/ADMIN.md, 'A lost array'" ∷ [])
 
 -- of a stripe that lacks one the column stands there twice
-unfoldable pub lost_hint : Option Misuse → (first second stripe : ℕ) → List ℕ
-lost_hint misuse first second stripe =
-    if nat_eq first second then unit_hint misuse first stripe else units_hint misuse first second stripe
+unfoldable pub lost_hint : Option Misuse → Advice → (first second stripe : ℕ) → List ℕ
+lost_hint misuse advice first second stripe =
+    if nat_eq first second then unit_hint misuse advice first stripe else units_hint misuse advice first second stripe
 
 -- what a label has that is compared
 unfoldable pub label_words : ℕ → List ℕ
@@ -81,7 +82,7 @@ compared_hint column words found wanted = hint_line (codes "the label of column 
 -- a label, by its code
 unfoldable pub label_hint : (column code found wanted : ℕ) → List ℕ
 label_hint column code found wanted =
-    if nat_eq code 1 then hint_line (codes "column " ∷ decimal column ∷ codes " has no label: -I SERIAL writes the first ones of an array, -R COMP that of a new disk" ∷ [])
+    if nat_eq code 1 then hint_line (codes "column " ∷ decimal column ∷ codes " has no label: -I SERIAL writes the first ones of an array, -R COMP that of a new disk; where a rebuild was stopped as it wrote labels, -f COMP --adopt goes on without it" ∷ [])
     else (if nat_eq code 3 then hint_line (codes "the disk at column " ∷ decimal column ∷ codes " is that of column " ∷ decimal found ∷ [])
     else (if nat_eq code 6 then hint_line (codes "the newest label has counter " ∷ decimal found ∷ codes ", and labels are written up to " ∷ decimal wanted ∷ [])
     else compared_hint column (label_words code) found wanted))
@@ -104,7 +105,7 @@ hint_of words (status.GraphText line code) trouble = line_hint (texts_of words).
 hint_of words status.BayFault trouble = trouble_hint trouble (codes "a file could not be read, opened or locked")
 hint_of words (status.NoFile name) trouble = missing_hint name
 hint_of words status.SinkFault trouble = trouble_hint trouble (codes "standard output failed")
-hint_of words (status.Lost first second stripe) trouble = lost_hint (misuse_of words) first second stripe
+hint_of words (status.Lost first second stripe) trouble = lost_hint (misuse_of words) (lost_advice (command_of words)) first second stripe
 hint_of words (status.Label column code found wanted) trouble = label_hint column code found wanted
 hint_of words (status.Small column has needs) trouble = small_hint column has needs
 hint_of words (status.NotInSync count) trouble = out_of_sync_hint count
@@ -117,3 +118,11 @@ hint_of words status.Memory trouble = hint_line (codes "not enough memory; nothi
 -- a component of which a call failed, beside whatever the status says
 unfoldable pub warning_of : Trouble → List ℕ
 warning_of trouble = hint_line (codes "warning: " ∷ shown trouble.name ∷ codes " failed in this call: " ∷ shown trouble.cause ∷ [])
+
+-- an array that isn't clean and lacks a column
+unfoldable pub doubt_hint : Advice → List ℕ
+doubt_hint advice = hint_line (codes "warning: the array wasn't closed in order, and lacks a column: in stripes that were being written, what is read in the place of its units may be wrong, also of blocks that nobody wrote" ∷ advice.before ∷ shown advice.conf ∷ advice.behind ∷ codes "; see docs/ADMIN.md, 'A lost array'" ∷ [])
+
+-- the same of a call with these words; the newest label names a device for a column that is lacking, or for none
+abbrev pub doubt_of : List Text → (named : Bool) → List ℕ
+doubt_of words named = doubt_hint (doubt_advice named (command_of words))

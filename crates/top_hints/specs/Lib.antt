@@ -1,5 +1,6 @@
 pub mod Line
 pub mod Tables
 pub mod Words
+pub mod Advice
 pub mod Hint
 pub mod Views

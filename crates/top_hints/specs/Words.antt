@@ -4,8 +4,8 @@ use Rattle.std.specs.Option.{option_map_or}
 use Rattle.raid_text.specs.Text.{Text}
 use Rattle.top_help.specs.declared.TheConstants.{HELP}
 use Rattle.top_words.specs.Asked.{Beside, beside_of}
-use Rattle.top_words.specs.Judged.{Invocation, Tell, OnArray, Scan, Simulate, invocation_of}
-use Rattle.top_words.specs.Misuse.{Misuse, Unknown, NoForm, NoAction, ManyActions, Apart, Number, Queue, Component}
+use Rattle.top_words.specs.Judged.{Invocation, Tell, OnArray, OnConf, Scan, Simulate, invocation_of}
+use Rattle.top_words.specs.Misuse.{Misuse, Unknown, NoForm, NoAction, ManyActions, Apart, Number, Queue, Rows, Component}
 use Rattle.top_hints.specs.Line.{shown, hint_line}
 
 -- the names of the texts that a call reads; empty where it doesn't read one
@@ -32,6 +32,7 @@ texts_by (Ok (Tell topic)) = only_conf []
 texts_by (Ok (OnArray command)) = texts_with command.conf (beside_of command.action)
 texts_by (Ok (Scan list)) = only_conf list
 texts_by (Ok (Simulate requests order)) = only_conf requests
+texts_by (Ok (OnConf conf study)) = only_conf conf
 texts_by (Err case) = only_conf []
 
 abbrev pub texts_of : List Text → Texts
@@ -53,6 +54,10 @@ number_hint option word low high = hint_line (option ∷ codes " " ∷ shown wor
 unfoldable pub queue_hint : Text → List ℕ
 queue_hint word = hint_line (codes "--sim " ∷ shown word ∷ codes ": the queue is fifo, sstf or scan" ∷ [])
 
+-- the layout can't have so many rows
+unfoldable pub rows_hint : Text → List ℕ
+rows_hint word = hint_line (codes "--rows " ∷ shown word ∷ codes ": the layout can't have so many rows: whole tables are wanted, of at most 1048576 stripes" ∷ [])
+
 -- the word behind an option is no component that it may be
 unfoldable pub component_hint : (option word among : Text) → List ℕ
 component_hint option word among = hint_line (option ∷ codes " " ∷ shown word ∷ codes ": not a name of the configuration's " ∷ among ∷ [])
@@ -61,11 +66,12 @@ component_hint option word among = hint_line (option ∷ codes " " ∷ shown wor
 unfoldable pub misuse_hint : Misuse → List ℕ
 misuse_hint (Unknown word) = unknown_hint word
 misuse_hint NoForm = unformed
-misuse_hint NoAction = hint_line (codes "no action: one of --io, --sweep, --resume, --scan, --sim and the letters is wanted; see raidctl --help" ∷ [])
+misuse_hint NoAction = hint_line (codes "no action: one of --io, --sweep, --resume, --scan, --sim, --layout and the letters is wanted; see raidctl --help" ∷ [])
 misuse_hint ManyActions = hint_line (codes "more than one action: only --io goes beside another: -F, -R or --resume" ∷ [])
 misuse_hint (Apart option with) = hint_line (option ∷ codes " needs " ∷ with ∷ [])
 misuse_hint (Number option word low high) = number_hint option word low high
 misuse_hint (Queue word) = queue_hint word
+misuse_hint (Rows word) = rows_hint word
 misuse_hint (Component option word among) = component_hint option word among
 
 -- the help stands behind words of no form, and nowhere else

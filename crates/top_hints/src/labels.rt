@@ -10,7 +10,7 @@ use std::alloc::{AllocError, Global};
 #[tactic(auto, unfolding(crate::specs::Line::hint_line))]
 fn no_label(alloc: Global, column: u32) -> Result<Vec<u8>, AllocError>
     ensures { IfOk result (λ line. line.items ≡ hint_line (codes "column " ∷ decimal column
-        ∷ codes " has no label: -I SERIAL writes the first ones of an array, -R COMP that of a new disk" ∷ [])) }
+        ∷ codes " has no label: -I SERIAL writes the first ones of an array, -R COMP that of a new disk; where a rebuild was stopped as it wrote labels, -f COMP --adopt goes on without it" ∷ [])) }
 {
     line(
         alloc,
@@ -18,7 +18,7 @@ fn no_label(alloc: Global, column: u32) -> Result<Vec<u8>, AllocError>
             Piece::Words("column "),
             Piece::Number(u64::from(column)),
             Piece::Words(
-                " has no label: -I SERIAL writes the first ones of an array, -R COMP that of a new disk",
+                " has no label: -I SERIAL writes the first ones of an array, -R COMP that of a new disk; where a rebuild was stopped as it wrote labels, -f COMP --adopt goes on without it",
             ),
         ],
     )

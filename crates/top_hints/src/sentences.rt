@@ -1,10 +1,11 @@
 //! Sentences on texts, columns and stripes.
 ghost use Rattle.std.specs.Prelude.{◌≡◌, [], ◌∷◌, IfOk, option_map};
-ghost use Rattle.top_hints.specs.Hint.{line_hint, lost_hint, missing_hint, name_hint, no_rebuild_hint, no_spare_hint, rebuilding_hint, script_hint, small_hint, trouble_hint, unit_hint, units_hint, is_lost, out_of_sync_hint};
+ghost use Rattle.top_hints.specs.Hint.{doubt_hint, line_hint, lost_hint, missing_hint, name_hint, no_rebuild_hint, no_spare_hint, rebuilding_hint, script_hint, small_hint, trouble_hint, unit_hint, units_hint, is_lost, out_of_sync_hint};
 ghost use Rattle.top_hints.specs.Line.{hint_line};
-ghost use Rattle.top_hints.specs.Views.{trouble_seen};
+ghost use Rattle.top_hints.specs.Views.{advice_seen, trouble_seen};
 ghost use Rattle.top_words.specs.Views.{misuse_seen};
 
+use crate::advice::Advice;
 use crate::piece::{Piece, line};
 use crate::tables::script_words;
 use crate::trouble::Trouble;
@@ -101,8 +102,8 @@ fn is_lost(misuse: Option<Misuse<'_>>) -> &'static str
             "the array is lost, or would be without the component: stripe ",
         None
         | Some(Misuse::Unknown { .. } | Misuse::NoForm | Misuse::NoAction | Misuse::ManyActions)
-        | Some(Misuse::Apart { .. } | Misuse::Number { .. } | Misuse::Queue { .. }) =>
-            "the array is lost: stripe ",
+        | Some(Misuse::Apart { .. } | Misuse::Number { .. } | Misuse::Queue { .. })
+        | Some(Misuse::Rows { .. }) => "the array is lost: stripe ",
     }
 }
 
@@ -111,11 +112,13 @@ fn is_lost(misuse: Option<Misuse<'_>>) -> &'static str
 fn lost_unit(
     alloc: Global,
     misuse: Option<Misuse<'_>>,
+    advice: Advice<'_>,
     column: u32,
     stripe: u32,
 ) -> Result<Vec<u8>, AllocError>
     ensures { IfOk result (λ line. line.items
-        ≡ unit_hint (option_map misuse_seen misuse.entry) column stripe) }
+        ≡ unit_hint (option_map misuse_seen misuse.entry) (advice_seen advice.entry) column
+        stripe) }
 {
     line(
         alloc,
@@ -124,6 +127,9 @@ fn lost_unit(
             Piece::Number(u64::from(stripe)),
             Piece::Words(" lacks the unit of column "),
             Piece::Number(u64::from(column)),
+            Piece::Words(advice.before),
+            Piece::Shown(advice.conf),
+            Piece::Words(advice.behind),
             Piece::Words("; see docs/ADMIN.md, 'A lost array'"),
         ],
     )
@@ -134,12 +140,14 @@ fn lost_unit(
 fn lost_units(
     alloc: Global,
     misuse: Option<Misuse<'_>>,
+    advice: Advice<'_>,
     first: u32,
     second: u32,
     stripe: u32,
 ) -> Result<Vec<u8>, AllocError>
     ensures { IfOk result (λ line. line.items
-        ≡ units_hint (option_map misuse_seen misuse.entry) first second stripe) }
+        ≡ units_hint (option_map misuse_seen misuse.entry) (advice_seen advice.entry) first second
+        stripe) }
 {
     line(
         alloc,
@@ -150,29 +158,53 @@ fn lost_units(
             Piece::Number(u64::from(first)),
             Piece::Words(" and "),
             Piece::Number(u64::from(second)),
+            Piece::Words(advice.before),
+            Piece::Shown(advice.conf),
+            Piece::Words(advice.behind),
             Piece::Words("; see docs/ADMIN.md, 'A lost array'"),
         ],
     )
 }
 
 /// A stripe that lacks too much: two units, or one where both columns are the same. What the words name is what
-/// `misuse_of` says of them.
+/// `misuse_of` says of them; then where to begin.
 #[tactic(auto, unfolding(crate::specs::Hint::lost_hint))]
 pub(crate) fn lost(
     alloc: Global,
     misuse: Option<Misuse<'_>>,
+    advice: Advice<'_>,
     first: u32,
     second: u32,
     stripe: u32,
 ) -> Result<Vec<u8>, AllocError>
     ensures { IfOk result (λ line. line.items
-        ≡ lost_hint (option_map misuse_seen misuse.entry) first second stripe) }
+        ≡ lost_hint (option_map misuse_seen misuse.entry) (advice_seen advice.entry) first second
+        stripe) }
 {
     if first == second {
-        lost_unit(alloc, misuse, first, stripe)
+        lost_unit(alloc, misuse, advice, first, stripe)
     } else {
-        lost_units(alloc, misuse, first, second, stripe)
+        lost_units(alloc, misuse, advice, first, second, stripe)
     }
+}
+
+/// An array that isn't clean and lacks a column.
+#[tactic(auto, unfolding(crate::specs::Line::hint_line, crate::specs::Hint::doubt_hint))]
+pub(crate) fn doubtful(alloc: Global, advice: Advice<'_>) -> Result<Vec<u8>, AllocError>
+    ensures { IfOk result (λ line. line.items ≡ doubt_hint (advice_seen advice.entry)) }
+{
+    line(
+        alloc,
+        &[
+            Piece::Words(
+                "warning: the array wasn't closed in order, and lacks a column: in stripes that were being written, what is read in the place of its units may be wrong, also of blocks that nobody wrote",
+            ),
+            Piece::Words(advice.before),
+            Piece::Shown(advice.conf),
+            Piece::Words(advice.behind),
+            Piece::Words("; see docs/ADMIN.md, 'A lost array'"),
+        ],
+    )
 }
 
 /// A disk that is too small.

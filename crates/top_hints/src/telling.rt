@@ -1,13 +1,14 @@
-//! The sentence for a status, and the warning of a component.
+//! The sentence for a status, and the warnings of a component and of an array.
 ghost use Rattle.std.specs.Prelude.{◌≡◌, IfOk, option_map};
-ghost use Rattle.top_hints.specs.Hint.{hint_of, warning_of};
+ghost use Rattle.top_hints.specs.Hint.{doubt_of, hint_of, warning_of};
 ghost use Rattle.top_hints.specs.Views.{trouble_seen};
 
+use crate::advice::{command_of, doubt_advice, lost_advice};
 use crate::labels::label;
 use crate::piece::{Piece, line};
 use crate::sentences::{
-    at_line, in_script, lost, missing, named, no_rebuild, no_spare, out_of_sync, plain, rebuilding,
-    small, troubled,
+    at_line, doubtful, in_script, lost, missing, named, no_rebuild, no_spare, out_of_sync, plain,
+    rebuilding, small, troubled,
 };
 use crate::tables::{conf_words, graph_words};
 use crate::trouble::Trouble;
@@ -59,7 +60,17 @@ pub fn hint(
             first,
             second,
             stripe,
-        } => lost(alloc, misuse_of(alloc, words)?, *first, *second, *stripe),
+        } => {
+            let advice = lost_advice(command_of(alloc, words)?);
+            lost(
+                alloc,
+                misuse_of(alloc, words)?,
+                advice,
+                *first,
+                *second,
+                *stripe,
+            )
+        }
         Status::Label {
             column,
             code,
@@ -90,4 +101,12 @@ pub fn warning(alloc: Global, component: Trouble<'_>) -> Result<Vec<u8>, AllocEr
             Piece::Shown(component.cause),
         ],
     )
+}
+
+/// The warning that what a call with these words reads is in doubt: the array wasn't closed in order, and lacks a column,
+/// for which the newest label names a device, or not. It fails only for want of memory.
+pub fn doubt(alloc: Global, words: &[Name], named: bool) -> Result<Vec<u8>, AllocError>
+    ensures { IfOk result (λ line. line.items ≡ doubt_of words.now named) }
+{
+    doubtful(alloc, doubt_advice(named, command_of(alloc, words)?))
 }

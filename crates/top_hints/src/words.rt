@@ -7,7 +7,7 @@ ghost use Rattle.top_words.specs.Misuse.{misuse_of};
 ghost use Rattle.top_words.specs.Views.{beside_seen, misuse_seen};
 ghost use Rattle.top_hints.specs.Line.{hint_line};
 ghost use Rattle.top_hints.specs.Views.{texts_seen};
-ghost use Rattle.top_hints.specs.Words.{component_hint, misuse_hint, number_hint, only_conf, queue_hint, texts_of, texts_with, unformed, unknown_hint, usage_hint};
+ghost use Rattle.top_hints.specs.Words.{component_hint, misuse_hint, number_hint, only_conf, queue_hint, rows_hint, texts_of, texts_with, unformed, unknown_hint, usage_hint};
 
 use crate::piece::{Piece, line};
 use crate::sentences::plain;
@@ -60,6 +60,7 @@ pub(crate) fn texts_of<'a>(alloc: Global, words: &'a [Name]) -> Result<Texts<'a>
         }
         Ok(Invocation::Scan { list }) => Ok(only_conf(list)),
         Ok(Invocation::Simulate { requests, .. }) => Ok(only_conf(requests)),
+        Ok(Invocation::OnConf { conf, .. }) => Ok(only_conf(conf)),
         Err(WordsFault::Memory) => Err(AllocError),
     }
 }
@@ -139,6 +140,23 @@ fn no_queue(alloc: Global, word: &str) -> Result<Vec<u8>, AllocError>
     )
 }
 
+// The layout can't have so many rows.
+#[tactic(auto, unfolding(crate::specs::Line::hint_line, crate::specs::Words::rows_hint))]
+fn no_rows(alloc: Global, word: &str) -> Result<Vec<u8>, AllocError>
+    ensures { IfOk result (λ line. line.items ≡ rows_hint word.now) }
+{
+    line(
+        alloc,
+        &[
+            Piece::Words("--rows "),
+            Piece::Shown(word),
+            Piece::Words(
+                ": the layout can't have so many rows: whole tables are wanted, of at most 1048576 stripes",
+            ),
+        ],
+    )
+}
+
 // The word behind an option is no component that it may be.
 #[tactic(auto, unfolding(crate::specs::Line::hint_line, crate::specs::Words::component_hint))]
 fn no_component(
@@ -172,7 +190,7 @@ fn misused(alloc: Global, misuse: Misuse<'_>) -> Result<Vec<u8>, AllocError>
         Misuse::NoForm => unformed(alloc),
         Misuse::NoAction => plain(
             alloc,
-            "no action: one of --io, --sweep, --resume, --scan, --sim and the letters is wanted; see raidctl --help",
+            "no action: one of --io, --sweep, --resume, --scan, --sim, --layout and the letters is wanted; see raidctl --help",
         ),
         Misuse::ManyActions => plain(
             alloc,
@@ -186,6 +204,7 @@ fn misused(alloc: Global, misuse: Misuse<'_>) -> Result<Vec<u8>, AllocError>
             high,
         } => no_number(alloc, option, word, low, high),
         Misuse::Queue { word } => no_queue(alloc, word),
+        Misuse::Rows { word } => no_rows(alloc, word),
         Misuse::Component {
             option,
             word,

@@ -14,7 +14,7 @@ use Rattle.top_open.specs.First.{first_below}
 use Rattle.top_open.specs.Plan.{is_present, sectors_for}
 use Rattle.top_open.specs.Labels.{label_at, newest_below, shape_refusal}
 use Rattle.top_open.specs.Seats.{columns_below, is_sound, judged_at, seat_of}
-use Rattle.top_open.specs.Opening.{Opened, columns_in, counter_refusal, judged_in, labelled_in, opened_in, seats_in, small_in, unlabelled_in, unlabelled_refusal}
+use Rattle.top_open.specs.Opening.{Opened, columns_in, counter_refusal, floored, judged_in, labelled_in, opened_in, seats_in, small_in, unlabelled_in, unlabelled_refusal}
 use Rattle.top_open.specs.Steps.{is_unlabelled, labelled_if, is_spread_below, kept_if_sound, read_disk, seat_at}
 use Rattle.top_open.proofs.Below.{length-columns_below}
 use Rattle.top_open.proofs.Filled.{live, was}
@@ -57,11 +57,11 @@ of_labelled q p present sizes fronts l o h c d here =
     let n = length present in
     let seats = columns_below (seat_at p present n l) n in
     let made = not_refused (counter_refusal q l) _ o (not_refused (first_below (judged_at q.excused l fronts seats) n) _ o (not_refused (small_in q.excused q.own sizes (sectors_for p l.rows) seats n) _ o (not_refused (shape_refusal p n l) _ o h))) in
-    let f : ℕ → Column = λ i. kept_if_sound l fronts i (slice_index_or seats i column.Dead) in
+    let f : ℕ → Column = λ i. kept_if_sound (floored q.adopts l) fronts i (slice_index_or seats i column.Dead) in
     let cols : columns_below f (length seats) ≡ o.columns = ap columns_of made in
     let there : slice_get (columns_below f (length seats)) c ≡ Some (column.Live d) = ap (λ (s : List Column). slice_get s c) cols ∙ here in
     let inside : c < length seats = omega (arith, slice_get_within (columns_below f (length seats)) c (column.Live d) there, length-columns_below f (length seats)) in
-    let seat : slice_get seats c ≡ Some (column.Live d) = get_there seats c (column.Live d) inside (kept_live l fronts c d _ (columns_below-get f (length seats) c (column.Live d) there)) in
+    let seat : slice_get seats c ≡ Some (column.Live d) = get_there seats c (column.Live d) inside (kept_live (floored q.adopts l) fronts c d _ (columns_below-get f (length seats) c (column.Live d) there)) in
     seat_live p present n c d (is_spread_below l c) (slice_index l.seats c) (columns_below-get (seat_at p present n l) n c (column.Live d) seat)
 
 of_unlabelled : (q : Needs) (p : Plan) (present : List Bool) (sizes : List ℕ) (fronts : List Front) (o : Opened) → unlabelled_in q p present sizes fronts ≡ Ok o

@@ -7,6 +7,7 @@
 #![tactic(auto)]
 
 mod columns;
+mod doubt;
 mod label;
 mod laws;
 mod map;
@@ -14,6 +15,7 @@ mod printed;
 mod show;
 mod spares;
 
+pub use doubt::{Doubt, doubt_of};
 pub use label::put_label;
 pub use laws::devices_are_own_or_spares;
 pub use map::{Marked, put_map};

@@ -7,9 +7,10 @@ use Rattle.raid_text.specs.Text.{Text}
 use Rattle.sim_queue.specs.declared.request.Queue.{Queue}
 use Rattle.top_words.specs.Asked.{Action, action_in, has_one_action, is_apart}
 use Rattle.top_words.specs.Given.{Given, given_of}
-use Rattle.top_words.specs.Judged.{Invocation, Tell, OnArray, Scan, Simulate, invocation_in, invocation_of, judged, judged_if_taken, name_in, queue_of, topic_in}
-use Rattle.top_words.specs.Steps.{command_in, simulation_in, taken_as, refusals, rows_in}
+use Rattle.top_words.specs.Judged.{Invocation, Tell, OnArray, OnConf, Scan, Simulate, invocation_in, invocation_of, judged, judged_if_taken, name_in, queue_of, topic_in}
+use Rattle.top_words.specs.Steps.{command_in, rows_asked, simulation_in, study_in, taken_as, refusals, rows_in}
 use Rattle.top_words.specs.declared.invocation.Topic.{Topic}
+use Rattle.top_words.specs.declared.study.Study.TheVariants as study
 
 simulation_not : (name word : Text) (t : Topic) → simulation_in name word ≡ Some (Tell t) → ⊥
 unfolding simulation_in
@@ -19,22 +20,31 @@ simulation_not name word t h = go (queue_of word) h
     go None e = cc e
     go (Some order) e = cc e
 
+study_not : (name : Text) (rows : Option Text) (t : Topic) → study_in name rows ≡ Some (Tell t) → ⊥
+unfolding study_in
+study_not name rows t h = go (rows_asked rows) h
+  where
+    go : (o : Option (Option ℕ)) → option_and_then (λ n. Some (OnConf name (study.Layout n))) o ≡ Some (Tell t) → ⊥
+    go None e = cc e
+    go (Some n) e = cc e
+
 command_not : (g : Given) (t : Topic) → command_in g ≡ Some (Tell t) → ⊥
 unfolding command_in
 command_not g t h = go (action_in g) h
   where
-    go : (o : Option Action) → option_and_then (λ action. Some (OnArray (record { conf = name_in g; action = action }))) o ≡ Some (Tell t) → ⊥
+    go : (o : Option Action) → option_and_then (λ action. Some (OnArray (record { conf = name_in g; action = action; adopt = g.adopt }))) o ≡ Some (Tell t) → ⊥
     go None e = cc e
     go (Some action) e = cc e
 
 given_not : (g : Given) (t : Topic) → invocation_in g ≡ Some (Tell t) → ⊥
-unfolding invocation_in simulation_in command_in
-given_not g t h = go g.scan g.sim h
+unfolding invocation_in simulation_in study_in rows_asked command_in
+given_not g t h = go g.scan g.layout g.sim h
   where
-    go : (scan : Bool) (sim : Option Text) → (if scan then Some (Scan (name_in g)) else option_map_or (λ word. simulation_in (name_in g) word) sim (command_in g)) ≡ Some (Tell t) → ⊥
-    go true sim e = cc e
-    go false None e = command_not g t e
-    go false (Some word) e = simulation_not (name_in g) word t e
+    go : (scan layout : Bool) (sim : Option Text) → (if scan then Some (Scan (name_in g)) else (if layout then study_in (name_in g) g.rows else option_map_or (λ word. simulation_in (name_in g) word) sim (command_in g))) ≡ Some (Tell t) → ⊥
+    go true layout sim e = cc e
+    go false true sim e = study_not (name_in g) g.rows t e
+    go false false None e = command_not g t e
+    go false false (Some word) e = simulation_not (name_in g) word t e
 
 abbrev or_third : Option Invocation → Result Invocation ℕ
 or_third o = option_map_or (λ i. Ok i) o (Err 3)

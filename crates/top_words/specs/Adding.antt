@@ -47,9 +47,13 @@ valued_rules = valued_rule (codes "fail") 102 ∷ valued_rule (codes "show_label
 abbrev pub rebuild_rules : List Rule
 rebuild_rules = valued_rule (codes "rebuild") 70 ∷ valued_rule (codes "in_place") 82 ∷ flag_rule (codes "resume") ∷ option_rule (codes "limit") ∷ []
 
--- --scan --sim QUEUE
+-- --scan --sim QUEUE --adopt
 abbrev pub other_rules : List Rule
-other_rules = flag_rule (codes "scan") ∷ option_rule (codes "sim") ∷ []
+other_rules = flag_rule (codes "scan") ∷ option_rule (codes "sim") ∷ flag_rule (codes "adopt") ∷ []
+
+-- --layout --rows R
+abbrev pub study_rules : List Rule
+study_rules = flag_rule (codes "layout") ∷ option_rule (codes "rows") ∷ []
 
 -- with these arguments behind those that are there
 abbrev pub with_rules : App → List Rule → App

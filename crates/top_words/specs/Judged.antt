@@ -8,19 +8,22 @@ use Rattle.raid_text.specs.Text.{Text}
 use Rattle.sim_queue.specs.declared.request.Queue.{Queue}
 use Rattle.sim_queue.specs.declared.request.Queue.TheVariants as queue
 use Rattle.top_words.specs.App.{raid_app}
-use Rattle.top_words.specs.Asked.{AreNumbersInRange, Command, action_in, has_one_action, is_apart}
+use Rattle.top_words.specs.Asked.{AreNumbersInRange, Command, action_in, has_one_action, is_apart, number_within}
 use Rattle.top_words.specs.Given.{Given, given_of}
 use Rattle.top_words.specs.declared.invocation.Topic.{Topic}
+use Rattle.top_words.specs.declared.study.Study.{Study}
+use Rattle.top_words.specs.declared.study.Study.TheVariants as study
 use Rattle.top_words.specs.declared.invocation.Topic.TheVariants as topic
 
 -- What the words ask for: one of the program's own texts; an action on the array of a
--- configuration; which arrays the components of a list make up; or how one simulated disk serves
--- the requests of a text.
+-- configuration; which arrays the components of a list make up; how one simulated disk serves
+-- the requests of a text; or what is told of a configuration alone.
 pub data Invocation : Type 0 where
   Tell : (topic : Topic) → Invocation
   OnArray : (command : Command) → Invocation
   Scan : (list : Text) → Invocation
   Simulate : (requests : Text) (order : Queue) → Invocation
+  OnConf : (conf : Text) (study : Study) → Invocation
 
 -- the numbers of an action are in their ranges
 abbrev pub IsInRange : Invocation → Type 0
@@ -28,6 +31,7 @@ IsInRange (Tell topic) = Unit {0}
 IsInRange (OnArray command) = AreNumbersInRange command.action
 IsInRange (Scan list) = Unit {0}
 IsInRange (Simulate requests order) = Unit {0}
+IsInRange (OnConf conf study) = Unit {0}
 
 -- ## What is given
 
@@ -46,10 +50,13 @@ name_in g = unwrap_or g.conf []
 unfoldable pub invocation_in : Given → Option Invocation
 invocation_in g =
     if g.scan then Some (Scan (unwrap_or g.conf []))
+    else (if g.layout then option_and_then
+    (λ rows. Some (OnConf (unwrap_or g.conf []) (study.Layout rows)))
+    (option_map_or (λ word. option_and_then (λ n. Some (Some n)) (number_within 1 1048576 word)) g.rows (Some None))
     else option_map_or
     (λ word. option_and_then (λ order. Some (Simulate (unwrap_or g.conf []) order)) (queue_of word)) g.sim
-    (option_and_then (λ action. Some (OnArray (record { conf = unwrap_or g.conf []; action = action })))
-    (action_in g))
+    (option_and_then (λ action. Some (OnArray (record { conf = unwrap_or g.conf []; action = action; adopt = g.adopt })))
+    (action_in g)))
 
 -- what is given, judged: not one action, an option apart from its action, a value that isn't allowed
 unfoldable pub judged : Given → Result Invocation ℕ

@@ -6,7 +6,7 @@ use Rattle.raid_text.specs.Text.{Text}
 use Rattle.top_words.specs.Asked.{has_one_action, number_within}
 use Rattle.top_words.specs.Given.{Given, given_of}
 use Rattle.top_words.specs.Judged.{queue_of}
-use Rattle.top_words.specs.Steps.{has_limit_apart, has_map_apart, has_sweep_alone, has_workers_apart, actions_of, refusals, rows_in}
+use Rattle.top_words.specs.Steps.{has_adopt_apart, has_limit_apart, has_map_apart, has_rows_apart, has_sweep_alone, has_workers_apart, actions_of, refusals, rows_in}
 use Rattle.top_words.specs.Unknown.{unknown_in}
 
 pub data Misuse : Type 0 where
@@ -22,6 +22,8 @@ pub data Misuse : Type 0 where
   Number : (option word : Text) (low high : ℕ) → Misuse
   -- the word behind `--sim` is no queue
   Queue : (word : Text) → Misuse
+  -- the number of rows of words that ask for a layout
+  Rows : (word : Text) → Misuse
   -- the component behind an option that takes one of these, of words that are a command
   Component : (option word among : Text) → Misuse
 
@@ -44,7 +46,9 @@ apart_in g =
     else (if has_sweep_alone g then lone (codes "--sweep") (codes "--clients and --ops")
     else (if has_limit_apart g then lone (codes "--limit") (codes "-F, -R or --resume")
     else (if has_map_apart g then lone (codes "--map") (codes "--io, --sweep, -F, -R or --resume")
-    else None)))))))
+    else (if has_adopt_apart g then lone (codes "--adopt") (codes "-s, -p, -P, -f, -F or -R")
+    else (if has_rows_apart g then lone (codes "--rows") (codes "--layout")
+    else None)))))))))
 
 -- the word behind an option, where it isn't a number of that range
 unfoldable pub wrong : Text → Option Text → ℕ → ℕ → Option Misuse
@@ -54,13 +58,14 @@ wrong option (Some word) low high =
 
 -- the first of all that isn't one
 unfoldable pub wrong_number : Given → Option Misuse
-wrong_number g = option_or (option_or (option_or (option_or (option_or
+wrong_number g = option_or (option_or (option_or (option_or (option_or (option_or
     (wrong (codes "-w") g.workers 0 16)
     (wrong (codes "--sweep") g.sweep 0 4294967295))
     (wrong (codes "--clients") g.clients 1 16))
     (wrong (codes "--ops") g.ops 0 2048))
     (wrong (codes "-I") g.label 0 4294967295))
-    (wrong (codes "--limit") g.limit 1 4294967295)
+    (wrong (codes "--limit") g.limit 1 4294967295))
+    (wrong (codes "--rows") g.rows 1 1048576)
 
 -- the word behind `--sim`, where it is no queue
 unfoldable pub wrong_queue : Option Text → Option Misuse
@@ -71,12 +76,12 @@ wrong_queue (Some word) = option_map_or (λ order. None) (queue_of word) (Some (
 abbrev pub of_disks : (option comp : Text) → Option Misuse
 of_disks option comp = Some (Component option comp (codes "disks"))
 
--- the component
+-- the component, or the number of rows
 unfoldable pub component_in : Given → Option Misuse
-component_in g = option_map_or (λ comp. of_disks (codes "-f") comp) g.fail
+component_in g = option_map_or (λ word. Some (Rows word)) g.rows (option_map_or (λ comp. of_disks (codes "-f") comp) g.fail
     (option_map_or (λ comp. of_disks (codes "-F") comp) g.rebuild
     (option_map_or (λ comp. of_disks (codes "-R") comp) g.in_place
-    (option_map_or (λ comp. Some (Component (codes "-g") comp (codes "disks and spares"))) g.show_label None)))
+    (option_map_or (λ comp. Some (Component (codes "-g") comp (codes "disks and spares"))) g.show_label None))))
 
 -- what is given, in the order in which it is judged
 unfoldable pub misused : Given → Option Misuse

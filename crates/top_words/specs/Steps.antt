@@ -5,7 +5,8 @@ use Rattle.std.specs.Option.{option_map_or}
 use Rattle.raid_text.specs.Text.{Text, number_of}
 use Rattle.top_words.specs.Asked.{Action, Label, action_in, number_within, rebuilds}
 use Rattle.top_words.specs.Given.{Given, given_of}
-use Rattle.top_words.specs.Judged.{Invocation, OnArray, Simulate, judged_if_taken, name_in, queue_of}
+use Rattle.top_words.specs.Judged.{Invocation, OnArray, OnConf, Simulate, judged_if_taken, name_in, queue_of}
+use Rattle.top_words.specs.declared.study.Study.TheVariants as study
 use Rattle.std.specs.List.{list_any}
 use Rattle.std.specs.Str.{bytes_eq}
 use Rattle.clap.specs.Words.{Kinds, Row, fault_of, matches_of, first_of}
@@ -27,6 +28,14 @@ has_workers_apart g = is_some g.workers && not (serves g)
 abbrev pub has_map_apart : Given → Bool
 has_map_apart g = g.map && not (serves g)
 
+-- an action that may adopt devices: -s, -p, -P, -f, -F or -R
+abbrev pub may_adopt : Given → Bool
+may_adopt g = (((g.show || g.check) || g.rewrite) || is_some g.fail) || (is_some g.rebuild || is_some g.in_place)
+
+-- --adopt without one of them
+abbrev pub has_adopt_apart : Given → Bool
+has_adopt_apart g = g.adopt && not (may_adopt g)
+
 -- --graphs or --trace without a script
 abbrev pub has_script_apart : Given → Bool
 has_script_apart g = (is_some g.graphs || g.trace) && not (is_some g.io)
@@ -42,6 +51,10 @@ has_sweep_alone g = is_some g.sweep && not (is_some g.clients && is_some g.ops)
 -- --limit without a rebuild
 abbrev pub has_limit_apart : Given → Bool
 has_limit_apart g = is_some g.limit && not (rebuilds g)
+
+-- --rows without --layout
+abbrev pub has_rows_apart : Given → Bool
+has_rows_apart g = is_some g.rows && not g.layout
 
 -- how many workers there are to be
 unfoldable pub workers_in : Option Text → Option ℕ
@@ -60,10 +73,19 @@ label_in word = option_and_then (λ serial. Some (Label serial)) (number_of word
 unfoldable pub simulation_in : Text → Text → Option Invocation
 simulation_in name word = option_and_then (λ order. Some (Simulate name order)) (queue_of word)
 
+-- over how many rows a layout is told; none is given
+unfoldable pub rows_asked : Option Text → Option (Option ℕ)
+rows_asked word = option_map_or
+    (λ w. option_and_then (λ n. Some (Some n)) (number_within 1 1048576 w)) word (Some None)
+
+-- the layout of a configuration over these rows
+unfoldable pub study_in : Text → Option Text → Option Invocation
+study_in name word = option_and_then (λ rows. Some (OnConf name (study.Layout rows))) (rows_asked word)
+
 -- an action on the array of a configuration
 unfoldable pub command_in : Given → Option Invocation
 command_in g = option_and_then
-    (λ action. Some (OnArray (record { conf = name_in g; action = action }))) (action_in g)
+    (λ action. Some (OnArray (record { conf = name_in g; action = action; adopt = g.adopt }))) (action_in g)
 
 -- what it makes of words that it takes
 unfoldable pub rows_in : List Text → List Row
@@ -83,7 +105,7 @@ actions_of g =
     (is_some g.io && not (rebuilds g)) ∷ is_some g.sweep
     ∷ g.show ∷ g.show_map ∷ g.init ∷ g.check ∷ g.rewrite ∷ g.print
     ∷ is_some g.fail ∷ is_some g.rebuild ∷ is_some g.in_place ∷ g.resume
-    ∷ is_some g.label ∷ is_some g.show_label ∷ g.scan ∷ is_some g.sim ∷ []
+    ∷ is_some g.label ∷ is_some g.show_label ∷ g.scan ∷ is_some g.sim ∷ g.layout ∷ []
 
 -- this word stands there
 abbrev pub has_word : Text → List Text → Bool

@@ -18,7 +18,8 @@ is_of_rebuilds option = bytes_eq option (codes "--resume") || bytes_eq option (c
 
 unfoldable pub is_of_others : Text → Bool
 is_of_others option = bytes_eq option (codes "--scan") || (bytes_eq option (codes "--sim")
-    || bytes_eq option (codes "--"))
+    || (bytes_eq option (codes "--adopt") || (bytes_eq option (codes "--layout")
+    || (bytes_eq option (codes "--rows") || bytes_eq option (codes "--")))))
 
 -- the letters behind one
 unfoldable pub is_letter : ℕ → Bool

@@ -9,6 +9,7 @@ use crate::app;
 use crate::command::Command;
 use crate::given::given_by;
 use crate::judge::judged;
+use crate::study::Study;
 use clap::error::ErrorKind;
 use raid_bay::Name;
 use sim_queue::Queue;
@@ -34,6 +35,8 @@ pub enum Invocation<'a> {
     Scan { list: &'a str },
     /// How one simulated disk serves the requests of a text.
     Simulate { requests: &'a str, order: Queue },
+    /// What is told of a configuration alone.
+    OnConf { conf: &'a str, study: Study },
 }
 
 /// Why the words ask for nothing: the first case of Usage, or there was no memory.

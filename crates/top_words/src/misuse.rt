@@ -6,8 +6,8 @@ ghost use Rattle.top_words.specs.Views.{given_seen, misuse_seen, text_of};
 use crate::app;
 use crate::given::{Given, given_by};
 use crate::judge::{
-    actions, has_limit_apart, has_map_apart, has_one_action, has_sweep_alone, has_workers_apart,
-    number_within, queue_of, stands,
+    actions, has_adopt_apart, has_limit_apart, has_map_apart, has_one_action, has_rows_apart,
+    has_sweep_alone, has_workers_apart, number_within, queue_of, stands,
 };
 use crate::unknown::unknown_in;
 use blk_plain::limits;
@@ -43,6 +43,10 @@ pub enum Misuse<'a> {
     },
     /// The word behind `--sim` is no queue.
     Queue {
+        word: &'a str,
+    },
+    /// Nothing is: they ask for the layout over this number of rows.
+    Rows {
         word: &'a str,
     },
     /// Nothing is: they are a command, with this component behind an option that takes one of these.
@@ -141,6 +145,12 @@ fn apart<'a>(given: Given<'a>) -> Option<Misuse<'a>>
     if has_map_apart(given) {
         return lone("--map", "--io, --sweep, -F, -R or --resume");
     }
+    if has_adopt_apart(given) {
+        return lone("--adopt", "-s, -p, -P, -f, -F or -R");
+    }
+    if has_rows_apart(given) {
+        return lone("--rows", "--layout");
+    }
     None
 }
 
@@ -174,6 +184,7 @@ fn wrong_number<'a>(given: Given<'a>) -> Option<Misuse<'a>>
         .or(wrong("--ops", given.ops, 0, limits::SWEEP_ITEMS))
         .or(wrong("-I", given.label, 0, u32::MAX))
         .or(wrong("--limit", given.limit, 1, u32::MAX))
+        .or(wrong("--rows", given.rows, 1, limits::STRIPES))
 }
 
 // The word behind `--sim`, where it is no queue.
@@ -190,11 +201,14 @@ fn wrong_queue<'a>(word: Option<&'a str>) -> Option<Misuse<'a>>
     }
 }
 
-// The component that stands there.
+// The component, or the number of rows, that stands there.
 #[tactic(auto, unfolding(crate::specs::Misuse::component_in))]
 fn component<'a>(given: Given<'a>) -> Option<Misuse<'a>>
     ensures { option_map misuse_seen result ≡ component_in (given_seen given.entry) }
 {
+    if let Some(word) = given.rows {
+        return Some(Misuse::Rows { word });
+    }
     let (option, word, among) = if let Some(word) = given.fail {
         ("-f", word, "disks")
     } else if let Some(word) = given.rebuild {

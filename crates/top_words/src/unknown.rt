@@ -34,7 +34,10 @@ fn is_of_rebuilds(option: &str) -> bool
 fn is_of_others(option: &str) -> bool
     ensures { result ≡ is_of_others option.now }
 {
-    matches!(option, "--scan" | "--sim" | "--")
+    matches!(
+        option,
+        "--scan" | "--sim" | "--adopt" | "--layout" | "--rows" | "--"
+    )
 }
 
 // There is an option of this letter, behind one dash.
