@@ -11,8 +11,8 @@ use Rattle.top_fetch.specs.Told.{Told}
 use Rattle.top_labelled.specs.Begun.{opened_as, without}
 use Rattle.top_run.proofs.Outlived.{answered, runs-answered}
 use Rattle.top_status.specs.Status.{status_of_loss}
-use Rattle.top_words.specs.Judged.{Invocation, Tell, OnArray as OfCommand, Scan, Simulate}
-use Rattle.raid_top.specs.Calls.{CallOutcome, OfArray, OfScan, OfSimulation, OfTopic, Refuses, call_status}
+use Rattle.top_words.specs.Judged.{Invocation, Tell, OnArray as OfCommand, OnConf, Scan, Simulate}
+use Rattle.raid_top.specs.Calls.{CallOutcome, OfArray, OfConf, OfScan, OfSimulation, OfTopic, Refuses, call_status}
 use Rattle.raid_top.specs.Does.{DoesRun}
 use Rattle.raid_top.specs.Ends.{EndsWell, Follows, IsAnswered}
 use Rattle.raid_top.specs.Outcome.{Outcome, Ran, Did, Looked, status_of}
@@ -41,8 +41,10 @@ module _ {D : Type 0} (g : Ghosts D) (b : Told D) (words : List Text) where
       if_ran g (IsRunAnswered g) h.duty h.fronts h.old h.back o h.does (λ a is newest y. run_answered a (has_failed a.start h.fronts) h.old h.back newest o y well)
   is_answered (OfCommand command) (OfScan text) h well = absurd h
   is_answered (OfCommand command) (OfSimulation text) h well = absurd h
+  is_answered (OfCommand command) (OfConf text) h well = absurd h
   is_answered (OfCommand command) (OfTopic text) h well = absurd h
   is_answered (OfCommand command) (Refuses r) h well = absurd h
   is_answered (Tell topic) o h well = tt
   is_answered (Scan list) o h well = tt
   is_answered (Simulate name order) o h well = tt
+  is_answered (OnConf name asked) o h well = tt

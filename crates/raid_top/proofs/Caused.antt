@@ -68,7 +68,7 @@ item_told g a taken back s ran c w = record {
     other is = rebuilds-none a.layout (columns_in a) a.start (ran.now.clients 16).items w.id.index c ran.rests.rebuilds (ap (λ k. slice_get (ran.now.clients k).items w.id.index) (sym is) ∙ w.asked)
 
 module _ {D : Type 0} (g : Ghosts D) (a : Admitted) (old back : List (Option D)) where
-  abbrev Each : Outcome → Type 0
+  abbrev pub Each : Outcome → Type 0
   Each o = (c : ℕ) → IsKeptAs (slice_get (columns_due a o) c) (slice_get (columns_in_end o) c) ⊎ ((slice_get (columns_in_end o) c ≡ Some column.Dead) × IsCauseOfDeath g a old back o c)
 
   -- and there are as many columns as there were, of which none is filling where the array is lost
@@ -85,7 +85,7 @@ module _ {D : Type 0} (g : Ghosts D) (a : Admitted) (old back : List (Option D))
     abbrev Why : ℕ → Type 0
     Why c = IsCauseOfDeath g a old back (Ran action s) c
 
-    plain_each : RanPlain g (work_of a) old s back → Each (Ran action s)
+    pub plain_each : RanPlain g (work_of a) old s back → Each (Ran action s)
     plain_each r c = elim (r.run.causes.ends c) [
       | inl ends ↦ elim ends [
         | inl kept ↦ inl kept
@@ -105,7 +105,7 @@ module _ {D : Type 0} (g : Ghosts D) (a : Admitted) (old back : List (Option D))
     plain_ends : RanPlain g (work_of a) old s back → Ends (Ran action s)
     plain_ends r = (r.run.causes.count, plain_each r, r.run.ends.given_up)
 
-    labelled_each : (newest : Label) (failed map : Bool) → RanLabelled g (work_of a) newest old s back failed map → Each (Ran action s)
+    pub labelled_each : (newest : Label) (failed map : Bool) → RanLabelled g (work_of a) newest old s back failed map → Each (Ran action s)
     labelled_each newest failed map r c = elim (r.ends c) [
       | inl kept ↦ inl kept
       | inr dead ↦ inr (dead.0, why dead.1)

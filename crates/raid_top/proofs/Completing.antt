@@ -13,10 +13,10 @@ use Rattle.top_duty.specs.Duty.{Duty, asked_of, duty_in}
 use Rattle.top_duty.specs.Steps.{reads_fronts}
 use Rattle.top_duty.specs.Taken.{RefusedAt, RefusedFor}
 use Rattle.top_words.specs.Asked.{Command}
-use Rattle.top_words.specs.Judged.{Invocation, Tell, OnArray, Scan, Simulate, invocation_of}
+use Rattle.top_words.specs.Judged.{Invocation, Tell, OnArray, OnConf, Scan, Simulate, invocation_of}
 use Rattle.blk_disk.proofs.DeviceLaws.{changes-refl}
 use Rattle.raid_top.specs.Acted.{Acted, CommandEndsWell, IsRightCommand, MayRead, SurvivesCall}
-use Rattle.raid_top.specs.Calls.{CallOutcome, OfArray, OfScan, OfSimulation, OfTopic, Refuses, call_status, call_text}
+use Rattle.raid_top.specs.Calls.{CallOutcome, OfArray, OfConf, OfScan, OfSimulation, OfTopic, Refuses, call_status, call_text}
 use Rattle.raid_top.specs.Ends.{Acts, Answers, EndsWell, Followed, Follows, IsDone, IsDoneWell, IsRight, IsRightFor}
 use Rattle.raid_top.specs.Outcome.{Outcome, status_of}
 use Rattle.raid_top.specs.Refused.{IsRefusedAs, RefusedBy}
@@ -90,28 +90,39 @@ module _ {D : Type 0} (g : Ghosts D) (b : Told D) (words : List Text) (told : b.
   follows_well (Tell topic) (OfArray o) e right h = absurd h
   follows_well (Tell topic) (OfScan text) e right h = absurd h
   follows_well (Tell topic) (OfSimulation text) e right h = absurd h
+  follows_well (Tell topic) (OfConf text) e right h = absurd h
   follows_well (Tell topic) (Refuses r) e right h = absurd h
   follows_well (OnArray command) (OfArray o) e right h = of_command command (status_of o) e (acted_well g b command told right sound o h)
   follows_well (OnArray command) (OfTopic text) e right h = absurd h
   follows_well (OnArray command) (OfScan text) e right h = absurd h
   follows_well (OnArray command) (OfSimulation text) e right h = absurd h
+  follows_well (OnArray command) (OfConf text) e right h = absurd h
   follows_well (OnArray command) (Refuses r) e right h = absurd h
   follows_well (Scan list) (OfScan text) e right h = tt
   follows_well (Scan list) (OfTopic text) e right h = absurd h
   follows_well (Scan list) (OfArray o) e right h = absurd h
   follows_well (Scan list) (OfSimulation text) e right h = absurd h
+  follows_well (Scan list) (OfConf text) e right h = absurd h
   follows_well (Scan list) (Refuses r) e right h = absurd h
   follows_well (Simulate name order) (OfSimulation text) e right h = tt
   follows_well (Simulate name order) (OfTopic text) e right h = absurd h
   follows_well (Simulate name order) (OfArray o) e right h = absurd h
   follows_well (Simulate name order) (OfScan text) e right h = absurd h
+  follows_well (Simulate name order) (OfConf text) e right h = absurd h
   follows_well (Simulate name order) (Refuses r) e right h = absurd h
+  follows_well (OnConf name asked) (OfConf text) e right h = tt
+  follows_well (OnConf name asked) (OfTopic text) e right h = absurd h
+  follows_well (OnConf name asked) (OfArray o) e right h = absurd h
+  follows_well (OnConf name asked) (OfScan text) e right h = absurd h
+  follows_well (OnConf name asked) (OfSimulation text) e right h = absurd h
+  follows_well (OnConf name asked) (Refuses r) e right h = absurd h
 
   refused_well : (i : Invocation) (r : Refused) → IsRightFor g b i → RefusedBy g b i r → r.status ≡ status.Memory
   refused_well (Tell topic) r right h = absurd h
   refused_well (OnArray command) r right h = command_refused g b command told right sound r (refused_for g b command r h)
   refused_well (Scan list) r right h = wanted_refused b.rose _ right.0 r sound right.1 h.0
   refused_well (Simulate name order) r right h = wanted_refused b.rose _ right.0 r sound right.1 h.0
+  refused_well (OnConf name asked) r right h = wanted_refused b.rose _ right.0 r sound right.1 h.0
 
   module _ (right : IsRight g b words) where
     followed : (o : CallOutcome) → Followed g b words o → EndsWell words (call_status o)
@@ -135,6 +146,7 @@ module _ {D : Type 0} (g : Ghosts D) (b : Told D) (words : List Text) (told : b.
     ended (OfArray o) acts sink_tells answer old new same printed = inl (done_well (OfArray o) (record { invocation = acts.0; words_are = acts.1; follows = acts.2 }) sink_tells answer old new same printed)
     ended (OfScan text) acts sink_tells answer old new same printed = inl (done_well (OfScan text) (record { invocation = acts.0; words_are = acts.1; follows = acts.2 }) sink_tells answer old new same printed)
     ended (OfSimulation text) acts sink_tells answer old new same printed = inl (done_well (OfSimulation text) (record { invocation = acts.0; words_are = acts.1; follows = acts.2 }) sink_tells answer old new same printed)
+    ended (OfConf text) acts sink_tells answer old new same printed = inl (done_well (OfConf text) (record { invocation = acts.0; words_are = acts.1; follows = acts.2 }) sink_tells answer old new same printed)
     ended (OfTopic text) acts sink_tells answer old new same printed = inl (done_well (OfTopic text) (record { invocation = acts.0; words_are = acts.1; follows = acts.2 }) sink_tells answer old new same printed)
     ended (Refuses r) is sink_tells answer old new same printed = inr (same ∙ refused_well right.invocation r right.right (is.cause told right.invocation right.words_are))
 

@@ -8,7 +8,7 @@ use Rattle.top_acts.specs.declared.done.Done.{Done}
 use Rattle.top_acts.specs.declared.done.Done.TheVariants as done
 use Rattle.top_fetch.specs.Told.{Told}
 use Rattle.top_status.specs.declared.status.Status.{Status}
-use Rattle.raid_top.specs.Calls.{CallOutcome, OfArray, OfScan, OfSimulation, OfTopic, Refuses, call_status}
+use Rattle.raid_top.specs.Calls.{CallOutcome, OfArray, OfConf, OfScan, OfSimulation, OfTopic, Refuses, call_status}
 use Rattle.raid_top.specs.Ends.{Acts}
 use Rattle.raid_top.specs.Laws.{NothingChanged, RefusedChangesNothing, RightIsAnswered, is_refusing}
 use Rattle.raid_top.specs.Outcome.{Outcome, Ran, Did, Looked, status_of, status_of_act}
@@ -47,6 +47,7 @@ module _ {D : Type 0} (g : Ghosts D) (b : Told D) (words : List Text) (told : b.
   by_outcome sink_tells sink_rose answer old new (OfArray o) acts is = absurd (let z : false ≡ true = sym (outcome_is_none o) ∙ is in let v : ⊥ = cc z in v)
   by_outcome sink_tells sink_rose answer old new (OfScan text) acts is = absurd (let z : false ≡ true = is in let v : ⊥ = cc z in v)
   by_outcome sink_tells sink_rose answer old new (OfSimulation text) acts is = absurd (let z : false ≡ true = is in let v : ⊥ = cc z in v)
+  by_outcome sink_tells sink_rose answer old new (OfConf text) acts is = absurd (let z : false ≡ true = is in let v : ⊥ = cc z in v)
   by_outcome sink_tells sink_rose answer old new (OfTopic text) acts is = absurd (let z : false ≡ true = is in let v : ⊥ = cc z in v)
 
 module _ {D : Type 0} (g : Ghosts D) (b : Told D) (words : List Text) (sink_tells sink_rose : Type 0) (answer : Status) (old new : List ℕ) where

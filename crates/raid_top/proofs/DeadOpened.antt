@@ -19,7 +19,7 @@ use Rattle.top_open.specs.declared.plan.Plan.{Plan}
 use Rattle.top_open.specs.declared.plan.Needs.{Needs}
 use Rattle.top_open.specs.First.{first_below}
 use Rattle.top_open.specs.Labels.{label_at, newest_below, shape_refusal}
-use Rattle.top_open.specs.Opening.{Opened, columns_in, counter_refusal, filled_by, judged_in, labelled_in, own_seats, seats_in, small_in, unlabelled_in, unlabelled_refusal, with_filling}
+use Rattle.top_open.specs.Opening.{floored, Opened, columns_in, counter_refusal, filled_by, judged_in, labelled_in, own_seats, seats_in, small_in, unlabelled_in, unlabelled_refusal, with_filling}
 use Rattle.top_open.specs.Steps.{filling_of, is_unlabelled, labelled_if, is_spread_below, kept_if_sound, read_disk, seat_at, wanted, kept_if_left}
 use Rattle.top_open.specs.Plan.{is_present, sectors_for, tables_below}
 use Rattle.top_open.specs.Seats.{columns_below, is_sound, is_unread, judged_at, seat_of}
@@ -241,6 +241,19 @@ label_unsound l c (Some own) h = inr (own, refl, go (fault_in (Some own) 1 (want
     go None true is le h = cc h
     go None false is le h = inl (leb-false l.counter own.counter le)
 
+-- nor by the newest label with a lesser counter
+label_lacking : (adopts : Bool) (l : Label) (c : ℕ) (o : Option Label) → is_sound (floored adopts l) c o ≡ false
+    → (o ≡ None) ⊎ ((own : Label) × (o ≡ Some own) × ((own.counter < l.counter) ⊎ ((fault : LabelFault) × (fault_in (Some own) 1 (wanted l c) ≡ Some fault))))
+unfolding fault_in
+label_lacking adopts l c o h = elim (label_unsound (floored adopts l) c o h) [
+  | inl none ↦ inl none
+  | inr own ↦ inr (own.0, own.1, elim own.2 [ inl older ↦ inl (below adopts older) | inr fault ↦ inr fault ])
+]
+  where
+    below : {n : ℕ} (b : Bool) → n < (if b then 0 else l.counter) → n < l.counter
+    below true lt = absurd (omega (arith, lt))
+    below false lt = lt
+
 module _ (q : Needs) (p : Plan) (present : List Bool) (sizes : List ℕ) (fronts : List Front) (o : Opened) (c : ℕ) (dead : slice_get o.columns c ≡ Some column.Dead) where
   -- by what the opening is made of
   carry : (x : Opened) → ◌≡◌ {A = Result Opened OpenFault} (Ok x) (Ok o) → (slice_get x.columns c ≡ Some column.Dead → LacksDevice p present fronts x.seats x.newest c) → LacksDevice p present fronts o.seats o.newest c
@@ -259,17 +272,17 @@ module _ (q : Needs) (p : Plan) (present : List Bool) (sizes : List ℕ) (fronts
     abbrev seats : List Column
     seats = columns_below (seat_at p present (length present) l) (length present)
 
-    by : (x : Column) → slice_get seats c ≡ Some x → kept_if_sound l fronts c x ≡ column.Dead → LacksSeat p present l c ⊎ LacksLabel fronts seats l c
-    by (column.Live d) at e = go (is_sound l c (label_at fronts d)) refl e
+    by : (x : Column) → slice_get seats c ≡ Some x → kept_if_sound (floored q.adopts l) fronts c x ≡ column.Dead → LacksSeat p present l c ⊎ LacksLabel fronts seats l c
+    by (column.Live d) at e = go (is_sound (floored q.adopts l) c (label_at fronts d)) refl e
       where
-        go : (b : Bool) → is_sound l c (label_at fronts d) ≡ b → (if b then column.Live d else column.Dead) ≡ column.Dead → LacksSeat p present l c ⊎ LacksLabel fronts seats l c
+        go : (b : Bool) → is_sound (floored q.adopts l) c (label_at fronts d) ≡ b → (if b then column.Live d else column.Dead) ≡ column.Dead → LacksSeat p present l c ⊎ LacksLabel fronts seats l c
         go true is e = cc e
-        go false is e = inr (d, at, label_unsound l c (label_at fronts d) is)
+        go false is e = inr (d, at, label_lacking q.adopts l c (label_at fronts d) is)
     by column.Dead at e = inl (seat_dead p present (length present) c l (columns_below-get (seat_at p present (length present) l) (length present) c column.Dead at))
     by (column.Filling d m) at e = absurd (seat_unfilled p present (length present) c d m (is_spread_below l c) (slice_index l.seats c) (columns_below-get (seat_at p present (length present) l) (length present) c (column.Filling d m) at))
     by column.Spread at e = cc e
 
-    by_seat : (f : ℕ → Column) → ((i : ℕ) → f i ≡ kept_if_sound l fronts i (slice_index_or seats i column.Dead)) → slice_get (columns_below f (length seats)) c ≡ Some column.Dead → LacksSeat p present l c ⊎ LacksLabel fronts seats l c
+    by_seat : (f : ℕ → Column) → ((i : ℕ) → f i ≡ kept_if_sound (floored q.adopts l) fronts i (slice_index_or seats i column.Dead)) → slice_get (columns_below f (length seats)) c ≡ Some column.Dead → LacksSeat p present l c ⊎ LacksLabel fronts seats l c
     by_seat f is here =
         let inside : c < length seats = omega (arith, slice_get_within (columns_below f (length seats)) c column.Dead here, length-columns_below f (length seats)) in
         by (slice_index_or seats c column.Dead) (get_there seats c (slice_index_or seats c column.Dead) inside refl) (sym (is c) ∙ columns_below-get f (length seats) c column.Dead here)
@@ -277,9 +290,9 @@ module _ (q : Needs) (p : Plan) (present : List Bool) (sizes : List ℕ) (fronts
     labelled_dead : labelled_in q p present sizes fronts l ≡ Ok o → LacksDevice p present fronts o.seats o.newest c
     unfolding labelled_in columns_in seats_in
     labelled_dead h =
-        carry (record { rows = l.rows; seats = seats_in p present l; columns = columns_in l fronts (seats_in p present l); newest = Some l })
+        carry (record { rows = l.rows; seats = seats_in p present l; columns = columns_in (floored q.adopts l) fronts (seats_in p present l); newest = Some l })
         (not_refused (counter_refusal q l) _ o (not_refused (first_below (judged_at q.excused l fronts (seats_in p present l)) (length present)) _ o (not_refused (small_in q.excused q.own sizes (sectors_for p l.rows) (seats_in p present l) (length present)) _ o (not_refused (shape_refusal p (length present) l) _ o h))))
-        (λ here. by_seat (λ i. kept_if_sound l fronts i (slice_index_or seats i column.Dead)) (λ i. refl) here)
+        (λ here. by_seat (λ i. kept_if_sound (floored q.adopts l) fronts i (slice_index_or seats i column.Dead)) (λ i. refl) here)
 
   pub judged_dead : judged_in q p present sizes fronts ≡ Ok o → LacksDevice p present fronts o.seats o.newest c
   unfolding judged_in

@@ -39,6 +39,7 @@ pub finished_status : (f : Finished) → status_finished f ≡ call_status (fini
 finished_status (finished.OfArray ended) = status_same (action_seen ended.action) ended.conf ended.came
 finished_status (finished.OfScan scanned) = refl
 finished_status (finished.OfSimulation simulated) = refl
+finished_status (finished.OfConf studied) = refl
 finished_status (finished.OfTopic topic) = refl
 
 -- what came wasn't refused
@@ -46,4 +47,5 @@ pub acts_of : {D : Type 0} (g : Ghosts D) (b : Told D) (words : List Text) (f : 
 acts_of g b words (finished.OfArray ended) h = (h.invocation, h.words_are, h.follows)
 acts_of g b words (finished.OfScan scanned) h = (h.invocation, h.words_are, h.follows)
 acts_of g b words (finished.OfSimulation simulated) h = (h.invocation, h.words_are, h.follows)
+acts_of g b words (finished.OfConf studied) h = (h.invocation, h.words_are, h.follows)
 acts_of g b words (finished.OfTopic topic) h = (h.invocation, h.words_are, h.follows)

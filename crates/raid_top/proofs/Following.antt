@@ -1,4 +1,4 @@
--- What comes of a list of components, or of requests to a simulated disk, is what the words ask for, or is refused so.
+-- What comes of a list of components, of requests to a simulated disk, or of a configuration alone, is what the words ask for, or is refused so.
 use Rattle.std.specs.Prelude.{◌≡◌, Result, Ok}
 use Rattle.std.proofs.Common.{refl, inl, inr}
 use Rattle.blk_disk.specs.Devices.{StaysIf}
@@ -19,7 +19,9 @@ use Rattle.top_status.specs.Refusals.{Refused, only}
 use Rattle.top_duty.specs.Taken.{AreUntouched}
 use Rattle.top_duty.specs.Views.{IsRefusal}
 use Rattle.top_duty.proofs.Returning.{same_stays}
-use Rattle.top_words.specs.Judged.{Scan, Simulate}
+use Rattle.top_study.specs.Studied.{study_in}
+use Rattle.top_words.specs.Judged.{OnConf, Scan, Simulate}
+use Rattle.top_words.specs.declared.study.Study.{Study}
 use Rattle.raid_top.specs.Ends.{Follows}
 use Rattle.raid_top.specs.Finished.{told_of_scan, told_of_simulation}
 use Rattle.raid_top.specs.Refused.{IsRefusedAs, IsRefusedOf}
@@ -111,5 +113,16 @@ module _ {D : Type 0} (g : Ghosts D) (b : Told D) where
     kind = early_is b.rose s early cause;
     told = λ topic. topic;
     cause = λ told. (refused_as b.rose s (workload_in b.texts name) early cause (wanted told), same told);
+    same = λ told n. same_stays g (b.home n) (b.after n) (same told n);
+  }
+
+  -- ## A configuration alone
+
+  pub study_refused : (name : Text) (asked : Study) (s : Status) → IsEarly s → (s ≡ status.BayFault → b.rose) → (b.tells → RefusedAs s (study_in b.texts name asked))
+      → (b.tells → AreUntouched g b) → IsRefusedOf g b (OnConf name asked) (only s)
+  study_refused name asked s early cause wanted same = record {
+    kind = early_is b.rose s early cause;
+    told = λ topic. topic;
+    cause = λ told. (refused_as b.rose s (study_in b.texts name asked) early cause (wanted told), same told);
     same = λ told n. same_stays g (b.home n) (b.after n) (same told n);
   }

@@ -35,3 +35,6 @@ mod LostRefused
 mod DeadOpened
 mod DeadActed
 mod Drawn
+mod Printed
+mod Unlabelled
+mod Headline

@@ -8,7 +8,7 @@ use Rattle.top_duty.proofs.Returning.{same_stays}
 use Rattle.top_fetch.specs.Told.{Told}
 use Rattle.top_status.specs.declared.status.Status.TheVariants as status
 use Rattle.top_status.specs.Refusals.{Refused, only}
-use Rattle.top_words.specs.Judged.{Invocation, Tell, OnArray, Scan, Simulate, invocation_of}
+use Rattle.top_words.specs.Judged.{Invocation, Tell, OnArray, OnConf, Scan, Simulate, invocation_of}
 use Rattle.top_words.specs.declared.invocation.Topic.{Topic}
 use Rattle.top_words.specs.declared.invocation.WordsFault.{WordsFault}
 use Rattle.top_words.specs.declared.invocation.WordsFault.TheVariants as fault
@@ -37,6 +37,7 @@ module _ {D : Type 0} (g : Ghosts D) (b : Told D) where
   by_memory words (OnArray command) same told is = inl (inr (inr refl), same)
   by_memory words (Scan list) same told is = (inr (inr refl), inl same)
   by_memory words (Simulate name order) same told is = (inr (inr refl), same)
+  by_memory words (OnConf name asked) same told is = (inr (inr refl), same)
 
   -- the words are refused by themselves, or there was no memory to read them
   pub words_refused : (words : List Text) (f : WordsFault) → ((i : ℕ) → f ≡ fault.Usage i → invocation_of words ≡ Err i) → ((topic : Topic) → invocation_of words ≡ Ok (Tell topic) → ⊥)

@@ -7,11 +7,12 @@ use Rattle.top_status.specs.Refusals.{Refused}
 use Rattle.top_status.specs.Status.{status_text}
 use Rattle.raid_top.specs.Outcome.{Outcome, outcome_text, status_of}
 
--- An action on an array came to this; or this is told of a list of components, or of requests to a simulated disk, or is one of the program's own texts; or the call was refused.
+-- An action on an array came to this; or this is told of a list of components, of requests to a simulated disk, or of a configuration alone, or is one of the program's own texts; or the call was refused.
 pub data CallOutcome : Type 0 where
   OfArray : (o : Outcome) → CallOutcome
   OfScan : (text : List ℕ) → CallOutcome
   OfSimulation : (text : List ℕ) → CallOutcome
+  OfConf : (text : List ℕ) → CallOutcome
   OfTopic : (text : List ℕ) → CallOutcome
   Refuses : (r : Refused) → CallOutcome
 
@@ -20,6 +21,7 @@ abbrev pub call_status : CallOutcome → Status
 call_status (OfArray o) = status_of o
 call_status (OfScan text) = status.Ok
 call_status (OfSimulation text) = status.Ok
+call_status (OfConf text) = status.Ok
 call_status (OfTopic text) = status.Ok
 call_status (Refuses r) = r.status
 
@@ -28,5 +30,6 @@ abbrev pub call_text : CallOutcome → List ℕ
 call_text (OfArray o) = outcome_text o
 call_text (OfScan text) = text ++ status_text status.Ok
 call_text (OfSimulation text) = text ++ status_text status.Ok
+call_text (OfConf text) = text ++ status_text status.Ok
 call_text (OfTopic text) = text
 call_text (Refuses r) = dead_text r.dead ++ status_text r.status

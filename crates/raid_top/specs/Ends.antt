@@ -16,12 +16,14 @@ use Rattle.top_scan.specs.Scanned.{IsComplete, names_in}
 use Rattle.top_sim.specs.Asked.{Workload, workload_by}
 use Rattle.top_sim.specs.Lines.{sim_text}
 use Rattle.top_sim.specs.Simulated.{IsSimulated, workload_in}
+use Rattle.top_study.specs.Studied.{study_in}
 use Rattle.top_status.specs.declared.status.Status.{Status}
 use Rattle.top_status.specs.declared.status.Status.TheVariants as status
 use Rattle.top_words.specs.Asked.{Check, Command}
-use Rattle.top_words.specs.Judged.{Invocation, Tell, OnArray, Scan, Simulate, invocation_of}
+use Rattle.top_words.specs.Judged.{Invocation, Tell, OnArray, OnConf, Scan, Simulate, invocation_of}
+use Rattle.top_words.specs.declared.study.Study.{Study}
 use Rattle.raid_top.specs.Acted.{Acted, IsRightCommand}
-use Rattle.raid_top.specs.Calls.{CallOutcome, OfArray, OfScan, OfSimulation, OfTopic, Refuses, call_status, call_text}
+use Rattle.raid_top.specs.Calls.{CallOutcome, OfArray, OfConf, OfScan, OfSimulation, OfTopic, Refuses, call_status, call_text}
 use Rattle.raid_top.specs.Runs.{IfRan, IsRunAnswered}
 use Rattle.raid_top.specs.Refused.{CallIsRefused}
 
@@ -48,6 +50,11 @@ module _ {D : Type 0} (g : Ghosts D) (b : Told D) where
     pub told : text ≡ sim_text requests services replies
     pub same : b.tells → (n : Text) → b.after n ≡ b.home n
 
+  -- This is what is asked of the configuration. No device was taken.
+  abbrev pub Studies : Text → Study → List ℕ → Type 0
+  Studies name asked text = (b.tells → study_in b.texts name asked ≡ Ok text)
+      × (b.tells → (n : Text) → b.after n ≡ b.home n)
+
   -- it is what was asked for, and no device was taken for a text
   abbrev pub Follows : Invocation → CallOutcome → Type 0
   Follows (Tell topic) (OfTopic text) =
@@ -55,6 +62,7 @@ module _ {D : Type 0} (g : Ghosts D) (b : Told D) where
   Follows (OnArray command) (OfArray o) = Acted g b command o
   Follows (Scan list) (OfScan text) = Scans list text
   Follows (Simulate name order) (OfSimulation text) = Simulates name order text
+  Follows (OnConf name asked) (OfConf text) = Studies name asked text
   Follows invocation outcome = ⊥
 
   -- each item of its clients has the reply that it ought to have, where it has any
@@ -83,6 +91,7 @@ IsRightFor g b (Tell topic) = Unit {0}
 IsRightFor g b (OnArray command) = IsRightCommand g b command
 IsRightFor g b (Scan list) = (names : List Text) × (names_in b.texts b.home list ≡ Ok names)
 IsRightFor g b (Simulate name order) = (asked : Workload) × (workload_in b.texts name ≡ Ok asked)
+IsRightFor g b (OnConf name asked) = (text : List ℕ) × (study_in b.texts name asked ≡ Ok text)
 
 pub record IsRight {D : Type 0} (g : Ghosts D) (b : Told D) (words : List Text) : Type 0 where
   pub invocation : Invocation

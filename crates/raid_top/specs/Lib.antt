@@ -20,3 +20,4 @@ pub mod Refused
 pub mod Ends
 pub mod Opened
 pub mod Laws
+pub mod Headline

@@ -14,9 +14,10 @@ use Rattle.top_open.specs.declared.fronts.Front.{Front}
 use Rattle.top_duty.specs.Views.{IsRefusal}
 use Rattle.top_scan.specs.Scanned.{IsScannedInPart, names_in}
 use Rattle.top_sim.specs.Simulated.{workload_in}
+use Rattle.top_study.specs.Studied.{study_in}
 use Rattle.top_words.specs.declared.invocation.Topic.{Topic}
 use Rattle.top_words.specs.Asked.{profile_of}
-use Rattle.top_words.specs.Judged.{Invocation, Tell, OnArray, Scan, Simulate, invocation_of}
+use Rattle.top_words.specs.Judged.{Invocation, Tell, OnArray, OnConf, Scan, Simulate, invocation_of}
 
 -- this is the refusal that is wanted; or the bay's count of faults rose; or memory was wanted
 abbrev pub IsRefusedAs : {A : Type 0} → Type 0 → Result A Refused → Refused → Type 0
@@ -44,13 +45,14 @@ module _ {D : Type 0} (g : Ghosts D) (b : Told D) where
         ⊎ (((a : Admitted) × (duty_by k (sizes_of g.size back) fronts ≡ Ok (OnAdmitted a)) × (r ≡ beside_dead a status.Memory)) ⊎ (r ≡ only status.Memory))
 
   -- why what was asked for is refused, and how devices were called before: not at all where texts or
-  -- names are refused, nor for a simulated disk; some of a list were looked at; none of the program's
+  -- names are refused, nor for a simulated disk or a configuration alone; some of a list were looked at; none of the program's
   -- own texts is refused
   abbrev pub RefusedBy : Invocation → Refused → Type 0
   RefusedBy (Tell topic) r = ⊥
   RefusedBy (OnArray command) r = (IsRefusedAs b.rose (asked_in b command) r × ((n : Text) → b.after n ≡ b.home n)) ⊎ ((k : Asked) × (asked_in b command ≡ Ok k) × IsRefusedOn k r)
   RefusedBy (Scan list) r = IsRefusedAs b.rose (names_in b.texts b.home list) r × IsScannedInPart g b.tells b.texts b.home b.after list
   RefusedBy (Simulate name order) r = IsRefusedAs b.rose (workload_in b.texts name) r × ((n : Text) → b.after n ≡ b.home n)
+  RefusedBy (OnConf name asked) r = IsRefusedAs b.rose (study_in b.texts name asked) r × ((n : Text) → b.after n ≡ b.home n)
 
   -- It is refused so: for what texts, names, sizes and first sectors call for, or for want of
   -- memory, or for a fault of the bay, only where its count rose. Each device is at home again, and

@@ -16,6 +16,7 @@ ghost use Rattle.raid_top.specs.Views.{CanBePrinted, outcome_seen};
 ghost use Rattle.raid_top.specs.Bays.{told_of};
 
 use crate::came::Ended;
+use crate::doubting::{Doubts, tell_doubt};
 use crate::performing::{Performed, perform};
 use crate::running::Served;
 use blk_disk::StopDisk;
@@ -69,8 +70,8 @@ where
     }
 }
 
-/// Does what a command asks for, and puts the devices back.
-pub(crate) fn act<'a, B: Bay, R: Threads + Wait + Sync, P: Progress + Sync>(
+/// Does what a command asks for, and puts the devices back. The doubt about the array, if there is one, is told first.
+pub(crate) fn act<'a, B: Bay, R: Threads + Wait + Sync, P: Progress + Doubts + Sync>(
     rt: &R,
     alloc: Global,
     command: Command<'a>,
@@ -89,7 +90,10 @@ where
     ensures later { B.faults bay.old ≤ B.faults bay.new }
 {
     match admit(alloc, command, bay) {
-        Ok(admitted) => end(rt, alloc, admitted, bay, progress),
+        Ok(admitted) => {
+            tell_doubt(&admitted.duty, progress);
+            end(rt, alloc, admitted, bay, progress)
+        }
         Err(refusal) => Err(refusal),
     }
 }

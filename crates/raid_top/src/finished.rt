@@ -6,6 +6,7 @@ ghost use Rattle.top_scan.specs.Lines.{scan_text};
 ghost use Rattle.top_scan.specs.Scanned.{IsComplete};
 ghost use Rattle.top_sim.specs.Lines.{sim_text};
 ghost use Rattle.top_status.specs.Status.{status_text};
+ghost use Rattle.top_study.specs.Views.{studied_text};
 ghost use Rattle.raid_top.specs.Calls.{call_text};
 ghost use Rattle.raid_top.specs.Finished.{CanBeServed, CanBeTold, finished_seen, status_finished};
 
@@ -17,6 +18,7 @@ use top_help::put_topic;
 use top_scan::{Scanned, put_scan};
 use top_sim::{Simulated, put_simulated};
 use top_status::{Status, put_status};
+use top_study::{Studied, put_studied};
 use top_words::Topic;
 
 /// What came of a call that wasn't refused.
@@ -28,6 +30,8 @@ pub(crate) enum Finished<'a> {
     OfScan(Scanned),
     /// Requests to a simulated disk were served.
     OfSimulation(Simulated),
+    /// A configuration alone was asked.
+    OfConf(Studied),
     /// One of the program's own texts is told.
     OfTopic(Topic),
 }
@@ -38,7 +42,10 @@ pub(crate) fn status_finished(finished: &Finished<'_>) -> Status
 {
     match finished {
         Finished::OfArray(ended) => status_of(&ended.came),
-        Finished::OfScan(_) | Finished::OfSimulation(_) | Finished::OfTopic(_) => Status::Ok,
+        Finished::OfScan(_)
+        | Finished::OfSimulation(_)
+        | Finished::OfConf(_)
+        | Finished::OfTopic(_) => Status::Ok,
     }
 }
 
@@ -70,6 +77,17 @@ fn put_served<K: Sink>(simulated: &Simulated, status: &Status, out: &mut K) -> R
     put_status(status, out)
 }
 
+// Prints what is told of a configuration, and the status.
+fn put_told<K: Sink>(studied: &Studied, status: &Status, out: &mut K) -> Result<(), Failed>
+    ensures output { K.tells → Puts (is_ok result) (K.output out.old)
+        (studied_text studied.now ++ status_text status.now) (K.output out.new) }
+    ensures later { K.faults out.old ≤ K.faults out.new }
+    ensures cause { OnErr result (Rose (K.faults out.old) (K.faults out.new)) }
+{
+    put_studied(studied, out)?;
+    put_status(status, out)
+}
+
 /// Prints what came of a call: behind all but one of the program's own texts stands the status.
 pub(crate) fn put_finished<K: Sink>(
     finished: &Finished<'_>,
@@ -87,6 +105,7 @@ pub(crate) fn put_finished<K: Sink>(
         Finished::OfArray(ended) => put_ended(ended, status, out),
         Finished::OfScan(scanned) => put_scanned(scanned, status, out),
         Finished::OfSimulation(simulated) => put_served(simulated, status, out),
+        Finished::OfConf(studied) => put_told(studied, status, out),
         Finished::OfTopic(topic) => put_topic(*topic, out),
     }
 }

@@ -1,7 +1,7 @@
 //! What comes of the words.
 ghost use Rattle.std.specs.Prelude.{◌≡◌, ◌≤◌, IfOk, IfErr};
 ghost use Rattle.top_words.specs.Asked.{AreNumbersInRange};
-ghost use Rattle.top_words.specs.Judged.{IsInRange, OnArray, Scan, Simulate};
+ghost use Rattle.top_words.specs.Judged.{IsInRange, OnArray, OnConf, Scan, Simulate};
 ghost use Rattle.top_words.specs.Views.{action_seen, command_seen, invocation_seen};
 ghost use Rattle.raid_top.specs.Ends.{Followed, Follows};
 ghost use Rattle.raid_top.specs.Finished.{CanBeTold, finished_seen, refusal_of};
@@ -9,6 +9,7 @@ ghost use Rattle.raid_top.specs.Refused.{CallIsRefused, IsRefusedOf};
 ghost use Rattle.raid_top.specs.Bays.{told_of};
 
 use crate::act::act;
+use crate::doubting::Doubts;
 use crate::finished::Finished;
 use blk_disk::StopDisk;
 use raid_bay::{Bay, Name};
@@ -20,10 +21,11 @@ use std::thread::Threads;
 use top_scan::scan;
 use top_sim::simulate;
 use top_status::{Refusal, Status};
-use top_words::{Command, Invocation, WordsFault, read_words};
+use top_study::study_in;
+use top_words::{Command, Invocation, Study, WordsFault, read_words};
 
 // An action on an array.
-fn act_on<'a, B: Bay, R: Threads + Wait + Sync, P: Progress + Sync>(
+fn act_on<'a, B: Bay, R: Threads + Wait + Sync, P: Progress + Doubts + Sync>(
     rt: &R,
     alloc: Global,
     command: Command<'a>,
@@ -81,8 +83,28 @@ fn simulate_in<'a, B: Bay>(
     }
 }
 
+// What is told of a configuration alone.
+fn study_conf<'a, B: Bay>(
+    alloc: Global,
+    conf: &str,
+    study: Study,
+    bay: &mut B,
+) -> Result<Finished<'a>, Refusal>
+    ensures followed { IfOk result (λ f. Follows B.D.Disk (told_of B.Bay bay.old bay.new)
+        (OnConf conf.now study) (finished_seen f)) }
+    ensures told { IfOk result CanBeTold }
+    ensures refused { IfErr result (IsRefusedOf B.D.Disk (told_of B.Bay bay.old bay.new)
+        (OnConf conf.now study)) }
+    ensures later { B.faults bay.old ≤ B.faults bay.new }
+{
+    match study_in(alloc, conf, study, bay) {
+        Ok(studied) => Ok(Finished::OfConf(studied)),
+        Err(status) => Err(Refusal::only(alloc, status)),
+    }
+}
+
 // What was asked for.
-fn follow<'a, B: Bay, R: Threads + Wait + Sync, P: Progress + Sync>(
+fn follow<'a, B: Bay, R: Threads + Wait + Sync, P: Progress + Doubts + Sync>(
     rt: &R,
     alloc: Global,
     invocation: Invocation<'a>,
@@ -104,6 +126,7 @@ where
         Invocation::OnArray { command } => act_on(rt, alloc, command, bay, progress),
         Invocation::Scan { list } => scan_list(alloc, list, bay),
         Invocation::Simulate { requests, order } => simulate_in(alloc, requests, order, bay),
+        Invocation::OnConf { conf, study } => study_conf(alloc, conf, study, bay),
     }
 }
 
@@ -118,8 +141,8 @@ fn refuse(alloc: Global, fault: WordsFault) -> Refusal
 }
 
 /// Does what the words ask for: one of the program's own texts, an action on an array, a list of
-/// components, or requests to a simulated disk. Each device that was taken is put back.
-pub(crate) fn invoke<'a, B: Bay, R: Threads + Wait + Sync, P: Progress + Sync>(
+/// components, requests to a simulated disk, or a configuration alone. Each device that was taken is put back.
+pub(crate) fn invoke<'a, B: Bay, R: Threads + Wait + Sync, P: Progress + Doubts + Sync>(
     rt: &R,
     alloc: Global,
     words: &'a [Name],

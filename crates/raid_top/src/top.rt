@@ -3,7 +3,9 @@ ghost use Rattle.std.specs.Prelude.{◌≡◌, ◌≤◌, OnOk, OnErr};
 ghost use Rattle.blk_disk.specs.Disk.{Rose};
 ghost use Rattle.raid_top.specs.Ends.{Answers};
 ghost use Rattle.raid_top.specs.Bays.{told_of};
+ghost use Rattle.raid_top.specs.Headline.{Headline};
 
+use crate::doubting::Doubts;
 use crate::finished::status_finished;
 use crate::invoking::invoke;
 use crate::paging::Telling;
@@ -32,13 +34,14 @@ fn answer_of(status: Status, printed: Result<(), Failed>) -> Status
 ///
 /// What came of the words is printed by pages, for which room is taken first; where there is none, line by line.
 ///
-/// `progress` is told how far it is, by numbers alone: nothing that is done or printed rests on that.
+/// `progress` is told how far it is, by numbers alone, and the doubt about an array that is opened: nothing that is done or
+/// printed rests on that.
 ///
 /// What is right isn't refused: see [`what_is_right_is_answered`](crate::what_is_right_is_answered), which is so of every answer.
 ///
 /// Memory that is wanted behind the opening of the core is wanted before any device is written. On every path each device
 /// that was taken is put back.
-pub fn run<B: Bay, K: Sink, R: Threads + Wait + Sync, P: Progress + Sync>(
+pub fn run<B: Bay, K: Sink, R: Threads + Wait + Sync, P: Progress + Doubts + Sync>(
     rt: &R,
     alloc: Global,
     words: &[Name],
@@ -50,6 +53,8 @@ where
     B::D: StopDisk + Send + Drop,
     ensures answer { Answers B.D.Disk (told_of B.Bay bay.old bay.new) words.now K.tells
         (Rose (K.faults out.old) (K.faults out.new)) result (K.output out.old) (K.output out.new) }
+    ensures headline { Headline B.D.Disk (told_of B.Bay bay.old bay.new) K.tells
+        (K.output out.old) (K.output out.new) words.now result }
     ensures bay_later { B.faults bay.old ≤ B.faults bay.new }
     ensures sink_later { K.faults out.old ≤ K.faults out.new }
 {

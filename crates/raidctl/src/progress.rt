@@ -1,10 +1,11 @@
-//! How far a long call is, on a terminal.
+//! How far a long call is, on a terminal; and the doubt about its array, for the end.
 ghost use Rattle.std.specs.Prelude.{◌≡◌};
 ghost use Rattle.raidctl.specs.Progress.{is_time, seconds_left};
 
 use raid_progress::Progress;
+use raid_top::{Doubt, Doubts};
 use std::io::IsTerminal;
-use std::sync::atomic::{AtomicU64, Ordering};
+use std::sync::atomic::{AtomicBool, AtomicU64, Ordering};
 use std::time::{Duration, Instant};
 
 // The clock is looked at each so many times that it is told.
@@ -32,6 +33,9 @@ pub struct TerminalProgress<'a> {
     // and when it was first seen told of as many in all.
     began: AtomicU64,
     all: AtomicU64,
+    // Whether the array is in doubt, and whether the newest label names a device for what it lacks.
+    doubt: AtomicBool,
+    named: AtomicBool,
 }
 
 impl<'a> TerminalProgress<'a> {
@@ -49,6 +53,19 @@ impl<'a> TerminalProgress<'a> {
             drawn: AtomicU64::new(0),
             began: AtomicU64::new(0),
             all: AtomicU64::new(0),
+            doubt: AtomicBool::new(false),
+            named: AtomicBool::new(false),
+        }
+    }
+
+    /// The doubt about the array that was told last, if one was.
+    pub fn doubted(&self) -> Option<Doubt> {
+        if self.doubt.load(Ordering::SeqCst) {
+            Some(Doubt {
+                named: self.named.load(Ordering::SeqCst),
+            })
+        } else {
+            None
         }
     }
 
@@ -102,6 +119,13 @@ impl<'a> Progress for TerminalProgress<'a> {
         match eprint!(self.rt; "\r{:72}\r", "") {
             Ok(()) | Err(_) => {}
         }
+    }
+}
+
+impl<'a> Doubts for TerminalProgress<'a> {
+    fn doubt(&self, doubt: Doubt) {
+        self.named.store(doubt.named, Ordering::SeqCst);
+        self.doubt.store(true, Ordering::SeqCst);
     }
 }
 

@@ -3,9 +3,10 @@ ghost use Rattle.std.specs.Prelude.{◌≡◌, IfOk, option_map};
 ghost use Rattle.raidctl.specs.Telling.{IsSentence, IsWarning, PutsSome};
 
 use raid_bay::{ErrSink, FileBay, Name, OutSink, Sink};
+use raid_top::Doubt;
 use std::alloc::{AllocError, Global};
 use std::io;
-use top_hints::{Trouble, hint, warning};
+use top_hints::{Trouble, doubt, hint, warning};
 use top_status::Status;
 
 // Something that the system refused, and why.
@@ -73,7 +74,25 @@ fn tell<K: Sink>(text: Result<Vec<u8>, AllocError>, err: &mut K)
     }
 }
 
-/// Tells which components failed in a call that is over, and what its status means.
+/// Tells which components failed in a call that is over, and of the doubt about its array.
+pub(crate) fn warn(
+    alloc: Global,
+    words: &[Name],
+    bay: &FileBay,
+    doubted: Option<Doubt>,
+    err: &mut ErrSink,
+) {
+    for file in bay.lent() {
+        if let Some(error) = file.cause {
+            tell(warned(alloc, file.name.text(), error), err);
+        }
+    }
+    if let Some(Doubt { named }) = doubted {
+        tell(doubt(alloc, words, named), err);
+    }
+}
+
+/// Tells what the status of a call that is over means.
 pub(crate) fn explain(
     alloc: Global,
     words: &[Name],
@@ -82,11 +101,6 @@ pub(crate) fn explain(
     out: &OutSink,
     err: &mut ErrSink,
 ) {
-    for file in bay.lent() {
-        if let Some(error) = file.cause {
-            tell(warned(alloc, file.name.text(), error), err);
-        }
-    }
     let fault = fault_of(status, bay, out);
     tell(sentence(alloc, words, status, fault), err);
 }

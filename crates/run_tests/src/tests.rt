@@ -3,17 +3,19 @@ use crate::judging::same_at;
 use blk_disk::{Call, MemDisk, SECTOR, StopDisk};
 use raid_bay::{Bay, MemBay, MemSink, Name};
 use raid_progress::{Progress, Silent};
-use raid_top::run;
+use raid_top::{Doubts, run};
 use std::alloc::Global;
 use std::process::Abort;
 use std::sync::Wait;
 use std::test::Fail;
 use std::thread::Threads;
 
+mod adopted;
 mod crews;
 mod faults;
 mod join_lines;
 mod joined;
+mod layouts;
 mod letters;
 mod levels;
 mod maps;
@@ -27,6 +29,7 @@ mod rows;
 mod scans;
 mod several;
 mod simulations;
+mod stops;
 mod topics;
 
 const CONF: &str = "START array\n1 3 0\nSTART disks\nd0\nd1\nd2\nSTART layout\n1 1 1 5\n";
@@ -144,13 +147,18 @@ fn names_of(alloc: Global, words: &str) -> Result<Vec<Name>, Fail> {
 }
 
 // The exit number of these words, and what they print; this is told how far they are.
-fn answer_telling<D: StopDisk + Drop + Send, R: Threads + Wait + Sync, P: Progress + Sync>(
+fn answer_telling<D, R, P>(
     rt: &R,
     alloc: Global,
     bay: &mut MemBay<D>,
     words: &str,
     progress: &P,
-) -> Result<(u8, Vec<u8>), Fail> {
+) -> Result<(u8, Vec<u8>), Fail>
+where
+    D: StopDisk + Drop + Send,
+    R: Threads + Wait + Sync,
+    P: Progress + Doubts + Sync,
+{
     let mut out = MemSink::new(alloc, 16_384, Vec::new(alloc))?;
     let words = names_of(alloc, words)?;
     let status = run(rt, alloc, &words, bay, &mut out, progress);

@@ -59,7 +59,7 @@ fn a_write_fails_among_workers(rt: HostRuntime) -> Result<(), Fail> {
     Ok(())
 }
 
-// Column 3 of five has died by the write of a client, its call 37. It is rebuilt onto the spare beside two clients with stripes
+// Column 3 of five has died by the write of a client, its call 39. It is rebuilt onto the spare beside two clients with stripes
 // of their own, by four workers. Which of their operations commits first isn't settled.
 #[test]
 fn a_column_is_rebuilt_beside_two_clients(rt: HostRuntime) -> Result<(), Fail> {
@@ -69,7 +69,7 @@ fn a_column_is_rebuilt_beside_two_clients(rt: HostRuntime) -> Result<(), Fail> {
         script: "0 write 64 256 5a\n0 read 64 256\n1 write 4096 256 c3\n1 read 4096 256\n",
         other: "0 write 64 256 5a\n0 read 64 256\n",
         sectors: 2112,
-        fails: &[("d3", 37)],
+        fails: &[("d3", 39)],
         ..PLAIN
     };
     let mut bay = bay_of(alloc, &session)?;

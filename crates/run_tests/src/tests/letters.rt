@@ -13,10 +13,10 @@ const FOREIGN: &str = "START array\n1 3 0\nSTART disks\nd0\nd1\nd3\nSTART layout
 
 // On five columns the check unit of stripe s is on column 3 where s is 1 modulo 5, which 13 of 64 stripes are. So d3 gets its
 // label by its call 0; by its calls from 1 on its parity is initialised: a read of its first sector and one of its map, a label,
-// 14 reads and 13 writes of check units, a settle, a label, a settle. A read has 64 KiB, which are four rows, from the first row
+// a settle, 14 reads and 13 writes of check units, a settle, a label, a settle. A read has 64 KiB, which are four rows, from the first row
 // on that is wanted and wasn't read with one before; a check unit isn't wanted, so they begin at the rows 0, 4, 8 and 12, behind
-// the check unit of row 16 at 17, 22, .. and 57, behind that of 61 at 62. In the run its calls from 34 on are a read of its first
-// sector and one of its map, a label, and the write of sectors 64 to 95, which fails. Nothing says that its label is old but the
+// the check unit of row 16 at 17, 22, .. and 57, behind that of 61 at 62. In the run its calls from 35 on are a read of its first
+// sector and one of its map, a label, a settle, and the write of sectors 64 to 95, which fails. Nothing says that its label is old but the
 // counter. Then its column is rebuilt onto the spare. At last d2 is replaced: without a label it is refused, and its column is
 // rebuilt on it.
 #[test]
@@ -25,7 +25,7 @@ fn an_array_is_labelled_and_run_and_rebuilt(rt: HostRuntime) -> Result<(), Fail>
         conf: WIDE,
         script: "0 write 64 256 5a\n0 read 64 256\n",
         sectors: 2112,
-        fails: &[("d3", 37)],
+        fails: &[("d3", 39)],
         steps: &[
             Step::Run("r5 -I 1001", 0, "labels written 5\nstatus ok\n"),
             Step::Begins(

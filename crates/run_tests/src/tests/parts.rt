@@ -65,14 +65,14 @@ const ANEW: Session = Session {
     ..PLAIN
 };
 
-// The disk of column 3 has 71 calls until the array is initialised; for a rebuild of column 0 its first sector and its map are
-// read, it is labelled, settled, labelled and settled; and for a write its first sector and its map are read, it is labelled,
-// and the unit of block 1 is written, which fails. The rebuild goes on beside that dead column.
+// The disk of column 3 has 72 calls until the array is initialised; for a rebuild of column 0 its first sector and its map are
+// read, it is labelled and settled, and settled, labelled and settled; and for a write its first sector and its map are read, it
+// is labelled and settled, and the unit of block 1 is written, which fails. The rebuild goes on beside that dead column.
 const ANOTHER_FAILS: Session = Session {
     conf: PAIRS,
     script: "0 write 0 4 a5\n",
     other: "0 read 0 4\n",
-    fails: &[("d3", 80)],
+    fails: &[("d3", 83)],
     steps: &[
         LABELLED_PAIRS,
         INITIALISED_PAIRS,

@@ -1,6 +1,7 @@
 //! Who is told how far a call is.
 use super::*;
 use crate::judging::same_at;
+use raid_top::Doubt;
 use std::sync::atomic::{AtomicU64, Ordering};
 
 /// Keeps what it is told.
@@ -14,6 +15,9 @@ struct Kept {
     all: AtomicU64,
     /// How often fewer of as many were done than the time before, and how often more than all.
     fell: AtomicU64,
+    /// How often there was a doubt about the array, and how often the newest label named a device for what it lacked.
+    doubts: AtomicU64,
+    named: AtomicU64,
 }
 
 impl Kept {
@@ -24,6 +28,8 @@ impl Kept {
             done: AtomicU64::new(0),
             all: AtomicU64::new(0),
             fell: AtomicU64::new(0),
+            doubts: AtomicU64::new(0),
+            named: AtomicU64::new(0),
         }
     }
 }
@@ -40,6 +46,15 @@ impl Progress for Kept {
 
     fn end(&self) {
         self.ends.fetch_add(1, Ordering::SeqCst);
+    }
+}
+
+impl Doubts for Kept {
+    fn doubt(&self, doubt: Doubt) {
+        self.doubts.fetch_add(1, Ordering::SeqCst);
+        if doubt.named {
+            self.named.fetch_add(1, Ordering::SeqCst);
+        }
     }
 }
 
@@ -82,4 +97,80 @@ fn numbers_ascend_to_all(rt: HostRuntime) -> Result<(), Fail> {
         tells(&rt, alloc, &mut bay, *words, *wanted)?;
     }
     Ok(())
+}
+
+// These words end well, and tell so many doubts, and that so many devices are named.
+fn doubts<R: Abort + Threads + Wait + Sync>(
+    rt: &R,
+    alloc: Global,
+    bay: &mut MemBay<MemDisk>,
+    words: &str,
+    wanted: [u64; 2],
+) -> Result<(), Fail> {
+    let kept = Kept::new();
+    let (number, _) = answer_telling(rt, alloc, bay, words, &kept)?;
+    same_at(rt, words, number, 0);
+    let told = [
+        kept.doubts.load(Ordering::SeqCst),
+        kept.named.load(Ordering::SeqCst),
+    ];
+    same_at(rt, words, told, wanted);
+    Ok(())
+}
+
+// The labels aren't clean until the parity is initialised, and a column is lacking behind `-f`. Behind `-R` both is mended.
+const FAILED: &[(&str, [u64; 2])] = &[
+    ("r5 -s", [0, 0]),
+    ("r5 -I 7", [0, 0]),
+    ("r5 -s", [0, 0]),
+    ("r5 -f d1", [0, 0]),
+    ("r5 -s", [1, 0]),
+    ("r5 -p", [1, 0]),
+    ("r5 -g d0", [0, 0]),
+    ("r5 -G", [0, 0]),
+    ("r5 -R d1 -w 0", [1, 0]),
+    ("r5 -s", [0, 0]),
+    ("r5 -f d1", [0, 0]),
+    ("r5 -s", [0, 0]),
+];
+
+// A label that is older than the others, which aren't clean: its device is named until it is left out of a round.
+const STALE: &[(&str, [u64; 2])] = &[
+    ("r5 -s", [1, 1]),
+    ("r5 -p", [1, 1]),
+    ("r5 -s --adopt", [0, 0]),
+    ("r5 -f d1", [1, 1]),
+    ("r5 -s", [1, 0]),
+    ("r5 -s --adopt", [1, 0]),
+];
+
+fn doubt_all<R: Abort + Threads + Wait + Sync>(
+    rt: &R,
+    alloc: Global,
+    bay: &mut MemBay<MemDisk>,
+    table: &[(&str, [u64; 2])],
+) -> Result<(), Fail> {
+    for (words, wanted) in table {
+        doubts(rt, alloc, bay, *words, *wanted)?;
+    }
+    Ok(())
+}
+
+#[test]
+fn a_doubt_is_told_of_what_is_not_clean_and_lacks_a_column(rt: HostRuntime) -> Result<(), Fail> {
+    let alloc = rt.alloc();
+    let mut bay = bay_of(alloc, &PLAIN)?;
+    doubt_all(&rt, alloc, &mut bay, FAILED)?;
+    let mut bay = bay_of(alloc, &PLAIN)?;
+    says(
+        &rt,
+        alloc,
+        &mut bay,
+        "r5 -I 7",
+        0,
+        "labels written 3\nstatus ok\n",
+    )?;
+    put(alloc, &mut bay, "d0", 16, 2)?;
+    put(alloc, &mut bay, "d2", 16, 2)?;
+    doubt_all(&rt, alloc, &mut bay, STALE)
 }

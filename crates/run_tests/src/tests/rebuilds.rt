@@ -63,7 +63,7 @@ fn columns_are_rebuilt_into_spare_places(rt: HostRuntime) -> Result<(), Fail> {
 
 // Calls 0 to 2 of the spare read its first sector, and the write of sector 96 is that of stripe 32, call 35: the column stays
 // dead, and the spare free; and the data of before are there. Without a spare that is free nothing is written, no label
-// either. The disk of column 1 fails as its first sector is read, by its call 31: its parity took one read of all 64 rows, which
+// either. The disk of column 1 fails as its first sector is read, by its call 32: its parity took one read of all 64 rows, which
 // are less than 64 KiB, and 21 writes, since its unit is the check unit where the stripe is 1 modulo 3. It isn't rebuilt.
 #[test]
 fn a_rebuild_is_stopped(rt: HostRuntime) -> Result<(), Fail> {
@@ -106,7 +106,7 @@ fn a_rebuild_is_stopped(rt: HostRuntime) -> Result<(), Fail> {
             ..PLAIN
         },
         Session {
-            fails: &[("d1", 31)],
+            fails: &[("d1", 32)],
             steps: &[
                 Step::Run("r5 -I 7", 0, "labels written 3\nstatus ok\n"),
                 Step::Run("r5 -F d1", 12, "status nospare\n"),

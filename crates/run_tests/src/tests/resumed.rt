@@ -200,12 +200,13 @@ fn a_rebuild_goes_on_beside_a_dead_column(rt: HostRuntime) -> Result<(), Fail> {
 }
 
 // By its calls from 0 on the spare's first sector is read by `-i` and by `-F`, 20 units are written, and it is settled, labelled
-// and settled; by those from 25 on its first sector and its map are read, and its label is written. It fails at a unit; at its
-// label of the closing round, when 20 stripes are rebuilt; as a client writes on it, by its call 28; as it is read again; and
-// at its label of the opening round. By its call 52 the disk of column 0 fails, as the array is closed: then it is lost, and
+// and settled; by those from 25 on its first sector and its map are read, its label is written, and it is settled. It fails at
+// a unit; at its label of the closing round, when 20 stripes are rebuilt; as a client writes on it, by its call 29; as it is
+// read again; and at its label of the opening round. By its call 54 the disk of column 0 fails, as the array is closed: then it is lost, and
 // nothing is paused. Call 0 wrote its label; by those from 1 on its parity was initialised: its first sector and its map were
-// read, its label written, all 64 rows read by one call, 21 check units written, and it was settled, labelled and settled; by
-// those from 29 on its first sector and its map were read, its label written, and 20 units read.
+// read, its label written, it was settled, all 64 rows read by one call, 21 check units written, and it was settled, labelled
+// and settled; by those from 30 on its first sector and its map were read, its label written, it was settled, and 20 units
+// read.
 #[test]
 fn a_column_that_is_half_rebuilt_dies(rt: HostRuntime) -> Result<(), Fail> {
     const SESSIONS: &[Session] = &[
@@ -245,7 +246,7 @@ fn a_column_that_is_half_rebuilt_dies(rt: HostRuntime) -> Result<(), Fail> {
             conf: SPARED,
             script: "0 write 1 1 a5\n0 write 127 1 b6\n",
             other: "0 read 1 1\n0 read 127 1\n",
-            fails: &[("s0", 28)],
+            fails: &[("s0", 29)],
             steps: &[
                 LABELLED,
                 INITIALISED,
@@ -299,7 +300,7 @@ fn a_column_that_is_half_rebuilt_dies(rt: HostRuntime) -> Result<(), Fail> {
         },
         Session {
             conf: SPARED,
-            fails: &[("d0", 52)],
+            fails: &[("d0", 54)],
             steps: &[
                 LABELLED,
                 INITIALISED,

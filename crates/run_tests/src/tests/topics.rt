@@ -29,6 +29,7 @@ const EXPLAINED: &[&str] = &[
     "-g",
     "-G",
     "--scan",
+    "--layout",
     "-f",
     "-F",
     "-R",
@@ -43,7 +44,9 @@ const EXPLAINED: &[&str] = &[
     "--trace",
     "-w",
     "--map",
+    "--adopt",
     "--limit",
+    "--rows",
     "--clients",
     "--ops",
     "-h, --help",
@@ -60,7 +63,7 @@ fn the_help_names_every_word(rt: HostRuntime) -> Result<(), Fail> {
     for line in HELP.lines() {
         holds(&rt, line.len() <= 80);
     }
-    same(&rt, VERSION.contains("rattle-kit-13f"), true);
+    same(&rt, VERSION.contains("rattle-kit-13b"), true);
     Ok(())
 }
 

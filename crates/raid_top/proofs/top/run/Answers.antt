@@ -6,6 +6,7 @@ use Rattle.raid_top.specs.Calls.{Refuses, call_text}
 use Rattle.raid_top.specs.Words.{Printed}
 use Rattle.raid_top.specs.Finished.{finished_seen}
 use Rattle.raid_top.proofs.Endings.{acts_of, finished_status, printed_of}
+use Rattle.raid_top.proofs.Headline.{headline}
 use Rattle.raid_top.proofs.top.run.Goals as goal
 
 pub returns-in-Ok-clause-answer : goal.returns-in-Ok-clause-answer
@@ -35,3 +36,9 @@ returns-in-Err-clause-answer g c =
           c.into_status.ensures
           (printed_of K.tells (Rose (K.faults c.args.out.now) (K.faults c.put_refusal-printed.new.out)) ending c.answer_of-in-Err.result (refusal_text refusal) (K.output c.args.out.now) (K.output c.put_refusal-printed.new.out) c.put_refusal-printed.result c.answer_of-in-Err.ensures.ok c.answer_of-in-Err.ensures.err c.put_refusal-printed.ensures.output c.put_refusal-printed.ensures.cause);
     }
+
+pub returns-in-Ok-clause-headline : goal.returns-in-Ok-clause-headline
+returns-in-Ok-clause-headline g c = headline _ _ _ _ _ _ _ _ (returns-in-Ok-clause-answer g c)
+
+pub returns-in-Err-clause-headline : goal.returns-in-Err-clause-headline
+returns-in-Err-clause-headline g c = headline _ _ _ _ _ _ _ _ (returns-in-Err-clause-answer g c)
