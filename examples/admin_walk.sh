@@ -5,8 +5,11 @@ set -u
 walk_here=$(cd "$(dirname "$0")" && pwd)
 walk_top=$(dirname "$walk_here")
 walk_page=$walk_top/docs/ADMIN.md
-[ -x "$walk_top/crates/raidctl/out/raidctl" ] || "$walk_top/demo.sh" > /dev/null
-PATH=$walk_top/crates/raidctl/out:$walk_top/tools:$PATH
+walk_program=$walk_top/crates/raidctl/out/raidctl
+# An installed copy.
+[ -e "$walk_top/demo.sh" ] || walk_program=$walk_top/../../../bin/raidctl
+[ -x "$walk_program" ] || "$walk_top/demo.sh" > /dev/null
+PATH=$(dirname "$walk_program"):$walk_top/tools:$PATH
 
 walk_folder=$(mktemp -d "${TMPDIR:-/tmp}/raidctl.XXXXXX")
 trap 'rm -rf "$walk_folder"' EXIT

@@ -7,6 +7,8 @@ set -u
 here=$(cd "$(dirname "$0")" && pwd)
 top=$(dirname "$here")
 program=$top/crates/raidctl/out/raidctl
+# An installed copy.
+[ -e "$top/demo.sh" ] || program=$top/../../../bin/raidctl
 [ -x "$program" ] || "$top/demo.sh" > /dev/null
 
 folder=$(mktemp -d "${TMPDIR:-/tmp}/raidctl.XXXXXX")
@@ -79,8 +81,8 @@ tries=0
 while [ "$place" -lt 20 ] && [ "$tries" -lt 200 ]; do
     tries=$((tries + 1))
     put first left
-    # A call that has ended was not killed, and one that was killed in a round of labels leaves some of them stale, which is
-    # the user's to keep from: both are tried again, the first of them earlier.
+    # A call that has ended was not killed, and one that was killed in a round of labels leaves some of them stale, which
+    # --adopt would take in: both are tried again, the first of them earlier.
     if killed $((took * (place + 1) / 21)) 2> told; then
         took=$((took * 9 / 10))
         continue

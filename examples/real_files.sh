@@ -5,7 +5,10 @@
 set -u
 here=$(cd "$(dirname "$0")" && pwd)
 top=$(dirname "$here")
-[ -x "$top/crates/raidctl/out/raidctl" ] || "$top/demo.sh" > /dev/null
+program=$top/crates/raidctl/out/raidctl
+# An installed copy.
+[ -e "$top/demo.sh" ] || program=$top/../../../bin/raidctl
+[ -x "$program" ] || "$top/demo.sh" > /dev/null
 
 folder=$(mktemp -d "${TMPDIR:-/tmp}/raidctl.XXXXXX")
 loop=
@@ -16,7 +19,7 @@ leave() {
 trap leave EXIT
 # Another user has to find the program and the files.
 chmod 755 "$folder"
-install -m 755 "$top/crates/raidctl/out/raidctl" "$folder/raidctl"
+install -m 755 "$program" "$folder/raidctl"
 cd "$folder" || exit 1
 passed=0
 failed=0
@@ -75,6 +78,34 @@ ends 'looking beside a long one' 5 'status bay' 'd0: in use by another call, or 
 wait $!
 same 'the long call: the exit' 0 $?
 ends 'behind both' 0 'status ok' '' ./raidctl conf -p
+
+# An array that isn't clean and lacks a column is warned of. Behind labels that are older than the newest, as a call leaves
+# them that is killed as it writes some, the warning names the call by which to begin; so does the sentence of a lost array.
+# A call that has written labels doesn't: what it left out isn't named any more.
+doubt="wasn't closed in order, and lacks a column"
+begin='begin with raidctl conf -s --adopt'
+ends 'first labels, not clean' 0 'status ok' '' ./raidctl conf -I 7
+ends 'not clean' 0 'status ok' '' ./raidctl conf -s
+ends 'not clean, a column failed' 0 'status ok' '' ./raidctl conf -f d1
+ends 'not clean, without a column' 0 'status ok' "$doubt" ./raidctl conf -s
+same 'a column that no label names' 0 "$(grep -cF "$begin" told)"
+ends 'first labels again' 0 'status ok' '' ./raidctl conf -I 7
+printf '\2' | dd of=d0 bs=1 seek=16 conv=notrunc status=none
+ends 'two older labels' 0 'status ok' "$doubt" ./raidctl conf -s
+same 'two older labels that are named' 1 "$(grep -cF "$begin" told)"
+ends 'two older labels, lost' 8 'status lost 1 2 0' "$begin" ./raidctl conf --io /dev/null
+ends 'two older labels, adopted' 0 'status ok' '' ./raidctl conf -s --adopt
+ends 'two older labels, written anew' 0 'status ok' '' ./raidctl conf -P --adopt
+cp d1 old
+ends 'further rounds' 0 'status ok' '' ./raidctl conf -i
+cp old d1
+for disk in d0 d2; do
+    printf '\0' | dd of="$disk" bs=1 seek=40 conv=notrunc status=none
+done
+ends 'one older label' 0 'status ok' "$begin" ./raidctl conf -p
+ends 'one older label, left out' 0 'status ok' "$doubt" ./raidctl conf --io /dev/null
+same 'a column that was left out' 0 "$(grep -cF "$begin" told)"
+ends 'a column that was left out' 0 'status ok' '' ./raidctl conf -R d1
 
 # The help, and a standard output that fails.
 same 'the first line of the help' 'usage: raidctl CONF ACTION [OPTION ..]' "$(./raidctl --help | head -n 1)"

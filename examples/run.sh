@@ -7,6 +7,8 @@ set -eu
 here=$(cd "$(dirname "$0")" && pwd)
 top=$(dirname "$here")
 program=$top/crates/raidctl/out/raidctl
+# An installed copy.
+[ -e "$top/demo.sh" ] || program=$top/../../../bin/raidctl
 [ -x "$program" ] || "$top/demo.sh" > /dev/null
 
 # A call of a session: its words, what it prints, and its exit number where that isn't 0.
@@ -58,6 +60,9 @@ picture() {
 if command -v python3 > /dev/null; then
     picture declustered "$top/tools/layout-picture" "$here/declustered/conf"
     picture spare_places "$top/tools/layout-picture" "$here/spare_places/conf"
+    for name in declustered spare_places; do
+        picture "$name" "$top/tools/layout-picture" "$here/$name/conf" - < <("$program" "$here/$name/conf" --layout)
+    done
     picture large "$top/tools/graph-picture" "$here/own_graphs/graphs" large --of "$here/own_graphs/conf" 0
     picture eager "$top/tools/graph-picture" "$here/own_graphs/graphs" eager --of "$here/own_graphs/conf" 0
     cd "$folder/traced"
@@ -71,7 +76,7 @@ else
     echo "there is no python3: the pictures aren't made, and array-status isn't tried"
 fi
 
-for script in admin_walk real_files killed; do
+for script in admin_walk real_files killed stopped tools; do
     if "$here/$script.sh"; then
         passed=$((passed + 1))
     else

@@ -1,18 +1,33 @@
 # Completion of raidctl's words for bash.
 
-# The configuration among the words: the first that is neither an option nor the value of one.
+# A word as the shell will take it: without quotes and backslashes, and with the home folder for a ~/ at its front. A quote
+# that isn't closed yet goes too.
+_raidctl_plain() {
+    local word=$1
+    # The shell hasn't expanded it.
+    # shellcheck disable=SC2088
+    [[ $word != '~/'* ]] || word=$HOME/${word#'~/'}
+    word=${word//[\"\']/}
+    printf '%s\n' "${word//\\/}"
+}
+
+# The configuration among the words: the first that is neither an option nor the value of one. Bash takes `--io=NAME` as
+# three words.
 _raidctl_conf() {
     local i skip=
     for ((i = 1; i < COMP_CWORD; i++)); do
-        if [ -n "$skip" ]; then
+        if [ "${COMP_WORDS[i]}" = = ]; then
+            skip=yes
+            continue
+        elif [ -n "$skip" ]; then
             skip=
             continue
         fi
         case ${COMP_WORDS[i]} in
-        --io | --graphs | --sweep | --clients | --ops | --limit | --sim | -w | -I | -f | -F | -R | -g) skip=yes ;;
+        --io | --graphs | --sweep | --clients | --ops | --limit | --sim | --rows | -w | -I | -f | -F | -R | -g) skip=yes ;;
         -*) ;;
         *)
-            printf '%s\n' "${COMP_WORDS[i]}"
+            _raidctl_plain "${COMP_WORDS[i]}"
             return
             ;;
         esac
@@ -33,6 +48,11 @@ _raidctl_names() {
 _raidctl() {
     local word=${COMP_WORDS[COMP_CWORD]} before=${COMP_WORDS[COMP_CWORD - 1]} words=
     COMPREPLY=()
+    if [ "$word" = = ]; then
+        word=
+    elif [ "$before" = = ]; then
+        before=${COMP_WORDS[COMP_CWORD - 2]}
+    fi
     case $before in
     --io | --graphs) ;;
     -f | -F | -R) words=$(_raidctl_names) ;;
@@ -40,10 +60,10 @@ _raidctl() {
     -w) words=$(echo {0..16}) ;;
     --clients) words=$(echo {1..16}) ;;
     --sim) words='fifo sstf scan' ;;
-    --sweep | --ops | --limit | -I) return ;;
+    --sweep | --ops | --limit | --rows | -I) return ;;
     *)
         if [ -n "$(_raidctl_conf)" ] || [[ $word == -* ]]; then
-            words='-s -m -p -P -i -I -f -F -R -g -G -w --resume --limit --map --io --graphs --trace --sweep --clients --ops --scan --sim --help --version'
+            words='-s -m -p -P -i -I -f -F -R -g -G -w --resume --limit --map --adopt --io --graphs --trace --sweep --clients --ops --scan --sim --layout --rows --help --version'
         fi
         ;;
     esac
@@ -51,7 +71,7 @@ _raidctl() {
         mapfile -t COMPREPLY < <(compgen -W "$words" -- "$word")
     else
         compopt -o filenames 2> /dev/null
-        mapfile -t COMPREPLY < <(compgen -f -- "$word")
+        mapfile -t COMPREPLY < <(compgen -f -- "$(_raidctl_plain "$word")")
     fi
 }
 

@@ -124,6 +124,35 @@ class Array:
         return stripe, unit, offset
 
 
+class Told(Array):
+    """A configuration with the places that `raidctl CONF --layout` told of it; others lie below its rows."""
+
+    def __init__(self, text, told):
+        super().__init__(text)
+        self.places, self.spares_told, self.rows = {}, {}, None
+        try:
+            for words in lines_of(told):
+                if words[0] == "layout":
+                    self.rows = int(words[words.index("rows") + 1])
+                elif words[0] == "stripe":
+                    at = (int(words[words.index("column") + 1]), int(words[words.index("row") + 1]))
+                    if words[2] == "spare":
+                        self.spares_told[int(words[1])] = at
+                    else:
+                        unit = self.width - 1 if words[2] == "check" else int(words[3])
+                        self.places[int(words[1]), unit] = at
+        except (ValueError, IndexError):
+            raise Unreadable("these aren't the lines of --layout") from None
+        if self.rows is None:
+            raise Unreadable("there is no layout among these lines")
+
+    def place(self, stripe, unit):
+        return self.places.get((stripe, unit), (0, self.rows))
+
+    def spare_place(self, stripe):
+        return self.spares_told.get(stripe)
+
+
 def tuples_of(lines):
     """The tuples of a block design, by its lines in a configuration."""
     words = lines[0]
@@ -169,7 +198,7 @@ class Graph:
 
 
 def read_graphs(text):
-    """The graphs of a file, by their names."""
+    """The graphs of a file, by their names; a status behind them is passed over, as it stands where raidctl printed them."""
     graphs = {}
     graph = None
     for words in lines_of(text):
@@ -183,7 +212,7 @@ def read_graphs(text):
                 graph.nodes.append(node_of(words[2:]))
             elif words[0] == "return":
                 graph.returns.append((int(words[1]), int(words[2])))
-            elif words[0] != "end":
+            elif words[0] not in ("end", "status"):
                 raise ValueError
         except (ValueError, IndexError, AttributeError):
             raise Unreadable("the graph file isn't one that raidctl reads: " + " ".join(words)) from None
