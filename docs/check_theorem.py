@@ -1,18 +1,24 @@
 #!/usr/bin/env python3
-"""Compares each definition that docs/THEOREM.md quotes with the file named above it.
+"""Compares each definition that docs/THEOREM.md, docs/HEADLINE.md and README.md quote with the file named above it.
 
     docs/check_theorem.py            says what differs; exit 1 where something does, or where nothing is quoted
     docs/check_theorem.py --write    puts each definition as it stands now in the place of its quote
 
 A quote is a line with the file's path between backquotes, an empty line, and a fence. Its first line names the
 definition, so a new quote may be written as that line alone (`pub record Ran`) and filled in by --write.
+
+HEADLINE.md lists each definition that `TakesEffect` rests on too, behind its last heading: below the line of a file its
+names, one a line (``- `held`: ..``). They are compared with what tools/statement-closure finds.
 """
+import importlib.machinery
+import importlib.util
 import re
 import sys
 from pathlib import Path
 
 TOP = Path(__file__).resolve().parent.parent
-PAGE = TOP / "docs" / "THEOREM.md"
+PAGES = ("docs/THEOREM.md", "docs/HEADLINE.md", "README.md")
+LISTED = ("docs/HEADLINE.md", "run_effect/specs/Effect:TakesEffect")
 FENCE = "```"
 HEAD = re.compile(r"\s*(pub fn|pub record|pub data|abbrev pub|unfoldable pub|pub) (\w[\w'-]*)")
 
@@ -66,14 +72,16 @@ def quotes(text):
         i += 1
 
 
-def main():
-    text = PAGE.read_text().split("\n")
+def check_quotes(page, write):
+    """How many definitions a page quotes, and how many of them are wrong."""
+    path_of_page = TOP / page
+    text = path_of_page.read_text().split("\n")
     wrong = count = 0
-    page, kept = [], 0
+    written, kept = [], 0
     for path, start, end in quotes(text):
         head = HEAD.match(text[start])
         if path is None or head is None:
-            print(f"line {start}: a fence that quotes no definition of a file")
+            print(f"{page}, line {start}: a fence that quotes no definition of a file")
             wrong += 1
             continue
         count += 1
@@ -84,12 +92,47 @@ def main():
         elif now != text[start:end]:
             print(f"{path}: {head.group(2)} differs")
             wrong += 1
-            page += text[kept:start] + now
+            written += text[kept:start] + now
             kept = end
-    if "--write" in sys.argv[1:]:
-        PAGE.write_text("\n".join(page + text[kept:]))
-    print(f"THEOREM.md: {count} definitions quoted, {wrong} wrong")
-    return 1 if wrong or not count else 0
+    if write:
+        path_of_page.write_text("\n".join(written + text[kept:]))
+    print(f"{page}: {count} definitions quoted, {wrong} wrong")
+    return count, wrong
+
+
+def listed(page):
+    """The names behind the last heading of a page, each with the file in whose list it stands."""
+    path, names = None, []
+    for line in (TOP / page).read_text().rsplit("\n## ", 1)[1].split("\n"):
+        if match := re.fullmatch(r"`(crates/\S+)`", line):
+            path = match[1]
+        elif match := re.match(r"- `([^`]+)`: ", line):
+            names.append((path, match[1]))
+    return names
+
+
+def rests_on(root):
+    """The definitions that one rests on, each with its file."""
+    loader = importlib.machinery.SourceFileLoader("closure", str(TOP / "tools" / "statement-closure"))
+    module = importlib.util.module_from_spec(importlib.util.spec_from_loader("closure", loader))
+    sys.dont_write_bytecode = True
+    loader.exec_module(module)
+    ending = {"specs": ".antt", "src": ".rt"}
+    return [(f"crates/{crate}/{kind}/{where.replace('.', '/')}{ending[kind]}", name) for crate, kind, where, name in module.closure(root)]
+
+
+def check_list(page, root):
+    """How many names a page lists, and how many of them are wrong, twice there, or lacking."""
+    there, due = listed(page), rests_on(root)
+    wrong = [f"{page}: {name} of {path} isn't cited" for path, name in there if (path, name) not in due]
+    wrong += [f"{page}: {name} of {path} stands there {there.count((path, name))} times" for path, name in due if there.count((path, name)) != 1]
+    print("\n".join(wrong + [f"{page}: {len(there)} names listed, {len(wrong)} wrong"]))
+    return len(there), len(wrong)
+
+
+def main():
+    checks = [check_quotes(page, "--write" in sys.argv[1:]) for page in PAGES] + [check_list(*LISTED)]
+    return 1 if any(wrong or not count for count, wrong in checks) else 0
 
 
 if __name__ == "__main__":
