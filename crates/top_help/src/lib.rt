@@ -83,7 +83,7 @@ why it didn't; the exit number is 0 or that of the status.
 ";
 
 /// The program's version, and the kit with whose prover it was proved.
-pub const VERSION: &str = "raidctl 0.1 (Nirkwafo), proved with rattle-kit-13b\n";
+pub const VERSION: &str = "raidctl 0.1 (Nirkwafo), proved with rattle-kit-13f\n";
 
 /// The text of a topic.
 #[tactic(auto, unfolding(crate::specs::Topics::topic_text))]

@@ -63,7 +63,7 @@ fn the_help_names_every_word(rt: HostRuntime) -> Result<(), Fail> {
     for line in HELP.lines() {
         holds(&rt, line.len() <= 80);
     }
-    same(&rt, VERSION.contains("rattle-kit-13b"), true);
+    same(&rt, VERSION.contains("rattle-kit-13f"), true);
     Ok(())
 }
 
