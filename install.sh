@@ -77,6 +77,7 @@ all() {
     put 644 libexec/raidctl "$top"/tools/*.py "$top"/tools/README.md
     put 644 share/doc/raidctl "$top"/README.md "$top"/LICENSE "$top"/CHANGES
     put 644 share/doc/raidctl/docs "$top"/docs/*.md
+    put 644 share/doc/raidctl/designs "$top"/designs/*
     put 644 share/doc/raidctl/docs/pictures "$top"/docs/pictures/*.svg
     # README and the examples look for the tools there.
     link ../../../libexec/raidctl share/doc/raidctl/tools

@@ -76,7 +76,7 @@ else
     echo "there is no python3: the pictures aren't made, and array-status isn't tried"
 fi
 
-for script in admin_walk real_files killed stopped tools; do
+for script in admin_walk real_files killed stopped tools designs; do
     if "$here/$script.sh"; then
         passed=$((passed + 1))
     else
