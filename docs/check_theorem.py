@@ -8,7 +8,8 @@ A quote is a line with the file's path between backquotes, an empty line, and a 
 definition, so a new quote may be written as that line alone (`pub record Ran`) and filled in by --write.
 
 HEADLINE.md lists each definition that `TakesEffect` rests on too, behind its last heading: below the line of a file its
-names, one a line (``- `held`: ..``). They are compared with what tools/statement-closure finds.
+names, one a line (``- `held`: ..``). They are compared with what tools/statement-closure finds, and docs/STATEMENT, the
+list of the files that the whole statement cites, with what that makes of the sources now (--write makes it anew).
 """
 import importlib.machinery
 import importlib.util
@@ -111,12 +112,18 @@ def listed(page):
     return names
 
 
-def rests_on(root):
-    """The definitions that one rests on, each with its file."""
+def closure_tool():
+    """tools/statement-closure as a module."""
     loader = importlib.machinery.SourceFileLoader("closure", str(TOP / "tools" / "statement-closure"))
     module = importlib.util.module_from_spec(importlib.util.spec_from_loader("closure", loader))
     sys.dont_write_bytecode = True
     loader.exec_module(module)
+    return module
+
+
+def rests_on(root):
+    """The definitions that one rests on, each with its file."""
+    module = closure_tool()
     ending = {"specs": ".antt", "src": ".rt"}
     return [(f"crates/{crate}/{kind}/{where.replace('.', '/')}{ending[kind]}", name) for crate, kind, where, name in module.closure(root)]
 
@@ -130,8 +137,22 @@ def check_list(page, root):
     return len(there), len(wrong)
 
 
+def check_files(write):
+    """How many files docs/STATEMENT lists, and how many of its lines aren't what the sources make."""
+    page, due = TOP / "docs" / "STATEMENT", closure_tool().files_text()
+    if write:
+        page.write_text(due)
+    there, due = set(page.read_text().splitlines()), set(due.splitlines())
+    wrong = [f"docs/STATEMENT: no longer so: {line}" for line in sorted(there - due)]
+    wrong += [f"docs/STATEMENT: lacks {line}" for line in sorted(due - there)]
+    files = [line for line in there if line.startswith("crates/")]
+    print("\n".join(wrong + [f"docs/STATEMENT: {len(files)} files listed, {len(wrong)} wrong"]))
+    return len(files), len(wrong)
+
+
 def main():
-    checks = [check_quotes(page, "--write" in sys.argv[1:]) for page in PAGES] + [check_list(*LISTED)]
+    write = "--write" in sys.argv[1:]
+    checks = [check_quotes(page, write) for page in PAGES] + [check_list(*LISTED), check_files(write)]
     return 1 if any(wrong or not count for count, wrong in checks) else 0
 
 
